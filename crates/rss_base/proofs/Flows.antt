@@ -1,0 +1,28 @@
+-- How calls of a source or a sink follow one another.
+use Rattle.std.proofs.Common.{◌≡◌, ℕ, ◌+◌, ◌-◌, length, List, [], ◌++◌, take, drop, Option, Some, refl, sym, ◌∙◌, ap, subst, append_assoc}
+use Rattle.std.proofs.lemmas.List.{append-nil, take_rest}
+use Rattle.std.proofs.Math.Seq.{take-add}
+use Rattle.rss_base.specs.Streams.{Gives, Takes}
+
+pub takes_none : (told : Option (List ℕ)) → Takes told [] told
+takes_none told = record { appends = λ all is. is ∙ ap Some (sym (append-nil all)) }
+
+pub takes_then : (old mid new : Option (List ℕ)) (first second : List ℕ) → Takes old first mid → Takes mid second new → Takes old (first ++ second) new
+takes_then old mid new first second a b = record { appends = λ all is. b.appends (all ++ first) (a.appends all is) ∙ ap Some (append_assoc all first second) }
+
+pub gives_none : (told : Option (List ℕ)) → Gives told [] told
+gives_none told = record { moves = λ all is. (all, is, refl) }
+
+pub gives_then : (old mid new : Option (List ℕ)) (first second : List ℕ) → Gives old first mid → Gives mid second new → Gives old (first ++ second) new
+gives_then old mid new first second a b = record {
+  moves = λ all is.
+      let one = a.moves all is in
+      let two = b.moves one.0 one.1 in
+      (two.0, two.1, one.2 ∙ ap (λ (l : List ℕ). first ++ l) two.2 ∙ sym (append_assoc first second two.0));
+}
+
+-- the next bytes of a text of which the front was taken
+pub takes_more : (old mid new : Option (List ℕ)) (bytes : List ℕ) (done more : ℕ) → Takes old (take done bytes) mid → Takes mid (take more (take (length bytes - done) (drop done bytes))) new → Takes old (take (done + more) bytes) new
+takes_more old mid new bytes done more first second =
+    let rest : take more (take (length bytes - done) (drop done bytes)) ≡ take more (drop done bytes) = ap (λ (l : List ℕ). take more l) (take_rest bytes done) in
+    subst (λ (l : List ℕ). Takes old l new) (ap (λ (l : List ℕ). take done bytes ++ l) rest ∙ sym (take-add done more bytes)) (takes_then old mid new _ _ first second)

@@ -1,0 +1,63 @@
+-- The disk rule: what a device tells of its pages, and what a stop may leave of them.
+use Rattle.std.specs.Prelude.{◌≡◌, ◌≢◌, ◌↔◌, ℕ, ◌<◌, ◌≤◌, List, [], length, slice_index_or, Option, Some}
+
+-- a list of pages, each a list of bytes
+abbrev pub Pages : Type 0
+Pages = List (List ℕ)
+
+-- the page at a place
+abbrev pub page : Pages → ℕ → List ℕ
+page pages at = slice_index_or pages at []
+
+-- What a device tells: what a read gives, where it tells that, the number of this moment, and the
+-- images that a stop at each moment may leave.
+pub record Disk : Type 1 where
+  pub contents : Option Pages
+  pub moment : ℕ
+  pub images : ℕ → Pages → Type 0
+
+-- a fact on what a read gives, where the device tells it
+abbrev pub Told : Disk → (Pages → Type 0) → Type 0
+Told disk P = (pages : Pages) → disk.contents ≡ Some pages → P pages
+
+-- the device tells what a read gives
+pub record IsTold (disk : Disk) : Type 0 where
+  pub pages : Pages
+  pub is : disk.contents ≡ Some pages
+
+-- a stop now may leave these pages
+abbrev pub Leaves : Disk → Pages → Type 0
+Leaves disk pages = disk.images disk.moment pages
+
+-- a stop now leaves these pages and no others
+abbrev pub LeavesOnly : Disk → Pages → Type 0
+LeavesOnly disk pages = (image : Pages) → Leaves disk image → image ≡ pages
+
+-- the same pages but for this one
+pub record SameBut (at : ℕ) (old new : Pages) : Type 0 where
+  pub size : length new ≡ length old
+  pub others : (q : ℕ) → q ≢ at → page new q ≡ page old q
+
+-- pages that have P, with any bytes in one of them
+pub record TornAt (at : ℕ) (P : Pages → Type 0) (image : Pages) : Type 0 where
+  pub before : Pages
+  pub was : P before
+  pub same : SameBut at before image
+
+-- Time goes on from old to new: the past stays as it was, and each new moment's images have P.
+pub record Passes (old new : Disk) (P : Pages → Type 0) : Type 0 where
+  pub later : old.moment ≤ new.moment
+  pub past : (t : ℕ) (image : Pages) → t ≤ old.moment → new.images t image ↔ old.images t image
+  pub each : (t : ℕ) (image : Pages) → old.moment < t → t ≤ new.moment → new.images t image → P image
+
+-- what a read gives now is the same but for this page
+pub record IsRewritten (at : ℕ) (before : Pages) (contents : Option Pages) : Type 0 where
+  pub after : Pages
+  pub told : contents ≡ Some after
+  pub same : SameBut at before after
+
+-- the pages that stood there and still do are the same
+pub record IsResized (before : Pages) (contents : Option Pages) : Type 0 where
+  pub after : Pages
+  pub told : contents ≡ Some after
+  pub same : (q : ℕ) → q < length before → q < length after → page after q ≡ page before q

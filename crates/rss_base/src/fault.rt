@@ -1,0 +1,26 @@
+// Failures of what lies outside, and stores that don't open.
+use crate::Place;
+use thiserror::Error;
+
+/// A device, a source or a sink failed, and has counted it.
+#[derive(Clone, Copy, Debug, PartialEq, Eq, Error)]
+#[error("the device, the source or the sink failed")]
+pub struct Failed;
+
+/// Why a store doesn't open.
+#[derive(Clone, Copy, Debug, PartialEq, Eq, Error)]
+pub enum OpenFault {
+    #[error("the device failed")]
+    Device,
+    #[error("not a store: {0:?}")]
+    NotAStore(Place),
+    #[error("out of memory")]
+    NoMemory,
+}
+
+/// A device that wasn't opened, handed back with the reason.
+#[derive(Debug)]
+pub struct Unopened<D> {
+    pub device: D,
+    pub fault: OpenFault,
+}

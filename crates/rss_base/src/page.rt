@@ -1,0 +1,7 @@
+// The unit in which a device is read and written.
+
+/// How many bytes a page has.
+pub const PAGE_BYTES: usize = 4096;
+
+/// A page of a device.
+pub type Page = [u8; 4096];

@@ -1,0 +1,44 @@
+// Texts as values.
+ghost use Rattle.std.specs.Prelude.{◌≡◌, [], ◌∷◌, ◌++◌, OnOk, OnErr};
+
+use std::alloc::{AllocError, Global};
+use std::marker::Model;
+
+/// The bytes of a TEXT value.
+#[derive(Debug, Drop)]
+pub struct Text {
+    bytes: Vec<u8>,
+}
+
+impl Model for Text {
+    ghost use Rattle.std.specs.Prelude.{List, ℕ};
+
+    ghost Value = { List ℕ };
+
+    ghost view = { λ t. t.bytes.items };
+}
+
+impl Text {
+    /// The empty text, which grows by this allocator.
+    pub fn new(alloc: Global) -> Self
+        ensures { result ≡ [] }
+    {
+        Text {
+            bytes: Vec::new(alloc),
+        }
+    }
+
+    pub fn push(&mut self, byte: u8) -> Result<(), AllocError>
+        ensures ok { OnOk result (self.new ≡ self.old ++ byte ∷ []) }
+        ensures err { OnErr result (self.new ≡ self.old) }
+    {
+        self.bytes.push(byte)?;
+        Ok(())
+    }
+
+    pub fn as_slice(&self) -> &[u8]
+        ensures { result.now ≡ self.now }
+    {
+        self.bytes.as_slice()
+    }
+}

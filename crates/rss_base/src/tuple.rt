@@ -1,0 +1,46 @@
+// Tuples as values.
+ghost use Rattle.std.specs.Prelude.{◌≡◌, [], ◌∷◌, ◌++◌, OnOk, OnErr};
+
+use crate::Value;
+use std::alloc::{AllocError, Global};
+use std::marker::Model;
+
+/// The values of a tuple, in the order of its relation's fields.
+#[derive(Debug, Drop)]
+pub struct Tuple {
+    values: Vec<Value>,
+}
+
+impl Model for Tuple {
+    ghost use Rattle.std.specs.Prelude.{List};
+    ghost use Rattle.rss_base.specs.declared.value.Value.{Value as FieldValue};
+
+    ghost Value = { List FieldValue };
+
+    ghost view = { λ t. t.values.items };
+}
+
+impl Tuple {
+    /// The tuple of no values, which grows by this allocator.
+    pub fn new(alloc: Global) -> Self
+        ensures { result ≡ [] }
+    {
+        Tuple {
+            values: Vec::new(alloc),
+        }
+    }
+
+    pub fn push(&mut self, value: Value) -> Result<(), AllocError>
+        ensures ok { OnOk result (self.new ≡ self.old ++ value ∷ []) }
+        ensures err { OnErr result (self.new ≡ self.old) }
+    {
+        self.values.push(value)?;
+        Ok(())
+    }
+
+    pub fn as_slice(&self) -> &[Value]
+        ensures { result.now ≡ self.now }
+    {
+        self.values.as_slice()
+    }
+}
