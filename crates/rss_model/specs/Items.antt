@@ -1,0 +1,39 @@
+-- Items: what can be locked, which of them have a content, and their order.
+use Rattle.std.specs.Prelude.{ℕ, pos, negsuc, List, [], ◌∷◌, ◌++◌, length, Option, Some, None}
+
+use Rattle.std.specs.Ordering.{nat_cmp}
+use Rattle.std.specs.Cmp.Lexicographic.{slice_cmp}
+use Rattle.std.specs.declared.cmp.Ordering.{Ordering}
+use Rattle.rss_base.specs.declared.name.Name.{Name}
+use Rattle.rss_base.specs.declared.value.Value.{Value}
+use Rattle.rss_base.specs.declared.value.Value.TheVariants.{Int, Text}
+use Rattle.rss_base.specs.declared.item.Item.{Item}
+use Rattle.rss_base.specs.declared.item.Item.TheVariants.{Segment, Relation, Tuple, Chain, Key}
+
+-- What an item holds: a tuple item the values of its tuple.
+pub data Content : Type 0 where
+  Values : List Value → Content
+
+-- No two values, and no two items, have one code. Items are ordered by their codes.
+abbrev pub value_code : Value → List ℕ
+value_code (Int (pos n)) = 0 ∷ n ∷ []
+value_code (Int (negsuc n)) = 1 ∷ n ∷ []
+value_code (Text bytes) = 2 ∷ length bytes ∷ bytes
+
+abbrev pub values_code : List Value → List ℕ
+values_code [] = []
+values_code (value ∷ values) = value_code value ++ values_code values
+
+abbrev pub item_code : Item → List ℕ
+item_code (Segment name) = 0 ∷ name.bytes
+item_code (Relation name) = 1 ∷ name.bytes
+item_code (Tuple relation tid) = 2 ∷ tid.page ∷ tid.slot ∷ relation.bytes
+item_code (Chain link None) = 3 ∷ link.bytes
+item_code (Chain link (Some parent)) = 4 ∷ parent.page ∷ parent.slot ∷ link.bytes
+item_code (Key image values) = 5 ∷ length image.bytes ∷ (image.bytes ++ values_code values)
+
+abbrev pub item_cmp : Item → Item → Ordering
+item_cmp a b = slice_cmp nat_cmp (item_code a) (item_code b)
+
+abbrev pub name_cmp : Name → Name → Ordering
+name_cmp a b = slice_cmp nat_cmp a.bytes b.bytes

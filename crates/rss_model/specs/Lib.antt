@@ -1,0 +1,15 @@
+pub use Rattle.rss_base.specs.DiskRule
+pub use Rattle.rss_base.specs.Faults
+pub use Rattle.rss_base.specs.Streams
+pub mod TupleTypes
+pub mod Items
+pub mod Tables
+pub mod Changes
+pub mod Machine
+pub mod Steps
+pub mod Runs
+pub mod ReplyText
+pub mod Script
+pub mod Plays
+pub mod Store
+pub mod Turns

@@ -1,0 +1,49 @@
+// The engine as the lines of a script see it.
+ghost use Rattle.std.specs.Prelude.{◌≡◌, ◌≤◌, ℕ, length, Ok, Err, IfOk, IsErrOf};
+ghost use Rattle.rss_base.specs.Faults.{Rises};
+ghost use Rattle.rss_base.specs.DiskRule.{Disk, IsTold};
+ghost use Rattle.rss_model.specs.Machine.{State};
+ghost use Rattle.rss_model.specs.Store.{Opens};
+ghost use Rattle.rss_model.specs.Turns.{IsAnswered, IsStopped, IsUnmade};
+ghost use Rattle.rss_model.specs.ReplyText.{answer_line};
+ghost use Rattle.rss_base.specs.declared.answer.CallError.TheVariants.{Refused};
+ghost use Rattle.rss_base.specs.declared.refusal.Refusal.{Refusal};
+
+use rss_base::{Call, CallError, Reply};
+
+/// A store that is open: a relation machine over a device.
+pub trait Engine {
+    /// What the device tells.
+    ghost disk: { Self → Disk };
+
+    /// The machine's state.
+    ghost state: { Self → State };
+
+    /// No call has met a fault of the device.
+    ghost is_up: { Self → Type 0 };
+
+    /// How often the device has failed, counted up to 2 ^ 64 - 1.
+    ghost faults: { Self → ℕ };
+
+    /// Makes a call. Over a device that tells its contents it is a step of the machine, and each
+    /// image at a moment of it opens to the committed tables before or after.
+    fn call(&mut self, call: &Call) -> Result<Reply, CallError>
+        ensures ok { IfOk result (λ reply. is_up self.old → IsTold (disk self.old) → IsAnswered (disk self.old) (disk self.new) (state self.old) call.now (Ok reply) (state self.new)) }
+        ensures refused { (why : Refusal) → result ≡ Err (Refused why) → is_up self.old → IsTold (disk self.old) → IsAnswered (disk self.old) (disk self.new) (state self.old) call.now (Err why) (state self.new) }
+        ensures stopped { IsErrOf result CallError.Device → is_up self.old → IsTold (disk self.old) → IsStopped (disk self.old) (disk self.new) (state self.old) call.now }
+        ensures unmade { IsErrOf result CallError.NoMemory → is_up self.old → IsTold (disk self.old) → IsUnmade (disk self.old) (disk self.new) (state self.old) (state self.new) }
+
+        // An answer's line is short.
+        ensures reply_line { IfOk result (λ reply. length (answer_line (Ok reply)) ≤ 8192) }
+        ensures refusal_line { (why : Refusal) → result ≡ Err (Refused why) → length (answer_line (Err why)) ≤ 8192 }
+
+        // It is down exactly after a fault of the device.
+        ensures down { IsErrOf result CallError.Down → is_up self.old → ⊥ }
+        ensures up { is_up self.old → (result ≡ Err CallError.Device → ⊥) → is_up self.new }
+        ensures cause { IsErrOf result CallError.Device → Rises (faults self.old) (faults self.new) }
+        ensures later { faults self.old ≤ faults self.new }
+        ensures told { IsTold (disk self.old) → IsTold (disk self.new) };
+
+    /// A stop between two calls leaves the committed tables.
+    ghost opens: { (engine : Self) → is_up engine → IsTold (disk engine) → Opens (disk engine) (state engine).base };
+}
