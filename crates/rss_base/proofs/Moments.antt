@@ -1,7 +1,7 @@
 -- How calls of a device follow one another.
-use Rattle.std.proofs.Common.{◌≡◌, ◌⊎◌, inl, inr, ⊎_elim, ℕ, ◌<◌, ◌≤◌, refl, subst, arith}
+use Rattle.std.proofs.Common.{◌≡◌, ◌⊎◌, inl, inr, ⊎_elim, ℕ, ◌≤◌, refl, subst, arith}
 use Rattle.std.proofs.lemmas.Bool.{cases_lt}
-use Rattle.rss_base.specs.DiskRule.{Disk, Pages, Leaves, LeavesOnly, TornAt, Passes}
+use Rattle.rss_base.specs.DiskRule.{Disk, Pages, Leaves, LeavesOnly, TornAt, Passes, Continues}
 
 -- before the first call
 pub started : (disk : Disk) (P : Pages → Type 0) → Passes disk disk P
@@ -57,3 +57,10 @@ no_more passes image left = ⊎_elim (λ before. before) (λ within. within) (no
 
 pub only_stays : {old new : Disk} (pages : Pages) → LeavesOnly old pages → Passes old new (Leaves old) → LeavesOnly new pages
 only_stays pages only passes image left = only image (no_more passes image left)
+
+-- time goes on from call to call
+pub continues : {P : Pages → Type 0} {old new : Disk} → Passes old new P → Continues old new
+continues passes = widened passes (λ image has. tt)
+
+pub continues_then : {old mid new : Disk} → Continues old mid → Continues mid new → Continues old new
+continues_then first second = then first second (λ image has. tt)

@@ -1,5 +1,5 @@
 -- The disk rule: what a device tells of its pages, and what a stop may leave of them.
-use Rattle.std.specs.Prelude.{◌≡◌, ◌≢◌, ◌↔◌, ℕ, ◌<◌, ◌≤◌, List, [], length, slice_index_or, Option, Some}
+use Rattle.std.specs.Prelude.{◌≡◌, ◌≢◌, ◌↔◌, ℕ, ◌<◌, ◌≤◌, List, [], length, slice_index_or, Option, Some, ⊤}
 
 -- a list of pages, each a list of bytes
 abbrev pub Pages : Type 0
@@ -49,6 +49,10 @@ pub record Passes (old new : Disk) (P : Pages → Type 0) : Type 0 where
   pub later : old.moment ≤ new.moment
   pub past : (t : ℕ) (image : Pages) → t ≤ old.moment → new.images t image ↔ old.images t image
   pub each : (t : ℕ) (image : Pages) → old.moment < t → t ≤ new.moment → new.images t image → P image
+
+-- time goes on, whatever its moments leave
+abbrev pub Continues : Disk → Disk → Type 0
+Continues old new = Passes old new (λ _. ⊤)
 
 -- what a read gives now is the same but for this page
 pub record IsRewritten (at : ℕ) (before : Pages) (contents : Option Pages) : Type 0 where

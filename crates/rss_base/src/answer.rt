@@ -1,5 +1,5 @@
 // What the engine answers.
-use crate::{Place, Refusal, Tid, Tuple};
+use crate::{Refusal, Tid, Tuple};
 
 /// What a call that was done gives.
 #[derive(Debug, Drop)]
@@ -22,9 +22,7 @@ pub enum CallError {
     Refused(Refusal),
     /// The device failed. Each later call is answered `Down`.
     Device,
-    /// The device holds what no store does. Each later call is answered `Down`.
-    Damaged(Place),
-    /// An earlier call was answered `Device` or `Damaged`.
+    /// An earlier call was answered `Device`.
     Down,
     /// Memory ran out.
     NoMemory,

@@ -1,4 +1,7 @@
 // Failures of what lies outside, and stores that don't open.
+ghost use Rattle.std.specs.Prelude.{◌≡◌};
+ghost use Rattle.rss_base.specs.declared.fault.OpenFault.TheVariants.{Device as DeviceFault};
+
 use crate::Place;
 use thiserror::Error;
 
@@ -16,6 +19,14 @@ pub enum OpenFault {
     NotAStore(Place),
     #[error("out of memory")]
     NoMemory,
+}
+
+impl From<Failed> for OpenFault {
+    ghost from_gives = { λ _ e. e ≡ DeviceFault };
+
+    fn from(_: Failed) -> Self {
+        OpenFault::Device
+    }
 }
 
 /// A device that wasn't opened, handed back with the reason.

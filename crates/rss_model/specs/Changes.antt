@@ -1,5 +1,5 @@
 -- Changes: a transaction sets what an item holds.
-use Rattle.std.specs.Prelude.{ℕ, Bool, not, ◌==◌, List, [], ◌∷◌, Option, filter}
+use Rattle.std.specs.Prelude.{ℕ, not, ◌==◌, List, [], ◌∷◌, Option, filter}
 use Rattle.rss_base.specs.declared.item.Item.{Item}
 use Rattle.rss_model.specs.Items.{Content}
 use Rattle.rss_model.specs.Tables.{Contents, put}
@@ -18,5 +18,6 @@ after contents (change ∷ changes) = put (after contents changes) change.item c
 -- what this transaction changed, and what the others did
 abbrev pub own : ℕ → List Change → List Change
 own transaction changes = filter (λ c. c.by == transaction) changes
+
 abbrev pub others : ℕ → List Change → List Change
 others transaction changes = filter (λ c. not (c.by == transaction)) changes

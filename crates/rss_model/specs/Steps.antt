@@ -15,7 +15,7 @@ use Rattle.rss_base.specs.declared.refusal.LimitKind.TheVariants.{Tuples}
 use Rattle.rss_base.specs.declared.refusal.Refusal.{Refusal}
 use Rattle.rss_base.specs.declared.refusal.Refusal.TheVariants.{NoTransaction, AlreadyOpen, TooMany, NoSuch, Limit, BadTuple, NoTuple}
 use Rattle.rss_model.specs.TupleTypes.{misfit}
-use Rattle.rss_model.specs.Items.{Content, Values}
+use Rattle.rss_model.specs.Items.{Values}
 use Rattle.rss_model.specs.Tables.{Contents, content, fields_of, live_tuples}
 use Rattle.rss_model.specs.Changes.{after, own, others}
 use Rattle.rss_model.specs.Machine.{State, now}
@@ -27,12 +27,14 @@ Answer = Result Reply Refusal
 -- at most so many tuples of a relation, and so many open transactions
 abbrev pub tuple_limit : ℕ
 tuple_limit = 500
+
 abbrev pub transaction_limit : ℕ
 transaction_limit = 1
 
 -- The tests of a call, each with its refusal where it fails.
 abbrev pub refused_unless : Bool → Refusal → Option Refusal
 refused_unless holds why = if holds then None else Some why
+
 abbrev pub refused_if : Bool → Refusal → Option Refusal
 refused_if holds why = if holds then Some why else None
 

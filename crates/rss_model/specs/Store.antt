@@ -10,17 +10,19 @@ use Rattle.rss_base.specs.declared.value.Value.TheVariants.{Int}
 use Rattle.rss_base.specs.declared.value.FieldKind.TheVariants.{Int as IntField}
 use Rattle.rss_base.specs.DiskRule.{Disk, Pages, page, Leaves}
 use Rattle.rss_model.specs.Items.{Content, Values}
-use Rattle.rss_model.specs.Tables.{Contents, Relations, Tables}
+use Rattle.rss_model.specs.Tables.{Relations, Tables}
 
 -- the one relation, `r`, with one field, an INT
 abbrev pub relation_r : Name
 relation_r = record { bytes = 114 ∷ 0 ∷ 0 ∷ 0 ∷ 0 ∷ 0 ∷ 0 ∷ 0 ∷ 0 ∷ 0 ∷ 0 ∷ 0 ∷ 0 ∷ 0 ∷ 0 ∷ 0 ∷ [] }
+
 abbrev pub relations : Relations
 relations = map.insert map.empty relation_r (IntField ∷ [])
 
 -- the tuple at a place of the root, counted from 0
 abbrev pub tid_at : ℕ → Tid
 tid_at place = record { page = place / 128; slot = place % 128 }
+
 abbrev pub item_at : ℕ → Item
 item_at place = TupleItem relation_r (tid_at place)
 
@@ -45,6 +47,7 @@ root_bytes values =
 -- The root that the selector names: root 1 where the lowest bit of its first byte is 0, else root 2.
 abbrev pub selected : Pages → ℕ
 selected pages = 1 + slice_index (page pages 0) 0 % 2
+
 abbrev pub root_of : Pages → List ℕ
 root_of pages = page pages (selected pages)
 

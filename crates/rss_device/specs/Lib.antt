@@ -1,0 +1,6 @@
+pub mod Memory
+pub mod MemoryLaws
+pub mod Stop
+pub mod MemDevice
+pub mod MemSource
+pub mod MemSink

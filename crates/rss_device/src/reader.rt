@@ -1,0 +1,49 @@
+// A source over a reader.
+ghost use Rattle.std.specs.Prelude.{◌≡◌, ◌≤◌, length, None, IfOk};
+
+use crate::failing::failed;
+use rss_base::{Failed, Source};
+use std::io;
+use std::io::{ErrorKind, Read};
+
+/// The bytes of a reader. It tells nothing of them.
+#[derive(Drop)]
+pub struct ReaderSource<R: Read + Drop> {
+    reader: R,
+    faults: u64,
+}
+
+impl<R: Read + Drop> ReaderSource<R> {
+    pub fn new(reader: R) -> Self
+        ensures { ⟦<ReaderSource<R> as Source>⟧.faults result ≡ 0 }
+    {
+        ReaderSource { reader, faults: 0 }
+    }
+}
+
+impl<R: Read + Drop> Source for ReaderSource<R> {
+    ghost left = { λ s. None };
+
+    ghost faults = { λ s. s.faults };
+
+    fn read(&mut self, into: &mut [u8]) -> Result<usize, Failed> {
+        match read_some(&mut self.reader, into) {
+            Ok(n) => Ok(n),
+            Err(_) => Err(failed(&mut self.faults)),
+        }
+    }
+}
+
+/// Reads, again where a signal interrupts, but not without end.
+fn read_some<R: Read>(reader: &mut R, into: &mut [u8]) -> io::Result<usize>
+    ensures { IfOk result (λ n. n ≤ length into.old) }
+{
+    for _ in 0..16 {
+        match reader.read(into) {
+            Err(error) if error.kind() == ErrorKind::Interrupted => {}
+            Err(error) => return Err(error),
+            Ok(n) => return Ok(n),
+        }
+    }
+    Err(io::Error::from(ErrorKind::Interrupted))
+}

@@ -1,0 +1,84 @@
+// A sink in memory.
+ghost use Rattle.std.specs.Prelude.{◌≡◌, [], None, Some};
+ghost use Rattle.rss_device.specs.MemSink.{most_taken, failing_write};
+
+use crate::failing::{failed, is_due};
+use rss_base::{Failed, Sink};
+use std::alloc::Global;
+
+/// Keeps the bytes in memory. A write that finds no memory for them fails.
+#[derive(Drop)]
+pub struct MemSink {
+    bytes: Vec<u8>,
+    at_most: usize,
+    writes_before_fault: Option<u64>,
+    faults: u64,
+}
+
+impl MemSink {
+    /// A sink that takes all bytes of each write.
+    pub fn new(alloc: Global) -> Self
+        ensures written { ⟦<MemSink as Sink>⟧.written result ≡ Some [] }
+        ensures faults { ⟦<MemSink as Sink>⟧.faults result ≡ 0 }
+        ensures failing { failing_write result ≡ None }
+    {
+        MemSink {
+            bytes: Vec::new(alloc),
+            at_most: usize::MAX,
+            writes_before_fault: None,
+            faults: 0,
+        }
+    }
+
+    /// Takes at most so many bytes a write, but at least one.
+    pub fn taking(self, at_most: usize) -> Self
+        ensures written { ⟦<MemSink as Sink>⟧.written result ≡ ⟦<MemSink as Sink>⟧.written self }
+        ensures faults { ⟦<MemSink as Sink>⟧.faults result ≡ ⟦<MemSink as Sink>⟧.faults self }
+        ensures taken { most_taken result ≡ at_most }
+        ensures failing { failing_write result ≡ failing_write self }
+    {
+        MemSink { at_most, ..self }
+    }
+
+    /// Fails the write with this number, counted from 0 from here on, and no other.
+    pub fn failing_at(self, call: u64) -> Self
+        ensures written { ⟦<MemSink as Sink>⟧.written result ≡ ⟦<MemSink as Sink>⟧.written self }
+        ensures faults { ⟦<MemSink as Sink>⟧.faults result ≡ ⟦<MemSink as Sink>⟧.faults self }
+        ensures taken { most_taken result ≡ most_taken self }
+        ensures failing { failing_write result ≡ Some call }
+    {
+        MemSink {
+            writes_before_fault: Some(call),
+            ..self
+        }
+    }
+
+    pub fn bytes(&self) -> &[u8]
+        ensures { ⟦<MemSink as Sink>⟧.written self.now ≡ Some result.now }
+    {
+        self.bytes.as_slice()
+    }
+
+    pub fn into_bytes(self) -> Vec<u8>
+        ensures { ⟦<MemSink as Sink>⟧.written self ≡ Some result.items }
+    {
+        self.bytes
+    }
+}
+
+impl Sink for MemSink {
+    ghost written = { λ s. Some s.bytes.items };
+
+    ghost faults = { λ s. s.faults };
+
+    fn write(&mut self, from: &[u8]) -> Result<usize, Failed> {
+        if is_due(&mut self.writes_before_fault) {
+            return Err(failed(&mut self.faults));
+        }
+        let n = self.at_most.max(1).min(from.len());
+        if self.bytes.extend_from_slice(&from[..n]).is_err() {
+            return Err(failed(&mut self.faults));
+        }
+        Ok(n)
+    }
+}

@@ -1,0 +1,61 @@
+// A sink over a writer.
+ghost use Rattle.std.specs.Prelude.{◌≡◌, ◌<◌, ◌≤◌, length, None, IfOk};
+
+use crate::failing::failed;
+use rss_base::{Failed, Sink};
+use std::io;
+use std::io::{ErrorKind, Write};
+
+/// A writer, flushed at each write. It tells nothing of what was written.
+#[derive(Drop)]
+pub struct WriterSink<W: Write + Drop> {
+    writer: W,
+    faults: u64,
+}
+
+impl<W: Write + Drop> WriterSink<W> {
+    pub fn new(writer: W) -> Self
+        ensures { ⟦<WriterSink<W> as Sink>⟧.faults result ≡ 0 }
+    {
+        WriterSink { writer, faults: 0 }
+    }
+}
+
+impl<W: Write + Drop> Sink for WriterSink<W> {
+    ghost written = { λ s. None };
+
+    ghost faults = { λ s. s.faults };
+
+    fn write(&mut self, from: &[u8]) -> Result<usize, Failed> {
+        if from.is_empty() {
+            return Ok(0);
+        }
+        match write_some(&mut self.writer, from) {
+            Ok(n) => Ok(n),
+            Err(_) => Err(failed(&mut self.faults)),
+        }
+    }
+}
+
+/// Writes at least a byte and flushes. A write is tried again where a signal interrupts, but not
+/// without end.
+///
+/// Where the flush fails the writer may have taken bytes all the same. A sink that tells nothing of
+/// what was written may answer that with a failure.
+fn write_some<W: Write>(writer: &mut W, from: &[u8]) -> io::Result<usize>
+    ensures within { IfOk result (λ n. n ≤ length from.now) }
+    ensures some { IfOk result (λ n. 0 < n) }
+{
+    for _ in 0..16 {
+        match writer.write(from) {
+            Err(error) if error.kind() == ErrorKind::Interrupted => {}
+            Err(error) => return Err(error),
+            Ok(0) => return Err(io::Error::from(ErrorKind::WriteZero)),
+            Ok(n) => {
+                writer.flush()?;
+                return Ok(n);
+            }
+        }
+    }
+    Err(io::Error::from(ErrorKind::Interrupted))
+}

@@ -1,0 +1,13 @@
+//! The lines of a script: reads the call that a line spells, and writes the line of an answer.
+#![tactic(auto)]
+
+mod fault;
+mod number;
+mod reading;
+mod saying;
+mod value_text;
+mod word;
+
+pub use fault::LineFault;
+pub use reading::{Line, read_line};
+pub use saying::{say, say_not_a_store};

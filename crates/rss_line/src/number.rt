@@ -1,0 +1,34 @@
+// Numbers, which a script spells in one way each: a word is read as a number where it is what is
+// printed of that number.
+ghost use Rattle.std.specs.Prelude.{◌≡◌, ◌<◌, ℕ, ℤ, IfSome, IfNone, decimal};
+ghost use Rattle.rss_model.specs.Script.{IsInt};
+
+use itoa::Buffer;
+
+pub fn read_int(word: &str) -> Option<i64>
+    ensures some { IfSome result (IsInt word.now) }
+    ensures none { IfNone result ((z : ℤ) → IsInt word.now z → ⊥) }
+{
+    let number = word.parse::<i64>().ok()?;
+    let mut buffer = Buffer::new();
+    if buffer.format(number) == word {
+        Some(number)
+    } else {
+        None
+    }
+}
+
+/// A number without a sign, below a limit.
+pub fn read_below(limit: u32, word: &str) -> Option<u32>
+    ensures spelled { IfSome result (λ n. word.now ≡ decimal n) }
+    ensures below { IfSome result (λ n. n < limit) }
+    ensures none { IfNone result ((n : ℕ) → n < limit → word.now ≡ decimal n → ⊥) }
+{
+    let number = word.parse::<u32>().ok()?;
+    let mut buffer = Buffer::new();
+    if number < limit && buffer.format(number) == word {
+        Some(number)
+    } else {
+        None
+    }
+}

@@ -1,0 +1,164 @@
+// Writing the line of an answer.
+ghost use Rattle.std.specs.Prelude.{◌≡◌, ◌+◌, ◌<◌, ◌≤◌, ◌++◌, length, vec_len, vec_capacity, IsOk, OnOk, OnErr};
+ghost use Rattle.rss_model.specs.ReplyText.{answer_line, not_a_store_line, reply_text, refusal_text, item_text, kind_text, limit_text};
+
+use crate::value_text::append_values;
+use crate::word::Word::{Name, Number, Text, Tid};
+use crate::word::append;
+use rss_base::{Item, Kind, LimitKind, Place, Refusal, Reply};
+use std::alloc::AllocError;
+
+/// Appends the line of an answer, with its end. Where memory runs out, a front of it may be there.
+pub fn say(answer: &Result<Reply, Refusal>, into: &mut Vec<u8>) -> Result<(), AllocError>
+    ensures ok { OnOk result (into.new.items ≡ into.old.items ++ answer_line answer.now) }
+    ensures room { vec_len into.old + length (answer_line answer.now) ≤ vec_capacity into.old → IsOk result }
+{
+    match answer {
+        Ok(reply) => say_reply(reply, into)?,
+        Err(why) => say_refusal(why, into)?,
+    }
+    into.push(b'\n')?;
+    Ok(())
+}
+
+fn say_reply(reply: &Reply, into: &mut Vec<u8>) -> Result<(), AllocError>
+    ensures ok { OnOk result (into.new.items ≡ into.old.items ++ reply_text reply.now) }
+    ensures full { OnErr result (vec_capacity into.old < vec_len into.old + length (reply_text reply.now)) }
+    ensures capacity { vec_capacity into.old ≤ vec_capacity into.new }
+{
+    match reply {
+        Reply::Ok => append("ok", &[], into),
+        Reply::Tid(tid) => append("ok", &[Tid(*tid)], into),
+        Reply::Number(number) => append("ok", &[Number(u64::from(*number))], into),
+        Reply::Tuple(tuple) => {
+            append("ok", &[], into)?;
+            append_values(tuple.as_slice(), into)
+        }
+        Reply::Row(tid, tuple) => {
+            append("ok", &[Tid(*tid)], into)?;
+            append_values(tuple.as_slice(), into)
+        }
+        Reply::End => append("end", &[], into),
+        Reply::Nothing => append("none", &[], into),
+    }
+}
+
+fn say_refusal(why: &Refusal, into: &mut Vec<u8>) -> Result<(), AllocError>
+    ensures ok { OnOk result (into.new.items ≡ into.old.items ++ refusal_text why.now) }
+    ensures full { OnErr result (vec_capacity into.old < vec_len into.old + length (refusal_text why.now)) }
+    ensures capacity { vec_capacity into.old ≤ vec_capacity into.new }
+{
+    match why {
+        Refusal::Words => append("refused 1 words", &[], into),
+        Refusal::NoTransaction => append("refused 2 no transaction", &[], into),
+        Refusal::AlreadyOpen => append("refused 3 already open", &[], into),
+        Refusal::TooMany => append("refused 4 too many", &[], into),
+        Refusal::NoSuch(kind) => append("refused 5 no such", &[Text(kind_word(*kind))], into),
+        Refusal::NameTaken => append("refused 6 name taken", &[], into),
+        Refusal::Limit(limit) => append("refused 7 limit", &[Text(limit_word(*limit))], into),
+        Refusal::BadTuple(field) => {
+            append("refused 8 bad tuple", &[Number(u64::from(*field))], into)
+        }
+        Refusal::NoTuple(relation, tid) => {
+            append("refused 9 no tuple", &[Name(*relation), Tid(*tid)], into)
+        }
+        Refusal::Duplicate(image, tid) => {
+            append("refused 10 duplicate", &[Name(*image), Tid(*tid)], into)
+        }
+        Refusal::Connected(link) => append("refused 11 connected", &[Name(*link)], into),
+        Refusal::NotConnected(link) => append("refused 12 not connected", &[Name(*link)], into),
+        Refusal::NotEmpty => append("refused 13 not empty", &[], into),
+        Refusal::Busy { item, holder } => say_busy(item, *holder, into),
+        Refusal::Full { slots, needed } => append(
+            "refused 15 full",
+            &[Number(u64::from(*slots)), Number(*needed)],
+            into,
+        ),
+        Refusal::LogFull { free, needed } => append(
+            "refused 16 log full",
+            &[Number(*free), Number(*needed)],
+            into,
+        ),
+        Refusal::TransactionsOpen(least) => append(
+            "refused 17 transactions open",
+            &[Number(u64::from(*least))],
+            into,
+        ),
+        Refusal::NoSave => append("refused 18 no save", &[], into),
+    }
+}
+
+fn say_busy(item: &Item, holder: u32, into: &mut Vec<u8>) -> Result<(), AllocError>
+    ensures ok { OnOk result (into.new.items ≡ into.old.items ++ refusal_text (Refusal.Busy item.now holder)) }
+    ensures full { OnErr result (vec_capacity into.old < vec_len into.old + length (refusal_text (Refusal.Busy item.now holder))) }
+    ensures capacity { vec_capacity into.old ≤ vec_capacity into.new }
+{
+    append("refused 14 busy ", &[], into)?;
+    say_item(item, into)?;
+    append(" by", &[Number(u64::from(holder))], into)?;
+    Ok(())
+}
+
+fn say_item(item: &Item, into: &mut Vec<u8>) -> Result<(), AllocError>
+    ensures ok { OnOk result (into.new.items ≡ into.old.items ++ item_text item.now) }
+    ensures full { OnErr result (vec_capacity into.old < vec_len into.old + length (item_text item.now)) }
+    ensures capacity { vec_capacity into.old ≤ vec_capacity into.new }
+{
+    match item {
+        Item::Segment(name) => append("segment", &[Name(*name)], into),
+        Item::Relation(name) => append("relation", &[Name(*name)], into),
+        Item::Tuple(relation, tid) => append("tuple", &[Name(*relation), Tid(*tid)], into),
+        Item::Chain(link, None) => append("chain", &[Name(*link), Text("none")], into),
+        Item::Chain(link, Some(parent)) => append("chain", &[Name(*link), Tid(*parent)], into),
+        Item::Key(image, values) => {
+            append("key", &[Name(*image)], into)?;
+            append_values(values.as_slice(), into)
+        }
+    }
+}
+
+fn kind_word(kind: Kind) -> &'static str
+    ensures { result.now ≡ kind_text kind }
+{
+    match kind {
+        Kind::Segment => "segment",
+        Kind::Relation => "relation",
+        Kind::Image => "image",
+        Kind::Link => "link",
+        Kind::Field => "field",
+        Kind::Scan => "scan",
+    }
+}
+
+fn limit_word(limit: LimitKind) -> &'static str
+    ensures { result.now ≡ limit_text limit }
+{
+    match limit {
+        LimitKind::Segments => "segments",
+        LimitKind::Relations => "relations",
+        LimitKind::Images => "images",
+        LimitKind::Links => "links",
+        LimitKind::Fields => "fields",
+        LimitKind::Width => "width",
+        LimitKind::KeyWidth => "key",
+        LimitKind::Roles => "roles",
+        LimitKind::Tuples => "tuples",
+        LimitKind::Identifiers => "identifiers",
+        LimitKind::Scans => "scans",
+    }
+}
+
+/// Appends the line of a device that is not a store, with its end. Where memory runs out, a front of
+/// it may be there.
+pub fn say_not_a_store(place: Place, into: &mut Vec<u8>) -> Result<(), AllocError>
+    ensures ok { OnOk result (into.new.items ≡ into.old.items ++ not_a_store_line place) }
+    ensures room { vec_len into.old + length (not_a_store_line place) ≤ vec_capacity into.old → IsOk result }
+{
+    match place {
+        Place::Size => append("not a store size\n", &[], into),
+        Place::Root(root) => {
+            append("not a store root", &[Number(u64::from(root))], into)?;
+            append("\n", &[], into)
+        }
+    }
+}

@@ -1,0 +1,4 @@
+pub mod Codes
+pub mod Contents
+pub mod Roots
+pub mod Lengths

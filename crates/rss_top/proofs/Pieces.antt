@@ -1,0 +1,48 @@
+-- The parts of a piece of a script.
+use Rattle.std.proofs.Common.{◌≡◌, ℕ, ◌+◌, ◌-◌, ◌<◌, ◌≤◌, List, [], ◌∷◌, ◌++◌, length, take, drop, get_or, min, sym, ◌∙◌, ap, subst, arith, append_assoc, take-append-drop, length-drop}
+use Rattle.std.proofs.lemmas.List.{take_rest, take_more, take_min, drop-drop}
+use Rattle.std.proofs.Math.Seq.{take-add, take-append-add}
+use Rattle.rss_model.specs.Script.{IsUnbroken}
+
+-- the front of a list, of which some is there already
+pub fill-take : (n : ℕ) (xs ys : List ℕ) → length xs ≤ n → xs ++ take (min (length ys) (n - length xs)) ys ≡ take n (xs ++ ys)
+fill-take n xs ys le =
+    let whole : min (length ys) (n - length xs) ≡ min (n - length xs) (length ys) = omega arith in
+    let more : length xs + (n - length xs) ≡ n = omega arith in
+    ap (λ (k : ℕ). xs ++ take k ys) whole ∙ ap (λ (l : List ℕ). xs ++ l) (take_min (n - length xs) ys) ∙ sym (take-append-add xs ys (n - length xs)) ∙ ap (λ (k : ℕ). take k (xs ++ ys)) more
+
+-- the line that ends at a place of what is left after a place of the piece
+module _ (piece : List ℕ) (done at : ℕ) where
+  abbrev pub line_part : List ℕ
+  line_part = take (done + at - done) (drop done piece)
+
+  line_is : line_part ≡ take at (drop done piece)
+  line_is = let same : done + at - done ≡ at = omega arith in ap (λ (k : ℕ). take k (drop done piece)) same
+
+  pub line_unbroken : IsUnbroken (take at (take (length piece - done) (drop done piece))) → IsUnbroken line_part
+  line_unbroken unbroken = subst IsUnbroken (ap (λ (l : List ℕ). take at l) (take_rest piece done) ∙ sym line_is) unbroken
+
+  pub line_within : done ≤ length piece → at < length (take (length piece - done) (drop done piece)) → done + at < length piece
+  line_within le lt = let rest : length (take (length piece - done) (drop done piece)) ≡ length piece - done = ap length (take_rest piece done) ∙ length-drop done piece in omega (arith, rest, lt)
+
+  -- the line and what comes behind it
+  pub line_then : (given : List ℕ) → given ++ take done piece ++ (line_part ++ drop (done + at) piece) ≡ given ++ piece
+  line_then given =
+      append_assoc given (take done piece) (line_part ++ drop (done + at) piece)
+      ∙ ap (λ (l : List ℕ). given ++ (take done piece ++ l)) (ap (λ (l : List ℕ). l ++ drop (done + at) piece) line_is ∙ ap (λ (l : List ℕ). take at (drop done piece) ++ l) (sym (drop-drop at done piece)) ∙ take-append-drop at (drop done piece))
+      ∙ ap (λ (l : List ℕ). given ++ l) (take-append-drop done piece)
+
+  -- the line and its end
+  pub line_ended : (given : List ℕ) → at < length (take (length piece - done) (drop done piece)) → get_or (take (length piece - done) (drop done piece)) at 0 ≡ 10 → given ++ take done piece ++ (line_part ++ 10 ∷ []) ≡ given ++ take (done + at + 1) piece
+  line_ended given lt end =
+      let rest = take_rest piece done in
+      let inside : at < length (drop done piece) = subst (λ (l : List ℕ). at < length l) rest lt in
+      let byte : get_or (drop done piece) at 0 ≡ 10 = sym (ap (λ (l : List ℕ). get_or l at 0) rest) ∙ end in
+      let count : done + at + 1 ≡ done + (at + 1) = omega arith in
+      append_assoc given (take done piece) (line_part ++ 10 ∷ [])
+      ∙ ap (λ (l : List ℕ). given ++ (take done piece ++ l)) (ap (λ (l : List ℕ). l ++ 10 ∷ []) line_is ∙ ap (λ (b : ℕ). take at (drop done piece) ++ b ∷ []) (sym byte) ∙ sym (take_more (drop done piece) at 0 inside))
+      ∙ ap (λ (l : List ℕ). given ++ l) (sym (take-add done (at + 1) piece) ∙ ap (λ (k : ℕ). take k piece) (sym count))
+
+-- what is left of a piece, behind what was done of it
+pub rest_then : (piece : List ℕ) (done : ℕ) (given : List ℕ) → given ++ take done piece ++ drop done piece ≡ given ++ piece
+rest_then piece done given = append_assoc given (take done piece) (drop done piece) ∙ ap (λ (l : List ℕ). given ++ l) (take-append-drop done piece)

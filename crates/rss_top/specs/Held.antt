@@ -1,0 +1,39 @@
+-- The machine's state of a store whose values stand in one list, the committed ones first.
+use Rattle.std.specs.Prelude.{ℕ, ℤ, ◌+◌, List, [], ◌∷◌, ◌++◌, Option, Some, None, take, drop}
+use Rattle.std.specs.Ordering.{nat_cmp}
+use Rattle.std.specs.FinMap as map
+use Rattle.std.specs.FinMap.{FinMap}
+use Rattle.rss_base.specs.declared.value.Value.TheVariants.{Int}
+use Rattle.rss_model.specs.Items.{Content, Values}
+use Rattle.rss_model.specs.Changes.{Change}
+use Rattle.rss_model.specs.Machine.{State}
+use Rattle.rss_model.specs.Store.{item_at, tables_of}
+
+-- what a tuple item holds
+abbrev pub held : ℤ → Content
+held z = Values (Int z ∷ [])
+
+-- a transaction inserts a value at a place
+abbrev pub insertion : ℕ → ℕ → ℤ → Change
+insertion transaction place z = record { by = transaction; item = item_at place; old = None; new = Some (held z) }
+
+-- what a transaction inserts where its values stand from a place on, the newest first
+abbrev pub inserts : ℕ → ℕ → List ℤ → List Change
+inserts transaction place [] = []
+inserts transaction place (z ∷ values) = inserts transaction (place + 1) values ++ insertion transaction place z ∷ []
+
+abbrev pub changes_of : Option ℕ → ℕ → List ℤ → List Change
+changes_of None place values = []
+changes_of (Some transaction) place values = inserts transaction place values
+
+abbrev pub marks_of : Option ℕ → FinMap nat_cmp (List ℕ)
+marks_of None = map.empty
+marks_of (Some transaction) = map.insert map.empty transaction []
+
+-- the state where this transaction is open, if any, and the first values are committed
+abbrev pub state_of : Option ℕ → ℕ → List ℤ → State
+state_of transaction committed values = record {
+  base = tables_of (take committed values);
+  changes = changes_of transaction committed (drop committed values);
+  marks = marks_of transaction;
+}

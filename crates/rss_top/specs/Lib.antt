@@ -1,0 +1,6 @@
+pub mod Words
+pub mod Held
+pub mod Root
+pub mod Tuples
+pub mod TupleLaws
+pub mod Run

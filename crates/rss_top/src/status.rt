@@ -1,0 +1,38 @@
+// How a run ends.
+use rss_base::Place;
+
+/// How a run ended. Each status is the exit status of the program, by its number.
+#[derive(Clone, Copy, Debug, PartialEq, Eq)]
+pub enum Status {
+    /// The script was run to its end.
+    Ok,
+    /// The words of the command line are not those of a command.
+    Words,
+    /// The source failed.
+    ReadFault,
+    /// The sink failed.
+    WriteFault,
+    /// The device failed.
+    DeviceFault,
+    /// The device holds no store.
+    NotAStore(Place),
+    /// Memory ran out.
+    NoMemory,
+    /// The script is longer than a script may be.
+    TooLong,
+}
+
+impl Status {
+    pub fn number(&self) -> u8 {
+        match self {
+            Status::Ok => 0,
+            Status::Words => 1,
+            Status::ReadFault => 2,
+            Status::WriteFault => 3,
+            Status::DeviceFault => 4,
+            Status::NotAStore(_) => 5,
+            Status::NoMemory => 6,
+            Status::TooLong => 7,
+        }
+    }
+}
