@@ -1,5 +1,5 @@
 -- What stands in the bytes of a root: a page is a root of one list of values at most.
-use Rattle.std.proofs.Common.{◌≡◌, ℕ, zero, suc, ◌+◌, ◌-◌, ◌*◌, ◌^◌, ◌<◌, ◌≤◌, ℤ, List, [], ◌∷◌, ◌++◌, length, take, drop, get_or, refl, sym, ◌∙◌, ap, arith, append_assoc}
+use Rattle.std.proofs.Common.{◌≡◌, ◌≢◌, inl, inr, ℕ, zero, suc, ◌+◌, ◌-◌, ◌*◌, ◌^◌, ◌<◌, ◌≤◌, ℤ, List, [], ◌∷◌, ◌++◌, length, take, drop, get_or, refl, sym, ◌∙◌, ap, arith, append_assoc}
 use Rattle.std.specs.Prelude.{pos, negsuc, codes, replicate, flat_map, All, FitsSigned}
 use Rattle.std.specs.Int.{w16, w64, to_be_bytes, from_be_bytes, cast_unsigned, cast_signed}
 use Rattle.std.proofs.lemmas.Nat.{from_be_bytes-to_be_bytes_2, from_be_bytes-to_be_bytes_8}
@@ -8,7 +8,9 @@ use Rattle.std.proofs.lemmas.List.{ext_get_or}
 use Rattle.std.proofs.Math.Seq.{drop-append-add}
 use Rattle.rss_base.specs.DiskRule.{Pages}
 use Rattle.rss_model.specs.Tables.{Tables}
-use Rattle.rss_model.specs.Store.{root_bytes, IsRoot, OpensTo, tables_of}
+use Rattle.rss_base.specs.declared.place.Place.{Place}
+use Rattle.rss_base.specs.declared.place.Place.TheVariants.{Size, Root}
+use Rattle.rss_model.specs.Store.{root_bytes, IsRoot, OpensTo, ReadsAs, IsBrokenAt, tables_of}
 
 abbrev pub value_bytes : ℤ → List ℕ
 value_bytes z = to_be_bytes w64 (cast_unsigned w64 z)
@@ -64,3 +66,30 @@ same_values bytes a b first second =
 
 pub same_tables : (pages : Pages) (a b : Tables) → OpensTo pages a → OpensTo pages b → a ≡ b
 same_tables pages a b first second = first.holds ∙ ap tables_of (same_values _ first.values second.values first.root second.root) ∙ sym second.holds
+
+pub broken_some : (place : Place) (pages : Pages) → IsBrokenAt place pages → length pages ≢ 0
+broken_some Size pages broken = broken.0
+broken_some (Root number) pages broken = λ none. absurd (omega (arith, none, broken.0))
+
+-- pages that are out of form are no store, and are not made one
+pub broken_no_store : (place : Place) {pages : Pages} {tables : Tables} → IsBrokenAt place pages → OpensTo pages tables → ⊥
+broken_no_store Size broken store = broken.1 store.size
+broken_no_store (Root number) broken store = broken.1.1 store.values store.root
+
+pub broken_unread : (place : Place) {pages : Pages} {tables : Tables} → IsBrokenAt place pages → ReadsAs pages tables → ⊥
+broken_unread place broken (inl store) = broken_no_store place broken store
+broken_unread place {pages = pages} broken (inr none) = broken_some place pages broken none.0
+
+-- there is one such place at most
+pub broken_once : (place other : Place) (pages : Pages) → IsBrokenAt place pages → IsBrokenAt other pages → place ≡ other
+broken_once Size Size pages first second = refl
+broken_once Size (Root number) pages first second = absurd (first.1 second.0)
+broken_once (Root number) Size pages first second = absurd (second.1 first.0)
+broken_once (Root number) (Root other) pages first second = ap Root (first.1.0 ∙ sym second.1.0)
+
+-- pages are read as one set of tables
+pub read_once : {pages : Pages} {first second : Tables} → ReadsAs pages first → ReadsAs pages second → first ≡ second
+read_once {pages = pages} {first = first} {second = second} (inl store) (inl other) = same_tables pages first second store other
+read_once (inl store) (inr none) = absurd (omega (arith, store.size, none.0))
+read_once (inr none) (inl store) = absurd (omega (arith, store.size, none.0))
+read_once (inr none) (inr too) = none.1 ∙ sym too.1

@@ -8,6 +8,7 @@ pub mod Changes
 pub mod Machine
 pub mod Steps
 pub mod Runs
+pub mod Commits
 pub mod ReplyText
 pub mod Script
 pub mod Plays

@@ -1,5 +1,5 @@
 -- A store: three pages, and the tables that they open to. Page 0 is the selector, and pages 1 and 2 are the two roots.
-use Rattle.std.specs.Prelude.{◌≡◌, ◌⊎◌, ℕ, ℤ, ◌+◌, ◌-◌, ◌*◌, ◌/◌, ◌%◌, ◌≤◌, List, [], ◌∷◌, ◌++◌, length, slice_index, replicate, flat_map, All, codes, FitsSigned}
+use Rattle.std.specs.Prelude.{◌≡◌, ◌≢◌, ◌⊎◌, ℕ, ℤ, ◌+◌, ◌-◌, ◌*◌, ◌/◌, ◌%◌, ◌≤◌, List, [], ◌∷◌, ◌++◌, length, slice_index, replicate, flat_map, All, codes, FitsSigned}
 use Rattle.std.specs.Int.{w16, w64, to_be_bytes, cast_unsigned}
 use Rattle.std.specs.FinMap as map
 use Rattle.rss_base.specs.declared.name.Name.{Name}
@@ -8,7 +8,9 @@ use Rattle.rss_base.specs.declared.item.Item.{Item}
 use Rattle.rss_base.specs.declared.item.Item.TheVariants.{Tuple as TupleItem}
 use Rattle.rss_base.specs.declared.value.Value.TheVariants.{Int}
 use Rattle.rss_base.specs.declared.value.FieldKind.TheVariants.{Int as IntField}
-use Rattle.rss_base.specs.DiskRule.{Disk, Pages, page, Leaves}
+use Rattle.rss_base.specs.DiskRule.{Disk, Pages, page, Told, Leaves}
+use Rattle.rss_base.specs.declared.place.Place.{Place}
+use Rattle.rss_base.specs.declared.place.Place.TheVariants.{Size, Root}
 use Rattle.rss_model.specs.Items.{Content, Values}
 use Rattle.rss_model.specs.Tables.{Relations, Tables}
 
@@ -64,8 +66,21 @@ pub record OpensTo (pages : Pages) (tables : Tables) : Type 0 where
   pub root : IsRoot (root_of pages) values
   pub holds : tables ≡ tables_of values
 
+-- What a device of these pages is read as: a store with its tables, or, where there are no pages, one that is made empty.
+abbrev pub ReadsAs : Pages → Tables → Type 0
+ReadsAs pages tables = OpensTo pages tables ⊎ ((length pages ≡ 0) × (tables ≡ tables_of []))
+
+-- the first place at which the pages are out of form
+abbrev pub IsBrokenAt : Place → Pages → Type 0
+IsBrokenAt Size pages = (length pages ≢ 0) × (length pages ≢ 3)
+IsBrokenAt (Root number) pages = (length pages ≡ 3) × ((number ≡ selected pages) × ((values : List ℤ) → IsRoot (root_of pages) values → ⊥))
+
 abbrev pub OpensToEither : Tables → Tables → Pages → Type 0
 OpensToEither before after pages = OpensTo pages before ⊎ OpensTo pages after
+
+-- What a stop within the opening may leave: what it could leave before, and, while a device of no pages is made a store, any pages.
+abbrev pub OpeningLeaves : Disk → Pages → Type 0
+OpeningLeaves before image = Leaves before image ⊎ Told before (λ pages. length pages ≡ 0)
 
 -- a stop now leaves pages that open to these tables
 abbrev pub Opens : Disk → Tables → Type 0

@@ -37,9 +37,12 @@ pub trait Engine {
         ensures reply_line { IfOk result (λ reply. length (answer_line (Ok reply)) ≤ 8192) }
         ensures refusal_line { (why : Refusal) → result ≡ Err (Refused why) → length (answer_line (Err why)) ≤ 8192 }
 
-        // It is down exactly after a fault of the device.
+        // It is down exactly after a fault of the device, and then answers nothing more.
         ensures down { IsErrOf result CallError.Down → is_up self.old → ⊥ }
+        ensures still_down { (is_up self.old → ⊥) → IsErrOf result CallError.Down }
         ensures up { is_up self.old → (result ≡ Err CallError.Device → ⊥) → is_up self.new }
+        ensures faulted { IsErrOf result CallError.Device → is_up self.new → ⊥ }
+        ensures untouched { IsErrOf result CallError.Down → self.new ≡ self.old }
         ensures cause { IsErrOf result CallError.Device → Rises (faults self.old) (faults self.new) }
         ensures later { faults self.old ≤ faults self.new }
         ensures told { IsTold (disk self.old) → IsTold (disk self.new) };

@@ -1,7 +1,7 @@
-// Devices, sources and sinks as they run.
+// Devices, sources, sinks and lists as they run.
 ghost use Rattle.std.specs.Prelude.{◌≡◌, ◌<◌};
 
-use rss_base::{Device, Failed, Page, Sink, Source, write_all};
+use rss_base::{Device, Failed, Page, Sink, Source, Text, Tuple, Value, write_all};
 use rss_device::{FileDevice, MemDevice, MemSink, MemSource, ReaderSource, Unsynced, WriterSink};
 use std::alloc::Global;
 use std::test::Fail;
@@ -152,5 +152,21 @@ fn a_call_that_fails_brings_nothing_to_the_disk(rt: HostRuntime) -> Result<(), F
             "{unsynced:?} at {moment}"
         );
     }
+    Ok(())
+}
+
+#[test]
+fn lists_keep_what_is_pushed(rt: HostRuntime) -> Result<(), Fail> {
+    let mut text = Text::new(rt.alloc());
+    for byte in TEXT {
+        text.push(*byte)?;
+    }
+    assert_eq!(rt; text.as_slice(), TEXT);
+    let mut tuple = Tuple::new(rt.alloc());
+    tuple.push(Value::Int(7))?;
+    tuple.push(Value::Text(text))?;
+    assert!(rt;
+        matches!(tuple.as_slice(), [Value::Int(7), Value::Text(last)] if last.as_slice() == TEXT)
+    );
     Ok(())
 }

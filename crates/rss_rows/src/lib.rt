@@ -4,4 +4,10 @@
 #[cfg(test)]
 mod adapters;
 #[cfg(test)]
+mod harness;
+#[cfg(test)]
 mod scripts;
+#[cfg(test)]
+mod statuses;
+#[cfg(test)]
+mod stops;

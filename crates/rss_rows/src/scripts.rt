@@ -1,7 +1,7 @@
 // Scripts, and the replies that they get.
-use rss_device::{MemDevice, MemSink, MemSource};
-use rss_top::{Status, run};
-use std::alloc::Global;
+use crate::harness::run_script;
+use rss_device::MemDevice;
+use rss_top::Status;
 use std::fmt::Write;
 use std::test::Fail;
 
@@ -65,28 +65,6 @@ const WORDS: [&[u8]; 30] = [
     b"fetch 1 r 0.0.0",
     b"fetch 1 r 99999999999999999999.0",
 ];
-
-fn command(alloc: Global) -> Result<Vec<String>, Fail> {
-    let mut words = Vec::new(alloc);
-    for word in ["rss", "run", "FILE"] {
-        words.push(String::from_str(alloc, word)?)?;
-    }
-    Ok(words)
-}
-
-/// Runs a script that comes in pieces of so many bytes.
-fn run_script(
-    alloc: Global,
-    device: MemDevice,
-    script: &[u8],
-    piece: usize,
-) -> Result<(Status, Vec<u8>, MemDevice), Fail> {
-    let words = command(alloc)?;
-    let mut source = MemSource::new(script).in_pieces(piece);
-    let mut sink = MemSink::new(alloc);
-    let (status, device) = run(alloc, words.as_slice(), &mut source, &mut sink, device);
-    Ok((status, sink.into_bytes(), device))
-}
 
 #[test]
 fn a_script_gets_its_replies(rt: HostRuntime) -> Result<(), Fail> {

@@ -1,20 +1,21 @@
 -- How a run ends.
-use Rattle.std.proofs.Common.{◌≡◌, ◌⊎◌, inl, inr, ⊎_elim, ℕ, suc, List, [], ◌∷◌, ◌++◌, take, Option, refl, sym, ◌∙◌, ap, subst, arith}
+use Rattle.std.proofs.Common.{◌≡◌, ◌≢◌, ◌⊎◌, inl, inr, ℕ, suc, ◌<◌, ◌≤◌, List, [], ◌∷◌, ◌++◌, take, length, Option, Some, refl, sym, ◌∙◌, ap, subst, arith, length-append}
 use Rattle.std.proofs.lemmas.List.{append-nil}
+use Rattle.std.proofs.lemmas.Option.{same_Some}
 use Rattle.rss_base.specs.DiskRule.{Disk, Pages, Leaves, Passes, Continues}
+use Rattle.rss_base.specs.Faults.{Rises}
 use Rattle.rss_base.specs.Streams.{Gives}
-use Rattle.rss_base.proofs.Flows.{gives_none, gives_then, takes_none}
-use Rattle.rss_base.proofs.Moments.{started}
+use Rattle.rss_base.proofs.Flows.{gives_then}
+use Rattle.rss_base.proofs.Moments.{widened}
+use Rattle.rss_base.specs.declared.place.Place.{Place}
 use Rattle.rss_model.specs.Tables.{Tables}
 use Rattle.rss_model.specs.Machine.{State, at_rest}
-use Rattle.rss_model.specs.Script.{IsUnbroken}
-use Rattle.rss_model.specs.Plays.LineStep.{blank}
-use Rattle.rss_model.specs.Store.{Opens}
-use Rattle.rss_top.specs.Run.{Window, Story, Kept, Reading, Stopped, Whole, Ended, IsRun, IsHalt, IsStop, IsAllOf, LineRan, kept_limit, script_limit}
-use Rattle.rss_top.specs.Run.Played.{none}
+use Rattle.rss_model.specs.Store.{Opens, ReadsAs, OpeningLeaves}
+use Rattle.rss_model.proofs.Roots.{read_once}
+use Rattle.rss_top.specs.Run.{Window, Story, Kept, Reading, Stopped, Whole, Ended, IsRefusal, IsHalt, IsStop, IsAllOf, IsReadThrough, LineRan, kept_limit, script_limit}
 use Rattle.rss_top.specs.declared.status.Status.{Status}
-use Rattle.rss_top.specs.declared.status.Status.TheVariants.{Ok, TooLong, DeviceFault, NoMemory}
-use Rattle.rss_top.proofs.Stories.{whole_line, whole_ended, story_start, no_lines, no_bytes}
+use Rattle.rss_top.specs.declared.status.Status.TheVariants.{Ok, Words, ReadFault, WriteFault, DeviceFault, NotAStore, NoMemory, TooLong}
+use Rattle.rss_top.proofs.Stories.{whole_line, whole_ended, story_start}
 use Rattle.rss_top.proofs.Fronts.{ran_whole}
 
 not_halt : {s : Status} → IsHalt s → s ≡ Ok → ⊥
@@ -39,14 +40,27 @@ not_both (inr a) (inl b) = cc
 not_both (inr a) (inr (inl b)) = cc
 not_both (inr a) (inr (inr b)) = cc
 
+stop_not_through : {s : Status} → IsStop s → IsReadThrough s → ⊥
+stop_not_through (inl a) (inl b) = cc
+stop_not_through (inl a) (inr b) = cc
+stop_not_through (inr (inl a)) (inl b) = cc
+stop_not_through (inr (inl a)) (inr b) = cc
+stop_not_through (inr (inr a)) (inl b) = cc
+stop_not_through (inr (inr a)) (inr b) = cc
+
+pub not_through : IsReadThrough TooLong → ⊥
+not_through (inl a) = cc
+not_through (inr a) = cc
+
 module _ {start : ℕ} {first : State} {source_before source_after sink_before sink_after : Option (List ℕ)} where
-  pub ended_halted : {disk : Disk} {state : State} {taken : ℕ} {front : List ℕ} (status : Status) → IsHalt status → (status ≡ TooLong → taken ≡ script_limit)
+  pub ended_halted : {disk : Disk} {state : State} {taken : ℕ} {front : List ℕ} (status : Status) → IsHalt status → (status ≡ TooLong → taken ≡ script_limit) → (IsReadThrough status → taken < script_limit)
       → Reading start disk first state taken front source_before source_after sink_before sink_after → Ended status start disk first source_before source_after sink_before sink_after
-  ended_halted {state = state} status is long reading = record {
+  ended_halted {state = state} {taken = taken} status is long short reading = record {
     given = reading.given;
     gives = reading.gives;
     all_given = λ ok. absurd (not_halt is ok);
     too_long = λ e. reading.long ∙ long e;
+    short = λ through. subst (λ (n : ℕ). n < script_limit) (sym reading.long) (short through);
     whole = λ ok. absurd (not_halt is ok);
     halted = λ halt. record { state = state; left = reading.kept.left; story = reading.kept.story };
     stopped = λ stop. absurd (not_both is stop);
@@ -59,18 +73,20 @@ module _ {start : ℕ} {first : State} {source_before source_after sink_before s
     gives = gives;
     all_given = λ ok. absurd (not_stop is ok);
     too_long = λ e. absurd (stop_not_long is e);
+    short = λ through. absurd (stop_not_through is through);
     whole = λ ok. absurd (not_stop is ok);
     halted = λ halt. absurd (not_both halt is);
     stopped = λ _. stop;
   }
 
-  pub ended_whole : {disk : Disk} (mid : Option (List ℕ)) (given : List ℕ) → Gives source_before given mid → Gives mid [] source_after → IsAllOf mid [] → Whole start disk first given sink_before sink_after
+  pub ended_whole : {disk : Disk} (mid : Option (List ℕ)) (given : List ℕ) → length given < script_limit → Gives source_before given mid → Gives mid [] source_after → IsAllOf mid [] → Whole start disk first given sink_before sink_after
       → Ended Ok start disk first source_before source_after sink_before sink_after
-  ended_whole mid given gives last no_more whole = record {
+  ended_whole mid given short gives last no_more whole = record {
     given = given;
     gives = subst (λ (l : List ℕ). Gives source_before l source_after) (append-nil given) (gives_then _ _ _ given [] gives last);
     all_given = λ _ all is. let moved = gives.moves all is in moved.2 ∙ ap (λ (l : List ℕ). given ++ l) (no_more moved.0 moved.1) ∙ append-nil given;
     too_long = λ e. absurd (cc);
+    short = λ through. short;
     whole = λ _. whole;
     halted = λ halt. absurd (not_halt halt refl);
     stopped = λ stop. absurd (not_stop stop refl);
@@ -91,38 +107,45 @@ module _ {start : ℕ} {disk : Disk} {first state : State} {given front : List �
 
 -- ---- the opening
 
--- at each moment of the opening a stop leaves what it could leave before, seen from a later device
-pub opening_window : {before opened after : Disk} → Passes before opened (Leaves before) → Continues opened after → Window after before.moment opened.moment (Leaves before)
+-- what a stop within the opening leaves
+pub opening_passes : {before opened : Disk} {tables : Tables} (pages : Pages) → before.contents ≡ Some pages → ReadsAs pages tables → (length pages ≢ 0 → Passes before opened (Leaves before)) → Continues before opened → Passes before opened (OpeningLeaves before)
+opening_passes pages told (inl store) quiet history = widened (quiet (λ none. absurd (omega (arith, none, store.size)))) (λ image left. inl left)
+opening_passes pages told (inr empty) quiet history = widened history (λ image _. inr (λ others is. ap (λ (p : Pages). length p) (same_Some _ _ (sym is ∙ told)) ∙ empty.0))
+
+-- seen from a later device
+pub opening_window : {before opened after : Disk} → Passes before opened (OpeningLeaves before) → Continues opened after → Window after before.moment opened.moment (OpeningLeaves before)
 opening_window opening history = record { later = opening.later; each = λ t image lt le left. opening.each t image lt le ((history.past t image le).0 left) }
 
 -- the run begins with the opened store
-pub run_begun : {opened : Disk} (tables : Tables) (state : State) (told : Option (List ℕ)) → state ≡ at_rest tables → Opens opened state.base → Story opened.moment opened (at_rest tables) state [] [] told told
-run_begun {opened = opened} tables state told is opens =
-    let still : Opens opened tables = subst (λ (s : State). Opens opened s.base) is opens in
-    subst (λ (s : State). Story opened.moment opened (at_rest tables) s [] [] told told) (sym is) (story_start tables told still)
+pub run_begun : {opened : Disk} {pages : Pages} (tables : Tables) (state : State) (told : Option (List ℕ)) → state ≡ at_rest state.base → ReadsAs pages state.base → ReadsAs pages tables → Opens opened state.base → Story opened.moment opened (at_rest tables) state [] [] told told
+run_begun {opened = opened} tables state told rest read reads opens =
+    let same : state.base ≡ tables = read_once read reads in
+    let is : state ≡ at_rest tables = rest ∙ ap at_rest same in
+    subst (λ (s : State). Story opened.moment opened (at_rest tables) s [] [] told told) (sym is) (story_start tables told (subst (λ (t : Tables). Opens opened t) same opens))
 
-no_time : {disk : Disk} (P : Pages → Type 0) → Window disk disk.moment disk.moment P
-no_time P = record { later = omega arith; each = λ t image lt le left. absurd (omega arith) }
+-- the place that a run names is the one that is out of form
+pub refused_there : {place there : Place} {status : Status} → there ≡ place → (status ≡ NotAStore there) ⊎ (status ≡ WriteFault) ⊎ (status ≡ NoMemory) → IsRefusal place status
+refused_there same (inl refused) = inl (refused ∙ ap NotAStore same)
+refused_there same (inr (inl fault)) = inr (inr (inl fault))
+refused_there same (inr (inr memory)) = inr (inr (inr memory))
 
--- the device failed in the opening, or memory ran out there
-pub run_unopened : {before after : Disk} (tables : Tables) → Passes before after (Leaves before) → (status : Status) → (status ≡ DeviceFault) ⊎ (status ≡ NoMemory) → (source sink : Option (List ℕ)) → IsRun status tables before after source source sink sink
-run_unopened {after = after} tables opening status is source sink = record {
-  opened = after.moment;
-  opening = opening_window opening (started after _);
-  ended = ended_stopped status [] (⊎_elim (λ a. inr (inl a)) (λ b. inr (inr b)) is) (gives_none source) (record {
-    lines = [];
-    turns = [];
-    text = [];
-    state = at_rest tables;
-    at = after.moment;
-    line = [];
-    rest = [];
-    played = none;
-    parts = refl;
-    whole = no_lines IsUnbroken;
-    front = no_bytes;
-    device = λ _. (record { turns = []; said = []; next = at_rest tables; step = blank refl; moments = no_time _ }, takes_none sink);
-    sink = λ write. absurd (⊎_elim (λ a. cc (a, write)) (λ b. cc (b, write)) is);
-    memory = λ _. (no_time _, takes_none sink);
-  });
-}
+-- what is left where nothing fails
+pub completes : (status : Status) → (status ≡ Words → ⊥) → (status ≡ ReadFault → ⊥) → (status ≡ WriteFault → ⊥) → (status ≡ DeviceFault → ⊥) → ((place : Place) → status ≡ NotAStore place → ⊥) → (status ≡ TooLong → ⊥) → (status ≡ Ok) ⊎ (status ≡ NoMemory)
+completes Ok words read write device store long = inl refl
+completes Words words read write device store long = absurd (words refl)
+completes ReadFault words read write device store long = absurd (read refl)
+completes WriteFault words read write device store long = absurd (write refl)
+completes DeviceFault words read write device store long = absurd (device refl)
+completes (NotAStore place) words read write device store long = absurd (store place refl)
+completes NoMemory words read write device store long = inr refl
+completes TooLong words read write device store long = absurd (long refl)
+
+-- a source with fewer bytes than a script may have isn't too long
+pub not_too_long : {status : Status} {start : ℕ} {disk : Disk} {first : State} {source_before source_after sink_before sink_after : Option (List ℕ)} (all : List ℕ) → source_before ≡ Some all → length all < script_limit → Ended status start disk first source_before source_after sink_before sink_after → status ≡ TooLong → ⊥
+not_too_long all told short ended is =
+    let moved = ended.gives.moves all told in
+    absurd (omega (arith, short, ended.too_long is, ap (λ (l : List ℕ). length l) moved.2, length-append ended.given moved.0))
+
+-- a count that has risen since later has risen since before
+pub rises_since : {before mid now : ℕ} → before ≤ mid → Rises mid now → Rises before now
+rises_since later rises = omega (arith, later, rises)

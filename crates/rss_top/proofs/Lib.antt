@@ -1,8 +1,3 @@
-pub mod Bytes
-pub mod Roots
-pub mod Calls
-pub mod Commits
-pub mod Rest
 pub mod Stories
 pub mod Fronts
 pub mod Pieces

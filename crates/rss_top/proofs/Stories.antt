@@ -1,12 +1,12 @@
 -- How a run over lines goes on.
-use Rattle.std.proofs.Common.{◌≡◌, ◌≢◌, ◌⊎◌, inl, inr, ℕ, ◌≤◌, List, [], ◌∷◌, ◌++◌, Option, refl, sym, ◌∙◌, ap, subst, arith, append_assoc}
+use Rattle.std.proofs.Common.{◌≡◌, ◌≢◌, ◌⊎◌, inl, inr, ⊎_elim, ℕ, ◌≤◌, List, [], ◌∷◌, ◌++◌, Option, refl, sym, ◌∙◌, ap, subst, arith, append_assoc}
 use Rattle.std.proofs.lemmas.List.{append-nil}
 use Rattle.std.proofs.lemmas.List.Elements.{All-push, All-append}
 use Rattle.std.specs.Prelude.{All}
 use Rattle.rss_base.specs.DiskRule.{Disk, Pages, Leaves, Passes}
 use Rattle.rss_base.specs.Streams.{Takes, TakesFront}
 use Rattle.rss_base.proofs.Flows.{takes_none, takes_then}
-use Rattle.rss_base.proofs.Moments.{started}
+use Rattle.rss_base.proofs.Moments.{started, now}
 use Rattle.rss_model.specs.Tables.{Tables}
 use Rattle.rss_model.specs.Machine.{State, at_rest}
 use Rattle.rss_model.specs.Runs.{Turn}
@@ -121,10 +121,15 @@ module _ {start : ℕ} {disk : Disk} {first state : State} {given left : List �
     parts = ap (λ (l : List ℕ). l ++ rest) story.splits.parts ∙ append_assoc (joined story.lines) left rest;
     whole = story.splits.whole;
     front = story.splits.front;
-    device = λ is. (
-      record { turns = stop.turns; said = stop.text; next = stop.next; step = stop.done.step; moments = record { later = stop.done.moments.later; each = stop.done.moments.each } },
-      subst (λ (o : Option (List ℕ)). Takes before story.text o) (sym stop.same) story.takes,
-    );
+    device = λ is. record {
+      turns = stop.turns;
+      said = stop.text;
+      next = stop.next;
+      step = stop.done.step;
+      moments = record { later = stop.done.moments.later; each = stop.done.moments.each };
+      opens = λ image left. ⊎_elim (λ earlier. inl (story.opens image earlier)) (λ within. within) (now stop.done.moments image left);
+      takes = subst (λ (o : Option (List ℕ)). Takes before story.text o) (sym stop.same) story.takes;
+    };
     sink = λ is. absurd (cc);
     memory = λ is. absurd (cc);
   }
@@ -162,7 +167,11 @@ module _ {start : ℕ} {disk : Disk} {first state : State} {given left : List �
     front = story.splits.front;
     device = λ is. absurd (cc);
     sink = λ is. absurd (cc);
-    memory = λ is. (record { later = stop.moments.later; each = stop.moments.each }, subst (λ (o : Option (List ℕ)). Takes before story.text o) (sym stop.same) story.takes);
+    memory = λ is. record {
+      moments = record { later = stop.moments.later; each = stop.moments.each };
+      opens = λ image left. ⊎_elim (λ earlier. story.opens image earlier) (λ within. within) (now stop.moments image left);
+      takes = subst (λ (o : Option (List ℕ)). Takes before story.text o) (sym stop.same) story.takes;
+    };
   }
 
   pub stopped_by_line : (status : Status) (new : State) → (status ≡ WriteFault) ⊎ (status ≡ DeviceFault) ⊎ (status ≡ NoMemory) → (status ≡ DeviceFault → DeviceStopped disk later state left mid after) → (status ≡ WriteFault → SinkStopped disk later state left new mid after)

@@ -1,6 +1,3 @@
 pub mod Words
-pub mod Held
-pub mod Root
-pub mod Tuples
-pub mod TupleLaws
+pub mod Exit
 pub mod Run

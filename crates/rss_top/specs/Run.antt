@@ -2,14 +2,15 @@
 use Rattle.std.specs.Prelude.{◌≡◌, ◌⊎◌, ℕ, ◌^◌, ◌<◌, ◌≤◌, List, [], ◌∷◌, ◌++◌, length, take, Option, Some, All}
 use Rattle.rss_base.specs.DiskRule.{Disk, Pages, Leaves, Passes}
 use Rattle.rss_base.specs.Streams.{Gives, Takes, TakesFront}
+use Rattle.rss_base.specs.declared.place.Place.{Place}
 use Rattle.rss_model.specs.Tables.{Tables}
 use Rattle.rss_model.specs.Machine.{State, at_rest}
 use Rattle.rss_model.specs.Runs.{Turn, Run}
 use Rattle.rss_model.specs.Script.{joined, IsUnbroken, Splits, AreLines}
 use Rattle.rss_model.specs.Plays.{LineStep, Play}
-use Rattle.rss_model.specs.Store.{OpensTo, OpensToEither, Opens}
+use Rattle.rss_model.specs.Store.{OpensTo, OpensToEither, Opens, OpeningLeaves}
 use Rattle.rss_top.specs.declared.status.Status.{Status}
-use Rattle.rss_top.specs.declared.status.Status.TheVariants.{Ok, ReadFault, TooLong, WriteFault, DeviceFault, NoMemory}
+use Rattle.rss_top.specs.declared.status.Status.TheVariants.{Ok, ReadFault, TooLong, WriteFault, DeviceFault, NotAStore, NoMemory}
 
 -- ---- one line
 
@@ -97,21 +98,29 @@ pub record Reading (start : ℕ) (now : Disk) (first state : State) (taken : ℕ
 
 -- ---- how a run ends
 
--- the line met a device fault
-pub record Ends (disk : Disk) (state : State) (line : List ℕ) (at : ℕ) : Type 0 where
+-- The device failed within the line: the text is that of the lines before, and a stop leaves the committed tables before or after the line, at each of its moments and at the end.
+pub record FailedInLine (disk : Disk) (state : State) (line : List ℕ) (at : ℕ) (before : Option (List ℕ)) (text : List ℕ) (after : Option (List ℕ)) : Type 0 where
   pub turns : List Turn
   pub said : List ℕ
   pub next : State
   pub step : LineStep state line turns said next
   pub moments : Window disk at disk.moment (OpensToEither state.base next.base)
+  pub opens : (image : Pages) → Leaves disk image → OpensToEither state.base next.base image
+  pub takes : Takes before text after
 
--- the line was run, and the front of its reply was written
-pub record Cuts (disk : Disk) (state : State) (line : List ℕ) (at : ℕ) (before : Option (List ℕ)) (text : List ℕ) (after : Option (List ℕ)) : Type 0 where
+-- The sink failed after the line was run: the text is that of the lines before and the front of its reply.
+pub record FailedInReply (disk : Disk) (state : State) (line : List ℕ) (at : ℕ) (before : Option (List ℕ)) (text : List ℕ) (after : Option (List ℕ)) : Type 0 where
   pub turns : List Turn
   pub said : List ℕ
   pub next : State
   pub turn : LineTurn disk state line turns said next at disk.moment
   pub takes : TakesFront before (text ++ said) after
+
+-- Memory ran out in the line, which has changed nothing: the text is that of the lines before.
+pub record LackedMemory (disk : Disk) (state : State) (at : ℕ) (before : Option (List ℕ)) (text : List ℕ) (after : Option (List ℕ)) : Type 0 where
+  pub moments : Window disk at disk.moment (λ pages. OpensTo pages state.base)
+  pub opens : Opens disk state.base
+  pub takes : Takes before text after
 
 -- A run over all the lines of a script: a run of the machine, and the text is the play of the lines.
 pub record Whole (start : ℕ) (now : Disk) (first : State) (given : List ℕ) (before after : Option (List ℕ)) : Type 0 where
@@ -139,9 +148,9 @@ pub record Stopped (status : Status) (start : ℕ) (now : Disk) (first : State) 
   pub parts : given ≡ joined lines ++ (line ++ rest)
   pub whole : All IsUnbroken lines
   pub front : IsUnbroken line
-  pub device : status ≡ DeviceFault → Ends now state line at × Takes before text after
-  pub sink : status ≡ WriteFault → Cuts now state line at before text after
-  pub memory : status ≡ NoMemory → Window now at now.moment (λ pages. OpensTo pages state.base) × Takes before text after
+  pub device : status ≡ DeviceFault → FailedInLine now state line at before text after
+  pub sink : status ≡ WriteFault → FailedInReply now state line at before text after
+  pub memory : status ≡ NoMemory → LackedMemory now state at before text after
 
 -- the run ended between two lines, though the script did not
 abbrev pub IsHalt : Status → Type 0
@@ -165,18 +174,32 @@ IsAllOf source given = (all : List ℕ) → source ≡ Some all → all ≡ give
 abbrev pub script_limit : ℕ
 script_limit = 2 ^ 30
 
+-- the run read up to the script's end, or up to a fault of the source
+abbrev pub IsReadThrough : Status → Type 0
+IsReadThrough status = (status ≡ Ok) ⊎ (status ≡ ReadFault)
+
 -- How a run ended: the bytes given, and what was run and written.
 pub record Ended (status : Status) (start : ℕ) (now : Disk) (first : State) (source_before source_after sink_before sink_after : Option (List ℕ)) : Type 0 where
   pub given : List ℕ
   pub gives : Gives source_before given source_after
   pub all_given : status ≡ Ok → IsAllOf source_before given
   pub too_long : status ≡ TooLong → length given ≡ script_limit
+  pub short : IsReadThrough status → length given < script_limit
   pub whole : status ≡ Ok → Whole start now first given sink_before sink_after
   pub halted : IsHalt status → Halted start now first given sink_before sink_after
   pub stopped : IsStop status → Stopped status start now first given sink_before sink_after
 
--- One run over a store with these tables. At each moment of the opening, which ended at a moment, a stop leaves what it could leave before; then the script is run.
-pub record IsRun (status : Status) (tables : Tables) (before after : Disk) (source_before source_after sink_before sink_after : Option (List ℕ)) : Type 0 where
-  pub opened : ℕ
-  pub opening : Window after before.moment opened (Leaves before)
-  pub ended : Ended status opened after (at_rest tables) source_before source_after sink_before sink_after
+-- the opening ended the run
+abbrev pub IsFailedOpening : Status → Type 0
+IsFailedOpening status = (status ≡ DeviceFault) ⊎ (status ≡ NoMemory)
+
+-- One run over a store with these tables, or over a device of no pages that is made one. A stop at a moment of its opening leaves what it could leave before.
+pub data IsRun (status : Status) (tables : Tables) (before after : Disk) (source_before source_after sink_before sink_after : Option (List ℕ)) : Type 0 where
+  -- the opening failed: nothing was read or written
+  unopened : IsFailedOpening status → Passes before after (OpeningLeaves before) → source_after ≡ source_before → sink_after ≡ sink_before → IsRun status tables before after source_before source_after sink_before sink_after
+  -- the store was open from this moment on, and the script was run
+  opened : (at : ℕ) → Window after before.moment at (OpeningLeaves before) → Ended status at after (at_rest tables) source_before source_after sink_before sink_after → IsRun status tables before after source_before source_after sink_before sink_after
+
+-- The device was refused, or the run failed before it could be.
+abbrev pub IsRefusal : Place → Status → Type 0
+IsRefusal place status = (status ≡ NotAStore place) ⊎ (status ≡ DeviceFault) ⊎ (status ≡ WriteFault) ⊎ (status ≡ NoMemory)

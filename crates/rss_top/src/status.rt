@@ -1,4 +1,7 @@
 // How a run ends.
+ghost use Rattle.std.specs.Prelude.{◌≡◌};
+ghost use Rattle.rss_top.specs.Exit.{exit_status};
+
 use rss_base::Place;
 
 /// How a run ended. Each status is the exit status of the program, by its number.
@@ -23,7 +26,10 @@ pub enum Status {
 }
 
 impl Status {
-    pub fn number(&self) -> u8 {
+    /// The exit status of a program that ends so.
+    pub fn number(&self) -> u8
+        ensures { result ≡ exit_status self.now }
+    {
         match self {
             Status::Ok => 0,
             Status::Words => 1,

@@ -7,7 +7,7 @@ use Rattle.rss_base.proofs.Moments.{started, continues_then}
 use Rattle.rss_top.specs.Run.{Stopped, Kept}
 use Rattle.rss_top.specs.declared.status.Status.TheVariants.{ReadFault, TooLong, NoMemory}
 use Rattle.rss_top.proofs.Stories.{stopped_unread}
-use Rattle.rss_top.proofs.Endings.{ended_halted, ended_stopped, ended_whole}
+use Rattle.rss_top.proofs.Endings.{ended_halted, ended_stopped, ended_whole, not_through}
 use Rattle.rss_top.proofs.reading.run_lines.Goals as goal
 
 -- what was read into the buffer is what the buffer holds
@@ -34,7 +34,7 @@ loop-taken-init g c = record {
 pub returns-in_default-read_piece-clause-ended : goal.returns-in_default-read_piece-clause-ended
 returns-in_default-read_piece-clause-ended g c = λ start first before told story.
     let reading = c.loop-taken.invariant.reading start first before told story in
-    ended_halted ReadFault (inl refl) (λ e. absurd (cc)) (record {
+    ended_halted ReadFault (inl refl) (λ e. absurd (cc)) (λ _. c.loop-taken-test.true) (record {
       given = reading.given;
       long = reading.long;
       gives = subst (λ (o : Option (List ℕ)). Gives (g.O.Source.left c.args.source.now) reading.given o) (sym c.in_default-read_piece.ensures.failed) reading.gives;
@@ -56,7 +56,7 @@ returns-then-count-eq0-clause-ended g c = λ start first before told story.
     let last = subst (λ (k : ℕ). Gives (g.O.Source.left c.loop-taken.source) (take k c.read_piece.new.piece) (g.O.Source.left c.read_piece.new.source)) c.if-count-eq0.true c.in-Ok-read_piece.ensures.gives in
     let kept = subst (λ (l : List ℕ). Kept start (g.E.Engine.disk c.loop-taken.engine) first (g.E.Engine.state c.loop-taken.engine) reading.given l before (g.K.Sink.written c.loop-taken.sink)) (sym c.as_slice.ensures.value) reading.kept in
     let most : c.min-most.result ≡ min 65536 (1073741824 - c.loop-taken.taken) = c.min-most.ensures in
-    ended_whole (g.O.Source.left c.loop-taken.source) reading.given reading.gives last (c.in-Ok-read_piece.ensures.end (ap Ok c.if-count-eq0.true) (omega (arith, most, c.loop-taken-test.true))) (c.in_default-finish.ensures.ok start first reading.given before (c.loop-taken.invariant.told told) kept)
+    ended_whole (g.O.Source.left c.loop-taken.source) reading.given (omega (arith, reading.long, c.loop-taken-test.true)) reading.gives last (c.in-Ok-read_piece.ensures.end (ap Ok c.if-count-eq0.true) (omega (arith, most, c.loop-taken-test.true))) (c.in_default-finish.ensures.ok start first reading.given before (c.loop-taken.invariant.told told) kept)
 
 pub returns-in-Err-feed-clause-ended : goal.returns-in-Err-feed-clause-ended
 returns-in-Err-feed-clause-ended g c = λ start first before told story.
@@ -96,4 +96,4 @@ loop-taken-preserved g c = record {
 
 pub returns-clause-ended : goal.returns-clause-ended
 returns-clause-ended g c = λ start first before told story.
-    ended_halted TooLong (inr refl) (λ _. omega (arith, c.loop-taken-test.false, c.loop-taken.invariant.within)) (c.loop-taken.invariant.reading start first before told story)
+    ended_halted TooLong (inr refl) (λ _. omega (arith, c.loop-taken-test.false, c.loop-taken.invariant.within)) (λ through. absurd (not_through through)) (c.loop-taken.invariant.reading start first before told story)

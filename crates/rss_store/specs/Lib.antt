@@ -1,0 +1,4 @@
+pub mod Held
+pub mod Root
+pub mod Tuples
+pub mod TupleLaws
