@@ -1,7 +1,7 @@
 -- How calls of a device follow one another.
-use Rattle.std.proofs.Common.{◌≡◌, ◌⊎◌, inl, inr, ⊎_elim, ℕ, ◌≤◌, refl, subst, arith}
+use Rattle.std.proofs.Common.{◌≡◌, ◌⊎◌, inl, inr, ⊎_elim, ℕ, ◌≤◌, refl, sym, ◌∙◌, subst, arith}
 use Rattle.std.proofs.lemmas.Bool.{cases_lt}
-use Rattle.rss_base.specs.DiskRule.{Disk, Pages, Leaves, LeavesOnly, TornAt, Passes, Continues}
+use Rattle.rss_base.specs.DiskRule.{Disk, Pages, Leaves, LeavesOnly, TornAt, TornIn, Passes, Continues}
 
 -- before the first call
 pub started : (disk : Disk) (P : Pages → Type 0) → Passes disk disk P
@@ -50,6 +50,23 @@ untorn at image has = record { before = image; was = has; same = record { size =
 -- a write, and then a call that leaves no more than it did
 pub written_then : {at : ℕ} {old mid new : Disk} → Passes old mid (TornAt at (Leaves old)) → Passes mid new (Leaves mid) → Passes old new (TornAt at (Leaves old))
 written_then {at = at} {old = old} first second = then first second (λ image left. ⊎_elim (λ before. untorn at image before) (λ torn. torn) (now first image left))
+
+-- nothing of some places was written
+pub none_torn : {places : ℕ → Type 0} {P : Pages → Type 0} (image : Pages) → P image → TornIn places P image
+none_torn image has = record { before = image; was = has; same = record { size = refl; others = λ q off. refl } }
+
+-- one page more of some places is written
+pub write_within : {places : ℕ → Type 0} {at : ℕ} {old mid new : Disk} → places at → Passes old mid (TornIn places (Leaves old)) → Passes mid new (TornAt at (Leaves mid)) → Passes old new (TornIn places (Leaves old))
+write_within {places = places} {at = at} {old = old} inside first second = then first second (λ image torn.
+    let earlier : TornIn places (Leaves old) torn.before = ⊎_elim (λ left. none_torn torn.before left) (λ within. within) (now first torn.before torn.was) in
+    record {
+      before = earlier.before;
+      was = earlier.was;
+      same = record {
+        size = torn.same.size ∙ earlier.same.size;
+        others = λ q off. torn.same.others q (λ is. off (subst places (sym is) inside)) ∙ earlier.same.others q off;
+      };
+    })
 
 -- a call that leaves no more than could be left before it
 pub no_more : {old new : Disk} → Passes old new (Leaves old) → (image : Pages) → Leaves new image → Leaves old image

@@ -1,5 +1,5 @@
 -- The disk rule: what a device tells of its pages, and what a stop may leave of them.
-use Rattle.std.specs.Prelude.{◌≡◌, ◌≢◌, ◌↔◌, ℕ, ◌<◌, ◌≤◌, List, [], length, slice_index_or, Option, Some, ⊤}
+use Rattle.std.specs.Prelude.{◌≡◌, ◌≢◌, ◌↔◌, ℕ, ◌+◌, ◌<◌, ◌≤◌, List, [], length, slice_index_or, Option, Some, ⊤}
 
 -- a list of pages, each a list of bytes
 abbrev pub Pages : Type 0
@@ -43,6 +43,21 @@ pub record TornAt (at : ℕ) (P : Pages → Type 0) (image : Pages) : Type 0 whe
   pub before : Pages
   pub was : P before
   pub same : SameBut at before image
+
+-- the same pages outside these places
+pub record SameOff (places : ℕ → Type 0) (old new : Pages) : Type 0 where
+  pub size : length new ≡ length old
+  pub others : (q : ℕ) → (places q → ⊥) → page new q ≡ page old q
+
+-- pages that have P, with any bytes in these places
+pub record TornIn (places : ℕ → Type 0) (P : Pages → Type 0) (image : Pages) : Type 0 where
+  pub before : Pages
+  pub was : P before
+  pub same : SameOff places before image
+
+-- so many places, from one on
+abbrev pub IsWithin : ℕ → ℕ → ℕ → Type 0
+IsWithin first count q = (first ≤ q) × (q < first + count)
 
 -- Time goes on from old to new: the past stays as it was, and each new moment's images have P.
 pub record Passes (old new : Disk) (P : Pages → Type 0) : Type 0 where

@@ -1,3 +1,5 @@
 pub mod Faults
 pub mod Streams
 pub mod DiskRule
+pub mod Layout
+pub mod PageMap

@@ -1,5 +1,5 @@
 // Tuples as values.
-ghost use Rattle.std.specs.Prelude.{◌≡◌, [], ◌∷◌, ◌++◌, OnOk, OnErr};
+ghost use Rattle.std.specs.Prelude.{◌≡◌, [], ◌∷◌, ◌++◌, IfOk, OnOk, OnErr};
 
 use crate::Value;
 use std::alloc::{AllocError, Global};
@@ -28,6 +28,15 @@ impl Tuple {
         Tuple {
             values: Vec::new(alloc),
         }
+    }
+
+    /// The tuple of one value.
+    pub fn single(alloc: Global, value: Value) -> Result<Self, AllocError>
+        ensures { IfOk result (λ tuple. tuple ≡ value ∷ []) }
+    {
+        let mut tuple = Tuple::new(alloc);
+        tuple.push(value)?;
+        Ok(tuple)
     }
 
     pub fn push(&mut self, value: Value) -> Result<(), AllocError>

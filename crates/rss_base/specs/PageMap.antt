@@ -1,0 +1,88 @@
+-- The map of the slots: which page each of them holds.
+use Rattle.std.specs.Prelude.{◌≡◌, ◌≢◌, ℕ, ◌+◌, ◌*◌, ◌/◌, ◌%◌, ◌<◌, ◌≤◌, List, [], ◌∷◌, ◌++◌, length, take, drop, slice_index_or, replicate, Option, Some, None, IfSome}
+use Rattle.std.specs.Int.{w32, to_be_bytes}
+use Rattle.rss_base.specs.DiskRule.{Pages, page}
+use Rattle.rss_base.specs.Layout.{map_pages}
+use Rattle.rss_base.specs.declared.key.Space.{Space}
+use Rattle.rss_base.specs.declared.key.Space.TheVariants.{Home, Overflow, Image, System}
+use Rattle.rss_base.specs.declared.key.PageKey.{PageKey}
+
+-- ---- pages and their owners
+
+-- a segment has a number from 1 to 8, and the system space the number 0
+abbrev pub IsSegmentOf : Space → ℕ → Type 0
+IsSegmentOf Home segment = (1 ≤ segment) × (segment ≤ 8)
+IsSegmentOf Overflow segment = (1 ≤ segment) × (segment ≤ 8)
+IsSegmentOf Image segment = (1 ≤ segment) × (segment ≤ 8)
+IsSegmentOf System segment = segment ≡ 0
+
+-- the pages of a space have numbers below the number of slots, and those of the system space below 10
+abbrev pub number_limit : ℕ → Space → ℕ
+number_limit slots Home = slots
+number_limit slots Overflow = slots
+number_limit slots Image = slots
+number_limit slots System = 10
+
+-- a map of so many slots may name this page
+pub record IsKey (slots : ℕ) (key : PageKey) : Type 0 where
+  pub segment : IsSegmentOf key.space key.segment
+  pub number : key.number < number_limit slots key.space
+
+-- the page that a slot holds, where it isn't free
+abbrev pub owner_of : List (Option PageKey) → ℕ → Option PageKey
+owner_of owners slot = slice_index_or owners slot None
+
+-- no page has two slots
+abbrev pub AreDistinct : List (Option PageKey) → Type 0
+AreDistinct owners = (s t : ℕ) (key : PageKey) → owner_of owners s ≡ Some key → owner_of owners t ≡ Some key → s ≡ t
+
+-- the owners of so many slots: pages that the map may name, each once
+pub record AreOwners (slots : ℕ) (owners : List (Option PageKey)) : Type 0 where
+  pub count : length owners ≡ slots
+  pub allowed : (s : ℕ) (key : PageKey) → owner_of owners s ≡ Some key → IsKey slots key
+  pub distinct : AreDistinct owners
+
+-- ---- the bytes of a map area
+
+abbrev pub space_code : Space → ℕ
+space_code Home = 1
+space_code Overflow = 2
+space_code Image = 3
+space_code System = 4
+
+-- The entry of a slot: zeros where it is free, else the space, the segment, two zeros and the page's number.
+abbrev pub entry_bytes : Option PageKey → List ℕ
+entry_bytes None = replicate 8 0
+entry_bytes (Some key) = space_code key.space ∷ key.segment ∷ 0 ∷ 0 ∷ to_be_bytes w32 key.number
+
+-- the bytes at the place of an entry, in a map area that begins at this page
+abbrev pub entry_at : Pages → ℕ → ℕ → List ℕ
+entry_at pages first slot = take 8 (drop (8 * (slot % 512)) (page pages (first + slot / 512)))
+
+-- the bytes are the entry of this owner
+pub record IsEntry (slots : ℕ) (bytes : List ℕ) (owner : Option PageKey) : Type 0 where
+  pub spelled : bytes ≡ entry_bytes owner
+  pub allowed : IfSome owner (IsKey slots)
+
+-- the first entries of the area are those of these owners, of which none is there twice
+pub record BeginsMap (slots : ℕ) (pages : Pages) (first : ℕ) (owners : List (Option PageKey)) : Type 0 where
+  pub entries : (s : ℕ) → s < length owners → IsEntry slots (entry_at pages first s) (owner_of owners s)
+  pub distinct : AreDistinct owners
+
+-- the area holds the map of these owners, and behind its last entry zeros
+pub record IsMap (slots : ℕ) (pages : Pages) (first : ℕ) (owners : List (Option PageKey)) : Type 0 where
+  pub count : length owners ≡ slots
+  pub begins : BeginsMap slots pages first owners
+  pub rest : (s : ℕ) → slots ≤ s → s < 512 * map_pages slots → entry_at pages first s ≡ replicate 8 0
+
+-- some slot has this owner
+pub record IsOwned (owners : List (Option PageKey)) (owner : Option PageKey) : Type 0 where
+  pub key : PageKey
+  pub is : owner ≡ Some key
+  pub slot : ℕ
+  pub owned : owner_of owners slot ≡ Some key
+
+-- The first slot at which the area is no map: what stands there is no entry, or a lesser slot has the same owner. Where all entries are sound, it is the number of slots if something else than zeros stands behind them.
+pub data IsMapFault (slots : ℕ) (pages : Pages) (first : ℕ) : ℕ → Type 0 where
+  entry : {slot : ℕ} (owners : List (Option PageKey)) → length owners ≡ slot → slot < slots → BeginsMap slots pages first owners → ((owner : Option PageKey) → IsEntry slots (entry_at pages first slot) owner → IsOwned owners owner) → IsMapFault slots pages first slot
+  rest : (owners : List (Option PageKey)) (place : ℕ) → length owners ≡ slots → BeginsMap slots pages first owners → slots ≤ place → place < 512 * map_pages slots → entry_at pages first place ≢ replicate 8 0 → IsMapFault slots pages first slots

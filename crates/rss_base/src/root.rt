@@ -1,0 +1,32 @@
+// What a root says.
+use crate::Tail;
+
+/// The least and the greatest number of slots of a store.
+pub const SLOTS_LEAST: u32 = 64;
+
+pub const SLOTS_MOST: u32 = 65_536;
+
+/// The least and the greatest number of log pages of a store.
+pub const LOG_PAGES_LEAST: u32 = 8;
+
+pub const LOG_PAGES_MOST: u32 = 4096;
+
+/// A root of a store: the sizes of the device's parts, the map area in use, and where the log stands.
+/// Positions in the log count its bytes from 0.
+#[derive(Drop)]
+pub struct Root {
+    /// How many data slots there are.
+    pub slots: u32,
+    /// How many log pages there are.
+    pub log_pages: u32,
+    /// The map area in use, 0 or 1.
+    pub area: u8,
+    /// The first position of the log that is kept.
+    pub head: u64,
+    /// The position of the last Checkpoint record.
+    pub checkpoint: u64,
+    /// The next position of the log.
+    pub end: u64,
+    /// The bytes of the log behind its last full piece.
+    pub tail: Tail,
+}
