@@ -1,13 +1,13 @@
 // Reading a line of a script.
-ghost use Rattle.std.specs.Prelude.{◌≡◌, ◌≤◌, [], ◌∷◌, Ok, IfOk, IfSome, IfNone, IsErrOf, length};
+ghost use Rattle.std.specs.Prelude.{◌≡◌, ◌≤◌, Ok, IfOk, IfSome, IfNone, IsErrOf, length};
 ghost use Rattle.rss_base.specs.declared.tid.Tid.{Tid};
 ghost use Rattle.rss_base.specs.declared.call.Call.{Call};
 ghost use Rattle.rss_model.specs.Script.{Spells, IsBlank, IsWords, IsTid};
 
 use crate::LineFault;
 use crate::number::{read_below, read_int};
-use rss_base::{Call, Name, Tid, Tuple, Value};
-use std::alloc::{AllocError, Global};
+use rss_base::{Call, RELATION_R, Tid, Tuple, Value};
+use std::alloc::Global;
 use std::str;
 
 /// What a line of a script is.
@@ -22,11 +22,6 @@ const LINE_LIMIT: usize = 8192;
 const PAGE_LIMIT: u32 = 65536;
 
 const SLOT_LIMIT: u32 = 128;
-
-/// The one relation that there is as yet.
-const RELATION: Name = Name {
-    bytes: *b"r\0\0\0\0\0\0\0\0\0\0\0\0\0\0\0",
-};
 
 /// Reads a line, without its end.
 pub fn read_line(alloc: Global, line: &[u8]) -> Result<Line, LineFault>
@@ -61,24 +56,16 @@ fn read_call(alloc: Global, line: &str) -> Result<Call, LineFault>
         let Some(number) = read_int(word) else {
             return Err(LineFault::Words);
         };
-        let tuple = tuple_of(alloc, number)?;
-        return Ok(Call::Insert(1, RELATION, tuple));
+        let tuple = Tuple::single(alloc, Value::Int(number))?;
+        return Ok(Call::Insert(1, RELATION_R, tuple));
     }
     if let Some(word) = line.strip_prefix("fetch 1 r ") {
         let Some(tid) = read_tid(word) else {
             return Err(LineFault::Words);
         };
-        return Ok(Call::Fetch(1, RELATION, tid));
+        return Ok(Call::Fetch(1, RELATION_R, tid));
     }
     Err(LineFault::Words)
-}
-
-fn tuple_of(alloc: Global, number: i64) -> Result<Tuple, AllocError>
-    ensures { IfOk result (λ tuple. tuple ≡ Value.Int number ∷ []) }
-{
-    let mut tuple = Tuple::new(alloc);
-    tuple.push(Value::Int(number))?;
-    Ok(tuple)
 }
 
 fn read_tid(word: &str) -> Option<Tid>

@@ -1,11 +1,11 @@
 // Writing the line of an answer.
 ghost use Rattle.std.specs.Prelude.{◌≡◌, ◌+◌, ◌<◌, ◌≤◌, ◌++◌, length, vec_len, vec_capacity, IsOk, OnOk, OnErr};
-ghost use Rattle.rss_model.specs.ReplyText.{answer_line, not_a_store_line, reply_text, refusal_text, item_text, kind_text, limit_text};
+ghost use Rattle.rss_model.specs.ReplyText.{answer_line, not_a_store_line, reply_text, refusal_text, item_text, kind_text, limit_text, place_text, space_text};
 
 use crate::value_text::append_values;
 use crate::word::Word::{Name, Number, Text, Tid};
 use crate::word::append;
-use rss_base::{Item, Kind, LimitKind, Place, Refusal, Reply};
+use rss_base::{Item, Kind, LimitKind, Place, Refusal, Reply, Space};
 use std::alloc::AllocError;
 
 /// Appends the line of an answer, with its end. Where memory runs out, a front of it may be there.
@@ -154,11 +154,49 @@ pub fn say_not_a_store(place: Place, into: &mut Vec<u8>) -> Result<(), AllocErro
     ensures ok { OnOk result (into.new.items ≡ into.old.items ++ not_a_store_line place) }
     ensures room { vec_len into.old + length (not_a_store_line place) ≤ vec_capacity into.old → IsOk result }
 {
+    append("not a store ", &[], into)?;
+    say_place(place, into)?;
+    append("\n", &[], into)?;
+    Ok(())
+}
+
+fn say_place(place: Place, into: &mut Vec<u8>) -> Result<(), AllocError>
+    ensures ok { OnOk result (into.new.items ≡ into.old.items ++ place_text place) }
+    ensures full { OnErr result (vec_capacity into.old < vec_len into.old + length (place_text place)) }
+    ensures capacity { vec_capacity into.old ≤ vec_capacity into.new }
+{
     match place {
-        Place::Size => append("not a store size\n", &[], into),
-        Place::Root(root) => {
-            append("not a store root", &[Number(u64::from(root))], into)?;
-            append("\n", &[], into)
+        Place::Size => append("size", &[], into),
+        Place::Root(root) => append("root", &[Number(u64::from(root))], into),
+        Place::Slot(slot) => append("slot", &[Number(u64::from(slot))], into),
+        Place::Catalog(page) => append("catalog", &[Number(u64::from(page))], into),
+        Place::Page(key) => append(
+            "page",
+            &[
+                Number(u64::from(key.segment)),
+                Text(space_word(key.space)),
+                Number(u64::from(key.number)),
+            ],
+            into,
+        ),
+        Place::Tuple(segment, tid) => {
+            append("tuple", &[Number(u64::from(segment)), Tid(tid)], into)
         }
+        Place::Count(relation) => append("count", &[Number(u64::from(relation))], into),
+        Place::Image(image) => append("image", &[Number(u64::from(image))], into),
+        Place::Link(link) => append("link", &[Number(u64::from(link))], into),
+        Place::Log(position) => append("log", &[Number(position)], into),
+        Place::Room => append("room", &[], into),
+    }
+}
+
+fn space_word(space: Space) -> &'static str
+    ensures { result.now ≡ space_text space }
+{
+    match space {
+        Space::Home => "home",
+        Space::Overflow => "overflow",
+        Space::Image => "image",
+        Space::System => "system",
     }
 }

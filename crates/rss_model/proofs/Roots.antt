@@ -70,11 +70,13 @@ same_tables pages a b first second = first.holds ∙ ap tables_of (same_values _
 pub broken_some : (place : Place) (pages : Pages) → IsBrokenAt place pages → length pages ≢ 0
 broken_some Size pages broken = broken.0
 broken_some (Root number) pages broken = λ none. absurd (omega (arith, none, broken.0))
+broken_some place pages broken = absurd broken
 
 -- pages that are out of form are no store, and are not made one
 pub broken_no_store : (place : Place) {pages : Pages} {tables : Tables} → IsBrokenAt place pages → OpensTo pages tables → ⊥
 broken_no_store Size broken store = broken.1 store.size
 broken_no_store (Root number) broken store = broken.1.1 store.values store.root
+broken_no_store place broken store = absurd broken
 
 pub broken_unread : (place : Place) {pages : Pages} {tables : Tables} → IsBrokenAt place pages → ReadsAs pages tables → ⊥
 broken_unread place broken (inl store) = broken_no_store place broken store
@@ -86,6 +88,9 @@ broken_once Size Size pages first second = refl
 broken_once Size (Root number) pages first second = absurd (first.1 second.0)
 broken_once (Root number) Size pages first second = absurd (second.1 first.0)
 broken_once (Root number) (Root other) pages first second = ap Root (first.1.0 ∙ sym second.1.0)
+broken_once Size other pages first second = absurd second
+broken_once (Root number) other pages first second = absurd second
+broken_once place other pages first second = absurd first
 
 -- pages are read as one set of tables
 pub read_once : {pages : Pages} {first second : Tables} → ReadsAs pages first → ReadsAs pages second → first ≡ second

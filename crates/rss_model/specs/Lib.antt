@@ -1,6 +1,7 @@
 pub use Rattle.rss_base.specs.DiskRule
 pub use Rattle.rss_base.specs.Faults
 pub use Rattle.rss_base.specs.Streams
+pub use Rattle.rss_base.specs.Layout
 pub mod TupleTypes
 pub mod Items
 pub mod Tables

@@ -16,7 +16,9 @@ use Rattle.rss_base.specs.declared.refusal.LimitKind.TheVariants.{Segments, Rela
 use Rattle.rss_base.specs.declared.refusal.Refusal.{Refusal}
 use Rattle.rss_base.specs.declared.refusal.Refusal.TheVariants.{Words, NoTransaction, AlreadyOpen, TooMany, NoSuch, NameTaken, Limit, BadTuple, NoTuple, Duplicate, Connected, NotConnected, NotEmpty, Busy, Full, LogFull, TransactionsOpen, NoSave}
 use Rattle.rss_base.specs.declared.place.Place.{Place}
-use Rattle.rss_base.specs.declared.place.Place.TheVariants.{Size, Root}
+use Rattle.rss_base.specs.declared.place.Place.TheVariants.{Size, Root, Slot, Catalog, Page, Tuple as TuplePlace, Count, Image as ImagePlace, Link as LinkPlace, Log, Room}
+use Rattle.rss_base.specs.declared.key.Space.{Space}
+use Rattle.rss_base.specs.declared.key.Space.TheVariants.{Home, Overflow, Image as ImageSpace, System}
 use Rattle.rss_model.specs.Steps.{Answer}
 
 -- the bytes before a name's zeros
@@ -103,9 +105,24 @@ abbrev pub answer_line : Answer → List ℕ
 answer_line (Ok reply) = reply_text reply ++ codes "\n"
 answer_line (Err why) = refusal_text why ++ codes "\n"
 
+abbrev pub space_text : Space → List ℕ
+space_text Home = codes "home"
+space_text Overflow = codes "overflow"
+space_text ImageSpace = codes "image"
+space_text System = codes "system"
+
 abbrev pub place_text : Place → List ℕ
 place_text Size = codes "size"
 place_text (Root k) = codes "root " ++ decimal k
+place_text (Slot slot) = codes "slot " ++ decimal slot
+place_text (Catalog page) = codes "catalog " ++ decimal page
+place_text (Page key) = codes "page " ++ decimal key.segment ++ codes " " ++ space_text key.space ++ codes " " ++ decimal key.number
+place_text (TuplePlace segment tid) = codes "tuple " ++ decimal segment ++ codes " " ++ tid_text tid
+place_text (Count relation) = codes "count " ++ decimal relation
+place_text (ImagePlace image) = codes "image " ++ decimal image
+place_text (LinkPlace link) = codes "link " ++ decimal link
+place_text (Log position) = codes "log " ++ decimal position
+place_text Room = codes "room"
 
 -- the line of a device that is not a store
 abbrev pub not_a_store_line : Place → List ℕ

@@ -1,5 +1,5 @@
 -- A store: three pages, and the tables that they open to. Page 0 is the selector, and pages 1 and 2 are the two roots.
-use Rattle.std.specs.Prelude.{◌≡◌, ◌≢◌, ◌⊎◌, ℕ, ℤ, ◌+◌, ◌-◌, ◌*◌, ◌/◌, ◌%◌, ◌≤◌, List, [], ◌∷◌, ◌++◌, length, slice_index, replicate, flat_map, All, codes, FitsSigned}
+use Rattle.std.specs.Prelude.{◌≡◌, ◌≢◌, ◌⊎◌, ℕ, ℤ, ◌+◌, ◌-◌, ◌*◌, ◌/◌, ◌%◌, ◌≤◌, List, [], ◌∷◌, ◌++◌, length, replicate, flat_map, All, codes, FitsSigned}
 use Rattle.std.specs.Int.{w16, w64, to_be_bytes, cast_unsigned}
 use Rattle.std.specs.FinMap as map
 use Rattle.rss_base.specs.declared.name.Name.{Name}
@@ -8,7 +8,8 @@ use Rattle.rss_base.specs.declared.item.Item.{Item}
 use Rattle.rss_base.specs.declared.item.Item.TheVariants.{Tuple as TupleItem}
 use Rattle.rss_base.specs.declared.value.Value.TheVariants.{Int}
 use Rattle.rss_base.specs.declared.value.FieldKind.TheVariants.{Int as IntField}
-use Rattle.rss_base.specs.DiskRule.{Disk, Pages, page, Told, Leaves}
+use Rattle.rss_base.specs.DiskRule.{Disk, Pages, Told, Leaves}
+use Rattle.rss_base.specs.Layout.{selected, root_of}
 use Rattle.rss_base.specs.declared.place.Place.{Place}
 use Rattle.rss_base.specs.declared.place.Place.TheVariants.{Size, Root}
 use Rattle.rss_model.specs.Items.{Content, Values}
@@ -46,13 +47,6 @@ abbrev pub root_bytes : List ℤ → List ℕ
 root_bytes values =
     codes "RSSR" ++ 0 ∷ 0 ∷ [] ++ to_be_bytes w16 (length values) ++ replicate 88 0 ++ flat_map (λ z. to_be_bytes w64 (cast_unsigned w64 z)) values ++ replicate (8 * (root_limit - length values)) 0
 
--- The root that the selector names: root 1 where the lowest bit of its first byte is 0, else root 2.
-abbrev pub selected : Pages → ℕ
-selected pages = 1 + slice_index (page pages 0) 0 % 2
-
-abbrev pub root_of : Pages → List ℕ
-root_of pages = page pages (selected pages)
-
 -- the page is a root with these values
 pub record IsRoot (bytes : List ℕ) (values : List ℤ) : Type 0 where
   pub spelled : bytes ≡ root_bytes values
@@ -74,6 +68,7 @@ ReadsAs pages tables = OpensTo pages tables ⊎ ((length pages ≡ 0) × (tables
 abbrev pub IsBrokenAt : Place → Pages → Type 0
 IsBrokenAt Size pages = (length pages ≢ 0) × (length pages ≢ 3)
 IsBrokenAt (Root number) pages = (length pages ≡ 3) × ((number ≡ selected pages) × ((values : List ℤ) → IsRoot (root_of pages) values → ⊥))
+IsBrokenAt place pages = ⊥
 
 abbrev pub OpensToEither : Tables → Tables → Pages → Type 0
 OpensToEither before after pages = OpensTo pages before ⊎ OpensTo pages after

@@ -4,19 +4,11 @@ use Rattle.std.specs.Prelude.{flat_map, pos, slice_index, All, FitsSigned}
 use Rattle.std.specs.Int.{w16, w64, to_be_bytes, from_be_bytes}
 use Rattle.std.proofs.lemmas.Bool.{cases_lt}
 use Rattle.std.proofs.lemmas.Nat.{from_be_bytes-to_be_bytes_2}
-use Rattle.std.proofs.lemmas.List.{ext_get_or, get_or_append_left, take_more, flat_map_more, length-take, drop-replicate, replicate-append-replicate}
-use Rattle.std.proofs.Math.Seq.{take-append_seam, drop-append-add, get_or-append_seam}
+use Rattle.std.proofs.lemmas.List.{ext_get_or, get_or_append_left, take_more, flat_map_more, length-take, replicate-append-replicate}
+use Rattle.std.proofs.Math.Seq.{get_or-append_seam}
+use Rattle.rss_base.proofs.Bytes.{written}
 use Rattle.rss_model.proofs.Roots.{root_head, value_bytes, value_in, value_in_root}
 use Rattle.rss_model.specs.Store.{IsRoot}
-
--- bytes that are written where the zeros begin
-written : (front bytes page : List ℕ) (at m k : ℕ) → page ≡ front ++ replicate m 0 → at ≡ length front → m ≡ length bytes + k → take at page ++ bytes ++ drop (at + length bytes) page ≡ front ++ bytes ++ replicate k 0
-written front bytes page at m k was here room =
-    let before : take at page ≡ front = ap (take at) was ∙ ap (λ (n : ℕ). take n (front ++ replicate m 0)) here ∙ take-append_seam front (replicate m 0) in
-    let past : drop (at + length bytes) page ≡ replicate k 0 =
-    ap (drop (at + length bytes)) was ∙ ap (λ (n : ℕ). drop (n + length bytes) (front ++ replicate m 0)) here ∙ drop-append-add front (replicate m 0) (length bytes) ∙ drop-replicate (length bytes) m 0
-    ∙ ap (λ (n : ℕ). replicate n 0) (omega (arith, room)) in
-    λ i. before i ++ bytes ++ past i
 
 pub head_made : (zeros first second bytes : List ℕ) (n : ℕ) → zeros ≡ replicate 4096 0 → first ≡ take 0 zeros ++ (82 ∷ 83 ∷ 83 ∷ 82 ∷ 0 ∷ 0 ∷ []) ++ drop (0 + 6) zeros → bytes ≡ to_be_bytes w16 n → second ≡ take 6 first ++ bytes ++ drop (6 + length bytes) first
     → second ≡ root_head n ++ [] ++ replicate 4000 0

@@ -2,7 +2,8 @@
 use Rattle.std.proofs.Common.{◌≡◌, ℕ, ◌+◌, ◌%◌, List, [], length, set, ◌∙◌, ap, sym, arith, length-set, get_or-set_other, get_or-set_same}
 use Rattle.std.specs.Prelude.{slice_index, ◌↔◌}
 use Rattle.rss_base.specs.DiskRule.{Disk, Pages, page, IsTold, LeavesOnly}
-use Rattle.rss_model.specs.Store.{selected, root_of, root_bytes, IsRoot}
+use Rattle.rss_base.specs.Layout.{selected, root_of}
+use Rattle.rss_model.specs.Store.{root_bytes, IsRoot}
 use Rattle.rss_store.specs.Root.{Holds}
 
 -- a device whose pages were read, after a sync

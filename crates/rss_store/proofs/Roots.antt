@@ -4,7 +4,7 @@ use Rattle.std.proofs.lemmas.Bool.{cases_eq}
 use Rattle.std.specs.Prelude.{slice_index}
 use Rattle.rss_base.specs.DiskRule.{Disk, Pages, page, Leaves, LeavesOnly, SameBut, TornAt, Passes}
 use Rattle.rss_base.proofs.Moments.{then, widened}
-use Rattle.rss_model.specs.Store.{selected}
+use Rattle.rss_base.specs.Layout.{selected}
 use Rattle.rss_store.specs.Root.{Holds, IsSelected, IsEither}
 
 -- where a page other than the selector and the root is torn, the root stays

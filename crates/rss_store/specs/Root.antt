@@ -3,7 +3,8 @@ use Rattle.std.specs.Prelude.{◌≡◌, ◌⊎◌, ℕ, ℤ, ◌+◌, ◌%◌, 
 use Rattle.std.specs.Int.{w64}
 use Rattle.std.proofs.Common.{ap, ◌∙◌, refl}
 use Rattle.rss_base.specs.DiskRule.{Disk, Pages, page, IsTold, Leaves, LeavesOnly, TornAt, SameBut}
-use Rattle.rss_model.specs.Store.{selected, root_of, root_bytes, root_limit, tables_of, Opens}
+use Rattle.rss_base.specs.Layout.{selected, root_of}
+use Rattle.rss_model.specs.Store.{root_bytes, root_limit, tables_of, Opens}
 
 -- three pages, of which the selected root has these bytes
 pub record IsSelected (bytes : List ℕ) (pages : Pages) : Type 0 where

@@ -20,15 +20,10 @@ ghost use Rattle.rss_store.specs.Root.{Holds, IsAtRestWhileUp};
 use crate::root_page::{TUPLE_LIMIT, encode};
 use crate::switching::switch;
 use rss_base::{
-    Call, CallError, Device, Failed, Kind, LimitKind, Name, Refusal, Reply, Tid, Tuple, Value,
+    Call, CallError, Device, Failed, Kind, LimitKind, Name, RELATION_R, Refusal, Reply, Tid, Tuple,
+    Value,
 };
 use rss_model::Engine;
-use std::alloc::{AllocError, Global};
-
-/// The one relation, `r`.
-const RELATION_R: Name = Name {
-    bytes: *b"r\0\0\0\0\0\0\0\0\0\0\0\0\0\0\0",
-};
 
 /// How many slots a page has.
 const PAGE_SLOTS: usize = 128;
@@ -166,15 +161,6 @@ fn only_int(tuple: &Tuple) -> Result<i64, Refusal>
     }
 }
 
-/// The tuple of one INT.
-fn tuple_of(alloc: Global, value: i64) -> Result<Tuple, AllocError>
-    ensures { IfOk result (λ tuple. tuple ≡ Int value ∷ []) }
-{
-    let mut tuple = Tuple::new(alloc);
-    tuple.push(Value::Int(value))?;
-    Ok(tuple)
-}
-
 /// A store that is open.
 pub struct Store<D: Device> {
     device: D,
@@ -264,7 +250,7 @@ impl<D: Device> Store<D> {
         ensures down { IsErrOf result CallError.Down → ⊥ }
     {
         match self.tuples.find(transaction, relation, tid) {
-            Ok(value) => match tuple_of(*self.tuples.values.allocator(), value) {
+            Ok(value) => match Tuple::single(*self.tuples.values.allocator(), Value::Int(value)) {
                 Ok(tuple) => Ok(Reply::Tuple(tuple)),
                 Err(_) => Err(CallError::NoMemory),
             },

@@ -5,8 +5,9 @@ ghost use Rattle.rss_base.specs.DiskRule.{Told, IsTold, Leaves, LeavesOnly, Pass
 ghost use Rattle.rss_base.specs.Faults.{HasCause, Rises};
 ghost use Rattle.rss_base.specs.declared.place.Place.{Place};
 ghost use Rattle.rss_base.specs.declared.fault.OpenFault.TheVariants.{NotAStore};
+ghost use Rattle.rss_base.specs.Layout.{root_of};
 ghost use Rattle.rss_model.specs.Machine.{at_rest};
-ghost use Rattle.rss_model.specs.Store.{root_of, root_bytes, tables_of, IsRoot, OpensTo, Opens, ReadsAs, IsBrokenAt};
+ghost use Rattle.rss_model.specs.Store.{root_bytes, tables_of, IsRoot, OpensTo, Opens, ReadsAs, IsBrokenAt};
 ghost use Rattle.rss_store.specs.Root.{Holds};
 
 use crate::engine::Store;

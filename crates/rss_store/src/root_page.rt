@@ -1,9 +1,9 @@
 // The bytes of a root.
-ghost use Rattle.std.specs.Prelude.{◌≡◌, ◌+◌, ◌*◌, ◌<◌, ◌≤◌, ◌++◌, ℤ, List, length, take, drop, vec_capacity, IfOk, IfSome, IfNone};
+ghost use Rattle.std.specs.Prelude.{◌≡◌, ◌+◌, ◌*◌, ◌<◌, ◌≤◌, ℤ, List, length, take, drop, vec_capacity, IfOk, IfSome, IfNone};
 ghost use Rattle.std.specs.Int.{w64, from_be_bytes, cast_signed};
 ghost use Rattle.rss_model.specs.Store.{root_bytes, IsRoot};
 
-use rss_base::{PAGE_BYTES, Page};
+use rss_base::{PAGE_BYTES, Page, put_bytes};
 use std::alloc::{AllocError, Global};
 
 /// A root holds at most so many tuples.
@@ -24,24 +24,16 @@ pub fn encode(values: &[i64]) -> Page
     ensures { result ≡ root_bytes values.now }
 {
     let mut page = [0u8; PAGE_BYTES];
-    put(&mut page, 0, b"RSSR\0\0");
-    put(&mut page, COUNT_AT, &(values.len() as u16).to_be_bytes());
+    put_bytes(&mut page, 0, b"RSSR\0\0");
+    put_bytes(&mut page, COUNT_AT, &(values.len() as u16).to_be_bytes());
     for (place, value) in values.iter().enumerate() {
-        put(
+        put_bytes(
             &mut page,
             VALUES_AT + VALUE_BYTES * place,
             &value.to_be_bytes(),
         );
     }
     page
-}
-
-/// Writes these bytes at a place of the page.
-fn put(page: &mut Page, at: usize, bytes: &[u8])
-    requires { at + length bytes.now ≤ 4096 }
-    ensures { page.new ≡ take at page.old ++ bytes.now ++ drop (at + length bytes.now) page.old }
-{
-    page[at..at + bytes.len()].copy_from_slice(bytes);
 }
 
 /// The values of a root, where the page is one. The list has room for as many as a root may hold.

@@ -52,6 +52,10 @@ pub not_through : IsReadThrough TooLong → ⊥
 not_through (inl a) = cc
 not_through (inr a) = cc
 
+-- a source that has no more has given all
+pub all_of : {before mid : Option (List ℕ)} (given : List ℕ) → Gives before given mid → IsAllOf mid [] → IsAllOf before given
+all_of given gives no_more all is = let moved = gives.moves all is in moved.2 ∙ ap (λ (l : List ℕ). given ++ l) (no_more moved.0 moved.1) ∙ append-nil given
+
 module _ {start : ℕ} {first : State} {source_before source_after sink_before sink_after : Option (List ℕ)} where
   pub ended_halted : {disk : Disk} {state : State} {taken : ℕ} {front : List ℕ} (status : Status) → IsHalt status → (status ≡ TooLong → taken ≡ script_limit) → (IsReadThrough status → taken < script_limit)
       → Reading start disk first state taken front source_before source_after sink_before sink_after → Ended status start disk first source_before source_after sink_before sink_after
@@ -66,7 +70,7 @@ module _ {start : ℕ} {first : State} {source_before source_after sink_before s
     stopped = λ stop. absurd (not_both is stop);
   }
 
-  pub ended_stopped : {disk : Disk} (status : Status) (given : List ℕ) → IsStop status → Gives source_before given source_after → Stopped status start disk first given sink_before sink_after
+  pub ended_stopped : {disk : Disk} (status : Status) (given : List ℕ) → IsStop status → Gives source_before given source_after → Stopped status start disk first given (IsAllOf source_before given) sink_before sink_after
       → Ended status start disk first source_before source_after sink_before sink_after
   ended_stopped status given is gives stop = record {
     given = given;
@@ -84,7 +88,7 @@ module _ {start : ℕ} {first : State} {source_before source_after sink_before s
   ended_whole mid given short gives last no_more whole = record {
     given = given;
     gives = subst (λ (l : List ℕ). Gives source_before l source_after) (append-nil given) (gives_then _ _ _ given [] gives last);
-    all_given = λ _ all is. let moved = gives.moves all is in moved.2 ∙ ap (λ (l : List ℕ). given ++ l) (no_more moved.0 moved.1) ∙ append-nil given;
+    all_given = λ _. all_of given gives no_more;
     too_long = λ e. absurd (cc);
     short = λ through. short;
     whole = λ _. whole;

@@ -1,5 +1,6 @@
 -- The front of a line, of which so much is kept that a line too long to be a call stays one.
 use Rattle.std.proofs.Common.{◌≡◌, ◌⊎◌, inl, inr, ℕ, zero, suc, ◌≤◌, List, [], ◌∷◌, ◌++◌, length, take, Option, refl, ◌∙◌, ap, subst, arith, length-take, append_assoc}
+use Rattle.std.specs.Prelude.{⊤}
 use Rattle.std.proofs.lemmas.List.{take_all, append-nil}
 use Rattle.std.proofs.lemmas.Bool.{cases_lt}
 use Rattle.rss_base.specs.DiskRule.{Disk}
@@ -8,7 +9,7 @@ use Rattle.rss_model.specs.Runs.{Turn}
 use Rattle.rss_model.specs.Script.{IsWords, IsUnbroken}
 use Rattle.rss_model.specs.Plays.{LineStep}
 use Rattle.rss_model.specs.Plays.LineStep.{blank, words, call}
-use Rattle.rss_top.specs.Run.{LineRan, DeviceStopped, SinkStopped, MemoryStopped, Story, Stopped, Kept, kept_limit}
+use Rattle.rss_top.specs.Run.{LineRan, DeviceStopped, SinkStopped, MemoryStopped, Story, Stopped, EndsLine, Kept, kept_limit}
 use Rattle.rss_top.specs.declared.status.Status.{Status}
 use Rattle.rss_top.specs.declared.status.Status.TheVariants.{WriteFault, DeviceFault, NoMemory}
 use Rattle.rss_top.proofs.Stories.{story_bytes, story_line, stopped_by_line, stopped_unread}
@@ -71,26 +72,26 @@ module _ {start : ℕ} {disk : Disk} {first state : State} {given front : List �
       let on : Story start later first new ((given ++ bytes) ++ 10 ∷ []) [] before after = story_line (story_bytes bytes unbroken kept.story) whole in
       record { left = []; kept = refl; story = subst (λ (l : List ℕ). Story start later first new l [] before after) (append_assoc given bytes (10 ∷ [])) on }
 
-  pub kept_stopped : {later : Disk} {after : Option (List ℕ)} (rest : List ℕ) (status : Status) (new : State) → (status ≡ WriteFault) ⊎ (status ≡ DeviceFault) ⊎ (status ≡ NoMemory) → (status ≡ DeviceFault → DeviceStopped disk later state (take kept_limit (front ++ bytes)) mid after)
-      → (status ≡ WriteFault → SinkStopped disk later state (take kept_limit (front ++ bytes)) new mid after) → (status ≡ NoMemory → MemoryStopped disk later state new mid after) → Stopped status start later first (given ++ (bytes ++ rest)) before after
-  kept_stopped {later = later} {after = after} rest status new is device sink memory =
-      subst (λ (l : List ℕ). Stopped status start later first l before after) (append_assoc given bytes rest)
-      (stopped_by_line rest (story_bytes bytes unbroken kept.story) status new is
+  pub kept_stopped : {later : Disk} {after : Option (List ℕ)} (over : Type 0) (rest : List ℕ) → EndsLine over rest → (status : Status) (new : State) → (status ≡ WriteFault) ⊎ (status ≡ DeviceFault) ⊎ (status ≡ NoMemory) → (status ≡ DeviceFault → DeviceStopped disk later state (take kept_limit (front ++ bytes)) mid after)
+      → (status ≡ WriteFault → SinkStopped disk later state (take kept_limit (front ++ bytes)) new mid after) → (status ≡ NoMemory → MemoryStopped disk later state new mid after) → Stopped status start later first (given ++ (bytes ++ rest)) over before after
+  kept_stopped {later = later} {after = after} over rest ends status new is device sink memory =
+      subst (λ (l : List ℕ). Stopped status start later first l over before after) (append_assoc given bytes rest)
+      (stopped_by_line over rest (story_bytes bytes unbroken kept.story) ends status new is
       (λ e. device_whole (kept.left ++ bytes) (subst (λ (l : List ℕ). DeviceStopped disk later state l mid after) same_front (device e)))
       (λ e. sink_whole (kept.left ++ bytes) (subst (λ (l : List ℕ). SinkStopped disk later state l new mid after) same_front (sink e)))
       memory)
 
 -- memory ran out before the line was run
-pub kept_unread : {start : ℕ} {disk : Disk} {first state : State} {given front : List ℕ} {before after : Option (List ℕ)} (rest : List ℕ) → Kept start disk first state given front before after → Stopped NoMemory start disk first (given ++ rest) before after
-kept_unread rest kept = stopped_unread rest kept.story
+pub kept_unread : {start : ℕ} {disk : Disk} {first state : State} {given front : List ℕ} {before after : Option (List ℕ)} (over : Type 0) (rest : List ℕ) → Kept start disk first state given front before after → Stopped NoMemory start disk first (given ++ rest) over before after
+kept_unread over rest kept = stopped_unread over rest kept.story
 
 -- the last line, which has no end
 pub kept_last : {start : ℕ} {disk later : Disk} {first state : State} {given front : List ℕ} {before mid after : Option (List ℕ)} (kept : Kept start disk first state given front before mid) (status : Status) (new : State)
     → (status ≡ WriteFault) ⊎ (status ≡ DeviceFault) ⊎ (status ≡ NoMemory) → (status ≡ DeviceFault → DeviceStopped disk later state front mid after) → (status ≡ WriteFault → SinkStopped disk later state front new mid after)
-    → (status ≡ NoMemory → MemoryStopped disk later state new mid after) → Stopped status start later first given before after
+    → (status ≡ NoMemory → MemoryStopped disk later state new mid after) → Stopped status start later first given ⊤ before after
 kept_last {start = start} {disk = disk} {later = later} {first = first} {state = state} {given = given} {before = before} {mid = mid} {after = after} kept status new is device sink memory =
-    subst (λ (l : List ℕ). Stopped status start later first l before after) (append-nil given)
-    (stopped_by_line [] kept.story status new is
+    subst (λ (l : List ℕ). Stopped status start later first l ⊤ before after) (append-nil given)
+    (stopped_by_line ⊤ [] kept.story tt status new is
     (λ e. device_whole kept.left (subst (λ (l : List ℕ). DeviceStopped disk later state l mid after) kept.kept (device e)))
     (λ e. sink_whole kept.left (subst (λ (l : List ℕ). SinkStopped disk later state l new mid after) kept.kept (sink e)))
     memory)

@@ -13,7 +13,7 @@ use Rattle.rss_model.specs.Runs.{Turn}
 use Rattle.rss_model.specs.Script.{joined, IsUnbroken, last_line}
 use Rattle.rss_model.specs.Store.{OpensTo, Opens}
 use Rattle.rss_top.proofs.Plays.{played_is_play, play_is_run}
-use Rattle.rss_top.specs.Run.{LineDone, LineRan, DeviceStopped, SinkStopped, MemoryStopped, LineTurn, Played, Story, Stopped, Whole}
+use Rattle.rss_top.specs.Run.{LineDone, LineRan, DeviceStopped, SinkStopped, MemoryStopped, LineTurn, Played, Story, Stopped, Whole, IsLineFault, EndsLine}
 use Rattle.rss_top.specs.Run.Played.{none, more}
 use Rattle.rss_top.specs.declared.status.Status.{Status}
 use Rattle.rss_top.specs.declared.status.Status.TheVariants.{WriteFault, DeviceFault, NoMemory}
@@ -106,10 +106,14 @@ story_line {left = left} story ran = record {
   opens = ran.opens;
 }
 
--- the run ends within a line, whatever comes behind it
-module _ {start : ℕ} {disk : Disk} {first state : State} {given left : List ℕ} {before mid : Option (List ℕ)} {later : Disk} {after : Option (List ℕ)} (rest : List ℕ) (story : Story start disk first state given left before mid) where
-  stopped_by_device : DeviceStopped disk later state left mid after → Stopped DeviceFault start later first (given ++ rest) before after
-  stopped_by_device stop = record {
+no_line_fault : IsLineFault NoMemory → ⊥
+no_line_fault (inl is) = cc
+no_line_fault (inr is) = cc
+
+-- the run ends within a line
+module _ {start : ℕ} {disk : Disk} {first state : State} {given left : List ℕ} {before mid : Option (List ℕ)} {later : Disk} {after : Option (List ℕ)} (over : Type 0) (rest : List ℕ) (story : Story start disk first state given left before mid) where
+  stopped_by_device : EndsLine over rest → DeviceStopped disk later state left mid after → Stopped DeviceFault start later first (given ++ rest) over before after
+  stopped_by_device ends stop = record {
     lines = story.lines;
     turns = story.turns;
     text = story.text;
@@ -121,6 +125,7 @@ module _ {start : ℕ} {disk : Disk} {first state : State} {given left : List �
     parts = ap (λ (l : List ℕ). l ++ rest) story.splits.parts ∙ append_assoc (joined story.lines) left rest;
     whole = story.splits.whole;
     front = story.splits.front;
+    ends = λ _. ends;
     device = λ is. record {
       turns = stop.turns;
       said = stop.text;
@@ -134,8 +139,8 @@ module _ {start : ℕ} {disk : Disk} {first state : State} {given left : List �
     memory = λ is. absurd (cc);
   }
 
-  stopped_by_sink : {new : State} → SinkStopped disk later state left new mid after → Stopped WriteFault start later first (given ++ rest) before after
-  stopped_by_sink stop = record {
+  stopped_by_sink : {new : State} → EndsLine over rest → SinkStopped disk later state left new mid after → Stopped WriteFault start later first (given ++ rest) over before after
+  stopped_by_sink ends stop = record {
     lines = story.lines;
     turns = story.turns;
     text = story.text;
@@ -147,12 +152,13 @@ module _ {start : ℕ} {disk : Disk} {first state : State} {given left : List �
     parts = ap (λ (l : List ℕ). l ++ rest) story.splits.parts ∙ append_assoc (joined story.lines) left rest;
     whole = story.splits.whole;
     front = story.splits.front;
+    ends = λ _. ends;
     device = λ is. absurd (cc);
     sink = λ is. record { turns = stop.turns; said = stop.text; next = _; turn = turn_of stop.done stop.opens; takes = front_then story.takes stop.takes };
     memory = λ is. absurd (cc);
   }
 
-  pub stopped_by_memory : {new : State} → MemoryStopped disk later state new mid after → Stopped NoMemory start later first (given ++ rest) before after
+  pub stopped_by_memory : {new : State} → MemoryStopped disk later state new mid after → Stopped NoMemory start later first (given ++ rest) over before after
   stopped_by_memory stop = record {
     lines = story.lines;
     turns = story.turns;
@@ -165,6 +171,7 @@ module _ {start : ℕ} {disk : Disk} {first state : State} {given left : List �
     parts = ap (λ (l : List ℕ). l ++ rest) story.splits.parts ∙ append_assoc (joined story.lines) left rest;
     whole = story.splits.whole;
     front = story.splits.front;
+    ends = λ is. absurd (no_line_fault is);
     device = λ is. absurd (cc);
     sink = λ is. absurd (cc);
     memory = λ is. record {
@@ -174,15 +181,39 @@ module _ {start : ℕ} {disk : Disk} {first state : State} {given left : List �
     };
   }
 
-  pub stopped_by_line : (status : Status) (new : State) → (status ≡ WriteFault) ⊎ (status ≡ DeviceFault) ⊎ (status ≡ NoMemory) → (status ≡ DeviceFault → DeviceStopped disk later state left mid after) → (status ≡ WriteFault → SinkStopped disk later state left new mid after)
-      → (status ≡ NoMemory → MemoryStopped disk later state new mid after) → Stopped status start later first (given ++ rest) before after
-  stopped_by_line status new (inl is) device sink memory = subst (λ (s : Status). Stopped s start later first (given ++ rest) before after) (sym is) (stopped_by_sink (sink is))
-  stopped_by_line status new (inr (inl is)) device sink memory = subst (λ (s : Status). Stopped s start later first (given ++ rest) before after) (sym is) (stopped_by_device (device is))
-  stopped_by_line status new (inr (inr is)) device sink memory = subst (λ (s : Status). Stopped s start later first (given ++ rest) before after) (sym is) (stopped_by_memory (memory is))
+  pub stopped_by_line : EndsLine over rest → (status : Status) (new : State) → (status ≡ WriteFault) ⊎ (status ≡ DeviceFault) ⊎ (status ≡ NoMemory) → (status ≡ DeviceFault → DeviceStopped disk later state left mid after) → (status ≡ WriteFault → SinkStopped disk later state left new mid after)
+      → (status ≡ NoMemory → MemoryStopped disk later state new mid after) → Stopped status start later first (given ++ rest) over before after
+  stopped_by_line ends status new (inl is) device sink memory = subst (λ (s : Status). Stopped s start later first (given ++ rest) over before after) (sym is) (stopped_by_sink ends (sink is))
+  stopped_by_line ends status new (inr (inl is)) device sink memory = subst (λ (s : Status). Stopped s start later first (given ++ rest) over before after) (sym is) (stopped_by_device ends (device is))
+  stopped_by_line ends status new (inr (inr is)) device sink memory = subst (λ (s : Status). Stopped s start later first (given ++ rest) over before after) (sym is) (stopped_by_memory (memory is))
 
 -- memory ran out before the line was run
-pub stopped_unread : {start : ℕ} {disk : Disk} {first state : State} {given left : List ℕ} {before after : Option (List ℕ)} (rest : List ℕ) → Story start disk first state given left before after → Stopped NoMemory start disk first (given ++ rest) before after
-stopped_unread rest story = stopped_by_memory rest story (record { state = refl; moments = started _ _; same = refl })
+pub stopped_unread : {start : ℕ} {disk : Disk} {first state : State} {given left : List ℕ} {before after : Option (List ℕ)} (over : Type 0) (rest : List ℕ) → Story start disk first state given left before after → Stopped NoMemory start disk first (given ++ rest) over before after
+stopped_unread over rest story = stopped_by_memory over rest story (record { state = refl; moments = started _ _; same = refl })
+
+-- that all of the script was given may be known from less
+pub stopped_over : {status : Status} {start : ℕ} {now : Disk} {first : State} {given : List ℕ} {P Q : Type 0} {before after : Option (List ℕ)} → (P → Q) → Stopped status start now first given P before after → Stopped status start now first given Q before after
+stopped_over {P = P} {Q = Q} over stop = record {
+  lines = stop.lines;
+  turns = stop.turns;
+  text = stop.text;
+  state = stop.state;
+  at = stop.at;
+  line = stop.line;
+  rest = stop.rest;
+  played = stop.played;
+  parts = stop.parts;
+  whole = stop.whole;
+  front = stop.front;
+  ends = λ is. ends_over stop.rest (stop.ends is);
+  device = stop.device;
+  sink = stop.sink;
+  memory = stop.memory;
+}
+  where
+    ends_over : (rest : List ℕ) → EndsLine P rest → EndsLine Q rest
+    ends_over [] ends = over ends
+    ends_over (b ∷ rest) ends = ends
 
 one_line : (left : List ℕ) → (left ≡ [] → ⊥) → last_line left ≡ left ∷ []
 one_line [] some = absurd (some refl)

@@ -135,8 +135,17 @@ pub record Whole (start : ℕ) (now : Disk) (first : State) (given : List ℕ) (
   pub takes : Takes before text after
   pub opens : Opens now last.base
 
--- a run up to the line within which it ended
-pub record Stopped (status : Status) (start : ℕ) (now : Disk) (first : State) (given : List ℕ) (before after : Option (List ℕ)) : Type 0 where
+-- the device or the sink failed
+abbrev pub IsLineFault : Status → Type 0
+IsLineFault status = (status ≡ DeviceFault) ⊎ (status ≡ WriteFault)
+
+-- What comes behind a line: its end, or, where the script is over, nothing.
+abbrev pub EndsLine : Type 0 → List ℕ → Type 0
+EndsLine over [] = over
+EndsLine over (b ∷ rest) = b ≡ 10
+
+-- A run up to the line within which it ended. over: all of the script was given.
+pub record Stopped (status : Status) (start : ℕ) (now : Disk) (first : State) (given : List ℕ) (over : Type 0) (before after : Option (List ℕ)) : Type 0 where
   pub lines : List (List ℕ)
   pub turns : List Turn
   pub text : List ℕ
@@ -148,6 +157,7 @@ pub record Stopped (status : Status) (start : ℕ) (now : Disk) (first : State) 
   pub parts : given ≡ joined lines ++ (line ++ rest)
   pub whole : All IsUnbroken lines
   pub front : IsUnbroken line
+  pub ends : IsLineFault status → EndsLine over rest
   pub device : status ≡ DeviceFault → FailedInLine now state line at before text after
   pub sink : status ≡ WriteFault → FailedInReply now state line at before text after
   pub memory : status ≡ NoMemory → LackedMemory now state at before text after
@@ -187,7 +197,7 @@ pub record Ended (status : Status) (start : ℕ) (now : Disk) (first : State) (s
   pub short : IsReadThrough status → length given < script_limit
   pub whole : status ≡ Ok → Whole start now first given sink_before sink_after
   pub halted : IsHalt status → Halted start now first given sink_before sink_after
-  pub stopped : IsStop status → Stopped status start now first given sink_before sink_after
+  pub stopped : IsStop status → Stopped status start now first given (IsAllOf source_before given) sink_before sink_after
 
 -- the opening ended the run
 abbrev pub IsFailedOpening : Status → Type 0

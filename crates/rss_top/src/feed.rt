@@ -53,7 +53,7 @@ fn end_line<E: Engine, K: Sink>(
         → Kept start (E.disk engine.new) first (E.state engine.new) (given ++ (bytes.now ++ 10 ∷ [])) front.new.items before (K.written sink.new)) }
     ensures stopped { IfErr result (λ status. (start : ℕ) (first : State) (given rest : List ℕ) (before : Option (List ℕ)) → IsTold (E.disk engine.old) → IsUnbroken bytes.now
         → Kept start (E.disk engine.old) first (E.state engine.old) given front.old.items before (K.written sink.old)
-        → Stopped status start (E.disk engine.new) first (given ++ (bytes.now ++ rest)) before (K.written sink.new)) }
+        → Stopped status start (E.disk engine.new) first (given ++ (bytes.now ++ 10 ∷ rest)) ⊥ before (K.written sink.new)) }
     ensures short { OnOk result (vec_len front.new ≤ KEPT_BYTES) }
     ensures up { (IsErrOf result Status.DeviceFault → ⊥) → E.is_up engine.new }
     ensures told { IsTold (E.disk engine.old) → IsTold (E.disk engine.new) }
@@ -90,7 +90,7 @@ pub fn feed<E: Engine, K: Sink>(
         → Kept start (E.disk engine.new) first (E.state engine.new) (given ++ piece.now) front.new.items before (K.written sink.new)) }
     ensures stopped { IfErr result (λ status. (start : ℕ) (first : State) (given : List ℕ) (before : Option (List ℕ)) → IsTold (E.disk engine.old)
         → Kept start (E.disk engine.old) first (E.state engine.old) given front.old.items before (K.written sink.old)
-        → Stopped status start (E.disk engine.new) first (given ++ piece.now) before (K.written sink.new)) }
+        → Stopped status start (E.disk engine.new) first (given ++ piece.now) ⊥ before (K.written sink.new)) }
     ensures short { OnOk result (vec_len front.new ≤ KEPT_BYTES) }
     ensures up { OnOk result (E.is_up engine.new) }
     ensures told { IsTold (E.disk engine.old) → IsTold (E.disk engine.new) }

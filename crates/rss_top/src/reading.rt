@@ -1,5 +1,5 @@
 // A script, read and run.
-ghost use Rattle.std.specs.Prelude.{◌≡◌, ◌≢◌, ◌<◌, ◌≤◌, ◌^◌, [], ℕ, List, Option, Some, Ok, length, take, vec_len, IfOk, IfErr, IsErrOf, OnOk, OnErr};
+ghost use Rattle.std.specs.Prelude.{◌≡◌, ◌≢◌, ◌<◌, ◌≤◌, ◌^◌, [], ℕ, List, Option, Some, Ok, ⊤, length, take, vec_len, IfOk, IfErr, IsErrOf, OnOk, OnErr};
 ghost use Rattle.rss_base.specs.Faults.{HasCause, Rises};
 ghost use Rattle.rss_base.specs.Streams.{Gives};
 ghost use Rattle.rss_base.specs.DiskRule.{IsTold, Continues};
@@ -56,7 +56,7 @@ fn finish<E: Engine, K: Sink>(
         → Whole start (E.disk engine.new) first given before (K.written sink.new)) }
     ensures stopped { IfErr result (λ status. (start : ℕ) (first : State) (given : List ℕ) (before : Option (List ℕ)) → IsTold (E.disk engine.old)
         → Kept start (E.disk engine.old) first (E.state engine.old) given front.now before (K.written sink.old)
-        → Stopped status start (E.disk engine.new) first given before (K.written sink.new)) }
+        → Stopped status start (E.disk engine.new) first given ⊤ before (K.written sink.new)) }
     ensures told { IsTold (E.disk engine.old) → IsTold (E.disk engine.new) }
     ensures history { IsTold (E.disk engine.old) → Continues (E.disk engine.old) (E.disk engine.new) }
     ensures errors { IfErr result IsStop }

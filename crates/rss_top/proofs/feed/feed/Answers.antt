@@ -13,8 +13,8 @@ returns-in-Err-clause-stopped g c = λ start first given before told kept.
     let piece = c.args.piece.now in
     let done = c.loop-at.done in
     let so_far = c.loop-at.invariant.kept start first given before told kept in
-    let stop = c.in-Err.ensures.stopped start first (given ++ take done piece) (drop (done + c.in-Some.at) piece) before (c.loop-at.invariant.told told) (line_unbroken piece done c.in-Some.at c.in-Some.ensures.line) so_far in
-    subst (λ (l : List ℕ). Stopped c.in-Err.status start (g.E.Engine.disk c.end_line.new.engine) first l before (g.K.Sink.written c.end_line.new.sink)) (line_then piece done c.in-Some.at given) stop
+    let stop = c.in-Err.ensures.stopped start first (given ++ take done piece) (drop (done + c.in-Some.at + 1) piece) before (c.loop-at.invariant.told told) (line_unbroken piece done c.in-Some.at c.in-Some.ensures.line) so_far in
+    subst (λ (l : List ℕ). Stopped c.in-Err.status start (g.E.Engine.disk c.end_line.new.engine) first l ⊥ before (g.K.Sink.written c.end_line.new.sink)) (line_then piece done c.in-Some.at given c.in-Some.ensures.within c.in-Some.ensures.end) stop
 
 pub loop-at-preserved : goal.loop-at-preserved
 loop-at-preserved g c =
@@ -38,8 +38,8 @@ loop-at-preserved g c =
 pub returns-in_default-keep-clause-stopped : goal.returns-in_default-keep-clause-stopped
 returns-in_default-keep-clause-stopped g c = λ start first given before told kept.
     let so_far = c.loop-at.invariant.kept start first given before told kept in
-    subst (λ (l : List ℕ). Stopped NoMemory start (g.E.Engine.disk c.loop-at.engine) first l before (g.K.Sink.written c.loop-at.sink)) (rest_then c.args.piece.now c.loop-at.done given)
-    (kept_unread (drop c.loop-at.done c.args.piece.now) so_far)
+    subst (λ (l : List ℕ). Stopped NoMemory start (g.E.Engine.disk c.loop-at.engine) first l ⊥ before (g.K.Sink.written c.loop-at.sink)) (rest_then c.args.piece.now c.loop-at.done given)
+    (kept_unread ⊥ (drop c.loop-at.done c.args.piece.now) so_far)
 
 pub returns-clause-ok : goal.returns-clause-ok
 returns-clause-ok g c = λ start first given before told kept.

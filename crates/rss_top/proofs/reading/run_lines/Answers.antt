@@ -6,8 +6,8 @@ use Rattle.rss_base.proofs.Flows.{gives_none, gives_then}
 use Rattle.rss_base.proofs.Moments.{started, continues_then}
 use Rattle.rss_top.specs.Run.{Stopped, Kept}
 use Rattle.rss_top.specs.declared.status.Status.TheVariants.{ReadFault, TooLong, NoMemory}
-use Rattle.rss_top.proofs.Stories.{stopped_unread}
-use Rattle.rss_top.proofs.Endings.{ended_halted, ended_stopped, ended_whole, not_through}
+use Rattle.rss_top.proofs.Stories.{stopped_unread, stopped_over}
+use Rattle.rss_top.proofs.Endings.{ended_halted, ended_stopped, ended_whole, all_of, not_through}
 use Rattle.rss_top.proofs.reading.run_lines.Goals as goal
 
 -- what was read into the buffer is what the buffer holds
@@ -15,7 +15,7 @@ read_back : (xs ys : List ℕ) (n : ℕ) → length xs ≡ n → take n (xs ++ y
 read_back xs ys n size = ap (λ (k : ℕ). take k (xs ++ ys)) (sym size) ∙ take-append_seam xs ys
 
 pub returns-in_default-clause-ended : goal.returns-in_default-clause-ended
-returns-in_default-clause-ended g c = λ start first before told story. ended_stopped NoMemory [] (inr (inr refl)) (gives_none _) (stopped_unread [] story)
+returns-in_default-clause-ended g c = λ start first before told story. ended_stopped NoMemory [] (inr (inr refl)) (gives_none _) (stopped_unread _ [] story)
 
 pub loop-taken-init : goal.loop-taken-init
 loop-taken-init g c = record {
@@ -46,9 +46,11 @@ returns-in-Err-clause-ended g c = λ start first before told story.
     let reading = c.loop-taken.invariant.reading start first before told story in
     let last = subst (λ (k : ℕ). Gives (g.O.Source.left c.loop-taken.source) (take k c.read_piece.new.piece) (g.O.Source.left c.read_piece.new.source)) c.if-count-eq0.true c.in-Ok-read_piece.ensures.gives in
     let kept = subst (λ (l : List ℕ). Kept start (g.E.Engine.disk c.loop-taken.engine) first (g.E.Engine.state c.loop-taken.engine) reading.given l before (g.K.Sink.written c.loop-taken.sink)) (sym c.as_slice.ensures.value) reading.kept in
+    let most : c.min-most.result ≡ min 65536 (1073741824 - c.loop-taken.taken) = c.min-most.ensures in
+    let no_more = c.in-Ok-read_piece.ensures.end (ap Ok c.if-count-eq0.true) (omega (arith, most, c.loop-taken-test.true)) in
     ended_stopped c.in-Err.status reading.given c.in-Err.ensures.errors
     (subst (λ (l : List ℕ). Gives (g.O.Source.left c.args.source.now) l (g.O.Source.left c.read_piece.new.source)) (append-nil reading.given) (gives_then _ _ _ reading.given [] reading.gives last))
-    (c.in-Err.ensures.stopped start first reading.given before (c.loop-taken.invariant.told told) kept)
+    (stopped_over (λ _. all_of reading.given reading.gives no_more) (c.in-Err.ensures.stopped start first reading.given before (c.loop-taken.invariant.told told) kept))
 
 pub returns-then-count-eq0-clause-ended : goal.returns-then-count-eq0-clause-ended
 returns-then-count-eq0-clause-ended g c = λ start first before told story.
@@ -65,7 +67,7 @@ returns-in-Err-feed-clause-ended g c = λ start first before told story.
     let same : c.deref.result.now ≡ c.read_piece.new.piece = c.deref.ensures.value ∙ read_back c.read_piece.new.piece _ c.loop-taken.piece.len size in
     let stop = c.in-Err-feed.ensures.stopped start first reading.given before (c.loop-taken.invariant.told told) reading.kept in
     ended_stopped c.in-Err-feed.status (reading.given ++ take c.in-Ok-read_piece.count c.read_piece.new.piece) c.in-Err-feed.ensures.errors (gives_then _ _ _ reading.given _ reading.gives c.in-Ok-read_piece.ensures.gives)
-    (subst (λ (l : List ℕ). Stopped c.in-Err-feed.status start (g.E.Engine.disk c.feed.new.engine) first (reading.given ++ take c.in-Ok-read_piece.count l) before (g.K.Sink.written c.feed.new.sink)) same stop)
+    (stopped_over (λ never. absurd never) (subst (λ (l : List ℕ). Stopped c.in-Err-feed.status start (g.E.Engine.disk c.feed.new.engine) first (reading.given ++ take c.in-Ok-read_piece.count l) ⊥ before (g.K.Sink.written c.feed.new.sink)) same stop))
 
 pub loop-taken-preserved : goal.loop-taken-preserved
 loop-taken-preserved g c = record {
