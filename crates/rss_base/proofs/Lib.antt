@@ -1,2 +1,6 @@
 pub mod Moments
 pub mod Flows
+pub mod Bytes
+pub mod Props
+pub mod Calls
+pub mod Keys

@@ -1,7 +1,7 @@
 -- How calls of a device follow one another.
-use Rattle.std.proofs.Common.{◌≡◌, ◌⊎◌, inl, inr, ⊎_elim, ℕ, ◌≤◌, refl, sym, ◌∙◌, subst, arith}
+use Rattle.std.proofs.Common.{◌≡◌, ◌⊎◌, inl, inr, ⊎_elim, ℕ, ◌≤◌, Option, refl, sym, ◌∙◌, subst, arith}
 use Rattle.std.proofs.lemmas.Bool.{cases_lt}
-use Rattle.rss_base.specs.DiskRule.{Disk, Pages, Leaves, LeavesOnly, TornAt, TornIn, Passes, Continues}
+use Rattle.rss_base.specs.DiskRule.{Disk, Pages, Leaves, LeavesOnly, SameOff, TornAt, TornIn, Passes, Continues, IsRewritten, IsRewrittenIn}
 
 -- before the first call
 pub started : (disk : Disk) (P : Pages → Type 0) → Passes disk disk P
@@ -68,6 +68,21 @@ write_within {places = places} {at = at} {old = old} inside first second = then 
       };
     })
 
+-- the page that is written is one of some places, as those were that were written before
+pub rewritten_within : {places : ℕ → Type 0} {at : ℕ} {before mid : Pages} {contents : Option Pages} → places at → SameOff places before mid → IsRewritten at mid contents → IsRewrittenIn places before contents
+rewritten_within {places = places} inside earlier last = record {
+  after = last.after;
+  told = last.told;
+  same = record {
+    size = last.same.size ∙ earlier.size;
+    others = λ q off. last.same.others q (λ is. off (subst places (sym is) inside)) ∙ earlier.others q off;
+  };
+}
+
+-- the first such page
+pub rewritten : {places : ℕ → Type 0} {at : ℕ} {before : Pages} {contents : Option Pages} → places at → IsRewritten at before contents → IsRewrittenIn places before contents
+rewritten inside kept = rewritten_within inside (record { size = refl; others = λ q off. refl }) kept
+
 -- a call that leaves no more than could be left before it
 pub no_more : {old new : Disk} → Passes old new (Leaves old) → (image : Pages) → Leaves new image → Leaves old image
 no_more passes image left = ⊎_elim (λ before. before) (λ within. within) (now passes image left)
@@ -81,3 +96,7 @@ continues passes = widened passes (λ image has. tt)
 
 pub continues_then : {old mid new : Disk} → Continues old mid → Continues mid new → Continues old new
 continues_then first second = then first second (λ image has. tt)
+
+-- two such calls
+pub no_more_then : {old mid new : Disk} → Passes old mid (Leaves old) → Passes mid new (Leaves mid) → Passes old new (Leaves old)
+no_more_then first second = then first second (no_more first)

@@ -75,6 +75,12 @@ pub record IsRewritten (at : ℕ) (before : Pages) (contents : Option Pages) : T
   pub told : contents ≡ Some after
   pub same : SameBut at before after
 
+-- what a read gives now is the same outside these places
+pub record IsRewrittenIn (places : ℕ → Type 0) (before : Pages) (contents : Option Pages) : Type 0 where
+  pub after : Pages
+  pub told : contents ≡ Some after
+  pub same : SameOff places before after
+
 -- the pages that stood there and still do are the same
 pub record IsResized (before : Pages) (contents : Option Pages) : Type 0 where
   pub after : Pages

@@ -30,9 +30,12 @@ device_pages root = slots_at root.slots root.log_pages + root.slots
 
 -- ---- the selector
 
--- The root that the selector names: root 1 where the lowest bit of its first byte is 0, else root 2.
+-- The root that a selector names: root 1 where the lowest bit of its first byte is 0, else root 2.
+abbrev pub selected_by : List ℕ → ℕ
+selected_by selector = 1 + slice_index selector 0 % 2
+
 abbrev pub selected : Pages → ℕ
-selected pages = 1 + slice_index (page pages 0) 0 % 2
+selected pages = selected_by (page pages 0)
 
 abbrev pub root_of : Pages → List ℕ
 root_of pages = page pages (selected pages)

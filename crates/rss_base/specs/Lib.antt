@@ -3,3 +3,4 @@ pub mod Streams
 pub mod DiskRule
 pub mod Layout
 pub mod PageMap
+pub mod Paged

@@ -1,8 +1,10 @@
 -- The map of the slots: which page each of them holds.
-use Rattle.std.specs.Prelude.{◌≡◌, ◌≢◌, ℕ, ◌+◌, ◌*◌, ◌/◌, ◌%◌, ◌<◌, ◌≤◌, List, [], ◌∷◌, ◌++◌, length, take, drop, slice_index_or, replicate, Option, Some, None, IfSome}
+use Rattle.std.specs.Prelude.{◌≡◌, ◌≢◌, ℕ, ◌+◌, ◌*◌, ◌/◌, ◌%◌, ◌<◌, ◌≤◌, List, ◌∷◌, length, take, drop, slice_index_or, replicate, Option, Some, None, IfSome}
 use Rattle.std.specs.Int.{w32, to_be_bytes}
-use Rattle.rss_base.specs.DiskRule.{Pages, page}
+use Rattle.rss_base.specs.DiskRule.{Pages, page, SameOff, IsWithin}
 use Rattle.rss_base.specs.Layout.{map_pages}
+use Rattle.rss_base.specs.declared.place.Place.{Place}
+use Rattle.rss_base.specs.declared.place.Place.TheVariants.{Slot}
 use Rattle.rss_base.specs.declared.key.Space.{Space}
 use Rattle.rss_base.specs.declared.key.Space.TheVariants.{Home, Overflow, Image, System}
 use Rattle.rss_base.specs.declared.key.PageKey.{PageKey}
@@ -36,10 +38,11 @@ owner_of owners slot = slice_index_or owners slot None
 abbrev pub AreDistinct : List (Option PageKey) → Type 0
 AreDistinct owners = (s t : ℕ) (key : PageKey) → owner_of owners s ≡ Some key → owner_of owners t ≡ Some key → s ≡ t
 
--- the owners of so many slots: pages that the map may name, each once
-pub record AreOwners (slots : ℕ) (owners : List (Option PageKey)) : Type 0 where
-  pub count : length owners ≡ slots
-  pub allowed : (s : ℕ) (key : PageKey) → owner_of owners s ≡ Some key → IsKey slots key
+-- the table of a store's slots
+pub record IsTable (owners : List (Option PageKey)) : Type 0 where
+  pub least : 64 ≤ length owners
+  pub most : length owners ≤ 65536
+  pub allowed : (s : ℕ) (key : PageKey) → owner_of owners s ≡ Some key → IsKey (length owners) key
   pub distinct : AreDistinct owners
 
 -- ---- the bytes of a map area
@@ -82,7 +85,14 @@ pub record IsOwned (owners : List (Option PageKey)) (owner : Option PageKey) : T
   pub slot : ℕ
   pub owned : owner_of owners slot ≡ Some key
 
--- The first slot at which the area is no map: what stands there is no entry, or a lesser slot has the same owner. Where all entries are sound, it is the number of slots if something else than zeros stands behind them.
-pub data IsMapFault (slots : ℕ) (pages : Pages) (first : ℕ) : ℕ → Type 0 where
-  entry : {slot : ℕ} (owners : List (Option PageKey)) → length owners ≡ slot → slot < slots → BeginsMap slots pages first owners → ((owner : Option PageKey) → IsEntry slots (entry_at pages first slot) owner → IsOwned owners owner) → IsMapFault slots pages first slot
-  rest : (owners : List (Option PageKey)) (place : ℕ) → length owners ≡ slots → BeginsMap slots pages first owners → slots ≤ place → place < 512 * map_pages slots → entry_at pages first place ≢ replicate 8 0 → IsMapFault slots pages first slots
+-- a read gives the map of these owners in the area, and all other pages as they were
+pub record HoldsMap (before : Pages) (first : ℕ) (owners : List (Option PageKey)) (contents : Option Pages) : Type 0 where
+  pub after : Pages
+  pub told : contents ≡ Some after
+  pub same : SameOff (IsWithin first (map_pages (length owners))) before after
+  pub map : IsMap (length owners) after first owners
+
+-- The first place at which the area is no map: a slot where no entry stands, or that of a page which a lesser slot has. Where all entries are sound, it is the slot behind the last one if something else than zeros stands there.
+pub data IsMapFault (slots : ℕ) (pages : Pages) (first : ℕ) : Place → Type 0 where
+  entry : {slot : ℕ} (owners : List (Option PageKey)) → length owners ≡ slot → slot < slots → BeginsMap slots pages first owners → ((owner : Option PageKey) → IsEntry slots (entry_at pages first slot) owner → IsOwned owners owner) → IsMapFault slots pages first (Slot slot)
+  rest : (owners : List (Option PageKey)) (place : ℕ) → length owners ≡ slots → BeginsMap slots pages first owners → slots ≤ place → place < 512 * map_pages slots → entry_at pages first place ≢ replicate 8 0 → IsMapFault slots pages first (Slot slots)

@@ -1,6 +1,7 @@
 // Failures of what lies outside, and stores that don't open.
 ghost use Rattle.std.specs.Prelude.{◌≡◌};
 ghost use Rattle.rss_base.specs.declared.fault.OpenFault.TheVariants.{Device as DeviceFault};
+ghost use Rattle.rss_base.specs.declared.fault.PageFault.TheVariants.{Device as PageDeviceFault};
 
 use crate::Place;
 use thiserror::Error;
@@ -29,8 +30,28 @@ impl From<Failed> for OpenFault {
     }
 }
 
+/// Why a page can't be read, written, taken or given back.
+#[derive(Clone, Copy, Debug, PartialEq, Eq, Error)]
+pub enum PageFault {
+    #[error("the device failed")]
+    Device,
+    /// Never over a device that tells its contents.
+    #[error("damaged: {0:?}")]
+    Damaged(Place),
+    #[error("out of memory")]
+    NoMemory,
+}
+
+impl From<Failed> for PageFault {
+    ghost from_gives = { λ _ e. e ≡ PageDeviceFault };
+
+    fn from(_: Failed) -> Self {
+        PageFault::Device
+    }
+}
+
 /// A device that wasn't opened, handed back with the reason.
-#[derive(Debug)]
+#[derive(Debug, Drop)]
 pub struct Unopened<D> {
     pub device: D,
     pub fault: OpenFault,

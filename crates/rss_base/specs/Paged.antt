@@ -1,0 +1,66 @@
+-- Pages by their keys, over a device of which a part is fixed.
+use Rattle.std.specs.Prelude.{◌≡◌, ◌↔◌, ℕ, ◌<◌, ◌≤◌, Bool, true, false, ◌&&◌, ◌==◌, if◌then◌else◌, List, length, Option, Some, Result, Err, IsErrOf}
+use Rattle.rss_base.specs.DiskRule.{Disk, Pages, page, IsTold, Passes}
+use Rattle.rss_base.specs.Faults.{Rises}
+use Rattle.rss_base.specs.PageMap.{space_code}
+use Rattle.rss_base.specs.declared.place.Place.{Place}
+use Rattle.rss_base.specs.declared.fault.PageFault.{PageFault}
+use Rattle.rss_base.specs.declared.fault.PageFault.TheVariants.{Device as DeviceFailed, Damaged}
+use Rattle.rss_base.specs.declared.key.Space.{Space}
+use Rattle.rss_base.specs.declared.key.PageKey.{PageKey}
+
+-- ---- what pages hold
+
+-- which pages are mapped
+abbrev pub Mapped : Type 0
+Mapped = PageKey → Bool
+
+-- what each mapped page holds
+abbrev pub Held : Type 0
+Held = PageKey → Option (List ℕ)
+
+-- the keys name one page
+abbrev pub is_same : PageKey → PageKey → Bool
+is_same a b = (a.segment == b.segment) && (space_code a.space == space_code b.space) && (a.number == b.number)
+
+-- the same pages are mapped, but that this one is, or isn't
+abbrev pub with_mapped : Mapped → PageKey → Bool → Mapped
+with_mapped mapped key now other = if is_same other key then now else mapped other
+
+-- the same pages hold the same, but that this one holds these bytes, or isn't mapped
+abbrev pub with_page : Held → PageKey → Option (List ℕ) → Held
+with_page held key bytes other = if is_same other key then bytes else held other
+
+-- a page of a segment and a space
+abbrev pub page_key : ℕ → Space → ℕ → PageKey
+page_key segment space number = record { segment = segment; space = space; number = number }
+
+-- the least number of a segment and a space that isn't mapped
+pub record IsLeastUnmapped (mapped : Mapped) (segment : ℕ) (space : Space) (number : ℕ) : Type 0 where
+  pub free : mapped (page_key segment space number) ≡ false
+  pub lesser : (k : ℕ) → k < number → mapped (page_key segment space k) ≡ true
+
+-- ---- what is fixed
+
+-- the number of a device's pages, and what those of them hold that are not to be written
+pub record Fixed : Type 0 where
+  pub size : ℕ
+  pub held_at : ℕ → Option (List ℕ)
+
+-- the pages have what is fixed, and anything in the others
+pub record HasFixed (fixed : Fixed) (image : Pages) : Type 0 where
+  pub size : length image ≡ fixed.size
+  pub pages : (q : ℕ) (bytes : List ℕ) → fixed.held_at q ≡ Some bytes → page image q ≡ bytes
+
+-- A call that leaves alone what is fixed: where nothing fixed is on its way to the disk, it stays the same, and each image at a moment of the call has it. The device tells its contents as before.
+pub record LeavesFixed (settled settled_now : Type 0) (old new : Disk) (before after : Fixed) : Type 0 where
+  pub told : IsTold old ↔ IsTold new
+  pub stays_settled : settled → settled_now
+  pub same : settled → IsTold old → after ≡ before
+  pub moments : settled → IsTold old → Passes old new (HasFixed before)
+
+-- A count of faults never falls, and a device's fault comes only where it rose. Nothing is found damaged on a device that tells its contents.
+pub record HasPageCause {T : Type 0} (disk : Disk) (before now : ℕ) (result : Result T PageFault) : Type 0 where
+  pub later : before ≤ now
+  pub failed : IsErrOf result DeviceFailed → Rises before now
+  pub sound : (place : Place) → result ≡ Err (Damaged place) → IsTold disk → ⊥
