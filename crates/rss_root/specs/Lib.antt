@@ -1,0 +1,4 @@
+pub use Rattle.rss_base.specs.DiskRule
+pub use Rattle.rss_base.specs.Faults
+pub use Rattle.rss_base.specs.Layout
+pub mod Roots

@@ -1,0 +1,54 @@
+// The selected root of a device.
+ghost use Rattle.std.specs.Prelude.{◌≡◌, ◌⊎◌, ◌≤◌, Err, IfOk, OnOk, IsErrOf};
+ghost use Rattle.rss_base.specs.DiskRule.{Told, Leaves, LeavesOnly, Passes};
+ghost use Rattle.rss_base.specs.Faults.{Rises};
+ghost use Rattle.rss_base.specs.Layout.{device_pages, IsWellFormed, HasRoot, IsRootFault};
+ghost use Rattle.rss_base.specs.declared.place.Place.{Place};
+ghost use Rattle.rss_base.specs.declared.fault.OpenFault.TheVariants.{Device as DeviceFailed, NotAStore};
+ghost use Rattle.rss_root.specs.Roots.{IsRootPlace};
+
+use crate::root_page::decode;
+use rss_base::{Device, OpenFault, PAGE_BYTES, Place, Root, device_pages};
+
+/// The pages of the selector and of the two roots.
+const ROOT_PAGES: u64 = 3;
+
+/// Syncs a device, and reads its selected root. Answers the root and its number, 1 or 2. It writes
+/// nothing, and takes no memory.
+pub fn load<D: Device>(device: &mut D) -> Result<(Root, u8), OpenFault>
+    ensures formed { IfOk result (λ r. IsWellFormed r.0) }
+    ensures number { IfOk result (λ r. (1 ≤ r.1) × (r.1 ≤ 2)) }
+    ensures size { IfOk result (λ r. D.size_of device.new ≡ device_pages r.0) }
+
+    // It is what the bytes say, and else the place is named at which they are out of form.
+    ensures found { IfOk result (λ r. Told (D.disk device.old) (λ pages. HasRoot pages r.1 r.0)) }
+    ensures fault { (place : Place) → result ≡ Err (NotAStore place) → Told (D.disk device.old) (λ pages. IsRootFault pages place) }
+    ensures broken { (place : Place) → Told (D.disk device.old) (λ pages. IsRootFault pages place → (result ≡ Err (NotAStore place)) ⊎ (result ≡ Err DeviceFailed)) }
+    ensures place { (place : Place) → result ≡ Err (NotAStore place) → IsRootPlace place }
+    ensures memory { IsErrOf result OpenFault.NoMemory → ⊥ }
+    ensures cause { IsErrOf result OpenFault.Device → Rises (D.faults device.old) (D.faults device.new) }
+
+    // A stop afterwards leaves what a read gives.
+    ensures synced { OnOk result (Told (D.disk device.old) (LeavesOnly (D.disk device.new))) }
+    ensures contents { (D.disk device.new).contents ≡ (D.disk device.old).contents }
+    ensures moments { Told (D.disk device.old) (λ _. Passes (D.disk device.old) (D.disk device.new) (Leaves (D.disk device.old))) }
+    ensures writes { D.writes device.new ≡ D.writes device.old }
+    ensures later { D.faults device.old ≤ D.faults device.new }
+{
+    device.sync()?;
+    let size = device.size()?;
+    if size < ROOT_PAGES {
+        return Err(OpenFault::NotAStore(Place::Size));
+    }
+    let mut page = [0u8; PAGE_BYTES];
+    device.read(0, &mut page)?;
+    let number = 1 + page[0] % 2;
+    device.read(u64::from(number), &mut page)?;
+    let Some(root) = decode(&page) else {
+        return Err(OpenFault::NotAStore(Place::Root(number)));
+    };
+    if size != device_pages(&root) {
+        return Err(OpenFault::NotAStore(Place::Size));
+    }
+    Ok((root, number))
+}

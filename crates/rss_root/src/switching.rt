@@ -1,0 +1,49 @@
+// The change from one root to the other.
+ghost use Rattle.std.specs.Prelude.{◌≡◌, ◌↔◌, ◌+◌, ◌-◌, ◌<◌, ◌≤◌, ℕ, List, IfOk, OnOk};
+ghost use Rattle.rss_base.specs.DiskRule.{Told, IsTold, IsRewrittenIn, Passes};
+ghost use Rattle.rss_base.specs.Faults.{HasCause};
+ghost use Rattle.rss_base.specs.Layout.{root_page, selected_by};
+ghost use Rattle.rss_root.specs.Roots.{Selects, SelectsEither, IsPhase, IsSwitched};
+
+use crate::root_page::encode;
+use rss_base::{Device, Failed, PAGE_BYTES, Page, Root, put};
+
+/// Writes a root to the place of the other one, brings it to the disk, and then does the same with a
+/// selector that names it. Answers its number.
+///
+/// All that was written before is synced with the root, so it stands before the root is selected.
+pub fn switch<D: Device>(device: &mut D, valid: u8, root: &Root) -> Result<u8, Failed>
+    requires low { 0 < valid }
+    requires high { valid < 3 }
+    requires size { 3 ≤ D.size_of device.old }
+
+    // At each moment a stop leaves the root that was selected or the new one, and every other page
+    // as it was.
+    ensures phases { Told (D.disk device.old) (λ pages. Passes (D.disk device.old) (D.disk device.new) (IsPhase (D.disk device.old) pages (3 - valid) (root_page root.now))) }
+    ensures switched { OnOk result (Told (D.disk device.old) (λ pages. IsSwitched pages (3 - valid) (root_page root.now) (D.disk device.new))) }
+    ensures either { IsTold (D.disk device.old) → (before : List ℕ) → Selects (D.disk device.old) valid before → Passes (D.disk device.old) (D.disk device.new) (SelectsEither before (root_page root.now)) }
+    ensures selects { IfOk result (λ now. IsTold (D.disk device.old) → (before : List ℕ) → Selects (D.disk device.old) valid before → Selects (D.disk device.new) now (root_page root.now)) }
+
+    ensures number { IfOk result (λ now. now ≡ 3 - valid) }
+    ensures kept { Told (D.disk device.old) (λ pages. IsRewrittenIn (λ q. q < 3) pages (D.disk device.new).contents) }
+    ensures told { IsTold (D.disk device.old) ↔ IsTold (D.disk device.new) }
+    ensures size { D.size_of device.new ≡ D.size_of device.old }
+    ensures writes { D.writes device.new ≤ D.writes device.old + 2 }
+    ensures cause { HasCause (D.faults device.old) (D.faults device.new) result }
+{
+    let other = 3 - valid;
+    put(device, u64::from(other), &encode(root))?;
+    put(device, 0, &selector_of(other))?;
+    Ok(other)
+}
+
+/// A selector that names this root.
+fn selector_of(number: u8) -> Page
+    requires low { 0 < number }
+    requires high { number < 3 }
+    ensures { selected_by result ≡ number }
+{
+    let mut selector = [0u8; PAGE_BYTES];
+    selector[0] = number - 1;
+    selector
+}
