@@ -1,0 +1,137 @@
+// Numbers in use.
+ghost use Rattle.std.specs.Prelude.{◌≡◌, ◌≢◌, ◌-◌, ◌/◌, ◌^◌, ◌<◌, ◌≤◌, ◌==◌, ℕ, true, false, length, replicate, slice_index, slice_index_or, slice_set, All, IfOk, IfSome, IfNone};
+ghost use Rattle.std.specs.Int.{bit_at};
+ghost use Rattle.rss_shadow.specs.Numbers.{AreClear, IsPut, IsSetFrom};
+
+use std::alloc::{AllocError, Global};
+use std::marker::Model;
+
+/// How many bits a word has.
+const WORD_BITS: u32 = 64;
+
+/// The numbers below a bound, of which some are in use.
+///
+/// A bit for each number tells whether it is in use. Over these stands a bit for each word, which
+/// tells whether all its bits are set, and over those the same once more: so the least number that
+/// isn't in use is found by looking at three words.
+#[derive(Drop)]
+pub(crate) struct NumberSet {
+    len: u32,
+    numbers: Vec<u64>,
+    full_words: Vec<u64>,
+    full_groups: [u64; 1],
+}
+
+impl Model for NumberSet {
+    ghost use Rattle.std.specs.Prelude.{List, Bool};
+    ghost use Rattle.rss_shadow.specs.Numbers.{in_use, AreNumbers};
+
+    ghost Value = { List Bool };
+
+    ghost view = { λ s. in_use s.len s.numbers.items };
+
+    ghost invariant = { λ s. AreNumbers s.len s.numbers.items s.full_words.items s.full_groups };
+}
+
+impl NumberSet {
+    /// No number below this bound is in use.
+    pub(crate) fn new(alloc: Global, len: u32) -> Result<Self, AllocError>
+        requires some { 0 < len }
+        requires few { len ≤ 65536 }
+        ensures { IfOk result (λ set. set ≡ replicate len false) }
+    {
+        let words = len.div_ceil(WORD_BITS);
+        let groups = words.div_ceil(WORD_BITS);
+        Ok(NumberSet {
+            len,
+            numbers: clear_below(alloc, len)?,
+            full_words: clear_below(alloc, words)?,
+            full_groups: [set_from(groups)],
+        })
+    }
+
+    pub(crate) fn insert(&mut self, number: u32)
+        requires { number < length self.old }
+        ensures { self.new ≡ slice_set self.old number true }
+    {
+        self.put(number, true);
+    }
+
+    pub(crate) fn remove(&mut self, number: u32)
+        requires { number < length self.old }
+        ensures { self.new ≡ slice_set self.old number false }
+    {
+        self.put(number, false);
+    }
+
+    /// Sets or clears the bit of a number, and the bits above that tell of its word and its group.
+    fn put(&mut self, number: u32, used: bool)
+        requires { number < length self.old }
+        ensures { self.new ≡ slice_set self.old number used }
+    {
+        let word = number / WORD_BITS;
+        let word_full = put_bit(&mut self.numbers, number, used);
+        let group_full = put_bit(&mut self.full_words, word, word_full);
+        put_bit(&mut self.full_groups, word / WORD_BITS, group_full);
+    }
+
+    /// The least number that isn't in use.
+    pub(crate) fn least_absent(&self) -> Option<u32>
+        ensures within { IfSome result (λ number. number < length self.now) }
+        ensures absent { IfSome result (λ number. slice_index_or self.now number true ≡ false) }
+        ensures lesser { IfSome result (λ number. (k : ℕ) → k < number → slice_index_or self.now k true ≡ true) }
+        ensures none { IfNone result (All (λ used. used ≡ true) self.now) }
+    {
+        let group = self.full_groups[0].trailing_ones();
+        if group as usize >= self.full_words.len() {
+            return None;
+        }
+        let word = group * WORD_BITS + self.full_words[group as usize].trailing_ones();
+        Some(word * WORD_BITS + self.numbers[word as usize].trailing_ones())
+    }
+}
+
+/// Sets or clears the bit of a number in words, and tells whether its word is full then.
+fn put_bit(words: &mut [u64], number: u32, value: bool) -> bool
+    requires { number / 64 < length words.old }
+    ensures put { IsPut words.old number value words.new }
+    ensures full { result ≡ (slice_index words.new (number / 64) == 2 ^ 64 - 1) }
+{
+    let at = (number / WORD_BITS) as usize;
+    let word = with_bit(words[at], number % WORD_BITS, value);
+    words[at] = word;
+    word == u64::MAX
+}
+
+/// The word with this bit set or clear.
+fn with_bit(word: u64, bit: u32, value: bool) -> u64
+    requires { bit < 64 }
+    ensures here { (bit_at result bit == 1) ≡ value }
+    ensures others { (other : ℕ) → other < 64 → other ≢ bit → bit_at result other ≡ bit_at word other }
+{
+    if value {
+        word | (1 << bit)
+    } else {
+        word & !(1 << bit)
+    }
+}
+
+/// Words of bits, of which those below a bound are clear and those from it on are set.
+fn clear_below(alloc: Global, bound: u32) -> Result<Vec<u64>, AllocError>
+    requires some { 0 < bound }
+    requires few { bound ≤ 65536 }
+    ensures { IfOk result (λ words. AreClear bound words.items) }
+{
+    let words = bound.div_ceil(WORD_BITS) as usize;
+    let mut bits = vec![in alloc; 0u64; words]?;
+    bits[words - 1] = set_from(bound % WORD_BITS);
+    Ok(bits)
+}
+
+/// A word whose bits from this one on are set; none where it is 0.
+fn set_from(bit: u32) -> u64
+    requires { bit < 64 }
+    ensures { IsSetFrom bit result }
+{
+    if bit == 0 { 0 } else { u64::MAX << bit }
+}
