@@ -4,3 +4,5 @@ pub mod Stop
 pub mod MemDevice
 pub mod MemSource
 pub mod MemSink
+pub mod MemPages
+pub mod MemPagesLaws

@@ -1,19 +1,22 @@
 //! Devices, sources and sinks: in memory, where they tell their contents, and over files, readers
-//! and writers, where they tell nothing.
+//! and writers, where they tell nothing. And pages in memory, with no device behind them.
 #![tactic(auto)]
 
 mod event;
 mod failing;
 mod file;
 mod image;
+mod mem_pages;
 mod memory;
 mod reader;
 mod sink;
 mod source;
+mod stored;
 mod writer;
 
 pub use file::FileDevice;
 pub use image::Unsynced;
+pub use mem_pages::MemPages;
 pub use memory::MemDevice;
 pub use reader::ReaderSource;
 pub use sink::MemSink;

@@ -1,0 +1,25 @@
+use Rattle.std.proofs.Common.{rules, ◌≡◌, All, true, false, None, refl}
+use Rattle.rss_device.specs.MemPages.{has_key, place_at}
+use Rattle.rss_device.proofs.Places.{none_has, changes_own, held_gone, mapped_after, placed_after}
+use Rattle.rss_device.proofs.mem_pages.MemPagesPages.give.Goals as goal
+
+pub unreachable-requires : goal.unreachable-requires
+unreachable-requires c =
+    let none : All (λ place. has_key c.args.key place ≡ false) c.args.self.now.places.items = search rules in
+    let lacking = none_has c.args.self.now.places.items c.args.key none in
+    cc
+
+pub invariant_of-self : goal.invariant_of-self
+invariant_of-self c =
+    let has : has_key c.args.key (place_at c.args.self.now.places.items c.in-Some.at) ≡ true = search rules in
+    record { placed = placed_after _ _ _ _ c.args.self.now.placed (changes_own _ _ _ _ c.args.self.now.placed has (λ other differs. refl)) (c.args.self.now.placed.allowed _ _ has) }
+
+pub returns-clause-mapped : goal.returns-clause-mapped
+returns-clause-mapped c =
+    let has : has_key c.args.key (place_at c.args.self.now.places.items c.in-Some.at) ≡ true = search rules in
+    mapped_after _ _ _ None (held_gone _ _ _ (changes_own _ _ _ _ c.args.self.now.placed has (λ other differs. refl)))
+
+pub returns-clause-gone : goal.returns-clause-gone
+returns-clause-gone c = λ told.
+    let has : has_key c.args.key (place_at c.args.self.now.places.items c.in-Some.at) ≡ true = search rules in
+    held_gone _ _ _ (changes_own _ _ _ _ c.args.self.now.placed has (λ other differs. refl))

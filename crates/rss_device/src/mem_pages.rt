@@ -1,0 +1,158 @@
+// Pages in memory.
+ghost use Rattle.std.proofs.Props.{props};
+ghost use Rattle.rss_base.proofs.Props.{IsSegmentOf-prop};
+ghost use Rattle.std.specs.Prelude.{◌≡◌, ◌+◌, ◌<◌, ◌≤◌, length, replicate, false, Some, IfOk};
+ghost use Rattle.rss_base.specs.DiskRule.{IsTold};
+ghost use Rattle.rss_base.specs.PageMap.{IsKey};
+ghost use Rattle.rss_base.specs.Paged.{with_page, page_key, IsLeastUnmapped};
+ghost use Rattle.rss_base.specs.declared.key.PageKey.{PageKey as Key};
+ghost use Rattle.rss_device.specs.MemPages.{ArePlaces, held_in, mapped_in, free_in, no_device, none_fixed};
+ghost use Rattle.rss_device.specs.MemPagesLaws.{none_stays, some_mapped, allowed_in};
+
+use crate::stored::{Stored, free_place, free_places, page_of, place_of};
+use rss_base::{Page, PageFault, PageKey, Pages, Space};
+use std::alloc::{AllocError, Global};
+
+/// Pages in memory, for the tests of what stands on pages. There is no device: no call fails, and
+/// nothing is fixed. A page is searched for place by place, and no call after `new` takes memory.
+#[derive(Drop)]
+pub struct MemPages {
+    places: Vec<Option<Stored>>,
+    reads: u64,
+    ghost placed: { ArePlaces places.items } by { Prim.hlevel (props, IsSegmentOf-prop) },
+}
+
+impl MemPages {
+    /// Room for so many pages, of which none is mapped.
+    pub fn new(alloc: Global, slots: u32) -> Result<Self, AllocError>
+        requires least { 64 ≤ slots }
+        requires most { slots ≤ 65536 }
+        ensures mapped { IfOk result (λ pages. (key : Key) → ⟦<MemPages as Pages>⟧.mapped pages key ≡ false) }
+        ensures spare { IfOk result (λ pages. ⟦<MemPages as Pages>⟧.spare_of pages ≡ slots) }
+        ensures slots { IfOk result (λ pages. ⟦<MemPages as Pages>⟧.slots_of pages ≡ slots) }
+        ensures asks { IfOk result (λ pages. ⟦<MemPages as Pages>⟧.asks pages ≡ 0) }
+        ensures faults { IfOk result (λ pages. ⟦<MemPages as Pages>⟧.faults pages ≡ 0) }
+        ensures told { IfOk result (λ pages. IsTold (⟦<MemPages as Pages>⟧.disk pages)) }
+        ensures settled { IfOk result (λ pages. ⟦<MemPages as Pages>⟧.is_settled pages) }
+    {
+        let places = vec![in alloc; None; slots as usize]?;
+        Ok(MemPages { places, reads: 0 })
+    }
+
+    /// Gives a free place to a page, with zeros.
+    fn map(&mut self, key: PageKey)
+        requires allowed { IsKey (length self.old.places.items) key }
+        requires unmapped { mapped_in self.old.places.items key ≡ false }
+        requires room { 0 < free_in self.old.places.items }
+        ensures held { held_in self.new.places.items ≡ with_page (held_in self.old.places.items) key (Some (replicate 4096 0)) }
+        ensures free { free_in self.new.places.items + 1 ≡ free_in self.old.places.items }
+        ensures count { length self.new.places.items ≡ length self.old.places.items }
+        ensures reads { self.new.reads ≡ self.old.reads }
+    {
+        let Some(at) = free_place(self.places.as_slice()) else {
+            unreachable!()
+        };
+        self.places[at] = Some(Stored {
+            key,
+            page: [0; 4096],
+        });
+    }
+
+    /// The least page of a segment and a space that isn't mapped.
+    fn least_unmapped(&self, segment: u8, space: Space) -> u32
+        requires { 0 < free_in self.now.places.items }
+        ensures least { IsLeastUnmapped (mapped_in self.now.places.items) segment space result }
+        ensures within { result < length self.now.places.items }
+    {
+        for number in 0..self.slots() {
+            if !self.has(PageKey {
+                segment,
+                space,
+                number,
+            }) {
+                return number;
+            }
+        }
+        unreachable!()
+    }
+}
+
+impl Pages for MemPages {
+    ghost disk = { λ _. no_device };
+
+    ghost slots_of = { λ m. length m.places.items };
+
+    ghost mapped = { λ m. mapped_in m.places.items };
+
+    ghost held = { λ m. held_in m.places.items };
+
+    ghost spare_of = { λ m. free_in m.places.items };
+
+    ghost asks = { λ m. m.reads };
+
+    ghost faults = { λ _. 0 };
+
+    ghost fixed = { λ _. none_fixed };
+
+    ghost is_settled = { λ _. Unit {0} };
+
+    ghost stays = { λ m settled told image left. none_stays image left };
+
+    ghost holds = { λ m told key. some_mapped m.places.items key };
+
+    ghost allowed = { λ m key is. allowed_in m.placed key is };
+
+    fn slots(&self) -> u32 {
+        self.places.len() as u32
+    }
+
+    fn spare(&self) -> u32 {
+        free_places(self.places.as_slice()) as u32
+    }
+
+    #[tactic(auto, unfolding(crate::specs::MemPages::mapped_in))]
+    fn has(&self, key: PageKey) -> bool {
+        page_of(self.places.as_slice(), key).is_some()
+    }
+
+    #[tactic(auto, unfolding(crate::specs::MemPages::mapped_in))]
+    fn read(&mut self, key: PageKey, into: &mut Page) -> Result<(), PageFault> {
+        self.reads = self.reads.saturating_add(1);
+        let Some(page) = page_of(self.places.as_slice(), key) else {
+            unreachable!()
+        };
+        *into = *page;
+        Ok(())
+    }
+
+    fn write(&mut self, key: PageKey, from: &Page) -> Result<(), PageFault> {
+        let Some(at) = place_of(self.places.as_slice(), key) else {
+            unreachable!()
+        };
+        self.places[at] = Some(Stored { key, page: *from });
+        Ok(())
+    }
+
+    fn take(&mut self, segment: u8, space: Space) -> Result<u32, PageFault> {
+        let number = self.least_unmapped(segment, space);
+        self.map(PageKey {
+            segment,
+            space,
+            number,
+        });
+        Ok(number)
+    }
+
+    fn take_at(&mut self, key: PageKey) -> Result<(), PageFault> {
+        self.map(key);
+        Ok(())
+    }
+
+    fn give(&mut self, key: PageKey) -> Result<(), PageFault> {
+        let Some(at) = place_of(self.places.as_slice(), key) else {
+            unreachable!()
+        };
+        self.places[at] = None;
+        Ok(())
+    }
+}
