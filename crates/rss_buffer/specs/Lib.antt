@@ -1,0 +1,11 @@
+pub use Rattle.rss_base.specs.DiskRule
+pub use Rattle.rss_base.specs.Faults
+pub use Rattle.rss_base.specs.Layout
+pub use Rattle.rss_base.specs.PageMap
+pub use Rattle.rss_base.specs.Paged
+pub use Rattle.rss_shadow.specs.Maps
+pub mod Frames
+pub mod Slots
+pub mod Buffered
+pub mod Saved
+pub mod BufferLaws

@@ -1,0 +1,43 @@
+-- The slots of pages on a device, and what they hold.
+use Rattle.std.specs.Prelude.{ℕ, ◌+◌, ◌-◌, Bool, ◌&&◌, not, nat_le, if◌then◌else◌, List, [], ◌∷◌, length, Option, Some, None, is_some, option_map, unwrap_or}
+use Rattle.rss_base.specs.DiskRule.{Pages, page}
+use Rattle.rss_base.specs.PageMap.{owner_of}
+use Rattle.rss_base.specs.Paged.{Mapped, Held, Fixed, is_same}
+use Rattle.rss_base.specs.declared.key.PageKey.{PageKey}
+use Rattle.rss_buffer.specs.declared.frames.Frame.{Frame}
+use Rattle.rss_buffer.specs.Frames.{FrameOf}
+
+-- the slot of a page among the owners from a slot on
+abbrev pub slot_from : ℕ → List (Option PageKey) → PageKey → Option ℕ
+slot_from slot [] key = None
+slot_from slot (None ∷ owners) key = slot_from (slot + 1) owners key
+slot_from slot (Some owner ∷ owners) key = if is_same owner key then Some slot else slot_from (slot + 1) owners key
+
+-- the slot of a page, where the map has it
+abbrev pub slot_of : List (Option PageKey) → PageKey → Option ℕ
+slot_of owners key = slot_from 0 owners key
+
+-- the pages of the map
+abbrev pub mapped_by : List (Option PageKey) → Mapped
+mapped_by owners key = is_some (slot_of owners key)
+
+-- what a read gives, where the device tells it
+abbrev pub pages_of : Option Pages → Pages
+pages_of contents = unwrap_or contents []
+
+-- what a page holds: what is in its frame, and else what is in its slot
+abbrev pub held_in : Option Frame → List ℕ → List ℕ
+held_in None slot = slot
+held_in (Some frame) slot = frame.page
+
+-- what each page of the map holds. The data slots begin at first.
+abbrev pub held_by : ℕ → List (Option PageKey) → FrameOf → Option Pages → Held
+held_by first owners frames contents key = option_map (λ slot. held_in (frames key) (page (pages_of contents) (first + slot))) (slot_of owners key)
+
+-- a data slot that the shadow map doesn't use
+abbrev pub is_loose : ℕ → List (Option PageKey) → ℕ → Bool
+is_loose first shadow q = nat_le first q && not (is_some (owner_of shadow (q - first)))
+
+-- what is fixed: all but those slots
+abbrev pub fixed_by : ℕ → List (Option PageKey) → Option Pages → Fixed
+fixed_by first shadow contents = record { size = length (pages_of contents); held_at = λ q. if is_loose first shadow q then None else Some (page (pages_of contents) q) }

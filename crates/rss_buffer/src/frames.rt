@@ -1,0 +1,123 @@
+// The pages in memory.
+ghost use Rattle.std.specs.Prelude.{◌≡◌, ◌⊎◌, ◌↔◌, ◌<◌, ◌≤◌, [], length, Some, None, false, is_some, IsTrue, IsSome, IfSome, IfNone, IsOk, IfOk, OnOk, OnErr};
+ghost use Rattle.std.specs.Option.{option_copied};
+ghost use Rattle.rss_buffer.specs.Frames.{frame_in, with_frame};
+
+use lru::LruCache;
+use rss_base::{Page, PageKey};
+use std::alloc::{AllocError, Global};
+use std::num::NonZeroUsize;
+
+/// A page in memory.
+#[derive(Drop)]
+pub(crate) struct Frame {
+    pub(crate) page: Page,
+    /// It isn't in its slot as yet.
+    pub(crate) changed: bool,
+}
+
+/// So many pages in memory as there are frames, by the recency of their use.
+#[derive(Drop)]
+pub(crate) struct Frames {
+    pub(crate) cache: LruCache<PageKey, Frame>,
+}
+
+impl Frames {
+    pub(crate) fn new(alloc: Global, frames: NonZeroUsize) -> Result<Self, AllocError>
+        ensures { IfOk result (λ frames. frames.cache.entries ≡ []) }
+    {
+        Ok(Frames {
+            cache: LruCache::new(alloc, frames)?,
+        })
+    }
+
+    /// Whether the page is in memory.
+    pub(crate) fn has(&self, key: PageKey) -> bool
+        ensures { result ≡ is_some (frame_in self.now.cache.entries key) }
+    {
+        self.cache.contains(&key)
+    }
+
+    /// Whether each frame has a page.
+    pub(crate) fn is_full(&self) -> bool
+        ensures { IsTrue result ↔ (self.now.cache.cap ≤ length self.now.cache.entries) }
+    {
+        self.cache.len() >= self.cache.cap().get()
+    }
+
+    /// The page that wasn't used for the longest time, and whether it was changed.
+    pub(crate) fn eldest(&self) -> Option<(PageKey, bool)>
+        ensures some { IfSome result (λ eldest. IfSome (frame_in self.now.cache.entries eldest.0) (λ frame. frame.changed ≡ eldest.1)) }
+        ensures there { IfSome result (λ eldest. IsSome (frame_in self.now.cache.entries eldest.0)) }
+        ensures none { IfNone result (self.now.cache.entries ≡ []) }
+        ensures holds_some { 0 < self.now.cache.cap }
+    {
+        // `len` is called for its clause that the keys are distinct, which the proof cites.
+        let _len = self.cache.len();
+        let (key, frame) = self.cache.peek_lru()?;
+        Some((*key, frame.changed))
+    }
+
+    /// The frame of a page.
+    pub(crate) fn get(&self, key: PageKey) -> Option<&Frame>
+        ensures { option_copied result ≡ frame_in self.now.cache.entries key }
+    {
+        self.cache.peek(&key)
+    }
+
+    /// Makes the page the one that was used last.
+    pub(crate) fn touch(&mut self, key: PageKey)
+        ensures same { frame_in self.new.cache.entries ≡ frame_in self.old.cache.entries }
+        ensures count { length self.new.cache.entries ≡ length self.old.cache.entries }
+        ensures room { self.new.cache.cap ≡ self.old.cache.cap }
+    {
+        // `len` is called for its clause that the keys are distinct, which the proof cites.
+        let _len = self.cache.len();
+        self.cache.promote(&key);
+    }
+
+    /// Puts a page into memory, in place of what is there of it.
+    pub(crate) fn put(&mut self, key: PageKey, page: &Page, changed: bool) -> Result<(), AllocError>
+        requires { (length self.old.cache.entries < self.old.cache.cap) ⊎ IsSome (frame_in self.old.cache.entries key) }
+        ensures ok { OnOk result (frame_in self.new.cache.entries ≡ with_frame (frame_in self.old.cache.entries) key (Some (record { page = page.now; changed = changed }))) }
+        ensures err { OnErr result (self.new ≡ self.old) }
+        ensures succeeds { IsSome (frame_in self.old.cache.entries key) → IsOk result }
+        ensures room { self.new.cache.cap ≡ self.old.cache.cap }
+    {
+        // `len` is called for its clause that the keys are distinct, which the proof cites.
+        let _len = self.cache.len();
+        let frame = Frame {
+            page: *page,
+            changed,
+        };
+        self.cache.put(key, frame)?;
+        Ok(())
+    }
+
+    /// Notes that the page stands in its slot.
+    pub(crate) fn settle(&mut self, key: PageKey)
+        requires { IsSome (frame_in self.old.cache.entries key) }
+        ensures settled { IfSome (frame_in self.old.cache.entries key) (λ frame. frame_in self.new.cache.entries ≡ with_frame (frame_in self.old.cache.entries) key (Some (record { page = frame.page; changed = false }))) }
+        ensures room { self.new.cache.cap ≡ self.old.cache.cap }
+    {
+        let Some(frame) = self.get(key) else {
+            unreachable!()
+        };
+        let page = frame.page;
+        let Ok(()) = self.put(key, &page, false) else {
+            unreachable!()
+        };
+    }
+
+    /// Drops the page from memory.
+    pub(crate) fn remove(&mut self, key: PageKey)
+        ensures gone { frame_in self.new.cache.entries ≡ with_frame (frame_in self.old.cache.entries) key None }
+        ensures fewer { IsSome (frame_in self.old.cache.entries key) → length self.new.cache.entries < length self.old.cache.entries }
+        ensures free { IsSome (frame_in self.old.cache.entries key) → length self.new.cache.entries < self.new.cache.cap }
+        ensures room { self.new.cache.cap ≡ self.old.cache.cap }
+    {
+        // `len` is called for its clause that the keys are distinct, which the proof cites.
+        let _len = self.cache.len();
+        self.cache.pop(&key);
+    }
+}

@@ -1,0 +1,13 @@
+//! The pages of a store over a device: kept in memory by the recency of their use, written to slots
+//! that no saved page has, and saved all together.
+#![tactic(auto)]
+
+mod buffer;
+mod frames;
+mod pages;
+mod saving;
+mod stage;
+
+pub use buffer::Buffer;
+pub use saving::Saving;
+pub use stage::Stage;
