@@ -1,0 +1,12 @@
+//! Tests over the crates of a store's pages, its roots, its map and its shadow map: what no clause
+//! says.
+#![tactic(auto)]
+
+#[cfg(test)]
+mod harness;
+#[cfg(test)]
+mod maps;
+#[cfg(test)]
+mod roots;
+#[cfg(test)]
+mod shadows;

@@ -1,0 +1,475 @@
+// Roots, as bytes and on a device.
+use crate::harness::{first_root, pages_with_root, switch_from};
+use rss_base::{Failed, OpenFault, Page, Place, Root, Tail};
+use rss_device::{MemDevice, Unsynced};
+use rss_root::{decode, encode, load};
+use std::alloc::Global;
+use std::process::Abort;
+use std::test::Fail;
+
+/// The first 24 bytes of the first root of a store of 64 slots.
+const FRONT: [u8; 24] = [
+    0x52, 0x53, 0x53, 0x52, 0x00, 0x01, 0x00, 0x00, 0x00, 0x00, 0x00, 0x40, 0x00, 0x00, 0x00, 0x08,
+    0x00, 0x00, 0x00, 0x00, 0x00, 0x00, 0x00, 0x00,
+];
+
+/// Its other bytes that aren't 0, by their places.
+const REST: [(usize, u8); 2] = [(47, 2), (96, 9)];
+
+/// How many pages the device of that store has.
+const PAGES: usize = 77;
+
+/// What is compared of a root that was loaded: its number, its area, its checkpoint, its end and the
+/// first byte of its tail.
+#[derive(Clone, Copy, Debug, PartialEq, Eq)]
+struct Loaded {
+    number: u8,
+    area: u8,
+    checkpoint: u64,
+    end: u64,
+    first: u8,
+}
+
+const LOADS: Loaded = Loaded {
+    number: 1,
+    area: 0,
+    checkpoint: 0,
+    end: 2,
+    first: 9,
+};
+
+const OTHER_AREA: Loaded = Loaded {
+    number: 1,
+    area: 1,
+    checkpoint: 0,
+    end: 2,
+    first: 9,
+};
+
+const LATER_CHECKPOINT: Loaded = Loaded {
+    number: 1,
+    area: 0,
+    checkpoint: 1,
+    end: 2,
+    first: 9,
+};
+
+const LATER_END: Loaded = Loaded {
+    number: 1,
+    area: 0,
+    checkpoint: 0,
+    end: 3,
+    first: 9,
+};
+
+const OTHER_TAIL: Loaded = Loaded {
+    number: 1,
+    area: 0,
+    checkpoint: 0,
+    end: 2,
+    first: 8,
+};
+
+type Answer = Result<Loaded, OpenFault>;
+
+const NOT_ROOT_1: Answer = Err(OpenFault::NotAStore(Place::Root(1)));
+
+const NOT_ROOT_2: Answer = Err(OpenFault::NotAStore(Place::Root(2)));
+
+const NOT_SIZE: Answer = Err(OpenFault::NotAStore(Place::Size));
+
+/// Bytes of a store's first pages: page, offset, the bits that are turned, and what a load answers
+/// then.
+const TURNED: [(usize, usize, u8, Answer); 31] = [
+    // The mark, the version and the zeros behind it.
+    (1, 0, 1, NOT_ROOT_1),
+    (1, 3, 128, NOT_ROOT_1),
+    (1, 4, 1, NOT_ROOT_1),
+    (1, 5, 1, NOT_ROOT_1),
+    (1, 6, 255, NOT_ROOT_1),
+    (1, 7, 1, NOT_ROOT_1),
+    // No slots, and then 65, of which the device has another size.
+    (1, 11, 64, NOT_ROOT_1),
+    (1, 11, 1, NOT_SIZE),
+    (1, 8, 1, NOT_ROOT_1),
+    // No log pages, and then 9.
+    (1, 15, 8, NOT_ROOT_1),
+    (1, 15, 1, NOT_SIZE),
+    // The area and the zeros behind it.
+    (1, 16, 1, Ok(OTHER_AREA)),
+    (1, 16, 2, NOT_ROOT_1),
+    (1, 17, 1, NOT_ROOT_1),
+    (1, 23, 1, NOT_ROOT_1),
+    // A head behind the checkpoint, a checkpoint at the end, and an end at the checkpoint and at
+    // 2 ^ 63.
+    (1, 31, 1, NOT_ROOT_1),
+    (1, 39, 2, NOT_ROOT_1),
+    (1, 39, 1, Ok(LATER_CHECKPOINT)),
+    (1, 47, 2, NOT_ROOT_1),
+    (1, 47, 1, Ok(LATER_END)),
+    (1, 40, 128, NOT_ROOT_1),
+    // The zeros before the tail, the tail, and the zeros behind it.
+    (1, 48, 1, NOT_ROOT_1),
+    (1, 95, 1, NOT_ROOT_1),
+    (1, 96, 1, Ok(OTHER_TAIL)),
+    (1, 98, 1, NOT_ROOT_1),
+    (1, 4095, 1, NOT_ROOT_1),
+    // The root that isn't selected, and all of the selector but one bit, mean nothing.
+    (2, 0, 255, Ok(LOADS)),
+    (2, 4095, 1, Ok(LOADS)),
+    (0, 0, 254, Ok(LOADS)),
+    (0, 1, 255, Ok(LOADS)),
+    // That bit selects the other root, which is none.
+    (0, 0, 1, NOT_ROOT_2),
+];
+
+/// A head, an end, and whether the largest Checkpoint record has room behind it in 8 log pages and
+/// the root's tail.
+const ROOMS: [(u64, u64, bool); 6] = [
+    // 9 * 4000 - 1 - 386
+    (0, 35_613, true),
+    (0, 35_614, false),
+    (3999, 35_613, true),
+    (3999, 35_614, false),
+    // 10 * 4000 - 1 - 386
+    (4000, 39_613, true),
+    (4000, 39_614, false),
+];
+
+/// The root that an opening finds: the one before a switch, or the one after it.
+#[derive(Clone, Copy, Debug, PartialEq, Eq)]
+enum Found {
+    Before,
+    After,
+}
+
+/// What a stop may leave of the pages that were not synced. Of a selector the fill of 0 names
+/// root 1, and the fill of 255 names root 2.
+const UNSYNCED: [Unsynced; 4] = [
+    Unsynced::Old,
+    Unsynced::New,
+    Unsynced::Filled(0),
+    Unsynced::Filled(255),
+];
+
+/// A moment of two switches, the one from root 1 and then the one back, and what a load finds after a
+/// stop then, for each of `UNSYNCED`.
+#[derive(Drop)]
+struct Stop {
+    when: &'static str,
+    moment: usize,
+    finds: [Found; 4],
+}
+
+/// A switch: the number of the root before it, the ends of the logs of both roots, and what a stop
+/// at each of its moments leaves.
+#[derive(Drop)]
+struct Switch {
+    name: &'static str,
+    valid: u8,
+    before: u64,
+    after: u64,
+    stops: [Stop; 5],
+}
+
+const TO_ROOT_2: Switch = Switch {
+    name: "from root 1 to root 2",
+    valid: 1,
+    before: 2,
+    after: 3,
+    stops: [
+        Stop {
+            when: "entry",
+            moment: 0,
+            finds: [Found::Before; 4],
+        },
+        Stop {
+            when: "root 2 written",
+            moment: 1,
+            finds: [Found::Before; 4],
+        },
+        Stop {
+            when: "root 2 synced",
+            moment: 2,
+            finds: [Found::Before; 4],
+        },
+        Stop {
+            when: "the selector written",
+            moment: 3,
+            finds: [Found::Before, Found::After, Found::Before, Found::After],
+        },
+        Stop {
+            when: "the selector synced",
+            moment: 4,
+            finds: [Found::After; 4],
+        },
+    ],
+};
+
+const TO_ROOT_1: Switch = Switch {
+    name: "from root 2 to root 1",
+    valid: 2,
+    before: 3,
+    after: 5,
+    stops: [
+        Stop {
+            when: "entry",
+            moment: 4,
+            finds: [Found::Before; 4],
+        },
+        Stop {
+            when: "root 1 written",
+            moment: 5,
+            finds: [Found::Before; 4],
+        },
+        Stop {
+            when: "root 1 synced",
+            moment: 6,
+            finds: [Found::Before; 4],
+        },
+        Stop {
+            when: "the selector written",
+            moment: 7,
+            finds: [Found::Before, Found::After, Found::After, Found::Before],
+        },
+        Stop {
+            when: "the selector synced",
+            moment: 8,
+            finds: [Found::After; 4],
+        },
+    ],
+};
+
+/// The writes of both switches, and the moments right after them.
+const WRITES: [(usize, usize); 4] = [(0, 1), (1, 3), (2, 5), (3, 7)];
+
+/// The calls of a load, in their order.
+const LOAD_CALLS: [&str; 4] = ["the sync", "the size", "the selector", "the root"];
+
+/// The calls of a switch, in their order, and what a load finds where one fails and no stop comes.
+const SWITCH_CALLS: [(&str, Found); 4] = [
+    ("the write of the root", Found::Before),
+    ("the sync of the root", Found::Before),
+    ("the write of the selector", Found::Before),
+    ("the sync of the selector", Found::After),
+];
+
+/// The bytes of a page that aren't 0, from a place on.
+fn others_from(alloc: Global, page: &Page, first: usize) -> Result<Vec<(usize, u8)>, Fail> {
+    let mut others = Vec::new(alloc);
+    for (at, byte) in page.iter().enumerate() {
+        if at >= first && *byte != 0 {
+            others.push((at, *byte))?;
+        }
+    }
+    Ok(others)
+}
+
+/// A root of a store of 64 slots and 8 log pages, whose log has only zeros.
+fn root_between(head: u64, end: u64) -> Root {
+    let zeros = [0u8; 4000];
+    Root {
+        slots: 64,
+        log_pages: 8,
+        area: 0,
+        head,
+        checkpoint: head,
+        end,
+        tail: Tail::from_slice(&zeros[..(end % 4000) as usize]),
+    }
+}
+
+/// The device of a store of 64 slots with its first root.
+fn first_device(alloc: Global) -> Result<MemDevice, Fail> {
+    let pages = pages_with_root(alloc, PAGES, &first_root(64, 0))?;
+    Ok(MemDevice::new(alloc, pages)?)
+}
+
+/// Loads the root of a device.
+fn answer_of(device: &mut MemDevice) -> Answer {
+    let (root, number) = load(device)?;
+    Ok(Loaded {
+        number,
+        area: root.area,
+        checkpoint: root.checkpoint,
+        end: root.end,
+        first: root.tail.as_slice().first().copied().unwrap_or(0),
+    })
+}
+
+/// Loads the root of these pages.
+fn answer_in(alloc: Global, pages: Vec<Page>) -> Result<Answer, Fail> {
+    let mut device = MemDevice::new(alloc, pages)?;
+    Ok(answer_of(&mut device))
+}
+
+/// The first pages of a store, with bits of a byte turned.
+fn turned(alloc: Global, at: usize, offset: usize, bits: u8) -> Result<Vec<Page>, Fail> {
+    let mut pages = pages_with_root(alloc, PAGES, &first_root(64, 0))?;
+    let page = pages.get_mut(at).ok_or("a page that isn't there")?;
+    let byte = page.get_mut(offset).ok_or("a byte that isn't there")?;
+    *byte ^= bits;
+    Ok(pages)
+}
+
+/// Which of a switch's roots is found in these pages.
+fn found_in(alloc: Global, pages: Vec<Page>, switch: &Switch) -> Result<Found, Fail> {
+    let end = answer_in(alloc, pages)??.end;
+    if end == switch.before {
+        Ok(Found::Before)
+    } else if end == switch.after {
+        Ok(Found::After)
+    } else {
+        Err("another root".into())
+    }
+}
+
+/// Makes a switch.
+fn make(device: &mut MemDevice, switch: &Switch) -> Result<Result<u8, Failed>, Fail> {
+    switch_from(device, switch.valid, &root_between(0, switch.after))
+}
+
+/// Stops a device at a moment.
+fn assert_stop(
+    rt: &impl Abort,
+    alloc: Global,
+    device: &MemDevice,
+    switch: &Switch,
+    stop: &Stop,
+) -> Result<(), Fail> {
+    if stop.moment > device.moment() {
+        return Err("a moment that isn't there".into());
+    }
+    for (unsynced, want) in UNSYNCED.iter().zip(&stop.finds) {
+        let image = device.image_at(alloc, stop.moment, *unsynced)?;
+        let found = found_in(alloc, image, switch)?;
+        assert_eq!(rt;
+            found,
+            *want,
+            "{}, {}, {unsynced:?}",
+            switch.name, stop.when
+        );
+    }
+    Ok(())
+}
+
+/// Stops it at each moment of a switch.
+fn assert_stops(
+    rt: &impl Abort,
+    alloc: Global,
+    device: &MemDevice,
+    switch: &Switch,
+) -> Result<(), Fail> {
+    for stop in &switch.stops {
+        assert_stop(rt, alloc, device, switch, stop)?;
+    }
+    Ok(())
+}
+
+/// A device whose root was switched from root 1 and back.
+fn switched_twice(rt: &impl Abort, alloc: Global) -> Result<MemDevice, Fail> {
+    let mut device = first_device(alloc)?;
+    assert_eq!(rt; make(&mut device, &TO_ROOT_2)?, Ok(2));
+    assert_eq!(rt; make(&mut device, &TO_ROOT_1)?, Ok(1));
+    Ok(device)
+}
+
+/// The writes of both switches have their moments, and after the last one comes a sync.
+fn assert_writes(rt: &impl Abort, device: &MemDevice) {
+    for (write, moment) in WRITES {
+        assert_eq!(rt; device.moment_of_write(write), Some(moment), "{write}");
+    }
+    assert_eq!(rt; device.moment(), 8, "the last moment");
+}
+
+/// Makes a switch over a device that fails a call, and loads what that leaves.
+fn assert_failed_switch(
+    rt: &impl Abort,
+    alloc: Global,
+    device: MemDevice,
+    call: &str,
+    want: Found,
+) -> Result<(), Fail> {
+    let mut device = device;
+    assert_eq!(rt; make(&mut device, &TO_ROOT_2)?, Err(Failed), "{call}");
+    let left = Vec::from_slice(alloc, device.pages())?;
+    assert_eq!(rt; found_in(alloc, left, &TO_ROOT_2)?, want, "{call}");
+    Ok(())
+}
+
+#[test]
+fn a_root_has_the_bytes_of_its_format(rt: HostRuntime) -> Result<(), Fail> {
+    let page = encode(&first_root(64, 0));
+    assert_eq!(rt; &page[..24], FRONT.as_slice());
+    let others = others_from(rt.alloc(), &page, 24)?;
+    assert_eq!(rt; others.as_slice(), REST.as_slice());
+    Ok(())
+}
+
+#[test]
+fn each_field_turned_names_its_place(rt: HostRuntime) -> Result<(), Fail> {
+    let alloc = rt.alloc();
+    let pages = pages_with_root(alloc, PAGES, &first_root(64, 0))?;
+    assert_eq!(rt; answer_in(alloc, pages)?, Ok(LOADS), "as it was made");
+    for (at, offset, bits, want) in TURNED {
+        let pages = turned(alloc, at, offset, bits)?;
+        let answer = answer_in(alloc, pages)?;
+        assert_eq!(rt; answer, want, "byte {offset} of page {at} by {bits}");
+    }
+    Ok(())
+}
+
+#[test]
+fn a_device_of_another_size_is_named(rt: HostRuntime) -> Result<(), Fail> {
+    let alloc = rt.alloc();
+    for size in [0, 1, 2, 76, 78] {
+        let pages = pages_with_root(alloc, size, &first_root(64, 0))?;
+        assert_eq!(rt; answer_in(alloc, pages)?, NOT_SIZE, "{size} pages");
+    }
+    Ok(())
+}
+
+#[test]
+fn the_log_needs_room_for_a_checkpoint(rt: HostRuntime) {
+    for (head, end, fits) in ROOMS {
+        let page = encode(&root_between(head, end));
+        assert_eq!(rt; decode(&page).is_some(), fits, "from {head} to {end}");
+    }
+}
+
+#[test]
+fn a_switch_stopped_at_each_write_finds_the_old_root_or_the_new_one(
+    rt: HostRuntime,
+) -> Result<(), Fail> {
+    let alloc = rt.alloc();
+    let device = switched_twice(&rt, alloc)?;
+    assert_writes(&rt, &device);
+    assert_stops(&rt, alloc, &device, &TO_ROOT_2)?;
+    assert_stops(&rt, alloc, &device, &TO_ROOT_1)
+}
+
+#[test]
+fn a_failed_call_of_a_load_is_a_device_fault(rt: HostRuntime) -> Result<(), Fail> {
+    let alloc = rt.alloc();
+    for (k, call) in LOAD_CALLS.iter().enumerate() {
+        let mut device = first_device(alloc)?.failing_at(vec![in alloc; k as u64]?);
+        assert_eq!(rt; answer_of(&mut device), Err(OpenFault::Device), "{call}");
+    }
+    // There is no fifth call.
+    let mut device = first_device(alloc)?.failing_at(vec![in alloc; 4]?);
+    assert_eq!(rt; answer_of(&mut device), Ok(LOADS));
+    Ok(())
+}
+
+#[test]
+fn a_failed_call_of_a_switch_is_a_device_fault(rt: HostRuntime) -> Result<(), Fail> {
+    let alloc = rt.alloc();
+    for (k, (call, want)) in SWITCH_CALLS.iter().enumerate() {
+        let device = first_device(alloc)?.failing_at(vec![in alloc; k as u64]?);
+        assert_failed_switch(&rt, alloc, device, call, *want)?;
+    }
+    // There is no fifth call.
+    let mut device = first_device(alloc)?.failing_at(vec![in alloc; 4]?);
+    assert_eq!(rt; make(&mut device, &TO_ROOT_2)?, Ok(2));
+    Ok(())
+}
