@@ -1,4 +1,7 @@
 // Devices with roots, and calls that are made only where they may be.
+ghost use Rattle.std.specs.Prelude.{◌*◌, ◌≤◌, length, IsTrue};
+ghost use Rattle.rss_shadow.specs.Maps.{pages_of};
+
 use rss_base::{Failed, OpenFault, Page, PageKey, Root, Space, Tail, map_pages};
 use rss_device::MemDevice;
 use rss_pagemap::{SlotTable, read_table};
@@ -71,14 +74,21 @@ pub(crate) fn no_pages(alloc: Global, slots: u32) -> Result<Shadow, Fail> {
     shadow_of(alloc, table)
 }
 
-/// The maps of a store whose table has pages in half of its slots or fewer.
-pub(crate) fn shadow_of(alloc: Global, table: SlotTable) -> Result<Shadow, Fail> {
+/// Whether half of the slots or fewer have pages.
+pub(crate) fn is_half_free(table: &SlotTable) -> bool
+    ensures { IsTrue result → 2 * pages_of table.now ≤ length table.now }
+{
     let owned = table
         .as_slice()
         .iter()
         .filter(|owner| owner.is_some())
         .count();
-    if 2 * owned > table.as_slice().len() {
+    2 * owned <= table.as_slice().len()
+}
+
+/// The maps of a store whose table has pages in half of its slots or fewer.
+pub(crate) fn shadow_of(alloc: Global, table: SlotTable) -> Result<Shadow, Fail> {
+    if !is_half_free(&table) {
         return Err("too many pages".into());
     }
     Ok(Shadow::new(alloc, table)?)

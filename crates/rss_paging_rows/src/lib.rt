@@ -3,6 +3,10 @@
 #![tactic(auto)]
 
 #[cfg(test)]
+mod buffers;
+#[cfg(test)]
+mod caller;
+#[cfg(test)]
 mod harness;
 #[cfg(test)]
 mod maps;
