@@ -3,6 +3,8 @@ use Rattle.std.specs.Prelude.{◌≡◌, ◌≢◌, ℕ, ◌+◌, ◌-◌, ◌*�
 use Rattle.std.specs.Int.{w32, w64, to_be_bytes}
 use Rattle.rss_base.specs.DiskRule.{Pages, page}
 use Rattle.rss_base.specs.declared.root.Root.{Root}
+use Rattle.rss_base.specs.declared.fault.OpenFault.{OpenFault}
+use Rattle.rss_base.specs.declared.fault.OpenFault.TheVariants.{Device as DeviceFailed, NotAStore, Damaged, WrongSize, NoMemory}
 use Rattle.rss_base.specs.declared.place.Place.{Place}
 use Rattle.rss_base.specs.declared.place.Place.TheVariants.{Size, Root as RootPlace}
 
@@ -86,3 +88,11 @@ pub data IsRootFault (pages : Pages) : Place → Type 0 where
   few : length pages < 3 → IsRootFault pages Size
   no_root : {number : ℕ} → 3 ≤ length pages → number ≡ selected pages → ((root : Root) → IsRootPage (root_of pages) root → ⊥) → IsRootFault pages (RootPlace number)
   other_size : {root : Root} → 3 ≤ length pages → IsRootPage (root_of pages) root → length pages ≢ device_pages root → IsRootFault pages Size
+
+-- a fault of the reading of a layout: it names a place, or it is the device's, or memory ran out
+abbrev pub IsLayoutFault : OpenFault → Type 0
+IsLayoutFault (NotAStore place) = Unit {0}
+IsLayoutFault DeviceFailed = Unit {0}
+IsLayoutFault NoMemory = Unit {0}
+IsLayoutFault (Damaged place) = ⊥
+IsLayoutFault WrongSize = ⊥

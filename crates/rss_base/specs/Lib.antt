@@ -4,3 +4,5 @@ pub mod DiskRule
 pub mod Layout
 pub mod PageMap
 pub mod Paged
+pub mod StoredPages
+pub mod Answers

@@ -52,6 +52,12 @@ pub record HasFixed (fixed : Fixed) (image : Pages) : Type 0 where
   pub size : length image ≡ fixed.size
   pub pages : (q : ℕ) (bytes : List ℕ) → fixed.held_at q ≡ Some bytes → page image q ≡ bytes
 
+-- What the pages stand on, which no call on a page changes: how many log pages the device has, the map area that the selected root names, and the map as it was last saved.
+pub record Backing : Type 0 where
+  pub log_pages : ℕ
+  pub area : ℕ
+  pub shadow : List (Option PageKey)
+
 -- A call that leaves alone what is fixed: where nothing fixed is on its way to the disk, it stays the same, and each image at a moment of the call has it. The device tells its contents as before.
 pub record LeavesFixed (settled settled_now : Type 0) (old new : Disk) (before after : Fixed) : Type 0 where
   pub told : IsTold old ↔ IsTold new

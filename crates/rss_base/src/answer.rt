@@ -1,5 +1,8 @@
 // What the engine answers.
-use crate::{Refusal, Tid, Tuple};
+ghost use Rattle.std.specs.Prelude.{◌≡◌};
+ghost use Rattle.rss_base.specs.Answers.{page_error};
+
+use crate::{PageFault, Place, Refusal, Tid, Tuple};
 
 /// What a call that was done gives.
 #[derive(Debug, Drop)]
@@ -22,8 +25,24 @@ pub enum CallError {
     Refused(Refusal),
     /// The device failed. Each later call is answered `Down`.
     Device,
-    /// An earlier call was answered `Device`.
+    /// The pages are no store. It never comes over a device that tells its contents, and each later
+    /// call is answered `Down`.
+    Damaged(Place),
+    /// An earlier call has met a fault of the device or of its pages, or ran out of memory on its
+    /// way.
     Down,
     /// Memory ran out.
     NoMemory,
+}
+
+impl From<PageFault> for CallError {
+    ghost from_gives = { λ fault e. e ≡ page_error fault };
+
+    fn from(fault: PageFault) -> Self {
+        match fault {
+            PageFault::Device => CallError::Device,
+            PageFault::Damaged(place) => CallError::Damaged(place),
+            PageFault::NoMemory => CallError::NoMemory,
+        }
+    }
 }

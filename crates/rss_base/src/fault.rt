@@ -16,8 +16,15 @@ pub struct Failed;
 pub enum OpenFault {
     #[error("the device failed")]
     Device,
+    /// The layout of the device, of its root or of its map is out of form.
     #[error("not a store: {0:?}")]
     NotAStore(Place),
+    /// The layout is sound, and what the pages hold is no store.
+    #[error("damaged: {0:?}")]
+    Damaged(Place),
+    /// A store can't have this size.
+    #[error("no size of a store")]
+    WrongSize,
     #[error("out of memory")]
     NoMemory,
 }

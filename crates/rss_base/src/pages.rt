@@ -1,8 +1,8 @@
 // Pages by their keys.
-ghost use Rattle.std.specs.Prelude.{◌≡◌, ◌≢◌, ◌+◌, ◌-◌, ◌^◌, ◌<◌, ◌≤◌, ℕ, min, true, false, replicate, is_some, Some, None, IfOk, OnOk, OnErr};
-ghost use Rattle.rss_base.specs.DiskRule.{Disk, Pages as DevicePages, IsTold, Leaves};
+ghost use Rattle.std.specs.Prelude.{◌≡◌, ◌≢◌, ◌+◌, ◌-◌, ◌^◌, ◌<◌, ◌≤◌, ℕ, Bool, min, true, false, replicate, is_some, Some, None, IfOk, OnOk, OnErr};
+ghost use Rattle.rss_base.specs.DiskRule.{Disk, Pages as DevicePages, Told, IsTold, Leaves};
 ghost use Rattle.rss_base.specs.PageMap.{IsKey};
-ghost use Rattle.rss_base.specs.Paged.{Mapped, Held, Fixed, with_mapped, with_page, page_key, IsLeastUnmapped, HasFixed, LeavesFixed, HasPageCause};
+ghost use Rattle.rss_base.specs.Paged.{Mapped, Held, Fixed, Backing, with_mapped, with_page, page_key, IsLeastUnmapped, HasFixed, LeavesFixed, HasPageCause};
 ghost use Rattle.rss_base.specs.declared.key.Space.TheVariants.{System};
 ghost use Rattle.rss_base.specs.declared.key.PageKey.{PageKey as Key};
 
@@ -38,8 +38,11 @@ pub trait Pages {
     /// What is fixed of the device's pages, where it tells them.
     ghost fixed: { Self → Fixed };
 
+    /// What the pages stand on.
+    ghost backing: { Self → Backing };
+
     /// No page that is fixed is on its way to the disk.
-    ghost is_settled: { Self → Type 0 };
+    ghost is_settled: { Self → Bool };
 
     fn slots(&self) -> u32
         ensures { result ≡ slots_of self.now };
@@ -59,7 +62,8 @@ pub trait Pages {
         ensures spare { spare_of self.new ≡ spare_of self.old }
         ensures asks { asks self.new ≡ min (asks self.old + 1) (2 ^ 64 - 1) }
         ensures slots { slots_of self.new ≡ slots_of self.old }
-        ensures leaves { LeavesFixed (is_settled self.old) (is_settled self.new) (disk self.old) (disk self.new) (fixed self.old) (fixed self.new) }
+        ensures backing { backing self.new ≡ backing self.old }
+        ensures leaves { LeavesFixed (is_settled self.old ≡ true) (is_settled self.new ≡ true) (disk self.old) (disk self.new) (fixed self.old) (fixed self.new) }
         ensures cause { HasPageCause (disk self.old) (faults self.old) (faults self.new) result };
 
     fn write(&mut self, key: PageKey, from: &Page) -> Result<(), PageFault>
@@ -70,7 +74,8 @@ pub trait Pages {
         ensures spare { spare_of self.new ≡ spare_of self.old }
         ensures asks { asks self.new ≡ asks self.old }
         ensures slots { slots_of self.new ≡ slots_of self.old }
-        ensures leaves { LeavesFixed (is_settled self.old) (is_settled self.new) (disk self.old) (disk self.new) (fixed self.old) (fixed self.new) }
+        ensures backing { backing self.new ≡ backing self.old }
+        ensures leaves { LeavesFixed (is_settled self.old ≡ true) (is_settled self.new ≡ true) (disk self.old) (disk self.new) (fixed self.old) (fixed self.new) }
         ensures cause { HasPageCause (disk self.old) (faults self.old) (faults self.new) result };
 
     /// Maps the least page of a segment and a space that isn't mapped, to a page of zeros, and
@@ -90,7 +95,8 @@ pub trait Pages {
         ensures err_spare { OnErr result (spare_of self.new ≡ spare_of self.old) }
         ensures asks { asks self.new ≡ asks self.old }
         ensures slots { slots_of self.new ≡ slots_of self.old }
-        ensures leaves { LeavesFixed (is_settled self.old) (is_settled self.new) (disk self.old) (disk self.new) (fixed self.old) (fixed self.new) }
+        ensures backing { backing self.new ≡ backing self.old }
+        ensures leaves { LeavesFixed (is_settled self.old ≡ true) (is_settled self.new ≡ true) (disk self.old) (disk self.new) (fixed self.old) (fixed self.new) }
         ensures cause { HasPageCause (disk self.old) (faults self.old) (faults self.new) result };
 
     /// Maps this page, to a page of zeros.
@@ -106,7 +112,8 @@ pub trait Pages {
         ensures err_spare { OnErr result (spare_of self.new ≡ spare_of self.old) }
         ensures asks { asks self.new ≡ asks self.old }
         ensures slots { slots_of self.new ≡ slots_of self.old }
-        ensures leaves { LeavesFixed (is_settled self.old) (is_settled self.new) (disk self.old) (disk self.new) (fixed self.old) (fixed self.new) }
+        ensures backing { backing self.new ≡ backing self.old }
+        ensures leaves { LeavesFixed (is_settled self.old ≡ true) (is_settled self.new ≡ true) (disk self.old) (disk self.new) (fixed self.old) (fixed self.new) }
         ensures cause { HasPageCause (disk self.old) (faults self.old) (faults self.new) result };
 
     /// Unmaps a page.
@@ -120,11 +127,15 @@ pub trait Pages {
         ensures err_spare { OnErr result (spare_of self.new ≡ spare_of self.old) }
         ensures asks { asks self.new ≡ asks self.old }
         ensures slots { slots_of self.new ≡ slots_of self.old }
-        ensures leaves { LeavesFixed (is_settled self.old) (is_settled self.new) (disk self.old) (disk self.new) (fixed self.old) (fixed self.new) }
+        ensures backing { backing self.new ≡ backing self.old }
+        ensures leaves { LeavesFixed (is_settled self.old ≡ true) (is_settled self.new ≡ true) (disk self.old) (disk self.new) (fixed self.old) (fixed self.new) }
         ensures cause { HasPageCause (disk self.old) (faults self.old) (faults self.new) result };
 
+    /// A device as it reads is one of its images.
+    ghost reads_as_image: { (pages : Self) → Told (disk pages) (Leaves (disk pages)) };
+
     /// A stop between two calls leaves what is fixed.
-    ghost stays: { (pages : Self) → is_settled pages → IsTold (disk pages) → (image : DevicePages) → Leaves (disk pages) image → HasFixed (fixed pages) image };
+    ghost stays: { (pages : Self) → is_settled pages ≡ true → IsTold (disk pages) → (image : DevicePages) → Leaves (disk pages) image → HasFixed (fixed pages) image };
 
     /// The mapped pages are those that hold something.
     ghost holds: { (pages : Self) → IsTold (disk pages) → (key : Key) → is_some (held pages key) ≡ mapped pages key };

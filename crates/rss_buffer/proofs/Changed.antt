@@ -20,7 +20,8 @@ use Rattle.rss_buffer.specs.declared.frames.Frame.{Frame}
 use Rattle.rss_buffer.specs.declared.stage.Stage.{Stage}
 use Rattle.rss_buffer.specs.declared.stage.Stage.TheVariants.{Changing}
 use Rattle.rss_buffer.specs.Frames.{FrameOf, with_frame}
-use Rattle.rss_buffer.specs.Slots.{slot_of, mapped_by, held_in, held_by, pages_of}
+use Rattle.rss_buffer.specs.Slots.{held_in, held_by, pages_of}
+use Rattle.rss_base.specs.StoredPages.{slot_of, mapped_by}
 use Rattle.rss_buffer.specs.Buffered.{AreFrames, StaysFixed, IsBuffer}
 use Rattle.rss_buffer.specs.BufferLaws.{owner_of-slot_of, the_slot}
 use Rattle.rss_base.proofs.Keys.{is_same-true, is_same-itself}

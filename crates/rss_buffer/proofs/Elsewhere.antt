@@ -2,7 +2,7 @@
 use Rattle.std.proofs.Common.{◌≡◌, ◌↔◌, ℕ, ◌+◌, ◌*◌, ◌/◌, ◌%◌, ◌<◌, ◌≤◌, Bool, true, false, List, [], length, take, drop, Option, Some, option_map, refl, sym, ◌∙◌, ap, subst, arith}
 use Rattle.std.proofs.Math.Path.{fun_ext}
 use Rattle.std.proofs.lemmas.Option.{same_Some}
-use Rattle.rss_base.specs.DiskRule.{Disk, Pages, Told, IsTold, LeavesOnly, SameOff, IsWithin, IsRewritten, IsRewrittenIn}
+use Rattle.rss_base.specs.DiskRule.{Disk, Pages, page, Told, IsTold, LeavesOnly, SameOff, IsWithin, IsRewritten, IsRewrittenIn}
 use Rattle.rss_base.specs.Layout.{map_pages, map_at, log_at, slots_at}
 use Rattle.rss_base.specs.PageMap.{IsMap, IsTable, entry_at}
 use Rattle.rss_base.specs.Paged.{HasFixed}
@@ -10,7 +10,8 @@ use Rattle.rss_base.specs.declared.key.PageKey.{PageKey}
 use Rattle.rss_pagemap.proofs.Written.{area_ends}
 use Rattle.rss_shadow.specs.Maps.{Maps}
 use Rattle.rss_buffer.specs.Frames.{FrameOf, frame_in}
-use Rattle.rss_buffer.specs.Slots.{slot_of, held_in, held_by, fixed_by}
+use Rattle.rss_buffer.specs.Slots.{held_in, held_by, fixed_by}
+use Rattle.rss_base.specs.StoredPages.{slot_of}
 use Rattle.rss_buffer.specs.Buffered.{AreClean, StaysFixed, IsAtStage, IsBuffer}
 use Rattle.rss_buffer.specs.Saved.{unsynced}
 use Rattle.rss_buffer.proofs.Loose.{fixed_page}
@@ -45,12 +46,12 @@ pub clean_after : {old new : Disk} {places : ℕ → Type 0} (first : ℕ) (maps
 clean_after first maps frames below told kept clean =
     told_after (AreClean first maps frames) (AreClean first maps frames) told kept (λ before after same was key frame slot here unchanged owned. was key frame slot here unchanged owned ∙ sym (same.others (first + slot) (λ is. omega (arith, below (first + slot) is)))) clean
 
--- ---- pages outside a map area
+-- ---- the pages of a map area
 
-pub same_map : (slots first : ℕ) (owners : List (Option PageKey)) (places : ℕ → Type 0) (before after : Pages) → ((q : ℕ) → places q → IsWithin first (map_pages slots) q → ⊥) → SameOff places before after → IsMap slots before first owners → IsMap slots after first owners
-same_map slots first owners places before after off same map =
+pub same_map : (slots first : ℕ) (owners : List (Option PageKey)) (before after : Pages) → ((q : ℕ) → IsWithin first (map_pages slots) q → page after q ≡ page before q) → IsMap slots before first owners → IsMap slots after first owners
+same_map slots first owners before after same map =
     let count = map.count in
-    let entry : (s : ℕ) → s / 512 < map_pages slots → entry_at after first s ≡ entry_at before first s = λ s lt. ap (λ (bytes : List ℕ). take 8 (drop (8 * (s % 512)) bytes)) (same.others (first + s / 512) (λ is. off (first + s / 512) is (omega arith, omega arith))) in
+    let entry : (s : ℕ) → s / 512 < map_pages slots → entry_at after first s ≡ entry_at before first s = λ s lt. ap (λ (bytes : List ℕ). take 8 (drop (8 * (s % 512)) bytes)) (same (first + s / 512) (omega arith, omega arith)) in
     record {
       count = count;
       begins = record {
@@ -89,12 +90,12 @@ unsynced-area Switched low area is = absurd (cc)
 pub unsynced-at : {old new : Disk} {places : ℕ → Type 0} (maps : Maps) (frames : FrameOf) (stage : Stage) → ((q : ℕ) → places q → log_at (length maps.current) ≤ q) → ((area : ℕ) → stage ≡ Saved area → area < 2) → IsTold old ↔ IsTold new → Told old (λ pages. IsRewrittenIn places pages new.contents) → IsAtStage old maps frames stage
     → IsAtStage new maps frames (unsynced stage)
 unsynced-at {new = new} maps frames Changing past low told kept at_stage = changing new maps frames
-unsynced-at {places = places} maps frames (Saved saved) past low told kept at_stage =
+unsynced-at maps frames (Saved saved) past low told kept at_stage =
     let slots = length maps.current in
     record {
       none_changed = at_stage.none_changed;
       saved = λ area is. told_after (λ pages. IsMap slots pages (map_at slots area) maps.current) (λ pages. IsMap slots pages (map_at slots area) maps.current) told kept
-          (λ before after same map. same_map slots (map_at slots area) maps.current places before after (λ q is_place within. below_log slots area q (low area is) (past q is_place) within) same map)
+          (λ before after same map. same_map slots (map_at slots area) maps.current before after (λ q within. same.others q (λ is_place. below_log slots area q (low area is) (past q is_place) within)) map)
           (at_stage.saved area is);
       synced = λ is. absurd (cc);
     }

@@ -5,3 +5,4 @@ pub mod Turns
 pub mod Changed
 pub mod Elsewhere
 pub mod Saves
+pub mod Stops

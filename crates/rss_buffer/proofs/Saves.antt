@@ -15,9 +15,11 @@ use Rattle.rss_buffer.specs.declared.frames.Frame.{Frame}
 use Rattle.rss_buffer.specs.declared.stage.Stage.{Stage}
 use Rattle.rss_buffer.specs.declared.stage.Stage.TheVariants.{Saved}
 use Rattle.rss_buffer.specs.Frames.{FrameOf}
-use Rattle.rss_buffer.specs.Slots.{mapped_by, held_in, held_by}
+use Rattle.rss_buffer.specs.Slots.{held_in, held_by}
+use Rattle.rss_base.specs.StoredPages.{mapped_by}
 use Rattle.rss_buffer.specs.Buffered.{NoneChanged, IsAtStage, IsBuffer, unchanged, with_unchanged, IsLoose, WritesLoose}
-use Rattle.rss_buffer.specs.Saved.{StandInSlots, SavesPages, HoldsPages, IsSaveable, AreWritten}
+use Rattle.rss_buffer.specs.Saved.{IsSaveable, AreWritten}
+use Rattle.rss_base.specs.StoredPages.{StandInSlots, SavesPages, HoldsPages}
 use Rattle.rss_buffer.proofs.Found.{slot_of-owned, HasPage-mapped}
 use Rattle.rss_buffer.proofs.Loose.{WritesLoose-then}
 use Rattle.rss_buffer.proofs.Turns.{with_frame-cases}
@@ -71,12 +73,12 @@ module _ {disk : Disk} {size log_pages first : ℕ} {maps : Maps} {frames : Fram
       let here : owner_of maps.current slot ≡ Some key = ap (λ (m : Maps). owner_of m.current slot) same_maps ∙ owned in
       ap (λ (h : Held). h key) (sym same_held) ∙ stands pages told slot key here ∙ ap (λ (n : ℕ). Some (page pages (n + slot))) place
 
--- writes outside the area and below the slots leave what is saved
-pub same_saves : (log_pages area : ℕ) (owners : List (Option PageKey)) (held : Held) (places : ℕ → Type 0) (before after : Pages) → ((q : ℕ) → places q → IsWithin (map_at (length owners) area) (map_pages (length owners)) q → ⊥) → ((q : ℕ) → places q → q < slots_at (length owners) log_pages) → SameOff places before after
-    → SavesPages log_pages area before owners held → SavesPages log_pages area after owners held
-same_saves log_pages area owners held places before after off below same saves = record {
-  map = same_map (length owners) (map_at (length owners) area) owners places before after off same saves.map;
-  stand = λ slot key owned. saves.stand slot key owned ∙ ap Some (sym (same.others (slots_at (length owners) log_pages + slot) (λ is. omega (arith, below _ is))));
+-- pages that are the same in the area and in the slots of the owners save the same
+pub same_saves : (log_pages area : ℕ) (owners : List (Option PageKey)) (held : Held) (before after : Pages) → ((q : ℕ) → IsWithin (map_at (length owners) area) (map_pages (length owners)) q → page after q ≡ page before q)
+    → ((slot : ℕ) (key : PageKey) → owner_of owners slot ≡ Some key → page after (slots_at (length owners) log_pages + slot) ≡ page before (slots_at (length owners) log_pages + slot)) → SavesPages log_pages area before owners held → SavesPages log_pages area after owners held
+same_saves log_pages area owners held before after in_area in_slots saves = record {
+  map = same_map (length owners) (map_at (length owners) area) owners before after in_area saves.map;
+  stand = λ slot key owned. saves.stand slot key owned ∙ ap Some (sym (in_slots slot key owned));
 }
 
 -- the map is written after the pages
@@ -169,5 +171,5 @@ holds_pages before number root selector owners held low high names formed count 
         size = all ∙ size;
       };
       count = count;
-      saved = same_saves root.log_pages root.area owners held (λ q. q < 3) before image (above_roots (length owners) root.area) (λ q low. omega arith) same saves;
+      saved = same_saves root.log_pages root.area owners held before image (λ q within. same.others q (λ low. above_roots (length owners) root.area q low within)) (λ slot key owned. same.others _ (λ low. omega arith)) saves;
     }

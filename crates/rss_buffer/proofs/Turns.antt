@@ -15,7 +15,8 @@ use Rattle.rss_buffer.specs.declared.frames.Frame.{Frame}
 use Rattle.rss_buffer.specs.declared.stage.Stage.{Stage}
 use Rattle.rss_buffer.specs.declared.stage.Stage.TheVariants.{Changing, Saved, Switched}
 use Rattle.rss_buffer.specs.Frames.{FrameOf, with_frame}
-use Rattle.rss_buffer.specs.Slots.{slot_of, mapped_by, held_in, held_by}
+use Rattle.rss_buffer.specs.Slots.{held_in, held_by}
+use Rattle.rss_base.specs.StoredPages.{slot_of, mapped_by}
 use Rattle.rss_buffer.specs.Buffered.{NoneChanged, AreFrames, AreClean, IsAtStage, IsBuffer, IsChangedIn, unchanged, with_unchanged, WritesLoose, KeepsPages}
 use Rattle.rss_buffer.specs.BufferLaws.{owner_of-slot_of}
 use Rattle.rss_base.proofs.Calls.{leaves_then, leaves_rests}

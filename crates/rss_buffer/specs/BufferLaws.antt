@@ -10,7 +10,8 @@ use Rattle.rss_base.specs.declared.key.PageKey.{PageKey}
 use Rattle.rss_base.proofs.Keys.{is_same-true}
 use Rattle.rss_shadow.specs.Maps.{Maps}
 use Rattle.rss_buffer.specs.Frames.{FrameOf}
-use Rattle.rss_buffer.specs.Slots.{slot_from, slot_of, mapped_by, held_in, held_by, fixed_by, pages_of}
+use Rattle.rss_buffer.specs.Slots.{held_in, held_by, fixed_by, pages_of}
+use Rattle.rss_base.specs.StoredPages.{slot_from, slot_of, mapped_by}
 use Rattle.rss_buffer.specs.Buffered.{IsBuffer}
 use Rattle.rss_buffer.specs.declared.stage.Stage.{Stage}
 

@@ -10,7 +10,8 @@ use Rattle.rss_buffer.specs.declared.frames.Frame.{Frame}
 use Rattle.rss_buffer.specs.declared.stage.Stage.{Stage}
 use Rattle.rss_buffer.specs.declared.stage.Stage.TheVariants.{Changing, Saved, Switched}
 use Rattle.rss_buffer.specs.Frames.{FrameOf, with_frame}
-use Rattle.rss_buffer.specs.Slots.{mapped_by, held_by, is_loose, fixed_by}
+use Rattle.rss_buffer.specs.Slots.{held_by, is_loose, fixed_by}
+use Rattle.rss_base.specs.StoredPages.{mapped_by}
 
 -- no frame holds a page that isn't in its slot as yet
 abbrev pub NoneChanged : FrameOf → Type 0

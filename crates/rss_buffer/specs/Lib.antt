@@ -3,6 +3,7 @@ pub use Rattle.rss_base.specs.Faults
 pub use Rattle.rss_base.specs.Layout
 pub use Rattle.rss_base.specs.PageMap
 pub use Rattle.rss_base.specs.Paged
+pub use Rattle.rss_base.specs.StoredPages
 pub use Rattle.rss_shadow.specs.Maps
 pub mod Frames
 pub mod Slots

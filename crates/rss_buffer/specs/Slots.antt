@@ -1,25 +1,12 @@
 -- The slots of pages on a device, and what they hold.
-use Rattle.std.specs.Prelude.{ℕ, ◌+◌, ◌-◌, Bool, ◌&&◌, not, nat_le, if◌then◌else◌, List, [], ◌∷◌, length, Option, Some, None, is_some, option_map, unwrap_or}
+use Rattle.std.specs.Prelude.{ℕ, ◌+◌, ◌-◌, Bool, ◌&&◌, not, nat_le, if◌then◌else◌, List, [], length, Option, Some, None, is_some, option_map, unwrap_or}
 use Rattle.rss_base.specs.DiskRule.{Pages, page}
 use Rattle.rss_base.specs.PageMap.{owner_of}
-use Rattle.rss_base.specs.Paged.{Mapped, Held, Fixed, is_same}
+use Rattle.rss_base.specs.Paged.{Held, Fixed}
+use Rattle.rss_base.specs.StoredPages.{slot_of}
 use Rattle.rss_base.specs.declared.key.PageKey.{PageKey}
 use Rattle.rss_buffer.specs.declared.frames.Frame.{Frame}
 use Rattle.rss_buffer.specs.Frames.{FrameOf}
-
--- the slot of a page among the owners from a slot on
-abbrev pub slot_from : ℕ → List (Option PageKey) → PageKey → Option ℕ
-slot_from slot [] key = None
-slot_from slot (None ∷ owners) key = slot_from (slot + 1) owners key
-slot_from slot (Some owner ∷ owners) key = if is_same owner key then Some slot else slot_from (slot + 1) owners key
-
--- the slot of a page, where the map has it
-abbrev pub slot_of : List (Option PageKey) → PageKey → Option ℕ
-slot_of owners key = slot_from 0 owners key
-
--- the pages of the map
-abbrev pub mapped_by : List (Option PageKey) → Mapped
-mapped_by owners key = is_some (slot_of owners key)
 
 -- what a read gives, where the device tells it
 abbrev pub pages_of : Option Pages → Pages

@@ -9,7 +9,7 @@ ghost use Rattle.rss_base.specs.declared.fault.OpenFault.TheVariants.{NoMemory a
 ghost use Rattle.rss_shadow.specs.Maps.{pages_of};
 ghost use Rattle.rss_buffer.specs.Frames.{frame_in};
 ghost use Rattle.rss_buffer.specs.Buffered.{IsBuffer};
-ghost use Rattle.rss_buffer.specs.Saved.{StandInSlots};
+ghost use Rattle.rss_base.specs.StoredPages.{StandInSlots};
 ghost use Rattle.rss_buffer.specs.declared.stage.Stage.TheVariants.{Saved};
 
 use crate::frames::Frames;
@@ -64,7 +64,7 @@ impl<D: Device> Buffer<D> {
         ensures log_pages { IfOk result (λ buffer. ⟦<Buffer<D> as Saving>⟧.log_pages_of buffer ≡ root.now.log_pages) }
         ensures area { IfOk result (λ buffer. ⟦<Buffer<D> as Saving>⟧.area_of buffer ≡ root.now.area) }
         ensures stage { IfOk result (λ buffer. ⟦<Buffer<D> as Saving>⟧.stage_of buffer ≡ Stage.Changing) }
-        ensures settled { IfOk result ⟦<Buffer<D> as Pages>⟧.is_settled }
+        ensures settled { IfOk result (λ buffer. ⟦<Buffer<D> as Pages>⟧.is_settled buffer ≡ true) }
         ensures asks { IfOk result (λ buffer. ⟦<Buffer<D> as Pages>⟧.asks buffer ≡ 0) }
         ensures back { IfErr result (λ e. (e.device ≡ device) × (e.fault ≡ LacksMemory)) }
     {

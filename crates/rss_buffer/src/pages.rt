@@ -1,9 +1,9 @@
 // The pages of a buffer, one at a time.
-ghost use Rattle.std.specs.Prelude.{◌≡◌, ◌⊎◌, ◌<◌, length, true, None, IsSome, OnOk, OnErr};
+ghost use Rattle.std.specs.Prelude.{◌≡◌, ◌⊎◌, ◌<◌, length, true, None, IsSome, IfErr, OnOk, OnErr};
 ghost use Rattle.rss_base.specs.Paged.{HasPageCause};
 ghost use Rattle.rss_base.specs.declared.key.PageKey.{PageKey as Key};
 ghost use Rattle.rss_buffer.specs.Frames.{frame_in};
-ghost use Rattle.rss_buffer.specs.Slots.{mapped_by};
+ghost use Rattle.rss_base.specs.StoredPages.{mapped_by};
 ghost use Rattle.rss_buffer.specs.Buffered.{IsChangedIn, with_unchanged, KeepsPages, WritesLoose};
 
 use crate::{Buffer, Stage};
@@ -15,6 +15,7 @@ impl<D: Device> Buffer<D> {
         requires { IsChangedIn (frame_in self.old.frames.cache.entries) key }
         ensures written { OnOk result (frame_in self.new.frames.cache.entries ≡ with_unchanged (frame_in self.old.frames.cache.entries) key) }
         ensures err { OnErr result (self.new.frames ≡ self.old.frames) }
+        ensures fault { IfErr result (λ fault. fault ≡ PageFault.Device) }
         ensures writes { WritesLoose self.old.first_slot self.old.shadow.shadow (D.disk self.old.device) (D.disk self.new.device) }
         ensures keeps { KeepsPages (D.disk self.old.device) self.old.first_slot self.old.shadow (frame_in self.old.frames.cache.entries) self.old.settled (D.disk self.new.device) self.new.first_slot self.new.shadow (frame_in self.new.frames.cache.entries) self.new.settled }
         ensures same { (self.new.log_pages ≡ self.old.log_pages) × (self.new.area ≡ self.old.area) × (self.new.asks ≡ self.old.asks) × (self.new.stage ≡ self.old.stage) }
@@ -94,10 +95,11 @@ impl<D: Device> Buffer<D> {
 }
 
 impl<D: Device> Pages for Buffer<D> {
-    ghost use Rattle.std.specs.Prelude.{◌≡◌, length, true};
+    ghost use Rattle.std.specs.Prelude.{length};
     ghost use Rattle.rss_shadow.specs.Maps.{spare};
     ghost use Rattle.rss_buffer.specs.Frames.{frame_in};
-    ghost use Rattle.rss_buffer.specs.Slots.{mapped_by, held_by, fixed_by};
+    ghost use Rattle.rss_buffer.specs.Slots.{held_by, fixed_by};
+    ghost use Rattle.rss_base.specs.StoredPages.{mapped_by};
     ghost use Rattle.rss_buffer.specs.BufferLaws.{stays_by, holds_by, allowed_by};
 
     ghost disk = { λ b. D.disk b.device };
@@ -116,7 +118,11 @@ impl<D: Device> Pages for Buffer<D> {
 
     ghost fixed = { λ b. fixed_by b.first_slot b.shadow.shadow (D.disk b.device).contents };
 
-    ghost is_settled = { λ b. b.settled ≡ true };
+    ghost backing = { λ b. record { log_pages = b.log_pages; area = b.area; shadow = b.shadow.shadow } };
+
+    ghost is_settled = { λ b. b.settled };
+
+    ghost reads_as_image = { λ b. D.reads_as_image b.device };
 
     ghost stays = { λ b settled told. stays_by b.holds settled told };
 

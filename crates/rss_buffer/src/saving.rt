@@ -1,15 +1,18 @@
 // The saving of pages.
-ghost use Rattle.std.specs.Prelude.{◌≡◌, ◌≢◌, ◌↔◌, ◌+◌, ◌-◌, ◌*◌, ◌<◌, ◌≤◌, ℕ, length, refl, slice_set, Some, IfOk, OnOk};
+ghost use Rattle.std.specs.Prelude.{◌≡◌, ◌≢◌, ◌↔◌, ◌+◌, ◌-◌, ◌*◌, ◌<◌, ◌≤◌, ℕ, length, refl, slice_set, true, Some, IfOk, IfErr, OnOk, OnErr};
 ghost use Rattle.rss_base.specs.DiskRule.{Pages as DevicePages, Told, IsTold, Leaves, TornAt, TornIn, IsRewritten, IsRewrittenIn, Passes};
 ghost use Rattle.rss_base.specs.Layout.{root_page, log_at, slots_at, IsWellFormed};
+ghost use Rattle.rss_base.specs.PageMap.{IsTable};
 ghost use Rattle.rss_base.specs.Paged.{LeavesFixed, HasPageCause};
 ghost use Rattle.rss_root.specs.Roots.{IsPhase, IsSwitched};
-ghost use Rattle.rss_shadow.specs.Maps.{Maps, pages_of};
+ghost use Rattle.rss_shadow.specs.Maps.{Maps, pages_of, spare};
 ghost use Rattle.rss_buffer.specs.Frames.{frame_in};
 ghost use Rattle.rss_buffer.specs.BufferLaws.{fixed_at};
-ghost use Rattle.rss_buffer.specs.Slots.{mapped_by, fixed_by};
+ghost use Rattle.rss_buffer.specs.Slots.{fixed_by};
+ghost use Rattle.rss_base.specs.StoredPages.{mapped_by};
 ghost use Rattle.rss_buffer.specs.Buffered.{NoneChanged, WritesLoose, KeepsPages};
-ghost use Rattle.rss_buffer.specs.Saved.{StandInSlots, SavesPages, HoldsPages, IsSaveable, AreWritten, unsynced};
+ghost use Rattle.rss_buffer.specs.Saved.{IsSaveable, AreWritten, unsynced};
+ghost use Rattle.rss_base.specs.StoredPages.{StandInSlots, SavesPages, HoldsPages};
 ghost use Rattle.rss_buffer.specs.declared.stage.Stage.{Stage as AnyStage};
 
 use crate::{Buffer, Stage};
@@ -34,6 +37,9 @@ pub trait Saving: Pages {
     fn shadow(&self) -> &Shadow
         ensures { result.now ≡ maps self.now };
 
+    fn log_pages(&self) -> u32
+        ensures { result ≡ log_pages_of self.now };
+
     fn area(&self) -> u8
         ensures { result ≡ area_of self.now };
 
@@ -44,11 +50,13 @@ pub trait Saving: Pages {
     fn flush(&mut self) -> Result<(), PageFault>
         ensures stand { OnOk result (IsTold (Self.disk self.old) → Told (Self.disk self.new) (λ pages. StandInSlots (slots_at (Self.slots_of self.old) (log_pages_of self.old)) pages (maps self.old).current (Self.held self.old))) }
         ensures held { IsTold (Self.disk self.old) → Self.held self.new ≡ Self.held self.old }
+        ensures fault { IfErr result (λ fault. fault ≡ PageFault.Device) }
         ensures maps { maps self.new ≡ maps self.old }
         ensures stage { stage_of self.new ≡ stage_of self.old }
         ensures area { area_of self.new ≡ area_of self.old }
         ensures log_pages { log_pages_of self.new ≡ log_pages_of self.old }
-        ensures leaves { LeavesFixed (Self.is_settled self.old) (Self.is_settled self.new) (Self.disk self.old) (Self.disk self.new) (Self.fixed self.old) (Self.fixed self.new) }
+        ensures leaves { LeavesFixed (Self.is_settled self.old ≡ true) (Self.is_settled self.new ≡ true) (Self.disk self.old) (Self.disk self.new) (Self.fixed self.old) (Self.fixed self.new) }
+        ensures asks { Self.asks self.new ≡ Self.asks self.old }
         ensures cause { HasPageCause (Self.disk self.old) (Self.faults self.old) (Self.faults self.new) result };
 
     /// Writes each changed page to its slot, and the current map to an area that the selected root
@@ -59,12 +67,14 @@ pub trait Saving: Pages {
         ensures saved { OnOk result (IsTold (Self.disk self.old) → Told (Self.disk self.new) (λ pages. SavesPages (log_pages_of self.old) area pages (maps self.old).current (Self.held self.old))) }
         ensures stage { OnOk result (stage_of self.new ≡ AnyStage.Saved area) }
         ensures held { IsTold (Self.disk self.old) → Self.held self.new ≡ Self.held self.old }
+        ensures fault { IfErr result (λ fault. fault ≡ PageFault.Device) }
         ensures maps { maps self.new ≡ maps self.old }
         ensures area { area_of self.new ≡ area_of self.old }
         ensures log_pages { log_pages_of self.new ≡ log_pages_of self.old }
         ensures told { IsTold (Self.disk self.old) ↔ IsTold (Self.disk self.new) }
         ensures kept { Told (Self.disk self.old) (λ pages. IsRewrittenIn (IsSaveable (slots_at (Self.slots_of self.old) (log_pages_of self.old)) area (maps self.old).shadow) pages (Self.disk self.new).contents) }
         ensures moments { IsTold (Self.disk self.old) → Passes (Self.disk self.old) (Self.disk self.new) (TornIn (IsSaveable (slots_at (Self.slots_of self.old) (log_pages_of self.old)) area (maps self.old).shadow) (Leaves (Self.disk self.old))) }
+        ensures asks { Self.asks self.new ≡ Self.asks self.old }
         ensures cause { HasPageCause (Self.disk self.old) (Self.faults self.old) (Self.faults self.new) result };
 
     /// Writes a log page, counted on the device, and no other page.
@@ -73,6 +83,7 @@ pub trait Saving: Pages {
         requires high { at < log_at (Self.slots_of self.old) + log_pages_of self.old }
         ensures written { OnOk result (Told (Self.disk self.old) (λ pages. (Self.disk self.new).contents ≡ Some (slice_set pages at piece.now))) }
         ensures held { IsTold (Self.disk self.old) → Self.held self.new ≡ Self.held self.old }
+        ensures fault { IfErr result (λ fault. fault ≡ PageFault.Device) }
         ensures maps { maps self.new ≡ maps self.old }
         ensures stage { stage_of self.old ≢ AnyStage.Switched → stage_of self.new ≡ stage_of self.old }
         ensures area { area_of self.new ≡ area_of self.old }
@@ -80,6 +91,7 @@ pub trait Saving: Pages {
         ensures told { IsTold (Self.disk self.old) ↔ IsTold (Self.disk self.new) }
         ensures kept { Told (Self.disk self.old) (λ pages. IsRewritten at pages (Self.disk self.new).contents) }
         ensures moments { IsTold (Self.disk self.old) → Passes (Self.disk self.old) (Self.disk self.new) (TornAt at (Leaves (Self.disk self.old))) }
+        ensures asks { Self.asks self.new ≡ Self.asks self.old }
         ensures cause { HasPageCause (Self.disk self.old) (Self.faults self.old) (Self.faults self.new) result };
 
     /// Writes a root to the place of the other one, and then selects it. Answers its number.
@@ -95,13 +107,17 @@ pub trait Saving: Pages {
             → (image : DevicePages) → Leaves (Self.disk self.new) image → HoldsPages image (3 - valid) root.now (maps self.old).current (Self.held self.old)) }
 
         ensures number { IfOk result (λ now. now ≡ 3 - valid) }
+        ensures fault { IfErr result (λ fault. fault ≡ PageFault.Device) }
         ensures stage { OnOk result (stage_of self.old ≡ AnyStage.Saved root.now.area → stage_of self.new ≡ AnyStage.Switched) }
+        ensures unsaved { stage_of self.old ≢ AnyStage.Saved root.now.area → stage_of self.new ≡ AnyStage.Changing }
+        ensures err_stage { OnErr result (stage_of self.new ≡ AnyStage.Changing) }
         ensures area { OnOk result (area_of self.new ≡ root.now.area) }
-        ensures settled { OnOk result (Self.is_settled self.new) }
+        ensures settled { OnOk result (Self.is_settled self.new ≡ true) }
         ensures held { IsTold (Self.disk self.old) → Self.held self.new ≡ Self.held self.old }
         ensures maps { maps self.new ≡ maps self.old }
         ensures log_pages { log_pages_of self.new ≡ log_pages_of self.old }
         ensures told { IsTold (Self.disk self.old) ↔ IsTold (Self.disk self.new) }
+        ensures asks { Self.asks self.new ≡ Self.asks self.old }
         ensures cause { HasPageCause (Self.disk self.old) (Self.faults self.old) (Self.faults self.new) result };
 
     /// Makes the current map the shadow map, once it is saved and its root selected. What it holds
@@ -116,7 +132,21 @@ pub trait Saving: Pages {
         ensures log_pages { log_pages_of self.new ≡ log_pages_of self.old }
         ensures contents { (Self.disk self.new).contents ≡ (Self.disk self.old).contents }
         ensures moments { IsTold (Self.disk self.old) → Passes (Self.disk self.old) (Self.disk self.new) (Leaves (Self.disk self.old)) }
-        ensures settled { Self.is_settled self.new };
+        ensures faults { Self.faults self.new ≡ Self.faults self.old }
+        ensures asks { Self.asks self.new ≡ Self.asks self.old }
+        ensures settled { Self.is_settled self.new ≡ true };
+
+    /// What the pages stand on is the shadow map, on a device with this area and these log pages.
+    ghost is_backed: { (pages : Self) → Self.backing pages ≡ record { log_pages = log_pages_of pages; area = area_of pages; shadow = (maps pages).shadow } };
+
+    /// The current map is a table of slots.
+    ghost is_table: { (pages : Self) → IsTable (maps pages).current };
+
+    /// The slots are those of the maps.
+    ghost are_slots: { (pages : Self) → Self.slots_of pages ≡ length (maps pages).current };
+
+    /// A page can be taken where each page of either map has a slot of its own.
+    ghost is_spare: { (pages : Self) → Self.spare_of pages ≡ spare (maps pages) };
 
     /// The mapped pages are those of the current map.
     ghost is_mapped: { (pages : Self) → Self.mapped pages ≡ mapped_by (maps pages).current };
@@ -134,12 +164,24 @@ impl<D: Device> Saving for Buffer<D> {
 
     ghost stage_of = { λ b. b.stage };
 
+    ghost is_backed = { λ b. refl };
+
+    ghost is_table = { λ b. b.holds.table };
+
+    ghost are_slots = { λ b. refl };
+
+    ghost is_spare = { λ b. refl };
+
     ghost is_mapped = { λ b. refl };
 
     ghost is_fixed = { λ b. fixed_at b.holds };
 
     fn shadow(&self) -> &Shadow {
         &self.shadow
+    }
+
+    fn log_pages(&self) -> u32 {
+        self.log_pages
     }
 
     fn area(&self) -> u8 {
@@ -194,6 +236,7 @@ impl<D: Device> Buffer<D> {
     /// Writes each changed page to its slot, in the order of the slots.
     fn flush_all(&mut self) -> Result<(), PageFault>
         ensures none_changed { OnOk result (NoneChanged (frame_in self.new.frames.cache.entries)) }
+        ensures fault { IfErr result (λ fault. fault ≡ PageFault.Device) }
         ensures writes { WritesLoose self.old.first_slot self.old.shadow.shadow (D.disk self.old.device) (D.disk self.new.device) }
         ensures keeps { KeepsPages (D.disk self.old.device) self.old.first_slot self.old.shadow (frame_in self.old.frames.cache.entries) self.old.settled (D.disk self.new.device) self.new.first_slot self.new.shadow (frame_in self.new.frames.cache.entries) self.new.settled }
         ensures same { (self.new.log_pages ≡ self.old.log_pages) × (self.new.area ≡ self.old.area) × (self.new.asks ≡ self.old.asks) × (self.new.stage ≡ self.old.stage) }
@@ -209,6 +252,7 @@ impl<D: Device> Buffer<D> {
     fn flush_slot(&mut self, slot: u32) -> Result<(), PageFault>
         requires { slot < length self.old.shadow.current }
         ensures written { OnOk result (AreWritten self.old.shadow.current (frame_in self.old.frames.cache.entries) slot → AreWritten self.old.shadow.current (frame_in self.new.frames.cache.entries) (slot + 1)) }
+        ensures fault { IfErr result (λ fault. fault ≡ PageFault.Device) }
         ensures writes { WritesLoose self.old.first_slot self.old.shadow.shadow (D.disk self.old.device) (D.disk self.new.device) }
         ensures keeps { KeepsPages (D.disk self.old.device) self.old.first_slot self.old.shadow (frame_in self.old.frames.cache.entries) self.old.settled (D.disk self.new.device) self.new.first_slot self.new.shadow (frame_in self.new.frames.cache.entries) self.new.settled }
         ensures same { (self.new.log_pages ≡ self.old.log_pages) × (self.new.area ≡ self.old.area) × (self.new.asks ≡ self.old.asks) × (self.new.stage ≡ self.old.stage) }

@@ -2,7 +2,7 @@
 use Rattle.std.specs.Prelude.{◌≡◌, ℕ, ◌≤◌, Bool, true, false, if◌then◌else◌, List, [], ◌∷◌, length, slice_index_or, count_by, Option, Some, None, is_some, is_none}
 use Rattle.rss_base.specs.DiskRule.{Disk}
 use Rattle.rss_base.specs.PageMap.{IsKey}
-use Rattle.rss_base.specs.Paged.{Held, Mapped, Fixed, is_same}
+use Rattle.rss_base.specs.Paged.{Held, Mapped, Fixed, Backing, is_same}
 use Rattle.rss_base.specs.declared.key.PageKey.{PageKey}
 use Rattle.rss_device.specs.declared.stored.Stored.{Stored}
 
@@ -41,3 +41,6 @@ no_device = record { contents = Some []; moment = 0; images = λ t image. image 
 
 abbrev pub none_fixed : Fixed
 none_fixed = record { size = 0; held_at = λ q. None }
+
+abbrev pub no_backing : Backing
+no_backing = record { log_pages = 0; area = 0; shadow = [] }

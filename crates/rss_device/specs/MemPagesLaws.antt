@@ -9,6 +9,9 @@ use Rattle.rss_base.specs.declared.key.PageKey.{PageKey}
 use Rattle.rss_device.specs.MemPages.{has_key, place_at, held_in, mapped_in, ArePlaces, none_fixed}
 use Rattle.rss_device.specs.declared.stored.Stored.{Stored}
 
+pub none_left : (pages : Pages) → Some [] ≡ Some pages → pages ≡ []
+none_left pages told = cc
+
 pub none_stays : (image : Pages) → image ≡ [] → HasFixed none_fixed image
 none_stays image is = record { size = ap length is; pages = λ q bytes none. cc }
 

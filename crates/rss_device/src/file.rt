@@ -11,8 +11,8 @@ use std::rt::Files;
 
 /// Pages in a file, one behind the other. It tells nothing of what the file holds.
 ///
-/// The file is opened at the first call, and made where there is none. A call that can't open it
-/// fails.
+/// The file is opened at the first call. Where there is none, `set_size` makes it, and any other call
+/// fails, as each does that can't open it.
 #[derive(Drop)]
 pub struct FileDevice<'a, R: Files> {
     files: &'a R,
@@ -55,7 +55,7 @@ impl<R: Files> Device for FileDevice<'_, R> {
 
     /// Where the file ends within a page, this is `u64::MAX`, which is the size of no store.
     fn size(&mut self) -> Result<u64, Failed> {
-        let bytes = match opened(self.files, self.path, &mut self.file) {
+        let bytes = match opened(self.files, self.path, &mut self.file, false) {
             Ok(file) => length_of(file),
             Err(error) => Err(error),
         };
@@ -64,7 +64,7 @@ impl<R: Files> Device for FileDevice<'_, R> {
     }
 
     fn set_size(&mut self, pages: u64) -> Result<(), Failed> {
-        let set = match opened(self.files, self.path, &mut self.file) {
+        let set = match opened(self.files, self.path, &mut self.file, true) {
             Ok(file) => set_pages(file, pages),
             Err(error) => Err(error),
         };
@@ -74,7 +74,7 @@ impl<R: Files> Device for FileDevice<'_, R> {
     }
 
     fn read(&mut self, at: u64, into: &mut Page) -> Result<(), Failed> {
-        let read = match opened(self.files, self.path, &mut self.file) {
+        let read = match opened(self.files, self.path, &mut self.file, false) {
             Ok(file) => read_page(file, at, into),
             Err(error) => Err(error),
         };
@@ -83,7 +83,7 @@ impl<R: Files> Device for FileDevice<'_, R> {
 
     fn write(&mut self, at: u64, from: &Page) -> Result<(), Failed> {
         self.writes = self.writes.saturating_add(1);
-        let written = match opened(self.files, self.path, &mut self.file) {
+        let written = match opened(self.files, self.path, &mut self.file, false) {
             Ok(file) => write_page(file, at, from),
             Err(error) => Err(error),
         };
@@ -91,7 +91,7 @@ impl<R: Files> Device for FileDevice<'_, R> {
     }
 
     fn sync(&mut self) -> Result<(), Failed> {
-        let synced = match opened(self.files, self.path, &mut self.file) {
+        let synced = match opened(self.files, self.path, &mut self.file, false) {
             Ok(file) => file.sync_all(),
             Err(error) => Err(error),
         };
@@ -99,18 +99,19 @@ impl<R: Files> Device for FileDevice<'_, R> {
     }
 }
 
-/// The file, opened if it isn't yet.
+/// The file, opened if it isn't yet, and made where there is none and `create` says so.
 fn opened<'f, R: Files>(
     files: &R,
     path: &str,
     file: &'f mut Option<R::File>,
+    create: bool,
 ) -> io::Result<&'f mut R::File> {
     let open = match file.take() {
         Some(open) => open,
         None => OpenOptions::new()
             .read(true)
             .write(true)
-            .create(true)
+            .create(create)
             .open(files, path)?,
     };
     Ok(file.insert(open))

@@ -1,13 +1,13 @@
 // Pages in memory.
 ghost use Rattle.std.proofs.Props.{props};
 ghost use Rattle.rss_base.proofs.Props.{IsSegmentOf-prop};
-ghost use Rattle.std.specs.Prelude.{◌≡◌, ◌+◌, ◌<◌, ◌≤◌, length, replicate, false, Some, IfOk};
+ghost use Rattle.std.specs.Prelude.{◌≡◌, ◌+◌, ◌<◌, ◌≤◌, length, replicate, true, false, Some, IfOk};
 ghost use Rattle.rss_base.specs.DiskRule.{IsTold};
 ghost use Rattle.rss_base.specs.PageMap.{IsKey};
 ghost use Rattle.rss_base.specs.Paged.{with_page, page_key, IsLeastUnmapped};
 ghost use Rattle.rss_base.specs.declared.key.PageKey.{PageKey as Key};
-ghost use Rattle.rss_device.specs.MemPages.{ArePlaces, held_in, mapped_in, free_in, no_device, none_fixed};
-ghost use Rattle.rss_device.specs.MemPagesLaws.{none_stays, some_mapped, allowed_in};
+ghost use Rattle.rss_device.specs.MemPages.{ArePlaces, held_in, mapped_in, free_in, no_device, none_fixed, no_backing};
+ghost use Rattle.rss_device.specs.MemPagesLaws.{none_left, none_stays, some_mapped, allowed_in};
 
 use crate::stored::{Stored, free_place, free_places, page_of, place_of};
 use rss_base::{Page, PageFault, PageKey, Pages, Space};
@@ -33,7 +33,7 @@ impl MemPages {
         ensures asks { IfOk result (λ pages. ⟦<MemPages as Pages>⟧.asks pages ≡ 0) }
         ensures faults { IfOk result (λ pages. ⟦<MemPages as Pages>⟧.faults pages ≡ 0) }
         ensures told { IfOk result (λ pages. IsTold (⟦<MemPages as Pages>⟧.disk pages)) }
-        ensures settled { IfOk result (λ pages. ⟦<MemPages as Pages>⟧.is_settled pages) }
+        ensures settled { IfOk result (λ pages. ⟦<MemPages as Pages>⟧.is_settled pages ≡ true) }
     {
         let places = vec![in alloc; None; slots as usize]?;
         Ok(MemPages { places, reads: 0 })
@@ -94,7 +94,11 @@ impl Pages for MemPages {
 
     ghost fixed = { λ _. none_fixed };
 
-    ghost is_settled = { λ _. Unit {0} };
+    ghost backing = { λ _. no_backing };
+
+    ghost is_settled = { λ _. true };
+
+    ghost reads_as_image = { λ m pages told. none_left pages told };
 
     ghost stays = { λ m settled told image left. none_stays image left };
 

@@ -3,7 +3,7 @@ use Rattle.std.proofs.Common.{◌≡◌, ◌⊎◌, inl, inr, ℕ, ◌+◌, ◌-
 use Rattle.std.proofs.lemmas.Bool.{cases_lt, cases_eq}
 use Rattle.std.proofs.lemmas.List.{get_or_append_left, get_or_push, length_push}
 use Rattle.rss_base.specs.DiskRule.{Pages, page}
-use Rattle.rss_base.specs.Layout.{map_pages}
+use Rattle.rss_base.specs.Layout.{map_pages, IsLayoutFault}
 use Rattle.rss_base.specs.PageMap.{AreDistinct, owner_of, entry_at, IsEntry, BeginsMap, IsMap, IsMapFault, entry, rest}
 use Rattle.rss_base.specs.declared.key.PageKey.{PageKey}
 use Rattle.rss_base.specs.declared.place.Place.{Place}
@@ -113,3 +113,7 @@ refused_device (fault fits each) is = cc
 pub refused_one : {slots : ℕ} {bytes : List ℕ} {owners : List (Option PageKey)} {why : OpenFault} {place : Place} → slots ≤ 65536 → RefusesPage slots bytes owners why → (pages : Pages) (first at : ℕ) → at < map_pages slots → bytes ≡ page pages (first + at) → BeginsArea slots pages first (512 * at) owners → IsMapFault slots pages first place → (why ≡ NotAStore place) ⊎ (why ≡ NoMemory)
 refused_one most memory pages first at few same begins broken = inr refl
 refused_one most (fault fits each) pages first at few same begins broken = inl (ap NotAStore (one_fault most (each pages first at few same begins) broken))
+
+pub refused_layout : {slots : ℕ} {bytes : List ℕ} {owners : List (Option PageKey)} {why : OpenFault} → RefusesPage slots bytes owners why → IsLayoutFault why
+refused_layout memory = tt
+refused_layout (fault fits each) = tt

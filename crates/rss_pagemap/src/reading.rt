@@ -2,7 +2,7 @@
 ghost use Rattle.std.specs.Prelude.{◌≡◌, ◌⊎◌, ◌+◌, ◌*◌, ◌<◌, ◌≤◌, ℕ, List, [], Option, length, min, Err, IfOk, IfErr, OnOk, IsErrOf};
 ghost use Rattle.rss_base.specs.DiskRule.{Pages, page as page_at, Told, Leaves, Passes};
 ghost use Rattle.rss_base.specs.Faults.{Rises};
-ghost use Rattle.rss_base.specs.Layout.{IsWellFormed, device_pages, map_at};
+ghost use Rattle.rss_base.specs.Layout.{IsWellFormed, device_pages, map_at, IsLayoutFault};
 ghost use Rattle.rss_base.specs.PageMap.{IsTable, IsMap, IsMapFault};
 ghost use Rattle.rss_base.specs.declared.key.PageKey.{PageKey as Key};
 ghost use Rattle.rss_base.specs.declared.place.Place.{Place};
@@ -29,6 +29,7 @@ pub fn read_table<D: Device>(
     requires size { D.size_of device.old ≡ device_pages root.now }
     ensures count { IfOk result (λ table. length table ≡ root.now.slots) }
     ensures table { IfOk result IsTable }
+    ensures layout { IfErr result IsLayoutFault }
 
     // It is what the bytes say, and else the place is named at which they are out of form.
     ensures found { IfOk result (λ table. Told (D.disk device.old) (λ pages. IsMap root.now.slots pages (map_at root.now.slots root.now.area) table)) }

@@ -1,7 +1,7 @@
 // Pages over a device and in memory, as they run.
 use crate::caller::keep;
 use crate::harness::{first_root, home, is_half_free, pages_with_root};
-use rss_base::{Page, PageFault, PageKey, Pages, Space};
+use rss_base::{Page, PageFault, PageKey, Pages, Space, log_at};
 use rss_buffer::{Buffer, Saving, Stage};
 use rss_device::{MemDevice, MemPages, Unsynced};
 use rss_pagemap::read_table;
@@ -14,6 +14,9 @@ use std::test::Fail;
 const SLOTS: u32 = 128;
 
 const DEVICE_PAGES: usize = 141;
+
+/// Where its eight log pages begin.
+const LOG_AT: usize = 5;
 
 /// How many pages are kept, in how few frames.
 const KEPT: usize = 60;
@@ -47,6 +50,8 @@ enum Step {
     Read(u32),
     Write(u32, u8),
     Give(u32),
+    /// Fills a log page with a byte.
+    Piece(u32, u8),
     Save(u8),
     /// From the root of this number to one with this area.
     Switch(u8, u8),
@@ -110,6 +115,15 @@ const FIRST_SAVE: [Step; 3] = [Step::Save(1), Step::Switch(1, 1), Step::Adopt];
 
 const SECOND_SAVE: [Step; 3] = [Step::Save(0), Step::Switch(2, 0), Step::Adopt];
 
+/// The second save, with a log page written before each of its first two steps.
+const SECOND_SAVE_WITH_PIECES: [Step; 5] = [
+    Step::Piece(0, 7),
+    Step::Save(0),
+    Step::Piece(7, 8),
+    Step::Switch(2, 0),
+    Step::Adopt,
+];
+
 /// Opens the pages of a device, where half of its slots have room for them.
 fn open(alloc: Global, device: MemDevice) -> Result<Buffer<MemDevice>, Fail> {
     let mut device = device;
@@ -170,6 +184,19 @@ fn give<P: Pages>(pages: &mut P, key: PageKey) -> Result<Result<(), PageFault>, 
     Ok(pages.give(key))
 }
 
+/// Fills a log page with a byte, where there is one of this number.
+fn write_piece<S: Saving>(
+    pages: &mut S,
+    number: u32,
+    byte: u8,
+) -> Result<Result<(), PageFault>, Fail> {
+    if number >= pages.log_pages() {
+        return Err("no such log page".into());
+    }
+    let at = log_at(pages.slots()) + u64::from(number);
+    Ok(pages.write_piece(at, &[byte; 4096]))
+}
+
 /// Saves, where this area may be written.
 fn save<S: Saving>(pages: &mut S, area: u8) -> Result<Result<(), PageFault>, Fail> {
     if area > 1 || area == pages.area() {
@@ -205,6 +232,7 @@ fn do_step<S: Saving>(pages: &mut S, step: Step) -> Result<Result<(), PageFault>
         Step::Read(number) => Ok(read(pages, home(1, number))?.map(|_| ())),
         Step::Write(number, round) => write(pages, home(1, number), &page_of(number, round)),
         Step::Give(number) => give(pages, home(1, number)),
+        Step::Piece(number, byte) => write_piece(pages, number, byte),
         Step::Save(area) => save(pages, area),
         Step::Switch(valid, area) => Ok(switch(pages, valid, area)?.map(|_| ())),
         Step::Adopt => Ok(Ok(adopt(pages)?)),
@@ -354,6 +382,36 @@ fn assert_read_once<P: Pages>(rt: &impl Abort, pages: &mut P) -> Result<(), Fail
     Ok(())
 }
 
+/// Reads eight pages, the first of them again, and a ninth, where the device's tenth read fails. The
+/// first is then in memory and the second isn't, which wasn't used for the longest time.
+fn assert_eldest_leaves<P: Pages>(rt: &impl Abort, pages: &mut P) -> Result<(), Fail> {
+    for number in [0, 1, 2, 3, 4, 5, 6, 7, 0, 8] {
+        read(pages, home(1, number))??;
+    }
+    assert_eq!(rt; read(pages, home(1, 0))?, Ok(page_of(0, 1)));
+    assert_eq!(rt; read(pages, home(1, 1))?, Err(PageFault::Device));
+    Ok(())
+}
+
+/// Fills a log page, and finds it on the device with all else as it was.
+fn assert_piece(rt: &impl Abort, alloc: Global, store: &[Page], number: u32) -> Result<(), Fail> {
+    let mut pages = open(
+        alloc,
+        MemDevice::new(alloc, Vec::from_slice(alloc, store)?)?,
+    )?;
+    do_step(&mut pages, Step::Piece(number, 7))??;
+    assert_rounds(rt, &mut pages, &FIRST_ROUND, "a log page is written")?;
+    let mut want = Vec::from_slice(alloc, store)?;
+    if let Some(page) = want.get_mut(LOG_AT + number as usize) {
+        *page = [7; 4096];
+    }
+    assert!(rt;
+        pages.into_device().pages() == want.as_slice(),
+        "log page {number}"
+    );
+    Ok(())
+}
+
 #[test]
 fn sixty_pages_in_eight_frames_are_read_as_they_were_written(rt: HostRuntime) -> Result<(), Fail> {
     let alloc = rt.alloc();
@@ -419,6 +477,16 @@ fn a_page_in_memory_is_not_read_again(rt: HostRuntime) -> Result<(), Fail> {
 }
 
 #[test]
+fn the_page_that_was_not_used_for_the_longest_time_leaves_memory(
+    rt: HostRuntime,
+) -> Result<(), Fail> {
+    let alloc = rt.alloc();
+    let store = first_store(alloc)?;
+    let mut pages = open_failing(alloc, store.as_slice(), OPENING + 9)?;
+    assert_eldest_leaves(&rt, &mut pages)
+}
+
+#[test]
 fn pages_that_are_only_read_are_not_written(rt: HostRuntime) -> Result<(), Fail> {
     let alloc = rt.alloc();
     let mut pages = open(alloc, MemDevice::new(alloc, first_store(alloc)?)?)?;
@@ -426,6 +494,27 @@ fn pages_that_are_only_read_are_not_written(rt: HostRuntime) -> Result<(), Fail>
     assert_rounds(&rt, &mut pages, &FIRST_ROUND, "twice")?;
     // An opening syncs, and that is all.
     assert_eq!(rt; pages.into_device().moment(), 1);
+    Ok(())
+}
+
+#[test]
+fn a_log_page_is_written_and_no_other_page(rt: HostRuntime) -> Result<(), Fail> {
+    let alloc = rt.alloc();
+    let store = first_store(alloc)?;
+    for number in 0..8 {
+        assert_piece(&rt, alloc, store.as_slice(), number)?;
+    }
+    Ok(())
+}
+
+#[test]
+fn pages_are_saved_while_log_pages_are_written(rt: HostRuntime) -> Result<(), Fail> {
+    let alloc = rt.alloc();
+    let device = second_device(alloc, &SECOND_SAVE_WITH_PIECES)?;
+    let pages = Vec::from_slice(alloc, device.pages())?;
+    assert_eq!(rt; pages.get(LOG_AT), Some(&[7; 4096]));
+    assert_eq!(rt; pages.get(LOG_AT + 7), Some(&[8; 4096]));
+    assert_eq!(rt; rounds_in(alloc, pages)?, second_round());
     Ok(())
 }
 

@@ -1,8 +1,8 @@
 // The selected root of a device.
-ghost use Rattle.std.specs.Prelude.{◌≡◌, ◌⊎◌, ◌≤◌, Err, IfOk, OnOk, IsErrOf};
+ghost use Rattle.std.specs.Prelude.{◌≡◌, ◌⊎◌, ◌≤◌, Err, IfOk, IfErr, OnOk, IsErrOf};
 ghost use Rattle.rss_base.specs.DiskRule.{Told, Leaves, LeavesOnly, Passes};
 ghost use Rattle.rss_base.specs.Faults.{Rises};
-ghost use Rattle.rss_base.specs.Layout.{device_pages, IsWellFormed, HasRoot, IsRootFault};
+ghost use Rattle.rss_base.specs.Layout.{device_pages, IsWellFormed, HasRoot, IsRootFault, IsLayoutFault};
 ghost use Rattle.rss_base.specs.declared.place.Place.{Place};
 ghost use Rattle.rss_base.specs.declared.fault.OpenFault.TheVariants.{Device as DeviceFailed, NotAStore};
 ghost use Rattle.rss_root.specs.Roots.{IsRootPlace};
@@ -25,6 +25,7 @@ pub fn load<D: Device>(device: &mut D) -> Result<(Root, u8), OpenFault>
     ensures fault { (place : Place) → result ≡ Err (NotAStore place) → Told (D.disk device.old) (λ pages. IsRootFault pages place) }
     ensures broken { (place : Place) → Told (D.disk device.old) (λ pages. IsRootFault pages place → (result ≡ Err (NotAStore place)) ⊎ (result ≡ Err DeviceFailed)) }
     ensures place { (place : Place) → result ≡ Err (NotAStore place) → IsRootPlace place }
+    ensures layout { IfErr result IsLayoutFault }
     ensures memory { IsErrOf result OpenFault.NoMemory → ⊥ }
     ensures cause { IsErrOf result OpenFault.Device → Rises (D.faults device.old) (D.faults device.new) }
 

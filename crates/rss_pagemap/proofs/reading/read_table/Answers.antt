@@ -5,7 +5,7 @@ use Rattle.rss_base.specs.Layout.{map_at}
 use Rattle.rss_base.proofs.Moments.{then, no_more}
 use Rattle.rss_pagemap.specs.Taking.{BeginsArea}
 use Rattle.rss_pagemap.proofs.Maps.{same_map, no_fault}
-use Rattle.rss_pagemap.proofs.Areas.{area_all, one_answer, refused_fault, refused_place, refused_device, refused_one}
+use Rattle.rss_pagemap.proofs.Areas.{area_all, one_answer, refused_fault, refused_place, refused_device, refused_layout, refused_one}
 use Rattle.rss_pagemap.proofs.reading.read_table.Goals as goal
 
 pub returns-in_err-read-clause-moments : goal.returns-in_err-read-clause-moments
@@ -64,3 +64,8 @@ returns-clause-only g c = λ owners pages told map. c.into_table.ensures ∙ sam
 
 pub returns-clause-broken : goal.returns-clause-broken
 returns-clause-broken g c = λ place pages told broken. absurd (no_fault c.requires.formed.slots_most (area_all (omega arith) (c.loop-at.invariant.begins pages told)) broken)
+
+pub returns-in_err-take_page-clause-layout : goal.returns-in_err-take_page-clause-layout
+returns-in_err-take_page-clause-layout g c =
+    let p = err_from_is_err_and c.from_residual-in_err-take_page.result c.from_residual-in_err-take_page.ensures.1 in
+    rw (p.1, p.2) (refused_layout c.in_err-take_page.ensures.refused)

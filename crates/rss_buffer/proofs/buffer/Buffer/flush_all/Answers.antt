@@ -3,7 +3,7 @@ use Rattle.rss_base.specs.declared.key.PageKey.{PageKey}
 use Rattle.rss_shadow.specs.Maps.{Maps}
 use Rattle.rss_buffer.specs.declared.frames.Frame.{Frame}
 use Rattle.rss_buffer.specs.Frames.{frame_in}
-use Rattle.rss_buffer.specs.Slots.{mapped_by}
+use Rattle.rss_base.specs.StoredPages.{mapped_by}
 use Rattle.rss_buffer.specs.Saved.{AreWritten}
 use Rattle.rss_buffer.proofs.Saves.{writes_then, all_written}
 use Rattle.rss_buffer.proofs.Turns.{KeepsPages-then}

@@ -1,7 +1,7 @@
 use Rattle.std.proofs.Common.{◌≡◌, ◌∙◌, Some, is_some, ap, sym}
 use Rattle.rss_base.specs.PageMap.{owner_of}
 use Rattle.rss_shadow.specs.Maps.{Maps}
-use Rattle.rss_buffer.specs.Slots.{mapped_by}
+use Rattle.rss_base.specs.StoredPages.{mapped_by}
 use Rattle.rss_buffer.specs.Frames.{frame_in, FrameOf}
 use Rattle.rss_buffer.proofs.Lookups.{with_frame-same}
 use Rattle.rss_buffer.proofs.Found.{HasPage-mapped}

@@ -2,7 +2,7 @@ use Rattle.std.proofs.Common.{ℕ, [], subst, arith}
 use Rattle.rss_base.specs.DiskRule.{Told}
 use Rattle.rss_buffer.specs.Frames.{frame_in}
 use Rattle.rss_buffer.specs.Slots.{held_by}
-use Rattle.rss_buffer.specs.Saved.{StandInSlots}
+use Rattle.rss_base.specs.StoredPages.{StandInSlots}
 use Rattle.rss_buffer.proofs.Elsewhere.{buffer_new}
 use Rattle.rss_buffer.proofs.Saves.{stands}
 use Rattle.rss_buffer.proofs.buffer.Buffer.new.Goals as goal

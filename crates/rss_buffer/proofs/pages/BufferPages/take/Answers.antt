@@ -2,7 +2,7 @@ use Rattle.std.proofs.Common.{◌∙◌, true, replicate, Some, refl, ap, sym, s
 use Rattle.rss_base.specs.Paged.{Held, with_mapped, with_page, page_key, IsLeastUnmapped}
 use Rattle.rss_shadow.specs.Maps.{Maps}
 use Rattle.rss_buffer.specs.Frames.{frame_in}
-use Rattle.rss_buffer.specs.Slots.{mapped_by}
+use Rattle.rss_base.specs.StoredPages.{mapped_by}
 use Rattle.rss_buffer.proofs.Turns.{ok_then, err_then}
 use Rattle.rss_buffer.proofs.Changed.{IsLeastUnmapped-lacking, HasPage-gains, same_after, Reslots-takes, Fits-changed, IsBuffer-reslots, mapped-reslots, held-reslots}
 use Rattle.rss_buffer.proofs.pages.BufferPages.take.Goals as goal

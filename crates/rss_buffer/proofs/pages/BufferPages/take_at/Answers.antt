@@ -3,7 +3,7 @@ use Rattle.rss_base.specs.PageMap.{IsKey}
 use Rattle.rss_base.specs.Paged.{Held, with_mapped, with_page}
 use Rattle.rss_shadow.specs.Maps.{Maps}
 use Rattle.rss_buffer.specs.Frames.{frame_in}
-use Rattle.rss_buffer.specs.Slots.{mapped_by}
+use Rattle.rss_base.specs.StoredPages.{mapped_by}
 use Rattle.rss_buffer.proofs.Found.{LacksPage-unmapped}
 use Rattle.rss_buffer.proofs.Turns.{ok_then}
 use Rattle.rss_buffer.proofs.Changed.{Reslots-gains, Fits-changed, IsBuffer-reslots, mapped-reslots, held-reslots}

@@ -4,7 +4,7 @@ use Rattle.rss_base.specs.Paged.{Held, with_page}
 use Rattle.rss_base.specs.declared.key.PageKey.{PageKey}
 use Rattle.rss_shadow.specs.Maps.{Maps}
 use Rattle.rss_buffer.specs.Frames.{frame_in}
-use Rattle.rss_buffer.specs.Slots.{mapped_by}
+use Rattle.rss_base.specs.StoredPages.{mapped_by}
 use Rattle.rss_buffer.proofs.Found.{HasPage-mapped}
 use Rattle.rss_buffer.proofs.Turns.{ok_then}
 use Rattle.rss_buffer.proofs.Changed.{Reslots-moves, Fits-changed, IsBuffer-reslots, with_mapped-same, mapped-reslots, held-reslots}

@@ -3,7 +3,7 @@ use Rattle.rss_base.specs.Layout.{slots_at}
 use Rattle.rss_shadow.specs.Maps.{Maps}
 use Rattle.rss_buffer.specs.Frames.{frame_in}
 use Rattle.rss_buffer.specs.Slots.{held_by}
-use Rattle.rss_buffer.specs.Saved.{StandInSlots}
+use Rattle.rss_base.specs.StoredPages.{StandInSlots}
 use Rattle.rss_buffer.proofs.Elsewhere.{below_slots, held_after, buffer_after, changing}
 use Rattle.rss_buffer.proofs.Saves.{flushed, saves_map, at_saved, flush_kept, flush_moments, save_kept, save_moments}
 use Rattle.rss_buffer.proofs.saving.BufferSaving.save.Goals as goal

@@ -3,7 +3,7 @@ use Rattle.rss_base.specs.DiskRule.{Pages}
 use Rattle.rss_base.specs.Layout.{device_pages}
 use Rattle.rss_buffer.specs.Frames.{frame_in}
 use Rattle.rss_buffer.specs.Slots.{held_by}
-use Rattle.rss_buffer.specs.Saved.{SavesPages, HoldsPages}
+use Rattle.rss_base.specs.StoredPages.{SavesPages, HoldsPages}
 use Rattle.rss_buffer.proofs.Elsewhere.{held_after, buffer_after, changing}
 use Rattle.rss_buffer.proofs.Saves.{holds_pages, saved_by}
 use Rattle.rss_buffer.proofs.saving.BufferSaving.switch.Goals as goal
