@@ -1,10 +1,10 @@
 -- What the tables of a list of values hold.
 use Rattle.std.proofs.Common.{◌≡◌, ◌≢◌, ℕ, zero, suc, ◌+◌, ◌/◌, ◌%◌, ◌<◌, ◌≤◌, ℤ, Bool, true, false, cond, List, [], ◌∷◌, ◌++◌, length, get_or, refl, sym, ◌∙◌, ap, arith, add-zero}
-use Rattle.std.specs.Prelude.{is_some, Option, Some, None}
+use Rattle.std.specs.Prelude.{Some, None}
 use Rattle.std.specs.Ordering.{eq_by_cmp, is_eq}
 use Rattle.std.specs.Cmp.{IsTotalOrder, Equal-is, tied_itself}
 use Rattle.std.specs.FinMap as map
-use Rattle.std.specs.FinMap.{IsAntisymmetric, find, get-empty, get-insert, get-from_entries, get-retain_keys, len-insert, len-empty, same_map, from_entries_push}
+use Rattle.std.specs.FinMap.{IsAntisymmetric, find, get-empty, get-insert, get-from_entries, from_entries_push}
 use Rattle.std.specs.declared.cmp.Ordering.{Ordering}
 use Rattle.rss_base.specs.declared.name.Name.{Name}
 use Rattle.rss_base.specs.declared.tid.Tid.{Tid}
@@ -12,7 +12,7 @@ use Rattle.rss_base.specs.declared.item.Item.{Item}
 use Rattle.rss_base.specs.declared.value.Value.TheVariants.{Int}
 use Rattle.rss_base.specs.declared.value.FieldKind.TheVariants.{Int as IntField}
 use Rattle.rss_model.specs.Items.{Content, Values, item_cmp, name_cmp}
-use Rattle.rss_model.specs.Tables.{Contents, content, fields_of, is_tuple_of, live_tuples}
+use Rattle.rss_model.specs.Tables.{content, fields_of}
 use Rattle.rss_model.specs.Store.{relation_r, tid_at, item_at, tuples_from, tables_of}
 use Rattle.rss_model.proofs.Codes.{item_total, item_apart, name_total, name_apart}
 
@@ -75,36 +75,6 @@ contents_push values z =
     ap (λ (es : List (Item × Content)). map.from_entries es) (tuples_push 0 values z ∙ ap (λ (n : ℕ). tuples_from 0 values ++ (item_at n, Values (Int z ∷ [])) ∷ []) next)
     ∙ from_entries_push item_total item_apart (tuples_from 0 values) (item_at (length values)) (Values (Int z ∷ []))
     (find_none (item_at (length values)) 0 values (λ k low high e. absurd (omega (arith, same_place (length values) k (tids (length values) k e)))))
-
--- ---- how many tuples
-
-len_from : (place : ℕ) (values : List ℤ) → map.len (map.from_entries {R = item_cmp} (tuples_from place values)) ≡ length values
-len_from place [] = len-empty item_cmp Content
-len_from place (v ∷ values) =
-    let absent : map.get (map.from_entries {R = item_cmp} (tuples_from (place + 1) values)) (item_at place) ≡ None =
-    get-from_entries item_total (tuples_from (place + 1) values) (item_at place) ∙ find_none (item_at place) (place + 1) values (λ k low high e. absurd (omega (arith, same_place place k (tids place k e)))) in
-    len-insert item_total (map.from_entries (tuples_from (place + 1) values)) (item_at place) (Values (Int v ∷ []))
-    ∙ ap (λ (o : Option Content). cond (is_some o) (map.len (map.from_entries {R = item_cmp} (tuples_from (place + 1) values))) (map.len (map.from_entries {R = item_cmp} (tuples_from (place + 1) values)) + 1)) absent
-    ∙ ap (λ (n : ℕ). n + 1) (len_from (place + 1) values)
-    ∙ omega arith
-
-is_tuple_at : (k : ℕ) → is_tuple_of relation_r (item_at k) ≡ true
-is_tuple_at k = tied name_total name_apart relation_r
-
-kept_same : (c : Bool) (o : Option Content) → (c ≡ false → o ≡ None) → cond c o None ≡ o
-kept_same true o none = refl
-kept_same false o none = sym (none refl)
-
-pub live : (values : List ℤ) → live_tuples (tables_of values).contents relation_r ≡ length values
-live values =
-    let all : map.retain_keys (tables_of values).contents (is_tuple_of relation_r) ≡ (tables_of values).contents =
-    same_map item_total item_apart _ _ (λ q.
-    get-retain_keys (tables_of values).contents (is_tuple_of relation_r) q (λ x tie. ap (is_tuple_of relation_r) (sym (item_apart q x tie)))
-    ∙ kept_same (is_tuple_of relation_r q) (map.get (tables_of values).contents q) (λ no. content_none q values (λ k lt e. absurd (differ (sym no ∙ ap (is_tuple_of relation_r) e ∙ is_tuple_at k))))) in
-    ap (λ (m : Contents). map.len m) all ∙ len_from 0 values
-  where
-    differ : false ≡ true → ⊥
-    differ e = cc
 
 -- ---- relations
 

@@ -8,7 +8,7 @@ use Rattle.rss_base.specs.declared.name.Name.{Name}
 use Rattle.rss_base.specs.declared.tid.Tid.{Tid}
 use Rattle.rss_base.specs.declared.value.Value.TheVariants.{Int}
 use Rattle.rss_base.specs.declared.answer.Reply.TheVariants.{Tid as Identifier, Tuple as TupleReply}
-use Rattle.rss_base.specs.declared.refusal.Refusal.TheVariants.{BadTuple, NoTuple}
+use Rattle.rss_base.specs.declared.refusal.Refusal.TheVariants.{BadTuple, NoTuple, Full}
 use Rattle.rss_model.specs.Store.{relation_r}
 use Rattle.rss_model.specs.ReplyText.{tid_text, answer_line}
 
@@ -29,6 +29,12 @@ pub bad_tuple_line : (field : ℕ) → field < 2 ^ 32 → length (answer_line (E
 bad_tuple_line field small =
     let short = length-decimal-le 10 field (omega arith) (omega (arith, small)) (omega (arith, small)) in
     omega (arith, ended (codes "refused 8 bad tuple ") (decimal field) 10 short)
+
+pub full_line : (slots needed : ℕ) → slots < 2 ^ 32 → needed < 2 ^ 64 → length (answer_line (Err (Full slots needed))) ≤ 8192
+full_line slots needed few small =
+    let first = length-decimal-le 10 slots (omega arith) (omega (arith, few)) (omega (arith, few)) in
+    let second = length-decimal-le 20 needed (omega arith) (omega (arith, small)) (omega (arith, small)) in
+    omega (arith, first, second, length-append (decimal slots ++ codes " " ++ decimal needed) (codes "\n"), length-append (decimal slots ++ codes " ") (decimal needed), length-append (decimal slots) (codes " "))
 
 pub no_tuple_line : (relation : Name) (tid : Tid) → relation ≡ relation_r → tid.page < 2 ^ 32 → tid.slot < 2 ^ 32 → length (answer_line (Err (NoTuple relation tid))) ≤ 8192
 no_tuple_line relation tid is page slot =

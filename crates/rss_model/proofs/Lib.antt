@@ -1,4 +1,4 @@
 pub mod Codes
 pub mod Contents
-pub mod Roots
 pub mod Lengths
+pub mod Heap

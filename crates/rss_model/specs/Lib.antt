@@ -2,10 +2,14 @@ pub use Rattle.rss_base.specs.DiskRule
 pub use Rattle.rss_base.specs.Faults
 pub use Rattle.rss_base.specs.Streams
 pub use Rattle.rss_base.specs.Layout
+pub use Rattle.rss_base.specs.PageMap
+pub use Rattle.rss_base.specs.Paged
+pub use Rattle.rss_base.specs.StoredPages
 pub mod TupleTypes
 pub mod Items
 pub mod Tables
 pub mod Changes
+pub mod Meter
 pub mod Machine
 pub mod Steps
 pub mod Runs

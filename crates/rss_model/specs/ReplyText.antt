@@ -127,3 +127,7 @@ place_text Room = codes "room"
 -- the line of a device that is not a store
 abbrev pub not_a_store_line : Place → List ℕ
 not_a_store_line place = codes "not a store " ++ place_text place ++ codes "\n"
+
+-- the line of a device whose layout is sound, and whose pages are no store
+abbrev pub damaged_line : Place → List ℕ
+damaged_line place = codes "damaged " ++ place_text place ++ codes "\n"

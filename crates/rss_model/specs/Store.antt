@@ -1,6 +1,6 @@
--- A store: three pages, and the tables that they open to. Page 0 is the selector, and pages 1 and 2 are the two roots.
-use Rattle.std.specs.Prelude.{◌≡◌, ◌≢◌, ◌⊎◌, ℕ, ℤ, ◌+◌, ◌-◌, ◌*◌, ◌/◌, ◌%◌, ◌≤◌, List, [], ◌∷◌, ◌++◌, length, replicate, flat_map, All, codes, FitsSigned}
-use Rattle.std.specs.Int.{w16, w64, to_be_bytes, cast_unsigned}
+-- A store: its pages, and the tables that they open to.
+use Rattle.std.specs.Prelude.{◌≡◌, ◌⊎◌, ℕ, ℤ, ◌+◌, ◌-◌, ◌*◌, ◌/◌, ◌%◌, ◌<◌, ◌≤◌, Bool, ◌&&◌, ◌||◌, ◌==◌, nat_lt, List, [], ◌∷◌, ◌++◌, length, take, drop, replicate, flat_map, count_by, Option, Some, is_some, All, FitsSigned}
+use Rattle.std.specs.Int.{w16, w32, w64, to_be_bytes, cast_unsigned}
 use Rattle.std.specs.FinMap as map
 use Rattle.rss_base.specs.declared.name.Name.{Name}
 use Rattle.rss_base.specs.declared.tid.Tid.{Tid}
@@ -8,12 +8,20 @@ use Rattle.rss_base.specs.declared.item.Item.{Item}
 use Rattle.rss_base.specs.declared.item.Item.TheVariants.{Tuple as TupleItem}
 use Rattle.rss_base.specs.declared.value.Value.TheVariants.{Int}
 use Rattle.rss_base.specs.declared.value.FieldKind.TheVariants.{Int as IntField}
-use Rattle.rss_base.specs.DiskRule.{Disk, Pages, Told, Leaves}
-use Rattle.rss_base.specs.Layout.{selected, root_of}
+use Rattle.rss_base.specs.declared.root.Root.{Root}
+use Rattle.rss_base.specs.declared.key.Space.{Space}
+use Rattle.rss_base.specs.declared.key.Space.TheVariants.{Home, System}
+use Rattle.rss_base.specs.declared.key.PageKey.{PageKey}
 use Rattle.rss_base.specs.declared.place.Place.{Place}
-use Rattle.rss_base.specs.declared.place.Place.TheVariants.{Size, Root}
+use Rattle.rss_base.specs.DiskRule.{Disk, Pages, Leaves}
+use Rattle.rss_base.specs.Layout.{map_at, slots_at, HasRoot, IsRootFault}
+use Rattle.rss_base.specs.PageMap.{space_code, IsMap, IsMapFault}
+use Rattle.rss_base.specs.Paged.{Mapped, Held, page_key}
+use Rattle.rss_base.specs.StoredPages.{mapped_by, held_at}
 use Rattle.rss_model.specs.Items.{Content, Values}
 use Rattle.rss_model.specs.Tables.{Relations, Tables}
+
+-- ---- the relation
 
 -- the one relation, `r`, with one field, an INT
 abbrev pub relation_r : Name
@@ -22,7 +30,7 @@ relation_r = record { bytes = 114 ∷ 0 ∷ 0 ∷ 0 ∷ 0 ∷ 0 ∷ 0 ∷ 0 ∷ 
 abbrev pub relations : Relations
 relations = map.insert map.empty relation_r (IntField ∷ [])
 
--- the tuple at a place of the root, counted from 0
+-- the tuple at a place, counted from 0
 abbrev pub tid_at : ℕ → Tid
 tid_at place = record { page = place / 128; slot = place % 128 }
 
@@ -38,45 +46,90 @@ tuples_from place (z ∷ values) = (item_at place, Values (Int z ∷ [])) ∷ tu
 abbrev pub tables_of : List ℤ → Tables
 tables_of values = record { relations = relations; contents = map.from_entries (tuples_from 0 values) }
 
--- a root holds at most so many tuples
-abbrev pub root_limit : ℕ
-root_limit = 500
+-- ---- its pages
 
--- The bytes of a root: its mark, the version 0, the number of tuples, 88 zeros, the values, and zeros to the page's end. Numbers are big-endian, values in two's complement.
-abbrev pub root_bytes : List ℤ → List ℕ
-root_bytes values =
-    codes "RSSR" ++ 0 ∷ 0 ∷ [] ++ to_be_bytes w16 (length values) ++ replicate 88 0 ++ flat_map (λ z. to_be_bytes w64 (cast_unsigned w64 z)) values ++ replicate (8 * (root_limit - length values)) 0
+-- how many home pages so many tuples need: each but the last has 128
+abbrev pub home_pages : ℕ → ℕ
+home_pages count = (count + 127) / 128
 
--- the page is a root with these values
-pub record IsRoot (bytes : List ℕ) (values : List ℤ) : Type 0 where
-  pub spelled : bytes ≡ root_bytes values
-  pub few : length values ≤ root_limit
+-- the values of the tuples of a home page
+abbrev pub values_on : ℕ → List ℤ → List ℤ
+values_on number values = take 128 (drop (128 * number) values)
+
+-- the bytes of a value, in two's complement
+abbrev pub value_bytes : ℤ → List ℕ
+value_bytes z = to_be_bytes w64 (cast_unsigned w64 z)
+
+-- The bytes of a home page of segment 1: its space, its segment, two zeros, its number, eight zeros; how many tuples it has, six zeros; their values, and zeros to the page's end. Numbers are big-endian.
+abbrev pub home_page : ℕ → List ℤ → List ℕ
+home_page number values =
+    1 ∷ 1 ∷ 0 ∷ 0 ∷ to_be_bytes w32 number ++ replicate 8 0 ++ to_be_bytes w16 (length values) ++ replicate 6 0 ++ flat_map value_bytes values ++ replicate (8 * (509 - length values)) 0
+
+-- one of the first pages of a segment and a space
+abbrev pub is_page_of : ℕ → Space → ℕ → PageKey → Bool
+is_page_of segment space limit key = (key.segment == segment) && (space_code key.space == space_code space) && nat_lt key.number limit
+
+-- the pages of a store: the ten of the system space, and so many home pages of segment 1
+abbrev pub store_pages : ℕ → Mapped
+store_pages home key = is_page_of 0 System 10 key || is_page_of 1 Home home key
+
+-- The pages hold these tuples: those of the system space are zeros as yet.
+pub record HoldsTuples (held : Held) (values : List ℤ) : Type 0 where
+  pub system : (number : ℕ) → number < 10 → held (page_key 0 System number) ≡ Some (replicate 4096 0)
+  pub home : (number : ℕ) → number < home_pages (length values) → held (page_key 1 Home number) ≡ Some (home_page number (values_on number values))
+
+-- ---- a store
+
+-- the log of a root as it is made: it has one record, of a checkpoint at which no transaction is open
+pub record HasFirstLog (root : Root) : Type 0 where
+  pub head : root.head ≡ 0
+  pub checkpoint : root.checkpoint ≡ 0
+  pub end : root.end ≡ 2
+  pub tail : root.tail ≡ 9 ∷ 0 ∷ []
+
+-- The pages are a store: the selected root by its number, the map that it names, and in the slots the pages of these tuples. There is room for each page in two slots.
+pub record IsStore (pages : Pages) (number : ℕ) (root : Root) (owners : List (Option PageKey)) (values : List ℤ) : Type 0 where
+  pub root_there : HasRoot pages number root
+  pub log : HasFirstLog root
+  pub map : IsMap root.slots pages (map_at root.slots root.area) owners
+  pub mapped : (key : PageKey) → mapped_by owners key ≡ store_pages (home_pages (length values)) key
+  pub room : 2 * (home_pages (length values) + 10) ≤ root.slots
+  pub tuples : HoldsTuples (held_at (slots_at root.slots root.log_pages) pages owners) values
   pub fit : All (FitsSigned w64) values
 
--- the pages are a store with these tables
-pub record OpensTo (pages : Pages) (tables : Tables) : Type 0 where
+-- the pages are a store of so many slots with these tables
+pub record OpensTo (pages : Pages) (slots : ℕ) (tables : Tables) : Type 0 where
+  pub number : ℕ
+  pub root : Root
+  pub owners : List (Option PageKey)
   pub values : List ℤ
-  pub size : length pages ≡ 3
-  pub root : IsRoot (root_of pages) values
+  pub store : IsStore pages number root owners values
+  pub size : slots ≡ root.slots
   pub holds : tables ≡ tables_of values
 
--- What a device of these pages is read as: a store with its tables, or, where there are no pages, one that is made empty.
-abbrev pub ReadsAs : Pages → Tables → Type 0
-ReadsAs pages tables = OpensTo pages tables ⊎ ((length pages ≡ 0) × (tables ≡ tables_of []))
-
--- the first place at which the pages are out of form
-abbrev pub IsBrokenAt : Place → Pages → Type 0
-IsBrokenAt Size pages = (length pages ≢ 0) × (length pages ≢ 3)
-IsBrokenAt (Root number) pages = (length pages ≡ 3) × ((number ≡ selected pages) × ((values : List ℤ) → IsRoot (root_of pages) values → ⊥))
-IsBrokenAt place pages = ⊥
-
-abbrev pub OpensToEither : Tables → Tables → Pages → Type 0
-OpensToEither before after pages = OpensTo pages before ⊎ OpensTo pages after
-
--- What a stop within the opening may leave: what it could leave before, and, while a device of no pages is made a store, any pages.
-abbrev pub OpeningLeaves : Disk → Pages → Type 0
-OpeningLeaves before image = Leaves before image ⊎ Told before (λ pages. length pages ≡ 0)
+abbrev pub OpensToEither : ℕ → Tables → Tables → Pages → Type 0
+OpensToEither slots before after pages = OpensTo pages slots before ⊎ OpensTo pages slots after
 
 -- a stop now leaves pages that open to these tables
-abbrev pub Opens : Disk → Tables → Type 0
-Opens disk tables = (image : Pages) → Leaves disk image → OpensTo image tables
+abbrev pub Opens : Disk → ℕ → Tables → Type 0
+Opens disk slots tables = (image : Pages) → Leaves disk image → OpensTo image slots tables
+
+-- ---- pages that are no store
+
+-- The first place at which the layout is out of form: that of the device or its roots, or that of the map.
+pub data IsBrokenAt (place : Place) (pages : Pages) : Type 0 where
+  at_root : IsRootFault pages place → IsBrokenAt place pages
+  at_map : {number : ℕ} {root : Root} → HasRoot pages number root → IsMapFault root.slots pages (map_at root.slots root.area) place → IsBrokenAt place pages
+
+-- The layout is sound, and there is no room for each page in two slots.
+pub record IsOverfull (pages : Pages) : Type 0 where
+  pub number : ℕ
+  pub root : Root
+  pub owners : List (Option PageKey)
+  pub root_there : HasRoot pages number root
+  pub map : IsMap root.slots pages (map_at root.slots root.area) owners
+  pub over : root.slots < 2 * count_by is_some owners
+
+-- the pages open to no tables
+abbrev pub IsNoStore : Pages → Type 0
+IsNoStore pages = (slots : ℕ) (tables : Tables) → OpensTo pages slots tables → ⊥

@@ -1,11 +1,9 @@
 -- Tables: the relations that are defined, and what the items hold.
-use Rattle.std.specs.Prelude.{ℕ, Bool, false, List, Option, Some, None}
+use Rattle.std.specs.Prelude.{List, Option, Some, None}
 use Rattle.std.specs.FinMap as map
 use Rattle.std.specs.FinMap.{FinMap}
-use Rattle.std.specs.Ordering.{eq_by_cmp}
 use Rattle.rss_base.specs.declared.name.Name.{Name}
 use Rattle.rss_base.specs.declared.item.Item.{Item}
-use Rattle.rss_base.specs.declared.item.Item.TheVariants.{Segment, Relation, Tuple, Chain, Key}
 use Rattle.rss_base.specs.declared.value.FieldKind.{FieldKind}
 use Rattle.rss_model.specs.Items.{Content, item_cmp, name_cmp}
 
@@ -33,14 +31,3 @@ pub record Tables : Type 0 where
 -- the fields of a relation, where there is one of this name
 abbrev pub fields_of : Tables → Name → Option (List FieldKind)
 fields_of tables name = map.get tables.relations name
-
-abbrev pub is_tuple_of : Name → Item → Bool
-is_tuple_of relation (Segment name) = false
-is_tuple_of relation (Relation name) = false
-is_tuple_of relation (Tuple name tid) = eq_by_cmp name_cmp name relation
-is_tuple_of relation (Chain name parent) = false
-is_tuple_of relation (Key name values) = false
-
--- how many tuples the relation has
-abbrev pub live_tuples : Contents → Name → ℕ
-live_tuples contents relation = map.len (map.retain_keys contents (is_tuple_of relation))

@@ -1,12 +1,13 @@
 // The engine as the lines of a script see it.
-ghost use Rattle.std.specs.Prelude.{◌≡◌, ◌≤◌, ℕ, length, Ok, Err, IfOk, IsErrOf};
+ghost use Rattle.std.specs.Prelude.{◌≡◌, ◌≤◌, ℕ, length, Ok, Err, IsOk, IfOk, IsErrOf};
 ghost use Rattle.rss_base.specs.Faults.{Rises};
 ghost use Rattle.rss_base.specs.DiskRule.{Disk, IsTold};
 ghost use Rattle.rss_model.specs.Machine.{State};
 ghost use Rattle.rss_model.specs.Store.{Opens};
 ghost use Rattle.rss_model.specs.Turns.{IsAnswered, IsStopped, IsUnmade};
 ghost use Rattle.rss_model.specs.ReplyText.{answer_line};
-ghost use Rattle.rss_base.specs.declared.answer.CallError.TheVariants.{Refused};
+ghost use Rattle.rss_base.specs.declared.answer.CallError.TheVariants.{Refused, Damaged};
+ghost use Rattle.rss_base.specs.declared.place.Place.{Place};
 ghost use Rattle.rss_base.specs.declared.refusal.Refusal.{Refusal};
 
 use rss_base::{Call, CallError, Reply};
@@ -19,7 +20,7 @@ pub trait Engine {
     /// The machine's state.
     ghost state: { Self → State };
 
-    /// No call has met a fault of the device.
+    /// No call has met a fault, and none ran out of memory on its way.
     ghost is_up: { Self → Type 0 };
 
     /// How often the device has failed, counted up to 2 ^ 64 - 1.
@@ -37,16 +38,19 @@ pub trait Engine {
         ensures reply_line { IfOk result (λ reply. length (answer_line (Ok reply)) ≤ 8192) }
         ensures refusal_line { (why : Refusal) → result ≡ Err (Refused why) → length (answer_line (Err why)) ≤ 8192 }
 
-        // It is down exactly after a fault of the device, and then answers nothing more.
+        // A reply and a refusal leave it up, and a fault down: then it answers nothing more.
         ensures down { IsErrOf result CallError.Down → is_up self.old → ⊥ }
         ensures still_down { (is_up self.old → ⊥) → IsErrOf result CallError.Down }
-        ensures up { is_up self.old → (result ≡ Err CallError.Device → ⊥) → is_up self.new }
+        ensures up { IsOk result → is_up self.old → is_up self.new }
+        ensures refused_up { (why : Refusal) → result ≡ Err (Refused why) → is_up self.old → is_up self.new }
         ensures faulted { IsErrOf result CallError.Device → is_up self.new → ⊥ }
+        ensures damaged { (place : Place) → result ≡ Err (Damaged place) → is_up self.new → ⊥ }
+        ensures sound { (place : Place) → result ≡ Err (Damaged place) → IsTold (disk self.old) → ⊥ }
         ensures untouched { IsErrOf result CallError.Down → self.new ≡ self.old }
         ensures cause { IsErrOf result CallError.Device → Rises (faults self.old) (faults self.new) }
         ensures later { faults self.old ≤ faults self.new }
         ensures told { IsTold (disk self.old) → IsTold (disk self.new) };
 
     /// A stop between two calls leaves the committed tables.
-    ghost opens: { (engine : Self) → is_up engine → IsTold (disk engine) → Opens (disk engine) (state engine).base };
+    ghost opens: { (engine : Self) → is_up engine → IsTold (disk engine) → Opens (disk engine) (state engine).slots (state engine).base };
 }
