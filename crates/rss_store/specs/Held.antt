@@ -1,5 +1,5 @@
 -- The machine's state of a store whose values stand in one list, the committed ones first.
-use Rattle.std.specs.Prelude.{ℕ, ℤ, ◌+◌, List, [], ◌∷◌, ◌++◌, Option, Some, None, take, drop}
+use Rattle.std.specs.Prelude.{ℕ, ℤ, ◌+◌, ◌-◌, ◌*◌, List, [], ◌∷◌, ◌++◌, length, Option, Some, None, take, drop}
 use Rattle.std.specs.Ordering.{nat_cmp}
 use Rattle.std.specs.FinMap as map
 use Rattle.std.specs.FinMap.{FinMap}
@@ -7,7 +7,7 @@ use Rattle.rss_base.specs.declared.value.Value.TheVariants.{Int}
 use Rattle.rss_model.specs.Items.{Content, Values}
 use Rattle.rss_model.specs.Changes.{Change}
 use Rattle.rss_model.specs.Machine.{State}
-use Rattle.rss_model.specs.Store.{item_at, tables_of}
+use Rattle.rss_model.specs.Store.{item_at, tables_of, home_pages}
 
 -- what a tuple item holds
 abbrev pub held : ℤ → Content
@@ -30,10 +30,16 @@ abbrev pub marks_of : Option ℕ → FinMap nat_cmp (List ℕ)
 marks_of None = map.empty
 marks_of (Some transaction) = map.insert map.empty transaction []
 
--- the state where this transaction is open, if any, and the first values are committed
-abbrev pub state_of : Option ℕ → ℕ → List ℤ → State
-state_of transaction committed values = record {
+-- The state of a store of so many slots where this transaction is open, if any, and the first values are committed. Each end that commits is a checkpoint.
+abbrev pub state_of : ℕ → Option ℕ → ℕ → List ℤ → State
+state_of slots transaction committed values = record {
+  slots = slots;
   base = tables_of (take committed values);
   changes = changes_of transaction committed (drop committed values);
   marks = marks_of transaction;
+  meter = record { heap = home_pages committed; since = length values - committed };
 }
+
+-- how many slots one more tuple may need, where so many of these are committed
+abbrev pub needed : ℕ → ℕ → ℕ
+needed committed count = 2 * (home_pages committed + 4 * (count - committed + 1) + 10)

@@ -1,4 +1,14 @@
+pub use Rattle.rss_base.specs.DiskRule
+pub use Rattle.rss_base.specs.Faults
+pub use Rattle.rss_base.specs.Layout
+pub use Rattle.rss_base.specs.PageMap
+pub use Rattle.rss_base.specs.Paged
+pub use Rattle.rss_base.specs.StoredPages
+pub use Rattle.rss_model.specs.Store
+pub mod Formatted
+pub mod HomePages
+pub mod Ready
 pub mod Held
-pub mod Root
-pub mod Tuples
-pub mod TupleLaws
+pub mod Sessions
+pub mod StoreLaws
+pub mod Opening

@@ -1,10 +1,16 @@
-//! A store of one relation, kept in the root page of a device: an `Engine`.
+//! A store of one relation, whose tuples stand in the pages of a device: how it is made, opened and
+//! called.
 #![tactic(auto)]
 
+mod checking;
+mod checkpoint;
 mod engine;
+mod formatting;
+mod home_page;
 mod opening;
-mod root_page;
-mod switching;
+mod session;
+mod tuples;
 
 pub use engine::Store;
+pub use formatting::format;
 pub use opening::open;

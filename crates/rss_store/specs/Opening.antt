@@ -1,0 +1,102 @@
+-- What an opening finds in the pages of a device.
+use Rattle.std.specs.Prelude.{◌≡◌, ◌⊎◌, ℕ, ℤ, ◌+◌, ◌-◌, ◌*◌, ◌<◌, ◌≤◌, min, Bool, true, false, ◌&&◌, ◌==◌, List, length, replicate, count_by, Option, Some, None, is_some, All, FitsSigned}
+use Rattle.std.specs.Int.{w64}
+use Rattle.rss_base.specs.declared.fault.OpenFault.{OpenFault}
+use Rattle.rss_base.specs.declared.fault.OpenFault.TheVariants.{Device as DeviceFailed, NotAStore, Damaged, NoMemory as LacksMemory}
+use Rattle.rss_base.specs.declared.root.Root.{Root}
+use Rattle.rss_base.specs.declared.key.Space.TheVariants.{Home, System}
+use Rattle.rss_base.specs.declared.key.PageKey.{PageKey}
+use Rattle.rss_base.specs.declared.place.Place.{Place}
+use Rattle.rss_base.specs.declared.place.Place.TheVariants.{Room}
+use Rattle.rss_base.specs.DiskRule.{Disk, Pages, page, Told, Leaves, Passes}
+use Rattle.rss_base.specs.Layout.{map_at, slots_at, IsWellFormed, HasRoot}
+use Rattle.rss_base.specs.PageMap.{space_code, owner_of, IsTable, IsMap}
+use Rattle.rss_model.specs.Store.{home_pages, values_on, home_page, store_pages, HasFirstLog, IsStore, IsBrokenAt, IsOverfull, IsNoStore}
+use Rattle.rss_store.specs.HomePages.{IsHomePage}
+
+-- ---- calls that only read
+
+-- what a device tells stays, and the count of its writes; the count of its faults never falls
+pub record OnlyReads (old new : Disk) (writes writes_now faults faults_now : ℕ) : Type 0 where
+  pub contents : new.contents ≡ old.contents
+  pub moments : Told old (λ _. Passes old new (Leaves old))
+  pub same_writes : writes_now ≡ writes
+  pub later : faults ≤ faults_now
+
+-- ---- the pages of slots
+
+-- a home page of segment 1
+abbrev pub is_home : Option PageKey → Bool
+is_home None = false
+is_home (Some key) = (key.segment == 1) && (space_code key.space == space_code Home)
+
+-- a page of a store with so many home pages, and how many tuples it may have: each home page but the last is full
+pub record MayHave (home : ℕ) (key : PageKey) (tuples : ℕ) : Type 0 where
+  pub mapped : store_pages home key ≡ true
+  pub full : key.space ≡ Home → key.number + 1 < home → tuples ≡ 128
+  pub some : key.space ≡ Home → 1 ≤ tuples
+  pub few : key.space ≡ Home → tuples ≤ 128
+
+-- the bytes are those of a page with so many tuples
+pub record HasTuplesOn (bytes : List ℕ) (key : PageKey) (tuples : ℕ) : Type 0 where
+  pub system : key.space ≡ System → bytes ≡ replicate 4096 0
+  pub home : key.space ≡ Home → IsHomePage bytes key.number tuples
+
+-- the bytes are those of a page of these tuples
+pub record IsPageOf (values : List ℤ) (key : PageKey) (bytes : List ℕ) : Type 0 where
+  pub mapped : store_pages (home_pages (length values)) key ≡ true
+  pub system : key.space ≡ System → bytes ≡ replicate 4096 0
+  pub home : key.space ≡ Home → bytes ≡ home_page key.number (values_on key.number values)
+
+-- the bytes are those of no page of a store with so many home pages
+abbrev pub IsNoPageOf : ℕ → PageKey → List ℕ → Type 0
+IsNoPageOf home key bytes = (values : List ℤ) → home ≡ home_pages (length values) → All (FitsSigned w64) values → IsPageOf values key bytes → ⊥
+
+-- the first slots have pages of a store with so many home pages
+abbrev pub AreStoreKeys : ℕ → List (Option PageKey) → ℕ → Type 0
+AreStoreKeys home owners done = (slot : ℕ) (key : PageKey) → slot < done → owner_of owners slot ≡ Some key → store_pages home key ≡ true
+
+-- the first slots hold pages of a store with so many tuples
+abbrev pub HoldStorePages : ℕ → ℕ → Pages → List (Option PageKey) → ℕ → Type 0
+HoldStorePages count first pages owners done = (slot : ℕ) (key : PageKey) → slot < done → owner_of owners slot ≡ Some key → HasTuplesOn (page pages (first + slot)) key (min 128 (count - 128 * key.number))
+
+-- some slot holds no page of a store with so many home pages
+pub record HoldsNoPage (home first : ℕ) (pages : Pages) (owners : List (Option PageKey)) : Type 0 where
+  pub slot : ℕ
+  pub key : PageKey
+  pub owned : owner_of owners slot ≡ Some key
+  pub none : IsNoPageOf home key (page pages (first + slot))
+
+-- ---- pages that don't open
+
+-- the map with its root is that of no store
+abbrev pub LacksStore : Pages → Root → List (Option PageKey) → Type 0
+LacksStore pages root owners = (number : ℕ) (values : List ℤ) → IsStore pages number root owners values → ⊥
+
+-- why the pages don't open
+pub record IsRefused (pages : Pages) (fault : OpenFault) : Type 0 where
+  pub broken : (place : Place) → fault ≡ NotAStore place → IsBrokenAt place pages
+  pub names : (place : Place) → IsBrokenAt place pages → (fault ≡ NotAStore place) ⊎ (fault ≡ DeviceFailed) ⊎ (fault ≡ LacksMemory)
+  pub no_store : (place : Place) → fault ≡ Damaged place → IsNoStore pages
+  pub overfull : IsOverfull pages → (fault ≡ Damaged Room) ⊎ (fault ≡ DeviceFailed) ⊎ (fault ≡ LacksMemory)
+
+-- ---- pages that open
+
+-- the root by its number, the map, and how many home pages and tuples there are, as they are in a store
+pub record IsSound (root : Root) (number : ℕ) (owners : List (Option PageKey)) (home count : ℕ) : Type 0 where
+  pub number_low : 1 ≤ number
+  pub number_high : number ≤ 2
+  pub formed : IsWellFormed root
+  pub log : HasFirstLog root
+  pub table : IsTable owners
+  pub slots : length owners ≡ root.slots
+  pub half : 2 * count_by is_some owners ≤ length owners
+  pub home_counted : home ≡ count_by is_home owners
+  pub home_needed : home_pages count ≡ home
+  pub keys : AreStoreKeys home owners (length owners)
+
+-- the pages have this root, this map, and pages of so many tuples
+pub record HoldsSound (pages : Pages) (root : Root) (number : ℕ) (owners : List (Option PageKey)) (count : ℕ) : Type 0 where
+  pub root_there : HasRoot pages number root
+  pub map : IsMap root.slots pages (map_at root.slots root.area) owners
+  pub hold : HoldStorePages count (slots_at root.slots root.log_pages) pages owners (length owners)

@@ -1,0 +1,231 @@
+// The pages that the map of a store names.
+ghost use Rattle.std.specs.Prelude.{◌≡◌, ◌≢◌, ◌↔◌, ◌+◌, ◌^◌, ◌<◌, ◌≤◌, ℤ, List, length, count_by, true, false, Err, All, FitsSigned, IsTrue, IfSome, IfNone, IfOk, IsErrOf};
+ghost use Rattle.std.specs.Int.{w64};
+ghost use Rattle.rss_base.specs.DiskRule.{page as page_at, Told};
+ghost use Rattle.rss_base.specs.Faults.{Rises};
+ghost use Rattle.rss_base.specs.Layout.{device_pages, slots_at, IsWellFormed};
+ghost use Rattle.rss_base.specs.PageMap.{IsTable};
+ghost use Rattle.rss_base.specs.declared.fault.OpenFault.TheVariants.{NotAStore as Unsound, Damaged as IsDamaged};
+ghost use Rattle.rss_base.specs.declared.key.PageKey.{PageKey as Key};
+ghost use Rattle.rss_base.specs.declared.key.Space.TheVariants.{Home, System};
+ghost use Rattle.rss_base.specs.declared.place.Place.{Place as AnyPlace};
+ghost use Rattle.rss_base.specs.declared.place.Place.TheVariants.{Catalog as CatalogPlace, Page as PagePlace};
+ghost use Rattle.rss_shadow.specs.Maps.{pages_of};
+ghost use Rattle.rss_model.specs.Store.{home_pages, values_on, home_page, is_page_of};
+ghost use Rattle.rss_store.specs.HomePages.{IsHomePage};
+ghost use Rattle.rss_store.specs.Opening.{OnlyReads, is_home, MayHave, HasTuplesOn, IsNoPageOf, AreStoreKeys, HoldStorePages, HoldsNoPage};
+
+use crate::home_page::{PAGE_TUPLES, tuples_of};
+use rss_base::{Device, OpenFault, PAGE_BYTES, Page, PageKey, Pages, Place, Root, Space, slots_at};
+use rss_pagemap::SlotTable;
+
+/// How many tuples a full home page has.
+const FULL: u32 = PAGE_TUPLES as u32;
+
+/// How many pages a map has.
+pub(crate) fn pages_in(table: &SlotTable) -> u32
+    ensures pages { result ≡ pages_of table.now }
+    ensures table { IsTable table.now }
+{
+    table
+        .as_slice()
+        .iter()
+        .filter(|owner| owner.is_some())
+        .count() as u32
+}
+
+/// How many home pages of segment 1 a map has.
+pub(crate) fn home_pages_in(table: &SlotTable) -> u32
+    ensures pages { result ≡ count_by is_home table.now }
+    ensures few { result ≤ 65536 }
+{
+    table
+        .as_slice()
+        .iter()
+        .filter(|owner| is_home(owner))
+        .count() as u32
+}
+
+fn is_home(owner: &Option<PageKey>) -> bool
+    ensures { result ≡ is_home owner.now }
+{
+    match owner {
+        Some(key) => key.segment == 1 && key.space == Space::Home,
+        None => false,
+    }
+}
+
+/// Where a page of a map is found to be damaged.
+pub(crate) fn place_of(key: PageKey) -> Place
+    requires { key.space ≡ System → key.number < 10 }
+    ensures catalog { key.space ≡ System → result ≡ CatalogPlace key.number }
+    ensures page { key.space ≢ System → result ≡ PagePlace key }
+{
+    match key.space {
+        Space::System => Place::Catalog(key.number as u8),
+        Space::Home | Space::Overflow | Space::Image => Place::Page(key),
+    }
+}
+
+/// Reads the pages of a map that has so many home pages, and answers how many tuples they have.
+/// Each page must be one of a store with so many home pages.
+pub(crate) fn check_pages<D: Device>(
+    device: &mut D,
+    root: &Root,
+    table: &SlotTable,
+    home: u32,
+) -> Result<u32, OpenFault>
+    requires formed { IsWellFormed root.now }
+    requires size { D.size_of device.old ≡ device_pages root.now }
+    requires count { length table.now ≡ root.now.slots }
+    requires few { home ≤ 65536 }
+    ensures home { IfOk result (λ count. home_pages count ≡ home) }
+    ensures keys { IfOk result (λ _. AreStoreKeys home table.now (length table.now)) }
+    ensures pages { IfOk result (λ count. Told (D.disk device.old) (λ pages. HoldStorePages count (slots_at root.now.slots root.now.log_pages) pages table.now (length table.now))) }
+    ensures damaged { (place : AnyPlace) → result ≡ Err (IsDamaged place) → Told (D.disk device.old) (λ pages. HoldsNoPage home (slots_at root.now.slots root.now.log_pages) pages table.now) }
+    ensures sound { (place : AnyPlace) → result ≡ Err (Unsound place) → ⊥ }
+    ensures wrong_size { IsErrOf result OpenFault.WrongSize → ⊥ }
+    ensures cause { IsErrOf result OpenFault.Device → Rises (D.faults device.old) (D.faults device.new) }
+    ensures reads { OnlyReads (D.disk device.old) (D.disk device.new) (D.writes device.old) (D.writes device.new) (D.faults device.old) (D.faults device.new) }
+    ensures size { D.size_of device.new ≡ D.size_of device.old }
+{
+    let first = slots_at(root.slots, root.log_pages);
+    let mut count = FULL * home;
+    for slot in 0..table.slots() {
+        count = check_slot(device, first, table, slot, home, count)?;
+    }
+    Ok(count)
+}
+
+/// Reads the page of a slot, where it has one. The pages of the slots before it have so many tuples,
+/// where the last home page is full or among them; answers the same of those up to this slot.
+fn check_slot<D: Device>(
+    device: &mut D,
+    first: u64,
+    table: &SlotTable,
+    slot: u32,
+    home: u32,
+    count: u32,
+) -> Result<u32, OpenFault>
+    requires table { IsTable table.now }
+    requires within { slot < length table.now }
+    requires low { first < 2 ^ 32 }
+    requires room { first + length table.now ≤ D.size_of device.old }
+    requires few { home ≤ 65536 }
+    requires home { home_pages count ≡ home }
+    ensures home { IfOk result (λ now. home_pages now ≡ home) }
+    ensures keys { IfOk result (λ _. AreStoreKeys home table.now slot → AreStoreKeys home table.now (slot + 1)) }
+    ensures pages { IfOk result (λ now. Told (D.disk device.old) (λ pages. AreStoreKeys home table.now slot → HoldStorePages count first pages table.now slot → HoldStorePages now first pages table.now (slot + 1))) }
+    ensures damaged { (place : AnyPlace) → result ≡ Err (IsDamaged place) → Told (D.disk device.old) (λ pages. HoldsNoPage home first pages table.now) }
+    ensures sound { (place : AnyPlace) → result ≡ Err (Unsound place) → ⊥ }
+    ensures wrong_size { IsErrOf result OpenFault.WrongSize → ⊥ }
+    ensures cause { IsErrOf result OpenFault.Device → Rises (D.faults device.old) (D.faults device.new) }
+    ensures reads { OnlyReads (D.disk device.old) (D.disk device.new) (D.writes device.old) (D.writes device.new) (D.faults device.old) (D.faults device.new) }
+    ensures size { D.size_of device.new ≡ D.size_of device.old }
+{
+    let Some(key) = table.owner(slot) else {
+        return Ok(count);
+    };
+    let tuples = check_page(device, first + u64::from(slot), key, home)?;
+    if is_last(key, home) {
+        return Ok(FULL * key.number + tuples);
+    }
+    Ok(count)
+}
+
+/// Whether the page is the last of so many home pages.
+fn is_last(key: PageKey, home: u32) -> bool
+    ensures { IsTrue result ↔ ((key.space ≡ Home) × (key.number + 1 ≡ home)) }
+{
+    key.space == Space::Home && home > 0 && key.number == home - 1
+}
+
+/// Reads a page, and answers how many tuples it has.
+fn check_page<D: Device>(device: &mut D, at: u64, key: PageKey, home: u32) -> Result<u32, OpenFault>
+    requires within { at < D.size_of device.old }
+    requires segment { key.space ≡ System → key.segment ≡ 0 }
+    requires number { key.space ≡ System → key.number < 10 }
+    ensures may { IfOk result (MayHave home key) }
+    ensures page { IfOk result (λ tuples. Told (D.disk device.old) (λ pages. HasTuplesOn (page_at pages at) key tuples)) }
+    ensures damaged { (place : AnyPlace) → result ≡ Err (IsDamaged place) → Told (D.disk device.old) (λ pages. IsNoPageOf home key (page_at pages at)) }
+    ensures sound { (place : AnyPlace) → result ≡ Err (Unsound place) → ⊥ }
+    ensures wrong_size { IsErrOf result OpenFault.WrongSize → ⊥ }
+    ensures cause { IsErrOf result OpenFault.Device → Rises (D.faults device.old) (D.faults device.new) }
+    ensures reads { OnlyReads (D.disk device.old) (D.disk device.new) (D.writes device.old) (D.writes device.new) (D.faults device.old) (D.faults device.new) }
+    ensures size { D.size_of device.new ≡ D.size_of device.old }
+{
+    let mut page = [0u8; PAGE_BYTES];
+    device.read(at, &mut page)?;
+    match tuples_on(&page, key, home) {
+        Some(tuples) => Ok(tuples),
+        None => Err(OpenFault::Damaged(place_of(key))),
+    }
+}
+
+/// How many tuples a page has, where it is one of a store with so many home pages.
+fn tuples_on(page: &Page, key: PageKey, home: u32) -> Option<u32>
+    requires segment { key.space ≡ System → key.segment ≡ 0 }
+    requires number { key.space ≡ System → key.number < 10 }
+    ensures may { IfSome result (MayHave home key) }
+    ensures page { IfSome result (HasTuplesOn page.now key) }
+    ensures none { IfNone result (IsNoPageOf home key page.now) }
+{
+    match key.space {
+        Space::System if *page == [0; PAGE_BYTES] => Some(0),
+        Space::Home if key.segment == 1 && key.number < home => {
+            tuples_of_home(page, key.number, home)
+        }
+        _ => None,
+    }
+}
+
+/// How many tuples a page has, where it is the home page of this number in a store with so many of
+/// them: each but the last is full.
+fn tuples_of_home(page: &Page, number: u32, home: u32) -> Option<u32>
+    requires { number < home }
+    ensures full { IfSome result (λ tuples. number + 1 < home → tuples ≡ 128) }
+    ensures some { IfSome result (λ tuples. 1 ≤ tuples) }
+    ensures page { IfSome result (IsHomePage page.now number) }
+    ensures none { IfNone result ((values : List ℤ) → home ≡ home_pages (length values) → All (FitsSigned w64) values → page.now ≡ home_page number (values_on number values) → ⊥) }
+{
+    let Some(tuples) = tuples_of(page, number) else {
+        return None;
+    };
+    if tuples < least_tuples(number, home) {
+        return None;
+    }
+    Some(tuples)
+}
+
+/// How many tuples a home page has at least.
+fn least_tuples(number: u32, home: u32) -> u32
+    requires { number < home }
+    ensures full { number + 1 < home → result ≡ 128 }
+    ensures last { home ≤ number + 1 → result ≡ 1 }
+{
+    if number + 1 < home { FULL } else { 1 }
+}
+
+/// The first of the pages of a segment and a space with numbers below a limit that isn't mapped.
+pub(crate) fn first_unmapped<P: Pages>(
+    pages: &P,
+    segment: u8,
+    space: Space,
+    limit: u32,
+) -> Option<PageKey>
+    ensures some { IfSome result (λ key. is_page_of segment space limit key ≡ true) }
+    ensures unmapped { IfSome result (λ key. P.mapped pages.now key ≡ false) }
+    ensures none { IfNone result ((key : Key) → is_page_of segment space limit key ≡ true → P.mapped pages.now key ≡ true) }
+{
+    for number in 0..limit {
+        let key = PageKey {
+            segment,
+            space,
+            number,
+        };
+        if !pages.has(key) {
+            return Some(key);
+        }
+    }
+    None
+}

@@ -1,0 +1,206 @@
+// The transaction that is open, and what a call is refused for.
+ghost use Rattle.std.specs.Prelude.{◌≡◌, ◌≢◌, ◌+◌, ◌-◌, ◌*◌, ◌<◌, ◌≤◌, [], ◌∷◌, ◌++◌, ℕ, ℤ, List, length, FitsSigned, slice_index_or, Some, None, Ok, Err, IfSome, IfNone, IfOk, IfErr, OnOk};
+ghost use Rattle.std.specs.Int.{w64};
+ghost use Rattle.rss_base.specs.declared.call.Call.TheVariants.{Begin, End, Insert, Fetch};
+ghost use Rattle.rss_base.specs.declared.value.Value.TheVariants.{Int};
+ghost use Rattle.rss_base.specs.declared.value.FieldKind.TheVariants.{Int as IntField};
+ghost use Rattle.rss_base.specs.declared.answer.Reply.TheVariants.{Ok as Done, Tid as Identifier, Tuple as TupleReply};
+ghost use Rattle.rss_base.specs.declared.refusal.Refusal.TheVariants.{NoTuple};
+ghost use Rattle.rss_base.specs.declared.tid.Tid.{Tid as AnyTid};
+ghost use Rattle.rss_base.specs.declared.name.Name.{Name as AnyName};
+ghost use Rattle.rss_model.specs.Steps.{Step, misfit_of, refusal};
+ghost use Rattle.rss_model.specs.ReplyText.{answer_line};
+ghost use Rattle.rss_model.specs.Store.{relation_r, tid_at, home_pages};
+ghost use Rattle.rss_store.specs.Held.{needed};
+
+use crate::home_page::PAGE_TUPLES;
+use rss_base::{Kind, Name, RELATION_R, Refusal, Reply, Tid, Tuple, Value};
+
+/// How many pages the catalog has.
+const CATALOG_PAGES: u64 = 10;
+
+/// The transaction that is open, and how many tuples there are.
+#[derive(Drop)]
+pub(crate) struct Session {
+    /// How many slots the store has.
+    pub(crate) slots: u32,
+    /// How many tuples there are, the committed ones first, and how many of them are committed.
+    pub(crate) count: u32,
+    pub(crate) committed: u32,
+    pub(crate) transaction: Option<u32>,
+    ghost few: { slots ≤ 65536 },
+    ghost within: { committed ≤ count },
+    ghost rest: { transaction ≡ None → committed ≡ count },
+    ghost room: { 2 * (home_pages committed + 4 * (count - committed) + 10) ≤ slots },
+}
+
+impl Session {
+    ghost use Rattle.rss_store.specs.Sessions.{state};
+
+    /// A store of so many tuples, with no transaction.
+    pub(crate) fn new(slots: u32, count: u32) -> Self
+        requires few { slots ≤ 65536 }
+        requires room { 2 * (home_pages count + 10) ≤ slots }
+        ensures slots { result.slots ≡ slots }
+        ensures count { result.count ≡ count }
+        ensures committed { result.committed ≡ count }
+        ensures transaction { result.transaction ≡ None }
+    {
+        Session {
+            slots,
+            count,
+            committed: count,
+            transaction: None,
+        }
+    }
+
+    /// Opens a transaction.
+    pub(crate) fn begin(&mut self, transaction: u32) -> Result<Reply, Refusal>
+        ensures step { (values : List ℤ) → length values ≡ self.old.count → Step (state self.old values) (Begin transaction) result (state self.new values) }
+        ensures short { length (answer_line result) ≤ 8192 }
+        ensures slots { self.new.slots ≡ self.old.slots }
+        ensures count { self.new.count ≡ self.old.count }
+        ensures committed { self.new.committed ≡ self.old.committed }
+    {
+        match self.transaction {
+            Some(open) if open == transaction => Err(Refusal::AlreadyOpen),
+            Some(_) => Err(Refusal::TooMany),
+            None => {
+                self.transaction = Some(transaction);
+                Ok(Reply::Ok)
+            }
+        }
+    }
+
+    /// The transaction is open, and the relation is there.
+    pub(crate) fn admit(&self, transaction: u32, relation: &Name) -> Result<(), Refusal>
+        ensures open { OnOk result (self.now.transaction ≡ Some transaction) }
+        ensures known { OnOk result (relation.now ≡ relation_r) }
+        ensures refused { IfErr result (λ why. (values : List ℤ) (tid : AnyTid) → refusal (state self.now values) (Fetch transaction relation.now tid) ≡ Some why) }
+        ensures short { IfErr result (λ why. length (answer_line (Err why)) ≤ 8192) }
+    {
+        if self.transaction != Some(transaction) {
+            return Err(Refusal::NoTransaction);
+        }
+        if *relation != RELATION_R {
+            return Err(Refusal::NoSuch(Kind::Relation));
+        }
+        Ok(())
+    }
+
+    /// The value that a transaction may insert.
+    pub(crate) fn admit_insert(
+        &self,
+        transaction: u32,
+        relation: &Name,
+        tuple: &Tuple,
+    ) -> Result<i64, Refusal>
+        ensures open { OnOk result (self.now.transaction ≡ Some transaction) }
+        ensures known { OnOk result (relation.now ≡ relation_r) }
+        ensures one { IfOk result (λ z. tuple.now ≡ Int z ∷ []) }
+        ensures room { OnOk result (needed self.now.committed self.now.count ≤ self.now.slots) }
+        ensures refused { IfErr result (λ why. (values : List ℤ) → length values ≡ self.now.count → Step (state self.now values) (Insert transaction relation.now tuple.now) (Err why) (state self.now values)) }
+        ensures short { IfErr result (λ why. length (answer_line (Err why)) ≤ 8192) }
+    {
+        self.admit(transaction, relation)?;
+        let value = only_int(tuple)?;
+        let needed = self.needed();
+        if needed > u64::from(self.slots) {
+            return Err(Refusal::Full {
+                slots: self.slots,
+                needed,
+            });
+        }
+        Ok(value)
+    }
+
+    /// How many slots one more tuple may need.
+    fn needed(&self) -> u64
+        ensures { result ≡ needed self.now.committed self.now.count }
+    {
+        let heap = u64::from(self.committed).div_ceil(PAGE_TUPLES as u64);
+        let changes = u64::from(self.count - self.committed) + 1;
+        2 * (heap + 4 * changes + CATALOG_PAGES)
+    }
+
+    /// Counts a tuple that was inserted behind the others, and answers its identifier.
+    pub(crate) fn inserted(&mut self) -> Tid
+        requires open { self.old.transaction ≢ None }
+        requires room { needed self.old.committed self.old.count ≤ self.old.slots }
+        ensures step { (transaction : ℕ) (relation : AnyName) (z : ℤ) (values : List ℤ) → self.old.transaction ≡ Some transaction → relation ≡ relation_r → length values ≡ self.old.count
+            → Step (state self.old values) (Insert transaction relation (Int z ∷ [])) (Ok (Identifier result)) (state self.new (values ++ z ∷ [])) }
+        ensures short { length (answer_line (Ok (Identifier result))) ≤ 8192 }
+        ensures slots { self.new.slots ≡ self.old.slots }
+        ensures count { self.new.count ≡ self.old.count + 1 }
+        ensures committed { self.new.committed ≡ self.old.committed }
+    {
+        let tid = tid_of(self.count);
+        self.count += 1;
+        tid
+    }
+
+    /// The place of the tuple that a transaction may fetch.
+    pub(crate) fn place(&self, transaction: u32, relation: &Name, tid: Tid) -> Result<u32, Refusal>
+        ensures within { IfOk result (λ place. place < self.now.count) }
+        ensures step { IfOk result (λ place. (values : List ℤ) (z : ℤ) → length values ≡ self.now.count → z ≡ slice_index_or values place z → Step (state self.now values) (Fetch transaction relation.now tid) (Ok (TupleReply (Int z ∷ []))) (state self.now values)) }
+        ensures refused { IfErr result (λ why. (values : List ℤ) → length values ≡ self.now.count → Step (state self.now values) (Fetch transaction relation.now tid) (Err why) (state self.now values)) }
+        ensures short { IfErr result (λ why. length (answer_line (Err why)) ≤ 8192) }
+    {
+        self.admit(transaction, relation)?;
+        match self.place_of(tid) {
+            Some(place) => Ok(place),
+            None => Err(Refusal::NoTuple(*relation, tid)),
+        }
+    }
+
+    /// The place of a tuple, where there is one of this identifier.
+    fn place_of(&self, tid: Tid) -> Option<u32>
+        ensures some { IfSome result (λ place. (place < self.now.count) × (tid_at place ≡ tid)) }
+        ensures none { IfNone result ((place : ℕ) → place < self.now.count → tid_at place ≡ tid → ⊥) }
+    {
+        if usize::from(tid.slot) >= PAGE_TUPLES || tid.page >= self.slots {
+            return None;
+        }
+        let place = tid.page * PAGE_TUPLES as u32 + u32::from(tid.slot);
+        if place < self.count {
+            Some(place)
+        } else {
+            None
+        }
+    }
+
+    /// Commits what the open transaction inserted, and closes it.
+    pub(crate) fn end(&mut self, transaction: u32)
+        requires { self.old.transaction ≡ Some transaction }
+        ensures step { (values : List ℤ) → length values ≡ self.old.count → Step (state self.old values) (End transaction) (Ok Done) (state self.new values) }
+        ensures slots { self.new.slots ≡ self.old.slots }
+        ensures count { self.new.count ≡ self.old.count }
+        ensures committed { self.new.committed ≡ self.old.count }
+    {
+        self.committed = self.count;
+        self.transaction = None;
+    }
+}
+
+/// The identifier of the tuple at a place.
+fn tid_of(place: u32) -> Tid
+    ensures { result ≡ tid_at place }
+{
+    Tid {
+        page: place / PAGE_TUPLES as u32,
+        slot: (place % PAGE_TUPLES as u32) as u16,
+    }
+}
+
+/// The value of a tuple of one INT.
+fn only_int(tuple: &Tuple) -> Result<i64, Refusal>
+    ensures ok { IfOk result (λ z. tuple.now ≡ Int z ∷ []) }
+    ensures refused { IfErr result (λ why. misfit_of (Some (IntField ∷ [])) tuple.now ≡ Some why) }
+    ensures short { IfErr result (λ why. length (answer_line (Err why)) ≤ 8192) }
+{
+    match tuple.as_slice() {
+        [Value::Int(value)] => Ok(*value),
+        [Value::Int(_), ..] => Err(Refusal::BadTuple(2)),
+        _ => Err(Refusal::BadTuple(1)),
+    }
+}
