@@ -21,8 +21,8 @@ mag_fits (negsuc n) fits = omega (arith, ints)
 pub int_read : {E : Type 0} (word : List ℕ) (z : ℤ) (r : Result ℤ E) → ParsesSigned w64 10 word r → IsInt word z → result_ok r ≡ Some z
 int_read word z r parsed is = ap result_ok (parse-signed_decimal w64 z word r is.fits (mag_fits z is.fits) is.spelled parsed)
 
-pub decimal_read : {E : Type 0} (word : List ℕ) (n : ℕ) (r : Result ℕ E) → ParsesUnsigned 32 10 word r → n < 2 ^ 32 → word ≡ decimal n → result_ok r ≡ Some n
-decimal_read word n r parsed small is = ap result_ok (parse-decimal 32 n word r small (omega arith) is parsed)
+pub decimal_read : {E : Type 0} (word : List ℕ) (n : ℕ) (r : Result ℕ E) → ParsesUnsigned 64 10 word r → n < 2 ^ 64 → word ≡ decimal n → result_ok r ≡ Some n
+decimal_read word n r parsed small is = ap result_ok (parse-decimal 64 n word r small small is parsed)
 
 -- what a test of two texts tells
 pub equal : (text word : List ℕ) → bytes_eq text word ≡ true → text ≡ word

@@ -9,5 +9,6 @@ mod value_text;
 mod word;
 
 pub use fault::LineFault;
+pub use number::read_number;
 pub use reading::{Line, read_line};
-pub use saying::{say, say_not_a_store};
+pub use saying::{say, say_damaged, say_not_a_store};

@@ -1,6 +1,6 @@
 // Writing the line of an answer.
-ghost use Rattle.std.specs.Prelude.{◌≡◌, ◌+◌, ◌<◌, ◌≤◌, ◌++◌, length, vec_len, vec_capacity, IsOk, OnOk, OnErr};
-ghost use Rattle.rss_model.specs.ReplyText.{answer_line, not_a_store_line, reply_text, refusal_text, item_text, kind_text, limit_text, place_text, space_text};
+ghost use Rattle.std.specs.Prelude.{◌≡◌, ◌+◌, ◌<◌, ◌≤◌, ◌++◌, length, codes, vec_len, vec_capacity, IsOk, OnOk, OnErr};
+ghost use Rattle.rss_model.specs.ReplyText.{answer_line, not_a_store_line, damaged_line, reply_text, refusal_text, item_text, kind_text, limit_text, place_text, space_text};
 
 use crate::value_text::append_values;
 use crate::word::Word::{Name, Number, Text, Tid};
@@ -154,7 +154,24 @@ pub fn say_not_a_store(place: Place, into: &mut Vec<u8>) -> Result<(), AllocErro
     ensures ok { OnOk result (into.new.items ≡ into.old.items ++ not_a_store_line place) }
     ensures room { vec_len into.old + length (not_a_store_line place) ≤ vec_capacity into.old → IsOk result }
 {
-    append("not a store ", &[], into)?;
+    say_with_place("not a store ", place, into)
+}
+
+/// Appends the line of a device whose layout is sound, and whose pages are no store, with its end.
+/// Where memory runs out, a front of it may be there.
+pub fn say_damaged(place: Place, into: &mut Vec<u8>) -> Result<(), AllocError>
+    ensures ok { OnOk result (into.new.items ≡ into.old.items ++ damaged_line place) }
+    ensures room { vec_len into.old + length (damaged_line place) ≤ vec_capacity into.old → IsOk result }
+{
+    say_with_place("damaged ", place, into)
+}
+
+/// Appends a text and a place, and ends the line.
+fn say_with_place(text: &str, place: Place, into: &mut Vec<u8>) -> Result<(), AllocError>
+    ensures ok { OnOk result (into.new.items ≡ into.old.items ++ (text.now ++ place_text place ++ codes "\n")) }
+    ensures room { vec_len into.old + length (text.now ++ place_text place ++ codes "\n") ≤ vec_capacity into.old → IsOk result }
+{
+    append(text, &[], into)?;
     say_place(place, into)?;
     append("\n", &[], into)?;
     Ok(())

@@ -1,4 +1,5 @@
-//! The program `rss`: runs a script of standard input over the store of a file.
+//! The program `rss`: makes a file a store, and runs a script of standard input over the store of a
+//! file.
 #![tactic(auto)]
 
 use rss_device::{FileDevice, ReaderSource, WriterSink};
@@ -18,7 +19,7 @@ fn words(rt: &HostRuntime) -> Result<Vec<String>, Status> {
 
 fn run_words(rt: &HostRuntime, words: &[String]) -> Status {
     let path = match words {
-        [_, _, path] => path.as_str(),
+        [_, _, path, ..] => path.as_str(),
         _ => "",
     };
     let mut source = ReaderSource::new(rt.reader());
@@ -34,7 +35,7 @@ fn main(rt: HostRuntime) -> ExitCode {
         Err(status) => status,
     };
     if status == Status::Words {
-        let _ = eprintln!(rt; "usage: rss run FILE");
+        let _ = eprintln!(rt; "usage: rss format FILE N G | run FILE");
     }
     ExitCode::from(status.number())
 }

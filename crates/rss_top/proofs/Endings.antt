@@ -1,21 +1,15 @@
 -- How a run ends.
-use Rattle.std.proofs.Common.{◌≡◌, ◌≢◌, ◌⊎◌, inl, inr, ℕ, suc, ◌<◌, ◌≤◌, List, [], ◌∷◌, ◌++◌, take, length, Option, Some, refl, sym, ◌∙◌, ap, subst, arith, length-append}
+use Rattle.std.proofs.Common.{◌≡◌, inl, inr, ℕ, suc, ◌<◌, ◌≤◌, List, [], ◌∷◌, ◌++◌, take, length, Option, Some, refl, sym, ◌∙◌, ap, subst, arith, length-append}
 use Rattle.std.proofs.lemmas.List.{append-nil}
-use Rattle.std.proofs.lemmas.Option.{same_Some}
-use Rattle.rss_base.specs.DiskRule.{Disk, Pages, Leaves, Passes, Continues}
+use Rattle.rss_base.specs.DiskRule.{Disk}
 use Rattle.rss_base.specs.Faults.{Rises}
 use Rattle.rss_base.specs.Streams.{Gives}
 use Rattle.rss_base.proofs.Flows.{gives_then}
-use Rattle.rss_base.proofs.Moments.{widened}
-use Rattle.rss_base.specs.declared.place.Place.{Place}
-use Rattle.rss_model.specs.Tables.{Tables}
-use Rattle.rss_model.specs.Machine.{State, at_rest}
-use Rattle.rss_model.specs.Store.{Opens, ReadsAs, OpeningLeaves}
-use Rattle.rss_model.proofs.Roots.{read_once}
-use Rattle.rss_top.specs.Run.{Window, Story, Kept, Reading, Stopped, Whole, Ended, IsRefusal, IsHalt, IsStop, IsAllOf, IsReadThrough, LineRan, kept_limit, script_limit}
+use Rattle.rss_model.specs.Machine.{State}
+use Rattle.rss_top.specs.Run.{Kept, Reading, Stopped, Whole, Ended, IsHalt, IsStop, IsAllOf, IsReadThrough, LineRan, kept_limit, script_limit}
 use Rattle.rss_top.specs.declared.status.Status.{Status}
-use Rattle.rss_top.specs.declared.status.Status.TheVariants.{Ok, Words, ReadFault, WriteFault, DeviceFault, NotAStore, NoMemory, TooLong}
-use Rattle.rss_top.proofs.Stories.{whole_line, whole_ended, story_start}
+use Rattle.rss_top.specs.declared.status.Status.TheVariants.{Ok, TooLong}
+use Rattle.rss_top.proofs.Stories.{whole_line, whole_ended}
 use Rattle.rss_top.proofs.Fronts.{ran_whole}
 
 not_halt : {s : Status} → IsHalt s → s ≡ Ok → ⊥
@@ -108,41 +102,6 @@ module _ {start : ℕ} {disk : Disk} {first state : State} {given front : List �
   pub whole_kept_line : {later : Disk} {new : State} {after : Option (List ℕ)} → (front ≡ [] → ⊥) → LineRan disk later state front new mid after → Whole start later first given before after
   whole_kept_line {later = later} {new = new} {after = after} some ran =
       whole_line kept.story (λ empty. some (kept.kept ∙ ap (λ (l : List ℕ). take kept_limit l) empty)) (ran_whole kept.left (subst (λ (l : List ℕ). LineRan disk later state l new mid after) kept.kept ran))
-
--- ---- the opening
-
--- what a stop within the opening leaves
-pub opening_passes : {before opened : Disk} {tables : Tables} (pages : Pages) → before.contents ≡ Some pages → ReadsAs pages tables → (length pages ≢ 0 → Passes before opened (Leaves before)) → Continues before opened → Passes before opened (OpeningLeaves before)
-opening_passes pages told (inl store) quiet history = widened (quiet (λ none. absurd (omega (arith, none, store.size)))) (λ image left. inl left)
-opening_passes pages told (inr empty) quiet history = widened history (λ image _. inr (λ others is. ap (λ (p : Pages). length p) (same_Some _ _ (sym is ∙ told)) ∙ empty.0))
-
--- seen from a later device
-pub opening_window : {before opened after : Disk} → Passes before opened (OpeningLeaves before) → Continues opened after → Window after before.moment opened.moment (OpeningLeaves before)
-opening_window opening history = record { later = opening.later; each = λ t image lt le left. opening.each t image lt le ((history.past t image le).0 left) }
-
--- the run begins with the opened store
-pub run_begun : {opened : Disk} {pages : Pages} (tables : Tables) (state : State) (told : Option (List ℕ)) → state ≡ at_rest state.base → ReadsAs pages state.base → ReadsAs pages tables → Opens opened state.base → Story opened.moment opened (at_rest tables) state [] [] told told
-run_begun {opened = opened} tables state told rest read reads opens =
-    let same : state.base ≡ tables = read_once read reads in
-    let is : state ≡ at_rest tables = rest ∙ ap at_rest same in
-    subst (λ (s : State). Story opened.moment opened (at_rest tables) s [] [] told told) (sym is) (story_start tables told (subst (λ (t : Tables). Opens opened t) same opens))
-
--- the place that a run names is the one that is out of form
-pub refused_there : {place there : Place} {status : Status} → there ≡ place → (status ≡ NotAStore there) ⊎ (status ≡ WriteFault) ⊎ (status ≡ NoMemory) → IsRefusal place status
-refused_there same (inl refused) = inl (refused ∙ ap NotAStore same)
-refused_there same (inr (inl fault)) = inr (inr (inl fault))
-refused_there same (inr (inr memory)) = inr (inr (inr memory))
-
--- what is left where nothing fails
-pub completes : (status : Status) → (status ≡ Words → ⊥) → (status ≡ ReadFault → ⊥) → (status ≡ WriteFault → ⊥) → (status ≡ DeviceFault → ⊥) → ((place : Place) → status ≡ NotAStore place → ⊥) → (status ≡ TooLong → ⊥) → (status ≡ Ok) ⊎ (status ≡ NoMemory)
-completes Ok words read write device store long = inl refl
-completes Words words read write device store long = absurd (words refl)
-completes ReadFault words read write device store long = absurd (read refl)
-completes WriteFault words read write device store long = absurd (write refl)
-completes DeviceFault words read write device store long = absurd (device refl)
-completes (NotAStore place) words read write device store long = absurd (store place refl)
-completes NoMemory words read write device store long = inr refl
-completes TooLong words read write device store long = absurd (long refl)
 
 -- a source with fewer bytes than a script may have isn't too long
 pub not_too_long : {status : Status} {start : ℕ} {disk : Disk} {first : State} {source_before source_after sink_before sink_after : Option (List ℕ)} (all : List ℕ) → source_before ≡ Some all → length all < script_limit → Ended status start disk first source_before source_after sink_before sink_after → status ≡ TooLong → ⊥

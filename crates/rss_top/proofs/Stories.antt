@@ -29,7 +29,7 @@ played_later {old = old} {new = new} {P = P} {at = at} passes le (more {at = bef
 })
 
 -- the moments of a line, seen from a later device
-turn_of : {earlier later : Disk} {old new : State} {line text : List ℕ} {turns : List Turn} → LineDone earlier later old line turns text new → ((image : Pages) → Leaves later image → OpensTo image new.base) → LineTurn later old line turns text new earlier.moment later.moment
+turn_of : {earlier later : Disk} {old new : State} {line text : List ℕ} {turns : List Turn} → LineDone earlier later old line turns text new → ((image : Pages) → Leaves later image → OpensTo image new.slots new.base) → LineTurn later old line turns text new earlier.moment later.moment
 turn_of done after = record {
   step = done.step;
   moments = record { later = done.moments.later; each = done.moments.each };
@@ -46,8 +46,8 @@ no_lines P k d lt = absurd (omega arith)
 pub no_bytes : IsUnbroken []
 no_bytes k d lt = absurd (omega arith)
 
-pub story_start : {disk : Disk} (tables : Tables) (told : Option (List ℕ)) → Opens disk tables → Story disk.moment disk (at_rest tables) (at_rest tables) [] [] told told
-story_start tables told opens = record {
+pub story_start : {disk : Disk} (slots : ℕ) (tables : Tables) (told : Option (List ℕ)) → Opens disk slots tables → Story disk.moment disk (at_rest slots tables) (at_rest slots tables) [] [] told told
+story_start slots tables told opens = record {
   lines = [];
   turns = [];
   text = [];

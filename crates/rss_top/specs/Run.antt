@@ -8,23 +8,23 @@ use Rattle.rss_model.specs.Machine.{State, at_rest}
 use Rattle.rss_model.specs.Runs.{Turn, Run}
 use Rattle.rss_model.specs.Script.{joined, IsUnbroken, Splits, AreLines}
 use Rattle.rss_model.specs.Plays.{LineStep, Play}
-use Rattle.rss_model.specs.Store.{OpensTo, OpensToEither, Opens, OpeningLeaves}
+use Rattle.rss_model.specs.Store.{OpensTo, OpensToEither, Opens}
 use Rattle.rss_top.specs.declared.status.Status.{Status}
-use Rattle.rss_top.specs.declared.status.Status.TheVariants.{Ok, ReadFault, TooLong, WriteFault, DeviceFault, NotAStore, NoMemory}
+use Rattle.rss_top.specs.declared.status.Status.TheVariants.{Ok, ReadFault, TooLong, WriteFault, DeviceFault, NotAStore, Damaged, NoMemory}
 
 -- ---- one line
 
 -- A line is a step of the machine, and at each moment of it the pages open to the committed tables before or after.
 pub record LineDone (earlier later : Disk) (old : State) (line : List ℕ) (turns : List Turn) (text : List ℕ) (new : State) : Type 0 where
   pub step : LineStep old line turns text new
-  pub moments : Passes earlier later (OpensToEither old.base new.base)
+  pub moments : Passes earlier later (OpensToEither old.slots old.base new.base)
 
 -- the line was run, and its reply written
 pub record LineRan (earlier later : Disk) (old : State) (line : List ℕ) (new : State) (before after : Option (List ℕ)) : Type 0 where
   pub turns : List Turn
   pub text : List ℕ
   pub done : LineDone earlier later old line turns text new
-  pub opens : Opens later new.base
+  pub opens : Opens later new.slots new.base
   pub takes : Takes before text after
 
 -- the device failed within the line
@@ -40,13 +40,13 @@ pub record SinkStopped (earlier later : Disk) (old : State) (line : List ℕ) (n
   pub turns : List Turn
   pub text : List ℕ
   pub done : LineDone earlier later old line turns text new
-  pub opens : Opens later new.base
+  pub opens : Opens later new.slots new.base
   pub takes : TakesFront before text after
 
 -- memory ran out in the line, and nothing has changed
 pub record MemoryStopped (earlier later : Disk) (old new : State) (before after : Option (List ℕ)) : Type 0 where
   pub state : new ≡ old
-  pub moments : Passes earlier later (λ pages. OpensTo pages old.base)
+  pub moments : Passes earlier later (λ pages. OpensTo pages old.slots old.base)
   pub same : after ≡ before
 
 -- ---- many lines
@@ -59,8 +59,8 @@ pub record Window (disk : Disk) (from until : ℕ) (P : Pages → Type 0) : Type
 -- One line of a run, by its moments: at its end the pages open to the committed tables after it alone.
 pub record LineTurn (disk : Disk) (old : State) (line : List ℕ) (turns : List Turn) (text : List ℕ) (new : State) (from until : ℕ) : Type 0 where
   pub step : LineStep old line turns text new
-  pub moments : Window disk from until (OpensToEither old.base new.base)
-  pub after : (image : Pages) → disk.images until image → OpensTo image new.base
+  pub moments : Window disk from until (OpensToEither old.slots old.base new.base)
+  pub after : (image : Pages) → disk.images until image → OpensTo image new.slots new.base
 
 -- A run over lines, from a state at a moment: the turns of the machine, the text, the last state, and the moment of its end.
 pub data Played (disk : Disk) (first : State) (start : ℕ) : List (List ℕ) → List Turn → List ℕ → State → ℕ → Type 0 where
@@ -77,7 +77,7 @@ pub record Story (start : ℕ) (now : Disk) (first state : State) (given left : 
   pub begun : start ≤ now.moment
   pub splits : Splits given lines left
   pub takes : Takes before text after
-  pub opens : Opens now state.base
+  pub opens : Opens now state.slots state.base
 
 -- of the front of a line this many bytes are kept: one more than a line may have
 abbrev pub kept_limit : ℕ
@@ -104,8 +104,8 @@ pub record FailedInLine (disk : Disk) (state : State) (line : List ℕ) (at : �
   pub said : List ℕ
   pub next : State
   pub step : LineStep state line turns said next
-  pub moments : Window disk at disk.moment (OpensToEither state.base next.base)
-  pub opens : (image : Pages) → Leaves disk image → OpensToEither state.base next.base image
+  pub moments : Window disk at disk.moment (OpensToEither state.slots state.base next.base)
+  pub opens : (image : Pages) → Leaves disk image → OpensToEither state.slots state.base next.base image
   pub takes : Takes before text after
 
 -- The sink failed after the line was run: the text is that of the lines before and the front of its reply.
@@ -118,8 +118,8 @@ pub record FailedInReply (disk : Disk) (state : State) (line : List ℕ) (at : �
 
 -- Memory ran out in the line, which has changed nothing: the text is that of the lines before.
 pub record LackedMemory (disk : Disk) (state : State) (at : ℕ) (before : Option (List ℕ)) (text : List ℕ) (after : Option (List ℕ)) : Type 0 where
-  pub moments : Window disk at disk.moment (λ pages. OpensTo pages state.base)
-  pub opens : Opens disk state.base
+  pub moments : Window disk at disk.moment (λ pages. OpensTo pages state.slots state.base)
+  pub opens : Opens disk state.slots state.base
   pub takes : Takes before text after
 
 -- A run over all the lines of a script: a run of the machine, and the text is the play of the lines.
@@ -133,7 +133,7 @@ pub record Whole (start : ℕ) (now : Disk) (first : State) (given : List ℕ) (
   pub played : Played now first start lines turns text last now.moment
   pub are_lines : AreLines given lines
   pub takes : Takes before text after
-  pub opens : Opens now last.base
+  pub opens : Opens now last.slots last.base
 
 -- the device or the sink failed
 abbrev pub IsLineFault : Status → Type 0
@@ -170,6 +170,16 @@ IsHalt status = (status ≡ ReadFault) ⊎ (status ≡ TooLong)
 abbrev pub IsStop : Status → Type 0
 IsStop status = (status ≡ WriteFault) ⊎ (status ≡ DeviceFault) ⊎ (status ≡ NoMemory)
 
+-- the store is damaged
+pub record IsDamage (status : Status) : Type 0 where
+  pub place : Place
+  pub is : status ≡ Damaged place
+
+-- A line ended the run. Over a device that tells its contents no line finds the store damaged.
+pub record IsLineEnd (told : Type 0) (status : Status) : Type 0 where
+  pub ends : IsStop status ⊎ IsDamage status
+  pub sound : IsDamage status → told → ⊥
+
 -- the run so far, between two lines
 pub record Halted (start : ℕ) (now : Disk) (first : State) (given : List ℕ) (before after : Option (List ℕ)) : Type 0 where
   pub state : State
@@ -203,13 +213,18 @@ pub record Ended (status : Status) (start : ℕ) (now : Disk) (first : State) (s
 abbrev pub IsFailedOpening : Status → Type 0
 IsFailedOpening status = (status ≡ DeviceFault) ⊎ (status ≡ NoMemory)
 
--- One run over a store with these tables, or over a device of no pages that is made one. A stop at a moment of its opening leaves what it could leave before.
-pub data IsRun (status : Status) (tables : Tables) (before after : Disk) (source_before source_after sink_before sink_after : Option (List ℕ)) : Type 0 where
+-- One run over a store of so many slots with these tables. A stop at a moment of its opening leaves what it could leave before.
+pub data IsRun (status : Status) (slots : ℕ) (tables : Tables) (before after : Disk) (source_before source_after sink_before sink_after : Option (List ℕ)) : Type 0 where
   -- the opening failed: nothing was read or written
-  unopened : IsFailedOpening status → Passes before after (OpeningLeaves before) → source_after ≡ source_before → sink_after ≡ sink_before → IsRun status tables before after source_before source_after sink_before sink_after
+  unopened : IsFailedOpening status → Passes before after (Leaves before) → source_after ≡ source_before → sink_after ≡ sink_before → IsRun status slots tables before after source_before source_after sink_before sink_after
   -- the store was open from this moment on, and the script was run
-  opened : (at : ℕ) → Window after before.moment at (OpeningLeaves before) → Ended status at after (at_rest tables) source_before source_after sink_before sink_after → IsRun status tables before after source_before source_after sink_before sink_after
+  opened : (at : ℕ) → Window after before.moment at (Leaves before) → Ended status at after (at_rest slots tables) source_before source_after sink_before sink_after → IsRun status slots tables before after source_before source_after sink_before sink_after
 
--- The device was refused, or the run failed before it could be.
-abbrev pub IsRefusal : Place → Status → Type 0
-IsRefusal place status = (status ≡ NotAStore place) ⊎ (status ≡ DeviceFault) ⊎ (status ≡ WriteFault) ⊎ (status ≡ NoMemory)
+-- The device was refused with this status, or the run failed before it could be.
+abbrev pub IsRefusal : Status → Status → Type 0
+IsRefusal refused status = (status ≡ refused) ⊎ (status ≡ DeviceFault) ⊎ (status ≡ WriteFault) ⊎ (status ≡ NoMemory)
+
+-- the device was refused at some place, or the run failed before it could be
+pub record IsTurnedAway (status : Status) : Type 0 where
+  pub place : Place
+  pub refused : IsRefusal (NotAStore place) status ⊎ IsRefusal (Damaged place) status

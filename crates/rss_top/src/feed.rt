@@ -4,7 +4,7 @@ ghost use Rattle.rss_base.specs.Faults.{Rises};
 ghost use Rattle.rss_base.specs.DiskRule.{IsTold, Continues};
 ghost use Rattle.rss_model.specs.Machine.{State};
 ghost use Rattle.rss_model.specs.Script.{IsUnbroken};
-ghost use Rattle.rss_top.specs.Run.{IsStop, Kept, Stopped};
+ghost use Rattle.rss_top.specs.Run.{IsLineEnd, Kept, Stopped};
 
 use crate::Status;
 use crate::line::line;
@@ -55,10 +55,10 @@ fn end_line<E: Engine, K: Sink>(
         → Kept start (E.disk engine.old) first (E.state engine.old) given front.old.items before (K.written sink.old)
         → Stopped status start (E.disk engine.new) first (given ++ (bytes.now ++ 10 ∷ rest)) ⊥ before (K.written sink.new)) }
     ensures short { OnOk result (vec_len front.new ≤ KEPT_BYTES) }
-    ensures up { (IsErrOf result Status.DeviceFault → ⊥) → E.is_up engine.new }
+    ensures up { OnOk result (E.is_up engine.new) }
     ensures told { IsTold (E.disk engine.old) → IsTold (E.disk engine.new) }
     ensures history { IsTold (E.disk engine.old) → Continues (E.disk engine.old) (E.disk engine.new) }
-    ensures errors { IfErr result IsStop }
+    ensures errors { IfErr result (IsLineEnd (IsTold (E.disk engine.old))) }
     ensures sink_cause { IsErrOf result Status.WriteFault → Rises (K.faults sink.old) (K.faults sink.new) }
     ensures device_cause { IsErrOf result Status.DeviceFault → Rises (E.faults engine.old) (E.faults engine.new) }
     ensures sink_later { K.faults sink.old ≤ K.faults sink.new }
@@ -95,7 +95,7 @@ pub fn feed<E: Engine, K: Sink>(
     ensures up { OnOk result (E.is_up engine.new) }
     ensures told { IsTold (E.disk engine.old) → IsTold (E.disk engine.new) }
     ensures history { IsTold (E.disk engine.old) → Continues (E.disk engine.old) (E.disk engine.new) }
-    ensures errors { IfErr result IsStop }
+    ensures errors { IfErr result (IsLineEnd (IsTold (E.disk engine.old))) }
     ensures sink_cause { IsErrOf result Status.WriteFault → Rises (K.faults sink.old) (K.faults sink.new) }
     ensures device_cause { IsErrOf result Status.DeviceFault → Rises (E.faults engine.old) (E.faults engine.new) }
     ensures sink_later { K.faults sink.old ≤ K.faults sink.new }

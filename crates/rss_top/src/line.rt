@@ -2,52 +2,17 @@
 ghost use Rattle.std.specs.Prelude.{◌≡◌, ◌⊎◌, ◌≤◌, ℕ, List, [], length, vec_capacity, IfOk, IfErr, OnOk, OnErr, IsErrOf};
 ghost use Rattle.rss_base.specs.Faults.{Rises};
 ghost use Rattle.rss_base.specs.DiskRule.{IsTold, Continues};
-ghost use Rattle.rss_base.specs.Streams.{Takes, TakesFront};
 ghost use Rattle.rss_model.specs.ReplyText.{answer_line};
 ghost use Rattle.rss_model.specs.Script.{Spells};
 ghost use Rattle.rss_model.specs.Turns.{IsAnswered, IsStopped, IsUnmade};
-ghost use Rattle.rss_top.specs.Run.{IsStop, LineRan, DeviceStopped, SinkStopped, MemoryStopped};
+ghost use Rattle.rss_top.specs.Run.{IsDamage, IsLineEnd, LineRan, DeviceStopped, SinkStopped, MemoryStopped};
 
 use crate::Status;
-use rss_base::{Call, CallError, Refusal, Reply, Sink, write_all};
-use rss_line::{Line, LineFault, read_line, say};
+use crate::writing::{REPLY_BYTES, make_room, write_answer};
+use rss_base::{Call, CallError, Refusal, Reply, Sink};
+use rss_line::{Line, LineFault, read_line};
 use rss_model::Engine;
-use std::alloc::{AllocError, Global};
-
-/// How many bytes the line of an answer has at most.
-const REPLY_BYTES: usize = 8192;
-
-/// Empties the buffer and makes it large enough for any answer's line.
-fn make_room(reply: &mut Vec<u8>) -> Result<(), AllocError>
-    ensures empty { reply.new.items ≡ [] }
-    ensures room { OnOk result (REPLY_BYTES ≤ vec_capacity reply.new) }
-{
-    reply.clear();
-    reply.reserve(REPLY_BYTES)
-}
-
-/// Writes the line of an answer, by the way of an empty buffer that has room for it.
-fn write_answer<K: Sink>(
-    answer: &Result<Reply, Refusal>,
-    reply: &mut Vec<u8>,
-    sink: &mut K,
-) -> Result<(), Status>
-    requires empty { reply.old.items ≡ [] }
-    requires room { length (answer_line answer.now) ≤ vec_capacity reply.old }
-    ensures ok { OnOk result (Takes (K.written sink.old) (answer_line answer.now) (K.written sink.new)) }
-    ensures fault { OnErr result (TakesFront (K.written sink.old) (answer_line answer.now) (K.written sink.new)) }
-    ensures errors { IfErr result (λ status. status ≡ Status.WriteFault) }
-    ensures cause { OnErr result (Rises (K.faults sink.old) (K.faults sink.new)) }
-    ensures later { K.faults sink.old ≤ K.faults sink.new }
-{
-    let Ok(()) = say(answer, reply) else {
-        unreachable!()
-    };
-    match write_all(sink, reply.as_slice()) {
-        Ok(()) => Ok(()),
-        Err(_) => Err(Status::WriteFault),
-    }
-}
+use std::alloc::Global;
 
 /// Makes a call. Its answer is a reply or a refusal.
 fn ask<E: Engine>(engine: &mut E, call: &Call) -> Result<Result<Reply, Refusal>, Status>
@@ -56,8 +21,9 @@ fn ask<E: Engine>(engine: &mut E, call: &Call) -> Result<Result<Reply, Refusal>,
     ensures short { IfOk result (λ answer. length (answer_line answer) ≤ REPLY_BYTES) }
     ensures stopped { IsErrOf result Status.DeviceFault → IsTold (E.disk engine.old) → IsStopped (E.disk engine.old) (E.disk engine.new) (E.state engine.old) call.now }
     ensures unmade { IsErrOf result Status.NoMemory → IsTold (E.disk engine.old) → IsUnmade (E.disk engine.old) (E.disk engine.new) (E.state engine.old) (E.state engine.new) }
-    ensures errors { IfErr result (λ status. (status ≡ Status.DeviceFault) ⊎ (status ≡ Status.NoMemory)) }
-    ensures up { (IsErrOf result Status.DeviceFault → ⊥) → E.is_up engine.new }
+    ensures errors { IfErr result (λ status. (status ≡ Status.DeviceFault) ⊎ (status ≡ Status.NoMemory) ⊎ IsDamage status) }
+    ensures sound { IfErr result (λ status. IsDamage status → IsTold (E.disk engine.old) → ⊥) }
+    ensures up { OnOk result (E.is_up engine.new) }
     ensures told { IsTold (E.disk engine.old) → IsTold (E.disk engine.new) }
     ensures history { IsTold (E.disk engine.old) → Continues (E.disk engine.old) (E.disk engine.new) }
     ensures cause { IsErrOf result Status.DeviceFault → Rises (E.faults engine.old) (E.faults engine.new) }
@@ -67,6 +33,7 @@ fn ask<E: Engine>(engine: &mut E, call: &Call) -> Result<Result<Reply, Refusal>,
         Ok(reply) => Ok(Ok(reply)),
         Err(CallError::Refused(why)) => Ok(Err(why)),
         Err(CallError::Device) => Err(Status::DeviceFault),
+        Err(CallError::Damaged(place)) => Err(Status::Damaged(place)),
         Err(CallError::NoMemory) => Err(Status::NoMemory),
         Err(CallError::Down) => unreachable!(),
     }
@@ -83,13 +50,14 @@ fn make_call<E: Engine, K: Sink>(
     requires empty { reply.old.items ≡ [] }
     requires room { REPLY_BYTES ≤ vec_capacity reply.old }
     ensures ok { OnOk result ((line : List ℕ) → Spells line call.now → IsTold (E.disk engine.old) → LineRan (E.disk engine.old) (E.disk engine.new) (E.state engine.old) line (E.state engine.new) (K.written sink.old) (K.written sink.new)) }
-    ensures up { (IsErrOf result Status.DeviceFault → ⊥) → E.is_up engine.new }
+    ensures up { OnOk result (E.is_up engine.new) }
+    ensures fault_up { IsErrOf result Status.WriteFault → E.is_up engine.new }
     ensures told { IsTold (E.disk engine.old) → IsTold (E.disk engine.new) }
     ensures history { IsTold (E.disk engine.old) → Continues (E.disk engine.old) (E.disk engine.new) }
     ensures device { IsErrOf result Status.DeviceFault → (line : List ℕ) → Spells line call.now → IsTold (E.disk engine.old) → DeviceStopped (E.disk engine.old) (E.disk engine.new) (E.state engine.old) line (K.written sink.old) (K.written sink.new) }
     ensures sink { IsErrOf result Status.WriteFault → (line : List ℕ) → Spells line call.now → IsTold (E.disk engine.old) → SinkStopped (E.disk engine.old) (E.disk engine.new) (E.state engine.old) line (E.state engine.new) (K.written sink.old) (K.written sink.new) }
     ensures memory { IsErrOf result Status.NoMemory → IsTold (E.disk engine.old) → MemoryStopped (E.disk engine.old) (E.disk engine.new) (E.state engine.old) (E.state engine.new) (K.written sink.old) (K.written sink.new) }
-    ensures errors { IfErr result IsStop }
+    ensures errors { IfErr result (IsLineEnd (IsTold (E.disk engine.old))) }
     ensures sink_cause { IsErrOf result Status.WriteFault → Rises (K.faults sink.old) (K.faults sink.new) }
     ensures device_cause { IsErrOf result Status.DeviceFault → Rises (E.faults engine.old) (E.faults engine.new) }
     ensures sink_later { K.faults sink.old ≤ K.faults sink.new }
@@ -111,13 +79,14 @@ pub fn line<E: Engine, K: Sink>(
 ) -> Result<(), Status>
     requires { E.is_up engine.old }
     ensures ok { OnOk result (IsTold (E.disk engine.old) → LineRan (E.disk engine.old) (E.disk engine.new) (E.state engine.old) bytes.now (E.state engine.new) (K.written sink.old) (K.written sink.new)) }
-    ensures up { (IsErrOf result Status.DeviceFault → ⊥) → E.is_up engine.new }
+    ensures up { OnOk result (E.is_up engine.new) }
+    ensures fault_up { IsErrOf result Status.WriteFault → E.is_up engine.new }
     ensures told { IsTold (E.disk engine.old) → IsTold (E.disk engine.new) }
     ensures history { IsTold (E.disk engine.old) → Continues (E.disk engine.old) (E.disk engine.new) }
     ensures device { IsErrOf result Status.DeviceFault → IsTold (E.disk engine.old) → DeviceStopped (E.disk engine.old) (E.disk engine.new) (E.state engine.old) bytes.now (K.written sink.old) (K.written sink.new) }
     ensures sink { IsErrOf result Status.WriteFault → IsTold (E.disk engine.old) → SinkStopped (E.disk engine.old) (E.disk engine.new) (E.state engine.old) bytes.now (E.state engine.new) (K.written sink.old) (K.written sink.new) }
     ensures memory { IsErrOf result Status.NoMemory → IsTold (E.disk engine.old) → MemoryStopped (E.disk engine.old) (E.disk engine.new) (E.state engine.old) (E.state engine.new) (K.written sink.old) (K.written sink.new) }
-    ensures errors { IfErr result IsStop }
+    ensures errors { IfErr result (IsLineEnd (IsTold (E.disk engine.old))) }
     ensures sink_cause { IsErrOf result Status.WriteFault → Rises (K.faults sink.old) (K.faults sink.new) }
     ensures device_cause { IsErrOf result Status.DeviceFault → Rises (E.faults engine.old) (E.faults engine.new) }
     ensures sink_later { K.faults sink.old ≤ K.faults sink.new }

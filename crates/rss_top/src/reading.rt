@@ -5,7 +5,7 @@ ghost use Rattle.rss_base.specs.Streams.{Gives};
 ghost use Rattle.rss_base.specs.DiskRule.{IsTold, Continues};
 ghost use Rattle.rss_base.specs.declared.place.Place.{Place};
 ghost use Rattle.rss_model.specs.Machine.{State};
-ghost use Rattle.rss_top.specs.Run.{IsStop, Story, Kept, Stopped, Whole, Ended, kept_limit};
+ghost use Rattle.rss_top.specs.Run.{IsDamage, IsLineEnd, Story, Kept, Stopped, Whole, Ended, kept_limit};
 
 use crate::Status;
 use crate::feed::feed;
@@ -59,7 +59,7 @@ fn finish<E: Engine, K: Sink>(
         → Stopped status start (E.disk engine.new) first given ⊤ before (K.written sink.new)) }
     ensures told { IsTold (E.disk engine.old) → IsTold (E.disk engine.new) }
     ensures history { IsTold (E.disk engine.old) → Continues (E.disk engine.old) (E.disk engine.new) }
-    ensures errors { IfErr result IsStop }
+    ensures errors { IfErr result (IsLineEnd (IsTold (E.disk engine.old))) }
     ensures sink_cause { IsErrOf result Status.WriteFault → Rises (K.faults sink.old) (K.faults sink.new) }
     ensures device_cause { IsErrOf result Status.DeviceFault → Rises (E.faults engine.old) (E.faults engine.new) }
     ensures sink_later { K.faults sink.old ≤ K.faults sink.new }
@@ -89,9 +89,12 @@ pub fn run_lines<O: Source, K: Sink, E: Engine>(
     ensures source_cause { result ≡ Status.ReadFault → Rises (O.faults source.old) (O.faults source.new) }
     ensures sink_cause { result ≡ Status.WriteFault → Rises (K.faults sink.old) (K.faults sink.new) }
     ensures device_cause { result ≡ Status.DeviceFault → Rises (E.faults engine.old) (E.faults engine.new) }
+    ensures sink_later { K.faults sink.old ≤ K.faults sink.new }
     ensures device_later { E.faults engine.old ≤ E.faults engine.new }
     ensures not_words { result ≢ Status.Words }
     ensures not_store { (place : Place) → result ≢ Status.NotAStore place }
+    ensures not_size { result ≢ Status.WrongSize }
+    ensures sound { IsDamage result → IsTold (E.disk engine.old) → ⊥ }
 {
     let mut front = Vec::new(alloc);
     let mut reply = Vec::new(alloc);

@@ -17,12 +17,16 @@ pub enum Status {
     WriteFault,
     /// The device failed.
     DeviceFault,
-    /// The device holds no store.
+    /// The device holds no store: its layout is out of form.
     NotAStore(Place),
+    /// The device holds no store, though its layout is sound.
+    Damaged(Place),
     /// Memory ran out.
     NoMemory,
     /// The script is longer than a script may be.
     TooLong,
+    /// A store can't have the size that was asked for.
+    WrongSize,
 }
 
 impl Status {
@@ -37,8 +41,10 @@ impl Status {
             Status::WriteFault => 3,
             Status::DeviceFault => 4,
             Status::NotAStore(_) => 5,
+            Status::Damaged(_) => 10,
             Status::NoMemory => 6,
             Status::TooLong => 7,
+            Status::WrongSize => 8,
         }
     }
 }

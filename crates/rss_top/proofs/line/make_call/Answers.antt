@@ -21,7 +21,7 @@ returns-in_err-write_answer-clause-sink g c = λ fault line spells told.
       turns = _;
       text = answer_line c.in_ok-answer.answer;
       done = record { step = call spells turn.step; moments = turn.moments };
-      opens = g.met.E.Engine.opens c.ask.new.engine (c.in_ok-answer.ensures.up (λ e. cc)) (c.ask.ensures.told told);
+      opens = g.met.E.Engine.opens c.ask.new.engine c.in_ok-answer.ensures.up (c.ask.ensures.told told);
       takes = c.in_err-write_answer.ensures.fault;
     }
 
@@ -32,6 +32,6 @@ returns-clause-ok g c = λ line spells told.
       turns = _;
       text = answer_line c.in_ok-answer.answer;
       done = record { step = call spells turn.step; moments = turn.moments };
-      opens = g.met.E.Engine.opens c.ask.new.engine (c.in_ok-answer.ensures.up (λ e. cc)) (c.ask.ensures.told told);
+      opens = g.met.E.Engine.opens c.ask.new.engine c.in_ok-answer.ensures.up (c.ask.ensures.told told);
       takes = c.in_ok-write_answer.ensures.ok;
     }

@@ -2,6 +2,7 @@ use Rattle.std.proofs.Common.{◌≡◌, ℕ, List, [], ◌∷◌, Err, refl, ap
 use Rattle.std.proofs.lemmas.Bool.Decides.{nat_tests}
 use Rattle.rss_top.proofs.Fronts.{kept_last}
 use Rattle.rss_top.proofs.Endings.{whole_kept_ended, whole_kept_line}
+use Rattle.rss_top.proofs.LineEnds.{stop_of}
 use Rattle.rss_top.proofs.reading.finish.Goals as goal
 
 empty_is : (xs : List ℕ) → length xs ≡ 0 → xs ≡ []
@@ -18,4 +19,4 @@ returns-in-Ok-clause-ok g c = λ start first given before told kept.
 
 pub returns-in-Err-clause-stopped : goal.returns-in-Err-clause-stopped
 returns-in-Err-clause-stopped g c = λ start first given before told kept.
-    kept_last kept c.in-Err.status (g.E.Engine.state c.line.new.engine) c.in-Err.ensures.errors (λ is. c.in-Err.ensures.device (ap Err is) told) (λ is. c.in-Err.ensures.sink (ap Err is) told) (λ is. c.in-Err.ensures.memory (ap Err is) told)
+    kept_last kept c.in-Err.status (g.E.Engine.state c.line.new.engine) (stop_of c.in-Err.ensures.errors told) (λ is. c.in-Err.ensures.device (ap Err is) told) (λ is. c.in-Err.ensures.sink (ap Err is) told) (λ is. c.in-Err.ensures.memory (ap Err is) told)

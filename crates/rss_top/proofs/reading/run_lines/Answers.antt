@@ -8,6 +8,7 @@ use Rattle.rss_top.specs.Run.{Stopped, Kept}
 use Rattle.rss_top.specs.declared.status.Status.TheVariants.{ReadFault, TooLong, NoMemory}
 use Rattle.rss_top.proofs.Stories.{stopped_unread, stopped_over}
 use Rattle.rss_top.proofs.Endings.{ended_halted, ended_stopped, ended_whole, all_of, not_through}
+use Rattle.rss_top.proofs.LineEnds.{stop_of}
 use Rattle.rss_top.proofs.reading.run_lines.Goals as goal
 
 -- what was read into the buffer is what the buffer holds
@@ -48,7 +49,7 @@ returns-in-Err-clause-ended g c = λ start first before told story.
     let kept = subst (λ (l : List ℕ). Kept start (g.E.Engine.disk c.loop-taken.engine) first (g.E.Engine.state c.loop-taken.engine) reading.given l before (g.K.Sink.written c.loop-taken.sink)) (sym c.as_slice.ensures.value) reading.kept in
     let most : c.min-most.result ≡ min 65536 (1073741824 - c.loop-taken.taken) = c.min-most.ensures in
     let no_more = c.in-Ok-read_piece.ensures.end (ap Ok c.if-count-eq0.true) (omega (arith, most, c.loop-taken-test.true)) in
-    ended_stopped c.in-Err.status reading.given c.in-Err.ensures.errors
+    ended_stopped c.in-Err.status reading.given (stop_of c.in-Err.ensures.errors (c.loop-taken.invariant.told told))
     (subst (λ (l : List ℕ). Gives (g.O.Source.left c.args.source.now) l (g.O.Source.left c.read_piece.new.source)) (append-nil reading.given) (gives_then _ _ _ reading.given [] reading.gives last))
     (stopped_over (λ _. all_of reading.given reading.gives no_more) (c.in-Err.ensures.stopped start first reading.given before (c.loop-taken.invariant.told told) kept))
 
@@ -66,7 +67,7 @@ returns-in-Err-feed-clause-ended g c = λ start first before told story.
     let size : length c.read_piece.new.piece ≡ c.loop-taken.piece.len = search rules in
     let same : c.deref.result.now ≡ c.read_piece.new.piece = c.deref.ensures.value ∙ read_back c.read_piece.new.piece _ c.loop-taken.piece.len size in
     let stop = c.in-Err-feed.ensures.stopped start first reading.given before (c.loop-taken.invariant.told told) reading.kept in
-    ended_stopped c.in-Err-feed.status (reading.given ++ take c.in-Ok-read_piece.count c.read_piece.new.piece) c.in-Err-feed.ensures.errors (gives_then _ _ _ reading.given _ reading.gives c.in-Ok-read_piece.ensures.gives)
+    ended_stopped c.in-Err-feed.status (reading.given ++ take c.in-Ok-read_piece.count c.read_piece.new.piece) (stop_of c.in-Err-feed.ensures.errors (c.loop-taken.invariant.told told)) (gives_then _ _ _ reading.given _ reading.gives c.in-Ok-read_piece.ensures.gives)
     (stopped_over (λ never. absurd never) (subst (λ (l : List ℕ). Stopped c.in-Err-feed.status start (g.E.Engine.disk c.feed.new.engine) first (reading.given ++ take c.in-Ok-read_piece.count l) ⊥ before (g.K.Sink.written c.feed.new.sink)) same stop))
 
 pub loop-taken-preserved : goal.loop-taken-preserved

@@ -1,6 +1,6 @@
 use Rattle.std.proofs.Common.{◌∙◌, [], ◌∷◌, ◌++◌, ap, append_assoc}
 use Rattle.rss_model.specs.ReplyText.{place_text}
-use Rattle.rss_line.proofs.saying.say_not_a_store.Goals as goal
+use Rattle.rss_line.proofs.saying.say_with_place.Goals as goal
 
 pub returns-clause-ok : goal.returns-clause-ok
 returns-clause-ok c =
