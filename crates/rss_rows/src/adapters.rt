@@ -46,7 +46,7 @@ fn file_device_keeps_its_pages(rt: HostRuntime) -> Result<(), Fail> {
     let path = format!(in rt.alloc(); "{}/rss_file_device_{id}", directory.display())?;
 
     let mut device = FileDevice::new(&rt, path.as_str());
-    assert_eq!(rt; device.size()?, 0);
+    assert_eq!(rt; device.size(), Err(Failed));
     device.set_size(3)?;
     device.write(1, &page_full_of(7))?;
     device.write(2, &page_full_of(9))?;

@@ -4,7 +4,13 @@
 #[cfg(test)]
 mod adapters;
 #[cfg(test)]
+mod formats;
+#[cfg(test)]
 mod harness;
+#[cfg(test)]
+mod many;
+#[cfg(test)]
+mod refusals;
 #[cfg(test)]
 mod scripts;
 #[cfg(test)]

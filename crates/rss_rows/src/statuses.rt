@@ -1,9 +1,8 @@
 // How a run ends, and what it leaves.
-use crate::harness::{run_script, run_words};
-use rss_base::{Page, Place, Source};
+use crate::harness::{SMALL, empty_store, run_script, run_words};
+use rss_base::Source;
 use rss_device::{MemDevice, MemSink, MemSource};
 use rss_top::Status;
-use std::alloc::Global;
 use std::test::Fail;
 
 /// A script with one commit, and one that tells whether it was made.
@@ -90,48 +89,24 @@ const FAULTS: [Fault; 6] = [
 ];
 
 /// Words that are no command, after the program's own name.
-const WORDS: [&[&str]; 6] = [
+const WORDS: [&[&str]; 16] = [
     &[],
     &["run"],
     &["FILE"],
     &["Run", "FILE"],
     &["FILE", "run"],
     &["run", "FILE", "FILE"],
+    &["run", "FILE", "64", "8"],
+    &["format"],
+    &["format", "FILE"],
+    &["format", "FILE", "64"],
+    &["format", "FILE", "64", "8", "8"],
+    &["Format", "FILE", "64", "8"],
+    &["format", "FILE", "064", "8"],
+    &["format", "FILE", "+64", "8"],
+    &["format", "FILE", "64", ""],
+    &["format", "FILE", "64", "18446744073709551616"],
 ];
-
-/// What a run of the probe gets.
-type Ending = (Status, &'static [u8]);
-
-const NOT_ROOT_2: Ending = (Status::NotAStore(Place::Root(2)), b"not a store root 2\n");
-
-/// Bytes of a store with one tuple of value 8, in root 2: page, offset, the bits that are turned, and
-/// what the probe gets then.
-const TURNED: [(usize, usize, u8, Ending); 12] = [
-    // The mark, the version, the number of tuples, the zeros before the values and those after.
-    (2, 0, 1, NOT_ROOT_2),
-    (2, 3, 128, NOT_ROOT_2),
-    (2, 5, 1, NOT_ROOT_2),
-    (2, 6, 255, NOT_ROOT_2),
-    (2, 7, 1, NOT_ROOT_2),
-    (2, 8, 1, NOT_ROOT_2),
-    (2, 95, 1, NOT_ROOT_2),
-    (2, 104, 1, NOT_ROOT_2),
-    (2, 4095, 1, NOT_ROOT_2),
-    // The root that isn't selected, and all of the selector but one bit, mean nothing.
-    (1, 0, 255, (Status::Ok, PRESENT)),
-    (0, 0, 254, (Status::Ok, PRESENT)),
-    // That bit selects the other root, which is empty.
-    (0, 0, 1, (Status::Ok, ABSENT)),
-];
-
-/// The pages of a store with one tuple.
-fn store(alloc: Global) -> Result<Vec<Page>, Fail> {
-    let (status, _, made) = run_script(alloc, MemDevice::empty(alloc), COMMIT, 100)?;
-    if status != Status::Ok {
-        return Err("the store wasn't made".into());
-    }
-    Ok(Vec::from_slice(alloc, made.pages())?)
-}
 
 #[test]
 fn a_fault_of_the_source_or_the_sink_ends_the_run(rt: HostRuntime) -> Result<(), Fail> {
@@ -141,7 +116,7 @@ fn a_fault_of_the_source_or_the_sink_ends_the_run(rt: HostRuntime) -> Result<(),
             .in_pieces(fault.piece)
             .failing_at(fault.read);
         let mut sink = MemSink::new(alloc).failing_at(fault.write);
-        let device = MemDevice::empty(alloc);
+        let device = empty_store(alloc, SMALL)?;
         let (status, device) = run_words(alloc, &["run", "FILE"], &mut source, &mut sink, device)?;
         assert_eq!(rt; status, fault.status, "{}", fault.name);
         assert_eq!(rt; sink.bytes(), fault.replies, "{}", fault.name);
@@ -164,38 +139,6 @@ fn words_that_are_no_command_touch_nothing(rt: HostRuntime) -> Result<(), Fail> 
         assert_eq!(rt; sink.bytes(), b"".as_slice(), "{words:?}");
         assert_eq!(rt; device.moment(), 0, "{words:?}");
         assert_eq!(rt; source.read(&mut [0; 100])?, COMMIT.len(), "{words:?}");
-    }
-    Ok(())
-}
-
-#[test]
-fn a_device_out_of_form_is_refused_by_its_place(rt: HostRuntime) -> Result<(), Fail> {
-    let alloc = rt.alloc();
-    for size in [1, 2, 4] {
-        let device = MemDevice::new(alloc, vec![in alloc; [0; 4096]; size]?)?;
-        let (status, replies, device) = run_script(alloc, device, PROBE, 100)?;
-        assert_eq!(rt; status, Status::NotAStore(Place::Size), "{size} pages");
-        assert_eq!(rt;
-            replies.as_slice(),
-            b"not a store size\n".as_slice(),
-            "{size} pages"
-        );
-        assert_eq!(rt; device.moment_of_write(0), None, "{size} pages");
-    }
-    for (at, offset, bits, (ending, want)) in TURNED {
-        let mut pages = store(alloc)?;
-        let page = pages.get_mut(at).ok_or("a page that isn't there")?;
-        let byte = page.get_mut(offset).ok_or("a byte that isn't there")?;
-        *byte ^= bits;
-        let device = MemDevice::new(alloc, pages)?;
-        let (status, replies, device) = run_script(alloc, device, PROBE, 100)?;
-        assert_eq!(rt; status, ending, "byte {offset} of page {at}");
-        assert_eq!(rt; replies.as_slice(), want, "byte {offset} of page {at}");
-        assert_eq!(rt;
-            device.moment_of_write(0),
-            None,
-            "byte {offset} of page {at}"
-        );
     }
     Ok(())
 }

@@ -1,5 +1,7 @@
 // Stops in the middle of a run, and the tables that an opening finds after them.
-use crate::harness::run_script;
+use crate::harness::{
+    SMALL, WHOLE, copy_of_pages, empty_store, has_writes, run_script, without_moments,
+};
 use rss_base::Page;
 use rss_device::{MemDevice, Unsynced};
 use rss_top::Status;
@@ -7,93 +9,35 @@ use std::alloc::Global;
 use std::process::Abort;
 use std::test::Fail;
 
-/// Scripts come whole.
-const PIECE: usize = 65_536;
-
 /// The tables that an opening finds: those before a commit, or those after it.
 #[derive(Clone, Copy, Debug, PartialEq, Eq)]
-enum Tables {
+pub(crate) enum Tables {
     Before,
     After,
 }
 
-/// The writes of two commits over an empty store, in their order. Each is followed by a sync.
-#[derive(Clone, Copy, Debug)]
-enum Write {
-    /// The first commit's root.
-    Root2,
-    /// The selector that names it.
-    SelectorOfRoot2,
-    /// The second commit's root.
-    Root1,
-    /// The selector that names it.
-    SelectorOfRoot1,
-}
-
-impl Write {
-    fn number(self) -> usize {
-        match self {
-            Write::Root2 => 0,
-            Write::SelectorOfRoot2 => 1,
-            Write::Root1 => 2,
-            Write::SelectorOfRoot1 => 3,
-        }
-    }
-}
-
-/// A moment of the run of a commit.
-#[derive(Clone, Copy, Debug)]
-enum When {
-    Entry,
-    /// All that was written earlier is synced.
-    Before(Write),
-    /// The page is not synced. A stop within the write leaves other bytes in it.
-    After(Write),
-    /// The last write is synced.
-    Return,
-}
-
-impl When {
-    /// The number of the moment, in a run that is over and had this moment at its entry.
-    fn moment(self, device: &MemDevice, entry: usize) -> Option<usize> {
-        match self {
-            When::Entry => Some(entry),
-            When::Before(write) => device.moment_of_write(write.number())?.checked_sub(1),
-            When::After(write) => device.moment_of_write(write.number()),
-            When::Return => Some(device.moment()),
-        }
-    }
-}
-
 /// What a stop may leave of the pages that were not synced. Of a selector the fill of 0 names
 /// root 1, and the fill of 255 names root 2.
-const UNSYNCED: [Unsynced; 4] = [
+pub(crate) const UNSYNCED: [Unsynced; 4] = [
     Unsynced::Old,
     Unsynced::New,
     Unsynced::Filled(0),
     Unsynced::Filled(255),
 ];
 
-/// A stop, and the tables that an opening finds after it, for each of `UNSYNCED`.
-#[derive(Drop)]
-struct Stop {
-    when: When,
-    finds: [Tables; 4],
-}
-
 /// A script that tells the tables before a commit from those after it.
-#[derive(Drop)]
-struct Probe {
-    script: &'static [u8],
-    before: &'static [u8],
-    after: &'static [u8],
+#[derive(Clone, Copy)]
+pub(crate) struct Probe<'a> {
+    pub(crate) script: &'a [u8],
+    pub(crate) before: &'a [u8],
+    pub(crate) after: &'a [u8],
 }
 
-impl Probe {
+impl Probe<'_> {
     /// Opens a store and runs the script. Answers none where it gets any other replies.
     fn finds(&self, alloc: Global, pages: Vec<Page>) -> Result<Option<Tables>, Fail> {
         let device = MemDevice::new(alloc, pages)?;
-        let (status, replies, _) = run_script(alloc, device, self.script, PIECE)?;
+        let (status, replies, _) = run_script(alloc, device, self.script, WHOLE)?;
         Ok(if status != Status::Ok {
             None
         } else if replies.as_slice() == self.before {
@@ -106,19 +50,38 @@ impl Probe {
     }
 }
 
-/// A script with one commit, and what a stop at each moment of its run leaves.
-#[derive(Drop)]
-struct Commit {
-    name: &'static str,
-    script: &'static [u8],
-    replies: &'static [u8],
-    probe: Probe,
-    /// The opening's sync makes a moment, and so does each of the two writes and of their syncs.
-    stops: [Stop; 6],
+/// A script with one commit, and what tells whether it was made.
+#[derive(Clone, Copy)]
+pub(crate) struct Commit<'a> {
+    pub(crate) name: &'a str,
+    pub(crate) script: &'a [u8],
+    pub(crate) replies: &'a [u8],
+    pub(crate) probe: Probe<'a>,
+    /// How many writes there are: of home pages, of the map, of the root, and of the selector, which
+    /// is the last.
+    pub(crate) writes: usize,
+    /// The root that the selector names then. It named the other one before.
+    pub(crate) root: u8,
 }
 
-/// A commit over an empty store. Its root is root 2, and the selector named root 1 before it.
-const FIRST: Commit = Commit {
+impl Commit<'_> {
+    /// What an opening finds while the selector isn't synced.
+    fn finds(&self, unsynced: Unsynced) -> Tables {
+        let is_selected = match unsynced {
+            Unsynced::Old => false,
+            Unsynced::New => true,
+            Unsynced::Filled(byte) => 1 + byte % 2 == self.root,
+        };
+        if is_selected {
+            Tables::After
+        } else {
+            Tables::Before
+        }
+    }
+}
+
+/// A commit over an empty store.
+const FIRST: Commit<'static> = Commit {
     name: "the first commit",
     script: b"begin 1\ninsert 1 r 7\nfetch 1 r 0.0\nend 1\n",
     replies: b"ok\nok 0.0\nok 7\nok\n",
@@ -127,37 +90,12 @@ const FIRST: Commit = Commit {
         before: b"ok\nrefused 9 no tuple r 0.0\nok\n",
         after: b"ok\nok 7\nok\n",
     },
-    stops: [
-        Stop {
-            when: When::Entry,
-            finds: [Tables::Before; 4],
-        },
-        Stop {
-            when: When::Before(Write::Root2),
-            finds: [Tables::Before; 4],
-        },
-        Stop {
-            when: When::After(Write::Root2),
-            finds: [Tables::Before; 4],
-        },
-        Stop {
-            when: When::Before(Write::SelectorOfRoot2),
-            finds: [Tables::Before; 4],
-        },
-        Stop {
-            when: When::After(Write::SelectorOfRoot2),
-            finds: [Tables::Before, Tables::After, Tables::Before, Tables::After],
-        },
-        Stop {
-            when: When::Return,
-            finds: [Tables::After; 4],
-        },
-    ],
+    writes: 4,
+    root: 2,
 };
 
-/// A commit over the store that the first one left. Its root is root 1, and the selector named
-/// root 2 before it.
-const SECOND: Commit = Commit {
+/// A commit over the store that the first one left.
+const SECOND: Commit<'static> = Commit {
     name: "the second commit",
     script: b"begin 1\ninsert 1 r 8\nend 1\n",
     replies: b"ok\nok 0.1\nok\n",
@@ -166,35 +104,12 @@ const SECOND: Commit = Commit {
         before: b"ok\nok 7\nrefused 9 no tuple r 0.1\nok\n",
         after: b"ok\nok 7\nok 8\nok\n",
     },
-    stops: [
-        Stop {
-            when: When::Entry,
-            finds: [Tables::Before; 4],
-        },
-        Stop {
-            when: When::Before(Write::Root1),
-            finds: [Tables::Before; 4],
-        },
-        Stop {
-            when: When::After(Write::Root1),
-            finds: [Tables::Before; 4],
-        },
-        Stop {
-            when: When::Before(Write::SelectorOfRoot1),
-            finds: [Tables::Before; 4],
-        },
-        Stop {
-            when: When::After(Write::SelectorOfRoot1),
-            finds: [Tables::Before, Tables::After, Tables::After, Tables::Before],
-        },
-        Stop {
-            when: When::Return,
-            finds: [Tables::After; 4],
-        },
-    ],
+    writes: 4,
+    root: 1,
 };
 
 /// A call of the device that fails in the run of the first commit, and what the run leaves.
+#[derive(Drop)]
 struct Failure {
     call: &'static str,
     replies: &'static [u8],
@@ -204,29 +119,25 @@ struct Failure {
     finds: [Tables; 4],
 }
 
-/// All calls of the device in the run of the first commit, in their order.
-const FAILURES: [Failure; 8] = [
+/// A call of the opening.
+const OPENING: Failure = Failure {
+    call: "a call of the opening",
+    replies: b"",
+    held: Tables::Before,
+    finds: [Tables::Before; 4],
+};
+
+/// The last calls of the device in the run of the first commit, in their order.
+const FAILURES: [Failure; 6] = [
     Failure {
-        call: "the sync of the opening",
-        replies: b"",
+        call: "the write of the home page",
+        replies: b"ok\nok 0.0\nok 7\n",
         held: Tables::Before,
         finds: [Tables::Before; 4],
     },
     Failure {
-        call: "the size",
-        replies: b"",
-        held: Tables::Before,
-        finds: [Tables::Before; 4],
-    },
-    Failure {
-        call: "the read of the selector",
-        replies: b"",
-        held: Tables::Before,
-        finds: [Tables::Before; 4],
-    },
-    Failure {
-        call: "the read of root 1",
-        replies: b"",
+        call: "the write of the map",
+        replies: b"ok\nok 0.0\nok 7\n",
         held: Tables::Before,
         finds: [Tables::Before; 4],
     },
@@ -262,63 +173,67 @@ const FAILURES: [Failure; 8] = [
     },
 ];
 
-fn copy_of_pages(alloc: Global, device: &MemDevice) -> Result<Vec<Page>, Fail> {
-    Ok(Vec::from_slice(alloc, device.pages())?)
-}
+/// No run has as many calls of the device.
+const MANY_CALLS: u64 = 1000;
 
-/// A device of an empty store, all synced, with no moments yet.
-fn empty_store(alloc: Global) -> Result<MemDevice, Fail> {
-    let (_, _, made) = run_script(alloc, MemDevice::empty(alloc), b"", PIECE)?;
-    Ok(MemDevice::new(alloc, copy_of_pages(alloc, &made)?)?)
-}
-
-fn run_commit(
+pub(crate) fn run_commit(
     rt: &impl Abort,
     alloc: Global,
     device: MemDevice,
     commit: &Commit,
 ) -> Result<MemDevice, Fail> {
-    let (status, replies, after) = run_script(alloc, device, commit.script, PIECE)?;
+    let (status, replies, after) = run_script(alloc, device, commit.script, WHOLE)?;
     assert_eq!(rt; status, Status::Ok, "{}", commit.name);
     assert_eq!(rt; replies.as_slice(), commit.replies, "{}", commit.name);
+    assert!(rt; has_writes(&after, commit.writes), "{}", commit.name);
     Ok(after)
 }
 
-/// Stops a run that is over at each of its moments, from its entry to its return.
-fn assert_stops(
+/// Stops the run of a commit that is over, at each of its moments, with what the stop may leave.
+pub(crate) fn assert_stops(
     rt: &impl Abort,
     alloc: Global,
     device: &MemDevice,
-    entry: usize,
     commit: &Commit,
+    left: &[Unsynced],
 ) -> Result<(), Fail> {
-    for moment in entry..=device.moment() {
-        let stop = commit
-            .stops
-            .get(moment - entry)
-            .ok_or("a moment without a row")?;
-        let when = stop.when;
-        assert_eq!(rt; when.moment(device, entry), Some(moment), "{when:?}");
-        for (unsynced, tables) in UNSYNCED.iter().zip(&stop.finds) {
+    let last_write = commit.writes.checked_sub(1).ok_or("a commit writes")?;
+    let switched = device
+        .moment_of_write(last_write)
+        .ok_or("a write that isn't there")?;
+    for moment in 0..=device.moment() {
+        for unsynced in left {
             let image = device.image_at(alloc, moment, *unsynced)?;
             let found = commit.probe.finds(alloc, image)?;
-            assert_eq!(rt; found, Some(*tables), "{unsynced:?} at {when:?}");
+            let want = if moment < switched {
+                Tables::Before
+            } else if moment == switched {
+                commit.finds(*unsynced)
+            } else {
+                Tables::After
+            };
+            assert_eq!(rt;
+                found,
+                Some(want),
+                "{unsynced:?} at moment {moment} of {}",
+                commit.name
+            );
         }
     }
     Ok(())
 }
 
-/// Runs the first commit over a device that fails a call.
-fn run_to_failure(
-    rt: &impl Abort,
-    alloc: Global,
-    device: MemDevice,
-    failure: &Failure,
-) -> Result<MemDevice, Fail> {
-    let (status, replies, after) = run_script(alloc, device, FIRST.script, PIECE)?;
-    assert_eq!(rt; status, Status::DeviceFault, "{}", failure.call);
-    assert_eq!(rt; replies.as_slice(), failure.replies, "{}", failure.call);
-    Ok(after)
+/// How many calls of the device the run of the first commit makes: the first call that it can't
+/// fail at.
+fn calls_of_first(alloc: Global) -> Result<u64, Fail> {
+    for call in 0..MANY_CALLS {
+        let device = empty_store(alloc, SMALL)?.failing_at(vec![in alloc; call]?);
+        let (status, _, _) = run_script(alloc, device, FIRST.script, WHOLE)?;
+        if status == Status::Ok {
+            return Ok(call);
+        }
+    }
+    Err("the run has too many calls".into())
 }
 
 /// Opens what a run that met a failure leaves, with no stop and after one.
@@ -339,54 +254,41 @@ fn assert_left(
     Ok(())
 }
 
-#[test]
-fn a_commit_stopped_at_each_write_opens_to_the_tables_before_or_after(
-    rt: HostRuntime,
+/// Runs the first commit over a device that fails a call.
+fn assert_failure(
+    rt: &impl Abort,
+    alloc: Global,
+    call: u64,
+    failure: &Failure,
 ) -> Result<(), Fail> {
-    let alloc = rt.alloc();
-    let device = run_commit(&rt, alloc, empty_store(alloc)?, &FIRST)?;
-    assert_eq!(rt; device.moment(), 5, "the last moment");
-    assert_stops(&rt, alloc, &device, 0, &FIRST)
+    let device = empty_store(alloc, SMALL)?.failing_at(vec![in alloc; call]?);
+    let (status, replies, after) = run_script(alloc, device, FIRST.script, WHOLE)?;
+    assert_eq!(rt; status, Status::DeviceFault, "{}", failure.call);
+    assert_eq!(rt; replies.as_slice(), failure.replies, "{}", failure.call);
+    assert_left(rt, alloc, &after, failure)
 }
 
 #[test]
-fn every_stop_keeps_what_was_acknowledged(rt: HostRuntime) -> Result<(), Fail> {
+fn a_commit_stopped_at_each_moment_opens_to_the_tables_before_or_after(
+    rt: HostRuntime,
+) -> Result<(), Fail> {
     let alloc = rt.alloc();
-    let device = run_commit(&rt, alloc, empty_store(alloc)?, &FIRST)?;
-    let entry = device.moment();
-    let device = run_commit(&rt, alloc, device, &SECOND)?;
-    assert_eq!(rt;
-        (entry, device.moment()),
-        (5, 10),
-        "the first and last moment"
-    );
-    assert_stops(&rt, alloc, &device, entry, &SECOND)
+    let device = run_commit(&rt, alloc, empty_store(alloc, SMALL)?, &FIRST)?;
+    assert_stops(&rt, alloc, &device, &FIRST, &UNSYNCED)?;
+    let device = run_commit(&rt, alloc, without_moments(alloc, &device)?, &SECOND)?;
+    assert_stops(&rt, alloc, &device, &SECOND, &UNSYNCED)
 }
 
 #[test]
 fn a_device_call_that_fails_ends_the_run_with_status_4(rt: HostRuntime) -> Result<(), Fail> {
     let alloc = rt.alloc();
-    for (k, failure) in FAILURES.iter().enumerate() {
-        let device = empty_store(alloc)?.failing_at(vec![in alloc; k as u64]?);
-        let device = run_to_failure(&rt, alloc, device, failure)?;
-        assert_left(&rt, alloc, &device, failure)?;
+    let calls = calls_of_first(alloc)?;
+    let opening = calls.checked_sub(6).ok_or("the run has too few calls")?;
+    for call in 0..opening {
+        assert_failure(&rt, alloc, call, &OPENING)?;
     }
-    // There is no ninth call.
-    let device = empty_store(alloc)?.failing_at(vec![in alloc; 8]?);
-    run_commit(&rt, alloc, device, &FIRST)?;
-    Ok(())
-}
-
-#[test]
-fn opening_writes_nothing_to_a_store(rt: HostRuntime) -> Result<(), Fail> {
-    let alloc = rt.alloc();
-    let mut device = empty_store(alloc)?;
-    for opening in ["the first opening", "the second opening"] {
-        let (status, replies, after) = run_script(alloc, device, b"", PIECE)?;
-        assert_eq!(rt; status, Status::Ok, "{opening}");
-        assert_eq!(rt; replies.as_slice(), b"".as_slice(), "{opening}");
-        assert_eq!(rt; after.moment_of_write(0), None, "{opening}");
-        device = after;
+    for (failure, call) in FAILURES.iter().zip(opening..calls) {
+        assert_failure(&rt, alloc, call, failure)?;
     }
     Ok(())
 }
