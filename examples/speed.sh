@@ -1,38 +1,339 @@
 #!/usr/bin/env bash
-# How long the program takes beside bare loops of the same work. See docs/PERFORMANCE.md.
+# How fast the store is, beside the command sqlite3 and bare writes by dd that do the same work.
+# docs/PERFORMANCE.md says what is compared, and what is not.
+#
+# usage: speed.sh [RUNS [WAIT]]
+# RUNS is 5 where it isn't given. For at most WAIT seconds in all, 0 where it isn't given, the script
+# waits for a moment at which no process wants a processor that another has.
+# It needs sqlite3, awk and GNU's dd, and uses strace and GNU's time where they are there. Its files
+# lie in a folder of their own below TMPDIR, or /tmp, and take at most 1 GB.
 set -euo pipefail
 
-rss="$(cd "$(dirname "$0")/.." && pwd)/rss"
+runs="${1:-5}"
+patience="${2:-0}"
+top="$(cd "$(dirname "$0")/.." && pwd)"
+rss="$top/crates/rss_program/out/rss_program"
 folder="$(mktemp -d)"
 trap 'rm -rf "$folder"' EXIT
 cd "$folder"
-TIMEFORMAT=%R
 
-# The least wall clock of five runs, in seconds.
-least() { for _ in 1 2 3 4 5; do { time "$@" >replies 2>errors; } 2>&1; done | sort -n | head -n 1; }
-ratio() { awk -v a="$1" -v b="$2" 'BEGIN { printf "%.1f", a / b }'; }
+# How many slots and tuples the stores have, and the commits that are measured on each.
+stores=("64 0" "64 2000" "4096 0" "4096 200000" "65536 0" "65536 3000000")
+databases=(0 2000 200000 3000000)
+modes=(delete wal)
+commits=200
 
-fetches() { printf 'begin 1\ninsert 1 r 7\n'; yes 'fetch 1 r 0.0' | head -n "$1" || true; }
-commits() { for ((k = 0; k < $1; k++)); do printf 'begin 1\ninsert 1 r 7\nend 1\n'; done; }
+# Scripts.
 
-run() { "$rss" run store <"$1"; }
-commit_afresh() { rm -f store && run commits; }
-write_lines() { dd if=/dev/zero of=lines bs=5 count=1000000; }
-write_pages() { rm -f pages && dd if=/dev/zero of=pages bs=4096 count=800 oflag=dsync; }
+# So many inserts in one transaction.
+inserts() {
+    awk -v count="$1" 'BEGIN { print "begin 1"; for (k = 0; k < count; k++) print "insert 1 r " k }'
+}
 
-fetches 100000 >small
-fetches 1000000 >large
-commits 400 >commits
-"$rss" run store </dev/null
+# So many transactions of one insert.
+transactions() {
+    awk -v count="$1" 'BEGIN { for (k = 0; k < count; k++) print "begin 1\ninsert 1 r " k "\nend 1" }'
+}
 
-small="$(least run small)"
-large="$(least run large)"
-cat="$(least cat large)"
-lines="$(least write_lines)"
-commits="$(least commit_afresh)"
-pages="$(least write_pages)"
+# So many inserts, in transactions as large as a store of so many slots takes them.
+filling() {
+    awk -v slots="$1" -v count="$2" 'BEGIN {
+        for (done = 0; done < count; done += some) {
+            some = int((slots / 2 - 10 - int((done + 127) / 128)) / 4)
+            if (some > count - done) some = count - done
+            print "begin 1"
+            for (k = 0; k < some; k++) printf "insert 1 r %d\n", done + k
+            print "end 1"
+        }
+    }'
+}
 
-echo "1,000,000 fetches to 100,000 fetches            $(ratio "$large" "$small")"
-echo "1,000,000 fetches to cat of the script          $(ratio "$large" "$cat")"
-echo "1,000,000 fetches to 1,000,000 writes of 5 bytes $(ratio "$large" "$lines")"
-echo "400 commits to 800 pages, each written and synced $(ratio "$commits" "$pages")"
+# So many fetches, at random among so many tuples.
+fetches() {
+    awk -v count="$1" -v among="$2" 'BEGIN {
+        srand(1)
+        print "begin 1"
+        for (k = 0; k < count; k++) {
+            place = int(among * rand())
+            printf "fetch 1 r %d.%d\n", int(place / 128), place % 128
+        }
+    }'
+}
+
+# The same script for sqlite3.
+to_sql() {
+    awk 'BEGIN { print "PRAGMA synchronous=FULL;\nSELECT count(*) FROM sqlite_master;" }
+        /^begin/ { print "BEGIN;" }
+        /^insert/ { print "INSERT INTO r VALUES(" $4 ");" }
+        /^fetch/ { split($4, tid, "."); print "SELECT v FROM r WHERE rowid=" tid[1] * 128 + tid[2] + 1 ";" }
+        /^end/ { print "COMMIT;" }' "$1.script" >"$1.sql"
+}
+
+# Files.
+
+must_be_granted() {
+    if grep -m 1 refused replies >&2; then exit 1; fi
+}
+
+make_store() {
+    "$rss" format "store.$1.$2" "$1" 8 >replies
+    filling "$1" "$2" >filling.script
+    "$rss" run "store.$1.$2" <filling.script >replies
+    must_be_granted
+}
+
+make_database() {
+    sqlite3 "$1.$2" "PRAGMA journal_mode=$1; CREATE TABLE r(v INTEGER);
+        INSERT INTO r SELECT value FROM generate_series(0, $2 - 1);" >replies
+    grep -qx "$1" replies
+}
+
+# A copy of a file, on the disk, to work on.
+copy() {
+    rm -f work*
+    cp "$1" work
+    sync work
+}
+
+# Work.
+
+run_store() { "$rss" run work <"$1.script"; }
+run_sqlite() { sqlite3 work <"$1.sql"; }
+write_lines() { dd if=/dev/zero of=lines bs=5 count="$1" 2>errors; }
+
+# What so many commits at so many slots have at least to write, to pages that are there: in one write
+# the page that was changed, the map and the root, then the selector, and each of the two synced.
+write_pages() {
+    local pages
+    for pages in $((($2 + 511) / 512 + 2)) 1; do
+        dd if=/dev/zero of=pages bs=$((4096 * pages)) count="$1" oflag=dsync conv=notrunc 2>errors
+    done
+}
+
+# For how many microseconds so far some process had to wait for a processor, as far as the system
+# tells it.
+look_for_waits() {
+    local line="total=0"
+    read -r line 2>/dev/null </proc/pressure/cpu || true
+    waits="${line##*total=}"
+}
+
+# Waits for two seconds in which processes had to wait for less than a tenth of the time.
+wait_for_quiet() {
+    local before
+    while [ "$patience" -gt 0 ]; do
+        look_for_waits
+        before="$waits"
+        sleep 2
+        patience=$((patience - 2))
+        look_for_waits
+        if [ $((waits - before)) -lt 200000 ]; then return; fi
+    done
+}
+
+# measure NAME COMMAND..: how long the command takes, in microseconds, for each run.
+declare -A times
+all_times=0
+all_waits=0
+measure() {
+    local name="$1" start took before
+    shift
+    look_for_waits
+    before="$waits"
+    start="${EPOCHREALTIME/[.,]/}"
+    "$@" >replies
+    took=$((${EPOCHREALTIME/[.,]/} - start))
+    look_for_waits
+    all_times=$((all_times + took))
+    all_waits=$((all_waits + waits - before))
+    must_be_granted
+    times[$name]+="$took "
+}
+
+# measure_on FILE SLOTS.TUPLES COMMAND SCRIPT..: each script, run on the file; one that ends a
+# transaction, on a copy of its own. What is compared has the same slots and tuples in its name.
+measure_on() {
+    local file="$1" name="${1%%.*}.$2" command="$3" script
+    shift 3
+    copy "$file"
+    wait_for_quiet
+    for script in "$@"; do
+        measure "$script $name" "$command" "$script"
+        case "$script" in commits | ended) copy "$file" ;; esac
+    done
+}
+
+# What is compared is measured one behind the other, and each as often as the others.
+measure_all() {
+    local store slots tuples mode scripts
+    for store in "${stores[@]}"; do
+        slots="${store% *}" tuples="${store#* }"
+        scripts=(nothing commits)
+        case "$store" in
+            "65536 0") scripts+=(open ended) ;;
+            "65536 3000000") scripts+=(one less near far) ;;
+        esac
+        measure_on "store.$slots.$tuples" "$slots.$tuples" run_store "${scripts[@]}"
+        for mode in "${modes[@]}"; do
+            measure_on "$mode.$tuples" "$slots.$tuples" run_sqlite "${scripts[@]}"
+        done
+        measure "nothing pages.$slots.$tuples" write_pages 0 "$slots"
+        measure "commits pages.$slots.$tuples" write_pages "$commits" "$slots"
+    done
+    measure "nothing lines" write_lines 0
+    measure "lines lines" write_lines 1000000
+}
+
+# Figures.
+
+commas() {
+    awk -v s="$1" 'BEGIN {
+        while (match(s, /[0-9][0-9][0-9][0-9]($|,)/)) s = substr(s, 1, RSTART) "," substr(s, RSTART + 1)
+        print s
+    }'
+}
+
+# time_of WHICH NAME: the least of the times, or the median one.
+time_of() {
+    local sorted
+    mapfile -t sorted < <(tr ' ' '\n' <<<"${times[$2]% }" | sort -n)
+    case "$1" in least) echo "${sorted[0]}" ;; median) echo "${sorted[${#sorted[@]} / 2]}" ;; esac
+}
+
+# rate_of WHICH COUNT SCRIPT FILE: how many a second, to three digits. The time of a run with nothing
+# to do is left out.
+rate_of() {
+    local took=$(($(time_of "$1" "$3 $4") - $(time_of "$1" "nothing $4")))
+    commas "$(awk -v n="$2" -v t="$took" 'BEGIN {
+        if (t <= 0) { print "?"; exit }
+        rate = n * 1000000 / t
+        unit = 1
+        while (rate / unit >= 1000) unit *= 10
+        printf "%d", int(rate / unit + 0.5) * unit
+    }')"
+}
+
+rate() { echo "$(rate_of least "$@") ($(rate_of median "$@"))"; }
+
+milliseconds() { awk -v t="$(time_of least "nothing $1")" 'BEGIN { printf "%.1f", t / 1000 }'; }
+
+row() {
+    local cell
+    for cell in "$@"; do printf '| %s ' "$cell"; done
+    echo "|"
+}
+
+# rates WHAT COUNT SCRIPT SLOTS TUPLES BARE
+rates() {
+    row "$1" "$(commas "$4")" "$(commas "$5")" "$(rate "$2" "$3" "store.$4.$5")" \
+        "$(rate "$2" "$3" "delete.$4.$5")" "$(rate "$2" "$3" "wal.$4.$5")" "$6"
+}
+
+# calls FILE COMMAND..: the writes to a file, its journal and its log, their bytes, and all syncs, of
+# each commit.
+calls() {
+    copy "$1"
+    shift
+    strace -f -y -s 0 -e trace=write,pwrite64,fsync,fdatasync -o calls "$@" >replies <"$input"
+    must_be_granted
+    awk -v n="$commits" '/write(64)?\([0-9]+<[^>]*\/work(-[a-z]+)?>/ { writes++; bytes += $NF }
+        /sync\(/ { syncs++ }
+        END { printf "%.1f writes of %.1f KiB in all, %.1f syncs", writes / n, bytes / n / 1024, syncs / n }' calls
+}
+
+store_calls() {
+    local pages=$((($1 + 511) / 512 + 3)) input=commits.script
+    if [ -n "$(command -v strace)" ]; then
+        calls "store.$1.0" "$rss" run work
+    else
+        echo "$pages.0 writes of $((4 * pages)).0 KiB in all, 2.0 syncs (by the layout)"
+    fi
+}
+
+sqlite_calls() {
+    local input=commits.sql
+    if [ -n "$(command -v strace)" ]; then calls "$1.0" sqlite3 work; else echo "not counted: no strace"; fi
+}
+
+peak() {
+    if [ -x /usr/bin/time ]; then
+        copy "store.$1.$2"
+        /usr/bin/time -f %M -o peak "$rss" run work <"$3.script" >replies
+        awk '{ printf "%.1f", $1 / 1024 }' peak
+    else
+        echo "?"
+    fi
+}
+
+load() { cut -d ' ' -f 1-3 /proc/loadavg; }
+
+# The first call of the launcher builds the program.
+"$top/rss" format first 64 8 >replies
+
+echo "preparing the files" >&2
+: >nothing.script
+inserts 8000 >open.script
+{ inserts 8000 && echo "end 1"; } >ended.script
+transactions "$commits" >commits.script
+fetches 1000000 1 >one.script
+fetches 100000 1 >less.script
+fetches 200000 20000 >near.script
+fetches 200000 3000000 >far.script
+for script in nothing open ended commits one less near far; do to_sql "$script"; done
+for store in "${stores[@]}"; do make_store ${store/ / }; done
+for mode in "${modes[@]}"; do
+    for tuples in "${databases[@]}"; do make_database "$mode" "$tuples"; done
+done
+dd if=/dev/zero of=pages bs=4096 count=$((130 * commits)) 2>errors
+sync
+
+# Both give the same values.
+copy store.65536.3000000
+run_store far | sed -n 's/^ok \([0-9]\)/\1/p' >values
+copy delete.3000000
+run_sqlite far | tail -n +2 | cmp - values
+[ "$(wc -l <values)" = 200000 ]
+
+before="$(load)"
+for ((run = 1; run <= runs; run++)); do
+    echo "run $run of $runs, load average $(load)" >&2
+    measure_all
+done
+
+echo "$(date -u +%F), $(nproc) processors ($(awk -F ': ' '/model name/ { print $2; exit }' /proc/cpuinfo)), $(uname -sr), $(df --output=fstype . | tail -n 1)"
+echo "sqlite3 $(sqlite3 --version | cut -d ' ' -f 1); the least of $runs runs, in brackets the median; load average $before before, $(load) after"
+echo "in $((100 * all_waits / all_times)) % of the time that was measured some process had to wait for a processor"
+echo
+row "A second" slots tuples rss "sqlite, DELETE" "sqlite, WAL" "bare writes"
+row --- ---: ---: ---: ---: ---: ---:
+lines="$(rate 1000000 lines lines)"
+rates "inserts, 8,000 in one transaction, not ended" 8000 open 65536 0 "$lines"
+rates "the same with its end" 8000 ended 65536 0 ""
+for store in "${stores[@]}"; do
+    slots="${store% *}" tuples="${store#* }"
+    rates "commits of one insert" "$commits" commits "$slots" "$tuples" "$(rate "$commits" commits "pages.$slots.$tuples")"
+done
+rates "fetches of one tuple, 100,000" 100000 less 65536 3000000 "$lines"
+rates "fetches of one tuple, 1,000,000" 1000000 one 65536 3000000 "$lines"
+rates "fetches among 20,000 tuples" 200000 near 65536 3000000 "$lines"
+rates "fetches among 3,000,000 tuples" 200000 far 65536 3000000 "$lines"
+echo
+row "Milliseconds" slots tuples rss "sqlite, DELETE" "sqlite, WAL"
+row --- ---: ---: ---: ---: ---:
+for store in "${stores[@]}"; do
+    slots="${store% *}" tuples="${store#* }"
+    row "a run with nothing to do" "$(commas "$slots")" "$(commas "$tuples")" "$(milliseconds "store.$slots.$tuples")" \
+        "$(milliseconds "delete.$slots.$tuples")" "$(milliseconds "wal.$slots.$tuples")"
+done
+echo
+row "A commit of one insert" "To the files"
+row --- ---
+for slots in 64 4096 65536; do row "rss, $(commas "$slots") slots" "$(store_calls "$slots")"; done
+row "sqlite, DELETE" "$(sqlite_calls delete)"
+row "sqlite, WAL" "$(sqlite_calls wal)"
+echo
+row "Peak memory, MiB" slots tuples rss
+row --- ---: ---: ---:
+row "100,000 fetches" 64 2,000 "$(peak 64 2000 less)"
+row "1,000,000 fetches" 64 2,000 "$(peak 64 2000 one)"
+row "200,000 fetches among 3,000,000 tuples" 65,536 3,000,000 "$(peak 65536 3000000 far)"
