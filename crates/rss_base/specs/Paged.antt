@@ -1,5 +1,5 @@
 -- Pages by their keys, over a device of which a part is fixed.
-use Rattle.std.specs.Prelude.{◌≡◌, ◌↔◌, ℕ, ◌<◌, ◌≤◌, Bool, true, false, ◌&&◌, ◌==◌, if◌then◌else◌, List, length, Option, Some, Result, Err, IsErrOf}
+use Rattle.std.specs.Prelude.{◌≡◌, ◌↔◌, ℕ, ◌+◌, ◌<◌, ◌≤◌, Bool, true, false, ◌&&◌, ◌==◌, if◌then◌else◌, List, length, Contains, Option, Some, Result, Err, IsErrOf}
 use Rattle.rss_base.specs.DiskRule.{Disk, Pages, page, IsTold, Passes}
 use Rattle.rss_base.specs.Faults.{Rises}
 use Rattle.rss_base.specs.PageMap.{space_code}
@@ -39,6 +39,20 @@ page_key segment space number = record { segment = segment; space = space; numbe
 pub record IsLeastUnmapped (mapped : Mapped) (segment : ℕ) (space : Space) (number : ℕ) : Type 0 where
   pub free : mapped (page_key segment space number) ≡ false
   pub lesser : (k : ℕ) → k < number → mapped (page_key segment space k) ≡ true
+
+-- ---- which pages wait to be written
+
+-- the first pages are among the others
+abbrev pub AreAmong : Mapped → Mapped → Type 0
+AreAmong some all = (key : PageKey) → some key ≡ true → all key ≡ true
+
+-- the list has each of these pages
+abbrev pub HasEach : List PageKey → Mapped → Type 0
+HasEach keys pages = (key : PageKey) → pages key ≡ true → Contains keys key
+
+-- A call writes no more pages than those that wait, and so many others: no more than any list has that has each of them.
+abbrev pub WritesWaiting : Mapped → ℕ → ℕ → ℕ → Type 0
+WritesWaiting waiting others writes writes_now = (keys : List PageKey) → HasEach keys waiting → writes_now ≤ writes + length keys + others
 
 -- ---- what is fixed
 

@@ -28,10 +28,11 @@ pub enum CallError {
     /// The pages are no store. It never comes over a device that tells its contents, and each later
     /// call is answered `Down`.
     Damaged(Place),
-    /// An earlier call has met a fault of the device or of its pages, or ran out of memory on its
-    /// way.
+    /// An earlier call has met a fault of the device or of its pages, or ran out of memory while it
+    /// changed pages.
     Down,
-    /// Memory ran out.
+    /// Memory ran out. A call that changes pages is then followed by `Down` alone; one that reads
+    /// has changed nothing.
     NoMemory,
 }
 

@@ -2,7 +2,7 @@
 ghost use Rattle.std.specs.Prelude.{◌≡◌, ◌≢◌, ◌+◌, ◌-◌, ◌^◌, ◌<◌, ◌≤◌, ℕ, Bool, min, true, false, replicate, is_some, Some, None, IfOk, OnOk, OnErr};
 ghost use Rattle.rss_base.specs.DiskRule.{Disk, Pages as DevicePages, Told, IsTold, Leaves};
 ghost use Rattle.rss_base.specs.PageMap.{IsKey};
-ghost use Rattle.rss_base.specs.Paged.{Mapped, Held, Fixed, Backing, with_mapped, with_page, page_key, IsLeastUnmapped, HasFixed, LeavesFixed, HasPageCause};
+ghost use Rattle.rss_base.specs.Paged.{Mapped, Held, Fixed, Backing, with_mapped, with_page, page_key, IsLeastUnmapped, AreAmong, HasFixed, LeavesFixed, HasPageCause};
 ghost use Rattle.rss_base.specs.declared.key.Space.TheVariants.{System};
 ghost use Rattle.rss_base.specs.declared.key.PageKey.{PageKey as Key};
 
@@ -31,6 +31,12 @@ pub trait Pages {
 
     /// How many reads there were, counted up to 2 ^ 64 - 1.
     ghost asks: { Self → ℕ };
+
+    /// Which pages were changed, and wait to be written to the device.
+    ghost waiting: { Self → Mapped };
+
+    /// How many writes of the device there were, counted up to 2 ^ 64 - 1.
+    ghost writes: { Self → ℕ };
 
     /// How often the device has failed, counted up to 2 ^ 64 - 1.
     ghost faults: { Self → ℕ };
@@ -61,6 +67,8 @@ pub trait Pages {
         ensures held { IsTold (disk self.old) → held self.new ≡ held self.old }
         ensures spare { spare_of self.new ≡ spare_of self.old }
         ensures asks { asks self.new ≡ min (asks self.old + 1) (2 ^ 64 - 1) }
+        ensures waiting { AreAmong (waiting self.new) (waiting self.old) }
+        ensures writes { writes self.new ≤ writes self.old + 1 }
         ensures slots { slots_of self.new ≡ slots_of self.old }
         ensures backing { backing self.new ≡ backing self.old }
         ensures leaves { LeavesFixed (is_settled self.old ≡ true) (is_settled self.new ≡ true) (disk self.old) (disk self.new) (fixed self.old) (fixed self.new) }
@@ -73,6 +81,8 @@ pub trait Pages {
         ensures mapped { mapped self.new ≡ mapped self.old }
         ensures spare { spare_of self.new ≡ spare_of self.old }
         ensures asks { asks self.new ≡ asks self.old }
+        ensures waiting { AreAmong (waiting self.new) (with_mapped (waiting self.old) key true) }
+        ensures writes { writes self.new ≤ writes self.old + 1 }
         ensures slots { slots_of self.new ≡ slots_of self.old }
         ensures backing { backing self.new ≡ backing self.old }
         ensures leaves { LeavesFixed (is_settled self.old ≡ true) (is_settled self.new ≡ true) (disk self.old) (disk self.new) (fixed self.old) (fixed self.new) }
@@ -94,6 +104,9 @@ pub trait Pages {
         ensures err_held { OnErr result (IsTold (disk self.old) → held self.new ≡ held self.old) }
         ensures err_spare { OnErr result (spare_of self.new ≡ spare_of self.old) }
         ensures asks { asks self.new ≡ asks self.old }
+        ensures waiting { IfOk result (λ number. AreAmong (waiting self.new) (with_mapped (waiting self.old) (page_key segment space number) true)) }
+        ensures err_waiting { OnErr result (AreAmong (waiting self.new) (waiting self.old)) }
+        ensures writes { writes self.new ≤ writes self.old + 1 }
         ensures slots { slots_of self.new ≡ slots_of self.old }
         ensures backing { backing self.new ≡ backing self.old }
         ensures leaves { LeavesFixed (is_settled self.old ≡ true) (is_settled self.new ≡ true) (disk self.old) (disk self.new) (fixed self.old) (fixed self.new) }
@@ -111,6 +124,8 @@ pub trait Pages {
         ensures err_held { OnErr result (IsTold (disk self.old) → held self.new ≡ held self.old) }
         ensures err_spare { OnErr result (spare_of self.new ≡ spare_of self.old) }
         ensures asks { asks self.new ≡ asks self.old }
+        ensures waiting { AreAmong (waiting self.new) (with_mapped (waiting self.old) key true) }
+        ensures writes { writes self.new ≤ writes self.old + 1 }
         ensures slots { slots_of self.new ≡ slots_of self.old }
         ensures backing { backing self.new ≡ backing self.old }
         ensures leaves { LeavesFixed (is_settled self.old ≡ true) (is_settled self.new ≡ true) (disk self.old) (disk self.new) (fixed self.old) (fixed self.new) }
@@ -126,6 +141,8 @@ pub trait Pages {
         ensures err_held { OnErr result (IsTold (disk self.old) → held self.new ≡ held self.old) }
         ensures err_spare { OnErr result (spare_of self.new ≡ spare_of self.old) }
         ensures asks { asks self.new ≡ asks self.old }
+        ensures waiting { AreAmong (waiting self.new) (waiting self.old) }
+        ensures writes { writes self.new ≡ writes self.old }
         ensures slots { slots_of self.new ≡ slots_of self.old }
         ensures backing { backing self.new ≡ backing self.old }
         ensures leaves { LeavesFixed (is_settled self.old ≡ true) (is_settled self.new ≡ true) (disk self.old) (disk self.new) (fixed self.old) (fixed self.new) }

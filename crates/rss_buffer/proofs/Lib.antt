@@ -2,6 +2,7 @@ pub mod Lookups
 pub mod Found
 pub mod Loose
 pub mod Turns
+pub mod Waits
 pub mod Changed
 pub mod Elsewhere
 pub mod Saves

@@ -9,4 +9,5 @@ pub mod Frames
 pub mod Slots
 pub mod Buffered
 pub mod Saved
+pub mod Devices
 pub mod BufferLaws

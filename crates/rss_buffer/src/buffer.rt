@@ -1,10 +1,11 @@
 // Pages over a device.
 ghost use Rattle.std.proofs.Props.{props};
 ghost use Rattle.rss_base.proofs.Props.{IsSegmentOf-prop};
-ghost use Rattle.std.specs.Prelude.{◌≡◌, ◌*◌, ◌<◌, ◌≤◌, ℕ, [], length, true, IfOk, IfErr};
+ghost use Rattle.std.specs.Prelude.{◌≡◌, ◌*◌, ◌<◌, ◌≤◌, ℕ, [], length, true, false, IfOk, IfErr};
 ghost use Rattle.rss_base.specs.DiskRule.{Told, LeavesOnly};
 ghost use Rattle.rss_base.specs.Layout.{IsWellFormed, device_pages, map_at, slots_at};
 ghost use Rattle.rss_base.specs.PageMap.{IsMap};
+ghost use Rattle.rss_base.specs.declared.key.PageKey.{PageKey as Key};
 ghost use Rattle.rss_base.specs.declared.fault.OpenFault.TheVariants.{NoMemory as LacksMemory};
 ghost use Rattle.rss_shadow.specs.Maps.{pages_of};
 ghost use Rattle.rss_buffer.specs.Frames.{frame_in};
@@ -41,6 +42,8 @@ pub struct Buffer<D: Device> {
 }
 
 impl<D: Device> Buffer<D> {
+    ghost use Rattle.rss_buffer.specs.Devices.{device_of};
+
     /// The pages of the store that a device holds, with its selected root and its map, so many of
     /// them in memory. Nothing is read or written as yet.
     pub fn new(
@@ -58,7 +61,7 @@ impl<D: Device> Buffer<D> {
         requires half { 2 * pages_of table ≤ length table }
         requires map { Told (D.disk device) (λ pages. IsMap root.now.slots pages (map_at root.now.slots root.now.area) table) }
         requires synced { Told (D.disk device) (LeavesOnly (D.disk device)) }
-        ensures device { IfOk result (λ buffer. buffer.device ≡ device) }
+        ensures device { IfOk result (λ buffer. device_of buffer ≡ device) }
         ensures held { IfOk result (λ buffer. Told (D.disk device) (λ pages. StandInSlots (slots_at root.now.slots root.now.log_pages) pages table (⟦<Buffer<D> as Pages>⟧.held buffer))) }
         ensures maps { IfOk result (λ buffer. ⟦<Buffer<D> as Saving>⟧.maps buffer ≡ record { current = table; shadow = table }) }
         ensures log_pages { IfOk result (λ buffer. ⟦<Buffer<D> as Saving>⟧.log_pages_of buffer ≡ root.now.log_pages) }
@@ -66,6 +69,8 @@ impl<D: Device> Buffer<D> {
         ensures stage { IfOk result (λ buffer. ⟦<Buffer<D> as Saving>⟧.stage_of buffer ≡ Stage.Changing) }
         ensures settled { IfOk result (λ buffer. ⟦<Buffer<D> as Pages>⟧.is_settled buffer ≡ true) }
         ensures asks { IfOk result (λ buffer. ⟦<Buffer<D> as Pages>⟧.asks buffer ≡ 0) }
+        ensures waiting { IfOk result (λ buffer. (key : Key) → ⟦<Buffer<D> as Pages>⟧.waiting buffer key ≡ false) }
+        ensures writes { IfOk result (λ buffer. ⟦<Buffer<D> as Pages>⟧.writes buffer ≡ D.writes device) }
         ensures back { IfErr result (λ e. (e.device ≡ device) × (e.fault ≡ LacksMemory)) }
     {
         let Ok(frames) = new_frames(alloc, frames) else {

@@ -16,10 +16,12 @@ pub(crate) struct Frame {
     pub(crate) changed: bool,
 }
 
-/// So many pages in memory as there are frames, by the recency of their use.
+/// So many pages in memory as there are frames, by the recency of their use. Each is in a box of
+/// its own, so that the cache moves no page.
 #[derive(Drop)]
 pub(crate) struct Frames {
-    pub(crate) cache: LruCache<PageKey, Frame>,
+    pub(crate) cache: LruCache<PageKey, Box<Frame>>,
+    alloc: Global,
 }
 
 impl Frames {
@@ -28,6 +30,7 @@ impl Frames {
     {
         Ok(Frames {
             cache: LruCache::new(alloc, frames)?,
+            alloc,
         })
     }
 
@@ -62,7 +65,7 @@ impl Frames {
     pub(crate) fn get(&self, key: PageKey) -> Option<&Frame>
         ensures { option_copied result ≡ frame_in self.now.cache.entries key }
     {
-        self.cache.peek(&key)
+        Some(self.cache.peek(&key)?.as_ref())
     }
 
     /// Makes the page the one that was used last.
@@ -86,10 +89,17 @@ impl Frames {
     {
         // `len` is called for its clause that the keys are distinct, which the proof cites.
         let _len = self.cache.len();
+        if let Some(frame) = self.cache.get_mut(&key) {
+            let frame = frame.as_mut();
+            frame.page = *page;
+            frame.changed = changed;
+            return Ok(());
+        }
         let frame = Frame {
             page: *page,
             changed,
         };
+        let frame = Box::new(self.alloc, frame)?;
         self.cache.put(key, frame)?;
         Ok(())
     }
@@ -100,13 +110,10 @@ impl Frames {
         ensures settled { IfSome (frame_in self.old.cache.entries key) (λ frame. frame_in self.new.cache.entries ≡ with_frame (frame_in self.old.cache.entries) key (Some (record { page = frame.page; changed = false }))) }
         ensures room { self.new.cache.cap ≡ self.old.cache.cap }
     {
-        let Some(frame) = self.get(key) else {
+        let Some(frame) = self.cache.peek_mut(&key) else {
             unreachable!()
         };
-        let page = frame.page;
-        let Ok(()) = self.put(key, &page, false) else {
-            unreachable!()
-        };
+        frame.changed = false;
     }
 
     /// Drops the page from memory.

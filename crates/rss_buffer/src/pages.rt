@@ -1,8 +1,8 @@
 // The pages of a buffer, one at a time.
-ghost use Rattle.std.specs.Prelude.{◌≡◌, ◌⊎◌, ◌<◌, length, true, None, IsSome, IfErr, OnOk, OnErr};
-ghost use Rattle.rss_base.specs.Paged.{HasPageCause};
+ghost use Rattle.std.specs.Prelude.{◌≡◌, ◌⊎◌, ◌+◌, ◌<◌, ◌≤◌, length, true, None, IsSome, IfErr, OnOk, OnErr};
+ghost use Rattle.rss_base.specs.Paged.{AreAmong, WritesWaiting, HasPageCause};
 ghost use Rattle.rss_base.specs.declared.key.PageKey.{PageKey as Key};
-ghost use Rattle.rss_buffer.specs.Frames.{frame_in};
+ghost use Rattle.rss_buffer.specs.Frames.{frame_in, waiting_in, Settles};
 ghost use Rattle.rss_base.specs.StoredPages.{mapped_by};
 ghost use Rattle.rss_buffer.specs.Buffered.{IsChangedIn, with_unchanged, KeepsPages, WritesLoose};
 
@@ -18,6 +18,10 @@ impl<D: Device> Buffer<D> {
         ensures fault { IfErr result (λ fault. fault ≡ PageFault.Device) }
         ensures writes { WritesLoose self.old.first_slot self.old.shadow.shadow (D.disk self.old.device) (D.disk self.new.device) }
         ensures keeps { KeepsPages (D.disk self.old.device) self.old.first_slot self.old.shadow (frame_in self.old.frames.cache.entries) self.old.settled (D.disk self.new.device) self.new.first_slot self.new.shadow (frame_in self.new.frames.cache.entries) self.new.settled }
+        ensures settles { OnOk result (Settles (waiting_in (frame_in self.old.frames.cache.entries)) (waiting_in (frame_in self.new.frames.cache.entries)) (D.writes self.old.device) (D.writes self.new.device)) }
+        ensures waiting { AreAmong (waiting_in (frame_in self.new.frames.cache.entries)) (waiting_in (frame_in self.old.frames.cache.entries)) }
+        ensures writes_waiting { WritesWaiting (waiting_in (frame_in self.old.frames.cache.entries)) 0 (D.writes self.old.device) (D.writes self.new.device) }
+        ensures count { D.writes self.new.device ≤ D.writes self.old.device + 1 }
         ensures same { (self.new.log_pages ≡ self.old.log_pages) × (self.new.area ≡ self.old.area) × (self.new.asks ≡ self.old.asks) × (self.new.stage ≡ self.old.stage) }
         ensures cause { HasPageCause (D.disk self.old.device) (D.faults self.old.device) (D.faults self.new.device) result }
     {
@@ -39,6 +43,8 @@ impl<D: Device> Buffer<D> {
         ensures room { OnOk result (length self.new.frames.cache.entries < self.new.frames.cache.cap) }
         ensures none_more { (key : Key) → frame_in self.old.frames.cache.entries key ≡ None → frame_in self.new.frames.cache.entries key ≡ None }
         ensures keeps { KeepsPages (D.disk self.old.device) self.old.first_slot self.old.shadow (frame_in self.old.frames.cache.entries) self.old.settled (D.disk self.new.device) self.new.first_slot self.new.shadow (frame_in self.new.frames.cache.entries) self.new.settled }
+        ensures waiting { AreAmong (waiting_in (frame_in self.new.frames.cache.entries)) (waiting_in (frame_in self.old.frames.cache.entries)) }
+        ensures count { D.writes self.new.device ≤ D.writes self.old.device + 1 }
         ensures same { (self.new.log_pages ≡ self.old.log_pages) × (self.new.area ≡ self.old.area) × (self.new.asks ≡ self.old.asks) × (self.new.stage ≡ self.old.stage) }
         ensures cause { HasPageCause (D.disk self.old.device) (D.faults self.old.device) (D.faults self.new.device) result }
     {
@@ -59,6 +65,8 @@ impl<D: Device> Buffer<D> {
     fn make_room_for(&mut self, key: PageKey) -> Result<(), PageFault>
         ensures room { OnOk result ((length self.new.frames.cache.entries < self.new.frames.cache.cap) ⊎ IsSome (frame_in self.new.frames.cache.entries key)) }
         ensures keeps { KeepsPages (D.disk self.old.device) self.old.first_slot self.old.shadow (frame_in self.old.frames.cache.entries) self.old.settled (D.disk self.new.device) self.new.first_slot self.new.shadow (frame_in self.new.frames.cache.entries) self.new.settled }
+        ensures waiting { AreAmong (waiting_in (frame_in self.new.frames.cache.entries)) (waiting_in (frame_in self.old.frames.cache.entries)) }
+        ensures count { D.writes self.new.device ≤ D.writes self.old.device + 1 }
         ensures same { (self.new.log_pages ≡ self.old.log_pages) × (self.new.area ≡ self.old.area) × (self.new.asks ≡ self.old.asks) × (self.new.stage ≡ self.old.stage) }
         ensures cause { HasPageCause (D.disk self.old.device) (D.faults self.old.device) (D.faults self.new.device) result }
     {
@@ -73,6 +81,8 @@ impl<D: Device> Buffer<D> {
         requires { mapped_by self.old.shadow.current key ≡ true }
         ensures there { OnOk result (IsSome (frame_in self.new.frames.cache.entries key)) }
         ensures keeps { KeepsPages (D.disk self.old.device) self.old.first_slot self.old.shadow (frame_in self.old.frames.cache.entries) self.old.settled (D.disk self.new.device) self.new.first_slot self.new.shadow (frame_in self.new.frames.cache.entries) self.new.settled }
+        ensures waiting { AreAmong (waiting_in (frame_in self.new.frames.cache.entries)) (waiting_in (frame_in self.old.frames.cache.entries)) }
+        ensures count { D.writes self.new.device ≤ D.writes self.old.device + 1 }
         ensures same { (self.new.log_pages ≡ self.old.log_pages) × (self.new.area ≡ self.old.area) × (self.new.asks ≡ self.old.asks) × (self.new.stage ≡ self.old.stage) }
         ensures cause { HasPageCause (D.disk self.old.device) (D.faults self.old.device) (D.faults self.new.device) result }
     {
@@ -97,7 +107,7 @@ impl<D: Device> Buffer<D> {
 impl<D: Device> Pages for Buffer<D> {
     ghost use Rattle.std.specs.Prelude.{length};
     ghost use Rattle.rss_shadow.specs.Maps.{spare};
-    ghost use Rattle.rss_buffer.specs.Frames.{frame_in};
+    ghost use Rattle.rss_buffer.specs.Frames.{frame_in, waiting_in};
     ghost use Rattle.rss_buffer.specs.Slots.{held_by, fixed_by};
     ghost use Rattle.rss_base.specs.StoredPages.{mapped_by};
     ghost use Rattle.rss_buffer.specs.BufferLaws.{stays_by, holds_by, allowed_by};
@@ -113,6 +123,10 @@ impl<D: Device> Pages for Buffer<D> {
     ghost spare_of = { λ b. spare b.shadow };
 
     ghost asks = { λ b. b.asks };
+
+    ghost waiting = { λ b. waiting_in (frame_in b.frames.cache.entries) };
+
+    ghost writes = { λ b. D.writes b.device };
 
     ghost faults = { λ b. D.faults b.device };
 

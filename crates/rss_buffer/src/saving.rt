@@ -1,12 +1,13 @@
 // The saving of pages.
-ghost use Rattle.std.specs.Prelude.{◌≡◌, ◌≢◌, ◌↔◌, ◌+◌, ◌-◌, ◌*◌, ◌<◌, ◌≤◌, ℕ, length, refl, slice_set, true, Some, IfOk, IfErr, OnOk, OnErr};
+ghost use Rattle.std.specs.Prelude.{◌≡◌, ◌≢◌, ◌↔◌, ◌+◌, ◌-◌, ◌*◌, ◌<◌, ◌≤◌, ℕ, length, refl, slice_set, true, false, Some, IfOk, IfErr, OnOk, OnErr};
 ghost use Rattle.rss_base.specs.DiskRule.{Pages as DevicePages, Told, IsTold, Leaves, TornAt, TornIn, IsRewritten, IsRewrittenIn, Passes};
-ghost use Rattle.rss_base.specs.Layout.{root_page, log_at, slots_at, IsWellFormed};
+ghost use Rattle.rss_base.specs.Layout.{root_page, map_pages, log_at, slots_at, IsWellFormed};
 ghost use Rattle.rss_base.specs.PageMap.{IsTable};
-ghost use Rattle.rss_base.specs.Paged.{LeavesFixed, HasPageCause};
+ghost use Rattle.rss_base.specs.Paged.{AreAmong, WritesWaiting, LeavesFixed, HasPageCause};
+ghost use Rattle.rss_base.specs.declared.key.PageKey.{PageKey as Key};
 ghost use Rattle.rss_root.specs.Roots.{IsPhase, IsSwitched};
 ghost use Rattle.rss_shadow.specs.Maps.{Maps, pages_of, spare};
-ghost use Rattle.rss_buffer.specs.Frames.{frame_in};
+ghost use Rattle.rss_buffer.specs.Frames.{frame_in, waiting_in, Settles};
 ghost use Rattle.rss_buffer.specs.BufferLaws.{fixed_at};
 ghost use Rattle.rss_buffer.specs.Slots.{fixed_by};
 ghost use Rattle.rss_base.specs.StoredPages.{mapped_by};
@@ -57,6 +58,9 @@ pub trait Saving: Pages {
         ensures log_pages { log_pages_of self.new ≡ log_pages_of self.old }
         ensures leaves { LeavesFixed (Self.is_settled self.old ≡ true) (Self.is_settled self.new ≡ true) (Self.disk self.old) (Self.disk self.new) (Self.fixed self.old) (Self.fixed self.new) }
         ensures asks { Self.asks self.new ≡ Self.asks self.old }
+        ensures none_wait { OnOk result ((key : Key) → Self.waiting self.new key ≡ false) }
+        ensures waiting { AreAmong (Self.waiting self.new) (Self.waiting self.old) }
+        ensures writes { WritesWaiting (Self.waiting self.old) 0 (Self.writes self.old) (Self.writes self.new) }
         ensures cause { HasPageCause (Self.disk self.old) (Self.faults self.old) (Self.faults self.new) result };
 
     /// Writes each changed page to its slot, and the current map to an area that the selected root
@@ -75,6 +79,9 @@ pub trait Saving: Pages {
         ensures kept { Told (Self.disk self.old) (λ pages. IsRewrittenIn (IsSaveable (slots_at (Self.slots_of self.old) (log_pages_of self.old)) area (maps self.old).shadow) pages (Self.disk self.new).contents) }
         ensures moments { IsTold (Self.disk self.old) → Passes (Self.disk self.old) (Self.disk self.new) (TornIn (IsSaveable (slots_at (Self.slots_of self.old) (log_pages_of self.old)) area (maps self.old).shadow) (Leaves (Self.disk self.old))) }
         ensures asks { Self.asks self.new ≡ Self.asks self.old }
+        ensures none_wait { OnOk result ((key : Key) → Self.waiting self.new key ≡ false) }
+        ensures waiting { AreAmong (Self.waiting self.new) (Self.waiting self.old) }
+        ensures writes { WritesWaiting (Self.waiting self.old) (map_pages (Self.slots_of self.old)) (Self.writes self.old) (Self.writes self.new) }
         ensures cause { HasPageCause (Self.disk self.old) (Self.faults self.old) (Self.faults self.new) result };
 
     /// Writes a log page, counted on the device, and no other page.
@@ -92,6 +99,8 @@ pub trait Saving: Pages {
         ensures kept { Told (Self.disk self.old) (λ pages. IsRewritten at pages (Self.disk self.new).contents) }
         ensures moments { IsTold (Self.disk self.old) → Passes (Self.disk self.old) (Self.disk self.new) (TornAt at (Leaves (Self.disk self.old))) }
         ensures asks { Self.asks self.new ≡ Self.asks self.old }
+        ensures waiting { Self.waiting self.new ≡ Self.waiting self.old }
+        ensures writes { Self.writes self.new ≤ Self.writes self.old + 1 }
         ensures cause { HasPageCause (Self.disk self.old) (Self.faults self.old) (Self.faults self.new) result };
 
     /// Writes a root to the place of the other one, and then selects it. Answers its number.
@@ -118,6 +127,8 @@ pub trait Saving: Pages {
         ensures log_pages { log_pages_of self.new ≡ log_pages_of self.old }
         ensures told { IsTold (Self.disk self.old) ↔ IsTold (Self.disk self.new) }
         ensures asks { Self.asks self.new ≡ Self.asks self.old }
+        ensures waiting { Self.waiting self.new ≡ Self.waiting self.old }
+        ensures writes { Self.writes self.new ≤ Self.writes self.old + 2 }
         ensures cause { HasPageCause (Self.disk self.old) (Self.faults self.old) (Self.faults self.new) result };
 
     /// Makes the current map the shadow map, once it is saved and its root selected. What it holds
@@ -134,6 +145,8 @@ pub trait Saving: Pages {
         ensures moments { IsTold (Self.disk self.old) → Passes (Self.disk self.old) (Self.disk self.new) (Leaves (Self.disk self.old)) }
         ensures faults { Self.faults self.new ≡ Self.faults self.old }
         ensures asks { Self.asks self.new ≡ Self.asks self.old }
+        ensures waiting { Self.waiting self.new ≡ Self.waiting self.old }
+        ensures writes { Self.writes self.new ≡ Self.writes self.old }
         ensures settled { Self.is_settled self.new ≡ true };
 
     /// What the pages stand on is the shadow map, on a device with this area and these log pages.
@@ -233,12 +246,16 @@ impl<D: Device> Saving for Buffer<D> {
 }
 
 impl<D: Device> Buffer<D> {
+    ghost use Rattle.rss_buffer.specs.Devices.{device_of};
+
     /// Writes each changed page to its slot, in the order of the slots.
     fn flush_all(&mut self) -> Result<(), PageFault>
         ensures none_changed { OnOk result (NoneChanged (frame_in self.new.frames.cache.entries)) }
         ensures fault { IfErr result (λ fault. fault ≡ PageFault.Device) }
         ensures writes { WritesLoose self.old.first_slot self.old.shadow.shadow (D.disk self.old.device) (D.disk self.new.device) }
         ensures keeps { KeepsPages (D.disk self.old.device) self.old.first_slot self.old.shadow (frame_in self.old.frames.cache.entries) self.old.settled (D.disk self.new.device) self.new.first_slot self.new.shadow (frame_in self.new.frames.cache.entries) self.new.settled }
+        ensures waiting { AreAmong (waiting_in (frame_in self.new.frames.cache.entries)) (waiting_in (frame_in self.old.frames.cache.entries)) }
+        ensures writes_waiting { WritesWaiting (waiting_in (frame_in self.old.frames.cache.entries)) 0 (D.writes self.old.device) (D.writes self.new.device) }
         ensures same { (self.new.log_pages ≡ self.old.log_pages) × (self.new.area ≡ self.old.area) × (self.new.asks ≡ self.old.asks) × (self.new.stage ≡ self.old.stage) }
         ensures cause { HasPageCause (D.disk self.old.device) (D.faults self.old.device) (D.faults self.new.device) result }
     {
@@ -255,6 +272,9 @@ impl<D: Device> Buffer<D> {
         ensures fault { IfErr result (λ fault. fault ≡ PageFault.Device) }
         ensures writes { WritesLoose self.old.first_slot self.old.shadow.shadow (D.disk self.old.device) (D.disk self.new.device) }
         ensures keeps { KeepsPages (D.disk self.old.device) self.old.first_slot self.old.shadow (frame_in self.old.frames.cache.entries) self.old.settled (D.disk self.new.device) self.new.first_slot self.new.shadow (frame_in self.new.frames.cache.entries) self.new.settled }
+        ensures settles { OnOk result (Settles (waiting_in (frame_in self.old.frames.cache.entries)) (waiting_in (frame_in self.new.frames.cache.entries)) (D.writes self.old.device) (D.writes self.new.device)) }
+        ensures waiting { AreAmong (waiting_in (frame_in self.new.frames.cache.entries)) (waiting_in (frame_in self.old.frames.cache.entries)) }
+        ensures writes_waiting { WritesWaiting (waiting_in (frame_in self.old.frames.cache.entries)) 0 (D.writes self.old.device) (D.writes self.new.device) }
         ensures same { (self.new.log_pages ≡ self.old.log_pages) × (self.new.area ≡ self.old.area) × (self.new.asks ≡ self.old.asks) × (self.new.stage ≡ self.old.stage) }
         ensures cause { HasPageCause (D.disk self.old.device) (D.faults self.old.device) (D.faults self.new.device) result }
     {
@@ -269,7 +289,7 @@ impl<D: Device> Buffer<D> {
 
     /// The device, as the last call left it. Changed pages that were not written are dropped.
     pub fn into_device(self) -> D
-        ensures { result ≡ self.device }
+        ensures { result ≡ device_of self }
     {
         let Buffer {
             device,

@@ -31,6 +31,7 @@ impl MemPages {
         ensures spare { IfOk result (λ pages. ⟦<MemPages as Pages>⟧.spare_of pages ≡ slots) }
         ensures slots { IfOk result (λ pages. ⟦<MemPages as Pages>⟧.slots_of pages ≡ slots) }
         ensures asks { IfOk result (λ pages. ⟦<MemPages as Pages>⟧.asks pages ≡ 0) }
+        ensures writes { IfOk result (λ pages. ⟦<MemPages as Pages>⟧.writes pages ≡ 0) }
         ensures faults { IfOk result (λ pages. ⟦<MemPages as Pages>⟧.faults pages ≡ 0) }
         ensures told { IfOk result (λ pages. IsTold (⟦<MemPages as Pages>⟧.disk pages)) }
         ensures settled { IfOk result (λ pages. ⟦<MemPages as Pages>⟧.is_settled pages ≡ true) }
@@ -89,6 +90,10 @@ impl Pages for MemPages {
     ghost spare_of = { λ m. free_in m.places.items };
 
     ghost asks = { λ m. m.reads };
+
+    ghost waiting = { λ _ _. false };
+
+    ghost writes = { λ _. 0 };
 
     ghost faults = { λ _. 0 };
 

@@ -1,6 +1,8 @@
-use Rattle.std.proofs.Common.{◌≡◌, ◌∙◌, None, IsSome, is_some, ap}
-use Rattle.rss_buffer.specs.Frames.{frame_in}
+use Rattle.std.proofs.Common.{◌≡◌, ◌∙◌, None, IsSome, is_some, refl, ap}
+use Rattle.rss_base.specs.Paged.{AreAmong}
+use Rattle.rss_buffer.specs.Frames.{frame_in, waiting_in}
 use Rattle.rss_buffer.specs.Buffered.{KeepsPages}
+use Rattle.rss_buffer.proofs.Waits.{waits-less}
 use Rattle.rss_buffer.proofs.Turns.{IsCleanIn, IsChangedIn-frame, IsCleanIn-unchanged, none_more-unchanged, none_more-removed, IsBuffer-removed, KeepsPages-removed, KeepsPages-rests, KeepsPages-then}
 use Rattle.rss_buffer.proofs.buffer.Buffer.make_room.Goals.{then-changed+in_ok-write_back, else-changed}
 use Rattle.rss_buffer.proofs.buffer.Buffer.make_room.Goals as goal
@@ -45,3 +47,12 @@ returns-clause-keeps g c =
       | else-changed w ↦ rw w.self-is (KeepsPages-rests _ _ _ _ _)
     ] in
     KeepsPages-then mid (KeepsPages-removed c.if-changed.self.holds c.in-Some.key clean.frame clean.there clean.clean c.remove.ensures.gone)
+
+pub returns-clause-waiting : goal.returns-clause-waiting
+returns-clause-waiting g c =
+    let old = waiting_in (frame_in c.args.self.now.frames.cache.entries) in
+    let mid : AreAmong (waiting_in (frame_in c.if-changed.self.frames.cache.entries)) old = elim c.if-changed.branch [
+      | then-changed+in_ok-write_back w ↦ rw w.self-is w.write_back.ensures.waiting
+      | else-changed w ↦ rw w.self-is (λ key is. is)
+    ] in
+    λ key is. mid key (waits-less (frame_in c.if-changed.self.frames.cache.entries) (frame_in c.remove.new.self.cache.entries) c.in-Some.key None c.remove.ensures.gone refl key is)

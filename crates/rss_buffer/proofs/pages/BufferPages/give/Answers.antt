@@ -1,6 +1,7 @@
 use Rattle.std.proofs.Common.{None, refl}
 use Rattle.rss_buffer.specs.Frames.{frame_in}
 use Rattle.rss_buffer.proofs.Found.{HasPage-mapped}
+use Rattle.rss_buffer.proofs.Waits.{waits-less}
 use Rattle.rss_buffer.proofs.Changed.{Reslots-loses, IsBuffer-reslots, mapped-reslots, held-reslots}
 use Rattle.rss_buffer.proofs.pages.BufferPages.give.Goals as goal
 
@@ -22,3 +23,6 @@ pub returns-clause-gone : goal.returns-clause-gone
 returns-clause-gone g c = λ told.
     let self = c.args.self.now in
     held-reslots self.first_slot (frame_in self.frames.cache.entries) None (g.D.Device.disk self.device).contents None (Reslots-loses self.shadow c.give.new.self c.args.key self.holds.table c.give.ensures.loses) c.remove.ensures.gone refl
+
+pub returns-clause-waiting : goal.returns-clause-waiting
+returns-clause-waiting g c = waits-less (frame_in c.args.self.now.frames.cache.entries) (frame_in c.remove.new.self.cache.entries) c.args.key None c.remove.ensures.gone refl

@@ -3,6 +3,7 @@ use Rattle.rss_base.specs.Paged.{Held, with_mapped, with_page, page_key, IsLeast
 use Rattle.rss_shadow.specs.Maps.{Maps}
 use Rattle.rss_buffer.specs.Frames.{frame_in}
 use Rattle.rss_base.specs.StoredPages.{mapped_by}
+use Rattle.rss_buffer.proofs.Waits.{waits-more}
 use Rattle.rss_buffer.proofs.Turns.{ok_then, err_then}
 use Rattle.rss_buffer.proofs.Changed.{IsLeastUnmapped-lacking, HasPage-gains, same_after, Reslots-takes, Fits-changed, IsBuffer-reslots, mapped-reslots, held-reslots}
 use Rattle.rss_buffer.proofs.pages.BufferPages.take.Goals as goal
@@ -74,3 +75,8 @@ returns-clause-zeros g c = λ told.
     let now = ok_then c.put.result (sym c.is_err.ensures.value ∙ c.if-is_err.false) c.put.ensures.ok in
     held-reslots mid.first_slot (frame_in mid.frames.cache.entries) (Some (record { page = replicate 4096 0; changed = true })) (g.D.Device.disk mid.device).contents (Some (replicate 4096 0)) re now refl
     ∙ ap (λ (held : Held). with_page held key (Some (replicate 4096 0))) (c.make_room.ensures.keeps.held told)
+
+pub returns-clause-waiting : goal.returns-clause-waiting
+returns-clause-waiting g c =
+    let now = ok_then c.put.result (sym c.is_err.ensures.value ∙ c.if-is_err.false) c.put.ensures.ok in
+    waits-more (frame_in c.args.self.now.frames.cache.entries) (frame_in c.make_room.new.self.frames.cache.entries) (frame_in c.put.new.self.cache.entries) (page_key c.args.segment c.args.space c.take-number.result) _ c.make_room.ensures.waiting now

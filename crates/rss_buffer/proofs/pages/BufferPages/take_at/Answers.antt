@@ -5,6 +5,7 @@ use Rattle.rss_shadow.specs.Maps.{Maps}
 use Rattle.rss_buffer.specs.Frames.{frame_in}
 use Rattle.rss_base.specs.StoredPages.{mapped_by}
 use Rattle.rss_buffer.proofs.Found.{LacksPage-unmapped}
+use Rattle.rss_buffer.proofs.Waits.{waits-more}
 use Rattle.rss_buffer.proofs.Turns.{ok_then}
 use Rattle.rss_buffer.proofs.Changed.{Reslots-gains, Fits-changed, IsBuffer-reslots, mapped-reslots, held-reslots}
 use Rattle.rss_buffer.proofs.pages.BufferPages.take_at.Goals as goal
@@ -41,3 +42,8 @@ returns-clause-zeros g c = λ told.
     let now = ok_then c.put.result (sym c.is_err.ensures.value ∙ c.if-is_err.false) c.put.ensures.ok in
     held-reslots mid.first_slot (frame_in mid.frames.cache.entries) (Some (record { page = replicate 4096 0; changed = true })) (g.D.Device.disk mid.device).contents (Some (replicate 4096 0)) (Reslots-gains mid.shadow c.take_at.new.self c.args.key mid.holds.table is lacks c.take_at.ensures.gains) now refl
     ∙ ap (λ (held : Held). with_page held c.args.key (Some (replicate 4096 0))) (c.make_room.ensures.keeps.held told)
+
+pub returns-clause-waiting : goal.returns-clause-waiting
+returns-clause-waiting g c =
+    let now = ok_then c.put.result (sym c.is_err.ensures.value ∙ c.if-is_err.false) c.put.ensures.ok in
+    waits-more (frame_in c.args.self.now.frames.cache.entries) (frame_in c.make_room.new.self.frames.cache.entries) (frame_in c.put.new.self.cache.entries) c.args.key _ c.make_room.ensures.waiting now

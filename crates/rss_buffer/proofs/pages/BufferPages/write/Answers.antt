@@ -6,6 +6,7 @@ use Rattle.rss_shadow.specs.Maps.{Maps}
 use Rattle.rss_buffer.specs.Frames.{frame_in}
 use Rattle.rss_base.specs.StoredPages.{mapped_by}
 use Rattle.rss_buffer.proofs.Found.{HasPage-mapped}
+use Rattle.rss_buffer.proofs.Waits.{waits-more}
 use Rattle.rss_buffer.proofs.Turns.{ok_then}
 use Rattle.rss_buffer.proofs.Changed.{Reslots-moves, Fits-changed, IsBuffer-reslots, with_mapped-same, mapped-reslots, held-reslots}
 use Rattle.rss_buffer.proofs.pages.BufferPages.write.Goals as goal
@@ -38,3 +39,8 @@ returns-clause-mapped g c =
     mapped-reslots (Reslots-moves mid.shadow c.first_write.new.self c.args.key c.first_write.result mid.holds.table c.first_write.ensures.moves)
     ∙ with_mapped-same (mapped_by mid.shadow.current) c.args.key (ap (λ (m : Maps). mapped_by m.current c.args.key) same ∙ c.requires)
     ∙ ap (λ (m : Maps). mapped_by m.current) same
+
+pub returns-clause-waiting : goal.returns-clause-waiting
+returns-clause-waiting g c =
+    let now = ok_then c.put.result (sym c.is_err.ensures.value ∙ c.if-is_err.false) c.put.ensures.ok in
+    waits-more (frame_in c.args.self.now.frames.cache.entries) (frame_in c.make_room_for.new.self.frames.cache.entries) (frame_in c.put.new.self.cache.entries) c.args.key _ c.make_room_for.ensures.waiting now

@@ -1,0 +1,115 @@
+-- Which pages wait to be written, as pages move between memory and their slots.
+use Rattle.std.proofs.Common.{◌≡◌, inl, inr, ℕ, ◌+◌, ◌≤◌, true, false, cond, List, ◌++◌, ◌∷◌, length, Option, Some, None, option_map, refl, sym, ◌∙◌, ap, subst, arith, ⊎_elim}
+use Rattle.std.proofs.Math.Path.{fun_ext}
+use Rattle.std.proofs.lemmas.Bool.{cases_Bool, cond-true, cond-false}
+use Rattle.std.proofs.lemmas.List.{length-append}
+use Rattle.lru.proofs.Splits.{Contains-cut, Contains-without}
+use Rattle.std.specs.List.{Contains}
+use Rattle.rss_base.specs.Paged.{Mapped, is_same, with_mapped, AreAmong, HasEach, WritesWaiting}
+use Rattle.rss_base.specs.declared.key.PageKey.{PageKey}
+use Rattle.rss_base.proofs.Keys.{is_same-itself}
+use Rattle.rss_buffer.specs.declared.frames.Frame.{Frame}
+use Rattle.rss_buffer.specs.Frames.{FrameOf, with_frame, is_changed, waiting_in, Settles}
+use Rattle.rss_buffer.specs.Buffered.{NoneChanged, IsChangedIn, unchanged}
+
+-- ---- after a change at one page
+
+waiting-now : (frames frames_now : FrameOf) (key : PageKey) (frame : Option Frame) → frames_now ≡ with_frame frames key frame → waiting_in frames_now ≡ with_mapped (waiting_in frames) key (is_changed frame)
+waiting-now frames frames_now key frame now =
+    ap waiting_in now ∙ fun_ext (λ other. elim (is_same other key) as (λ b. is_changed (cond b frame (frames other)) ≡ cond b (is_changed frame) (is_changed (frames other))) [ true ↦ refl | false ↦ refl ])
+
+among-less : (waiting : Mapped) (key : PageKey) → AreAmong (with_mapped waiting key false) waiting
+among-less waiting key = λ other is. elim (cases_Bool (is_same other key)) [
+  | inl here ↦ let no = sym (cond-true (is_same other key) false (waiting other) here) ∙ is in absurd (cc)
+  | inr off ↦ sym (cond-false (is_same other key) false (waiting other) off) ∙ is
+]
+
+among-more : (waiting : Mapped) (key : PageKey) → AreAmong waiting (with_mapped waiting key true)
+among-more waiting key = λ other is. elim (cases_Bool (is_same other key)) [
+  | inl here ↦ cond-true (is_same other key) true (waiting other) here
+  | inr off ↦ cond-false (is_same other key) true (waiting other) off ∙ is
+]
+
+-- a page that leaves memory, or stands in its slot now, doesn't wait
+pub waits-less : (frames frames_now : FrameOf) (key : PageKey) (frame : Option Frame) → frames_now ≡ with_frame frames key frame → is_changed frame ≡ false → AreAmong (waiting_in frames_now) (waiting_in frames)
+waits-less frames frames_now key frame now clean = λ other is.
+    among-less (waiting_in frames) key other (sym (ap (λ (w : Mapped). w other) (waiting-now frames frames_now key frame now ∙ ap (with_mapped (waiting_in frames) key) clean)) ∙ is)
+
+pub waits-alike : (frames frames_now : FrameOf) → frames_now ≡ frames → AreAmong (waiting_in frames_now) (waiting_in frames)
+waits-alike frames frames_now same = λ key is. ap (λ (f : FrameOf). waiting_in f key) (sym same) ∙ is
+
+-- one page more may wait
+pub waits-more : (frames frames_mid frames_now : FrameOf) (key : PageKey) (frame : Option Frame) → AreAmong (waiting_in frames_mid) (waiting_in frames) → frames_now ≡ with_frame frames_mid key frame → AreAmong (waiting_in frames_now) (with_mapped (waiting_in frames) key true)
+waits-more frames frames_mid frames_now key frame among now = λ other is. elim (cases_Bool (is_same other key)) [
+  | inl here ↦ cond-true (is_same other key) true (waiting_in frames other) here
+  | inr off ↦
+      let before = sym (ap (λ (w : Mapped). w other) (waiting-now frames_mid frames_now key frame now) ∙ cond-false (is_same other key) (is_changed frame) (waiting_in frames_mid other) off) ∙ is in
+      among-more (waiting_in frames) key other (among other before)
+]
+
+pub changed-waits : (frames : FrameOf) (key : PageKey) → IsChangedIn frames key → waiting_in frames key ≡ true
+changed-waits frames key changed = ap is_changed changed.there ∙ changed.changed
+
+pub unchanged-clean : (frame : Option Frame) → is_changed (option_map unchanged frame) ≡ false
+unchanged-clean None = refl
+unchanged-clean (Some frame) = refl
+
+pub none-waits : (frames : FrameOf) → NoneChanged frames → (key : PageKey) → waiting_in frames key ≡ false
+none-waits frames none key = by (frames key) (none key)
+  where
+    by : (o : Option Frame) → ((frame : Frame) → o ≡ Some frame → frame.changed ≡ false) → is_changed o ≡ false
+    by None is = refl
+    by (Some frame) is = is frame refl
+
+-- ---- how many are written
+
+pub settles-rests : (waiting : Mapped) (writes : ℕ) → Settles waiting waiting writes writes
+settles-rests waiting writes = record { fewer = λ key is. is; each = λ keys has. (keys, has, omega arith) }
+
+pub settles-then : {before between after : Mapped} {writes writes_mid writes_now : ℕ} → Settles before between writes writes_mid → Settles between after writes_mid writes_now → Settles before after writes writes_now
+settles-then one two = record {
+  fewer = λ key is. one.fewer key (two.fewer key is);
+  each = λ keys has.
+      let first = one.each keys has in
+      let second = two.each first.0 first.1 in
+      (second.0, second.1, omega (arith, first.2, second.2));
+}
+
+apart : (waiting : Mapped) (key other : PageKey) → with_mapped waiting key false other ≡ true → key ≡ other → ⊥
+apart waiting key other is at =
+    let here : is_same other key ≡ true = ap (λ (k : PageKey). is_same k key) (sym at) ∙ is_same-itself key in
+    let no = sym (cond-true (is_same other key) false (waiting other) here) ∙ is in
+    cc
+
+left : (frames frames_now : FrameOf) (key : PageKey) (keys us vs : List PageKey) → waiting_in frames_now ≡ with_mapped (waiting_in frames) key false → HasEach keys (waiting_in frames) → keys ≡ us ++ key ∷ vs → HasEach (us ++ vs) (waiting_in frames_now)
+left frames frames_now key keys us vs now has is = λ other still.
+    let was = sym (ap (λ (w : Mapped). w other) now) ∙ still in
+    let there = has other (among-less (waiting_in frames) key other was) in
+    ⊎_elim (λ at. absurd (apart (waiting_in frames) key other was at)) (λ rest. rest) (Contains-without us key vs other (subst (λ (k : List PageKey). Contains k other) is there))
+
+-- a page that waited is written
+pub settles-one : (frames frames_now : FrameOf) (key : PageKey) (frame : Option Frame) (writes writes_now : ℕ) → waiting_in frames key ≡ true → frames_now ≡ with_frame frames key frame → is_changed frame ≡ false → writes_now ≤ writes + 1 → Settles (waiting_in frames) (waiting_in frames_now) writes writes_now
+settles-one frames frames_now key frame writes writes_now waits now clean few = record {
+  fewer = waits-less frames frames_now key frame now clean;
+  each = λ keys has.
+      let cut = Contains-cut keys key (has key waits) in
+      let long : length keys ≡ length (cut.0 ++ cut.1) + 1 = omega (arith, ap (λ (k : List PageKey). length k) cut.2, length-append cut.0 (key ∷ cut.1), length-append cut.0 cut.1) in
+      (cut.0 ++ cut.1, left frames frames_now key keys cut.0 cut.1 (waiting-now frames frames_now key frame now ∙ ap (with_mapped (waiting_in frames) key) clean) has cut.2, omega (arith, long, few));
+}
+
+-- of a list of the pages that wait one is written at most
+pub writes-one : (waiting : Mapped) (key : PageKey) (writes writes_now : ℕ) → waiting key ≡ true → writes_now ≤ writes + 1 → WritesWaiting waiting 0 writes writes_now
+writes-one waiting key writes writes_now waits few = λ keys has.
+    let there = has key waits in
+    omega (arith, few, there.1)
+
+pub settles-count : {waiting waiting_now : Mapped} {writes writes_now : ℕ} → Settles waiting waiting_now writes writes_now → WritesWaiting waiting 0 writes writes_now
+settles-count settles = λ keys has.
+    let rest = settles.each keys has in
+    omega (arith, rest.2)
+
+-- some are written, and then some others of those that wait
+pub settles-writes : {waiting waiting_mid : Mapped} {writes writes_mid writes_now : ℕ} → Settles waiting waiting_mid writes writes_mid → WritesWaiting waiting_mid 0 writes_mid writes_now → WritesWaiting waiting 0 writes writes_now
+settles-writes settles then = λ keys has.
+    let rest = settles.each keys has in
+    omega (arith, rest.2, then rest.0 rest.1)
