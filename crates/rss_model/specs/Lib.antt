@@ -19,3 +19,4 @@ pub mod Script
 pub mod Plays
 pub mod Store
 pub mod Turns
+pub mod Costs

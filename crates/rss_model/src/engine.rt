@@ -1,11 +1,12 @@
 // The engine as the lines of a script see it.
-ghost use Rattle.std.specs.Prelude.{◌≡◌, ◌≤◌, ℕ, length, Ok, Err, IsOk, IfOk, IsErrOf};
+ghost use Rattle.std.specs.Prelude.{◌≡◌, ◌+◌, ◌≤◌, ℕ, List, length, Ok, Err, IsOk, IfOk, IsErrOf};
 ghost use Rattle.rss_base.specs.Faults.{Rises};
 ghost use Rattle.rss_base.specs.DiskRule.{Disk, IsTold};
 ghost use Rattle.rss_model.specs.Machine.{State};
 ghost use Rattle.rss_model.specs.Store.{Opens};
 ghost use Rattle.rss_model.specs.Turns.{IsAnswered, IsStopped, IsUnmade};
 ghost use Rattle.rss_model.specs.ReplyText.{answer_line};
+ghost use Rattle.rss_model.specs.Costs.{most_asks, HasChanged, most_writes};
 ghost use Rattle.rss_base.specs.declared.answer.CallError.TheVariants.{Refused, Damaged};
 ghost use Rattle.rss_base.specs.declared.place.Place.{Place};
 ghost use Rattle.rss_base.specs.declared.refusal.Refusal.{Refusal};
@@ -20,8 +21,14 @@ pub trait Engine {
     /// The machine's state.
     ghost state: { Self → State };
 
-    /// No call has met a fault, and none ran out of memory on its way.
+    /// No call has met a fault, and none ran out of memory while it changed pages.
     ghost is_up: { Self → Type 0 };
+
+    /// How many pages were asked for, counted up to 2 ^ 64 - 1.
+    ghost asks: { Self → ℕ };
+
+    /// How many writes of the device there were, counted up to 2 ^ 64 - 1.
+    ghost writes: { Self → ℕ };
 
     /// How often the device has failed, counted up to 2 ^ 64 - 1.
     ghost faults: { Self → ℕ };
@@ -33,6 +40,10 @@ pub trait Engine {
         ensures refused { (why : Refusal) → result ≡ Err (Refused why) → is_up self.old → IsTold (disk self.old) → IsAnswered (disk self.old) (disk self.new) (state self.old) call.now (Err why) (state self.new) }
         ensures stopped { IsErrOf result CallError.Device → is_up self.old → IsTold (disk self.old) → IsStopped (disk self.old) (disk self.new) (state self.old) call.now }
         ensures unmade { IsErrOf result CallError.NoMemory → is_up self.old → IsTold (disk self.old) → IsUnmade (disk self.old) (disk self.new) (state self.old) (state self.new) }
+
+        // It touches few pages, and an end writes no page more than it must.
+        ensures asks { asks self.new ≤ asks self.old + most_asks call.now }
+        ensures writes { (pages : List ℕ) → HasChanged pages (state self.old).changes → writes self.new ≤ writes self.old + most_writes (length pages) (state self.old) call.now }
 
         // An answer's line is short.
         ensures reply_line { IfOk result (λ reply. length (answer_line (Ok reply)) ≤ 8192) }

@@ -7,6 +7,7 @@ pub mod Holding
 pub mod Checkpoints
 pub mod Engines
 pub mod Calls
+pub mod Costs
 pub mod Going
 pub mod FirstOwners
 pub mod Formats

@@ -10,5 +10,7 @@ pub mod HomePages
 pub mod Ready
 pub mod Held
 pub mod Sessions
+pub mod Costs
 pub mod StoreLaws
 pub mod Opening
+pub mod Parts

@@ -1,8 +1,9 @@
 // A checkpoint: the pages of a store are saved, and their map is selected.
-ghost use Rattle.std.specs.Prelude.{◌≡◌, ◌⊎◌, ◌↔◌, ◌-◌, ◌*◌, ◌<◌, ◌≤◌, ℤ, List, true, IfOk, OnOk, IsErrOf};
+ghost use Rattle.std.specs.Prelude.{◌≡◌, ◌⊎◌, ◌↔◌, ◌+◌, ◌-◌, ◌*◌, ◌<◌, ◌≤◌, ℤ, List, true, false, IfOk, OnOk, IsErrOf};
 ghost use Rattle.rss_base.specs.DiskRule.{Pages as DevicePages, IsTold, Passes};
-ghost use Rattle.rss_base.specs.Layout.{IsWellFormed};
-ghost use Rattle.rss_base.specs.Paged.{HasFixed, HasPageCause};
+ghost use Rattle.rss_base.specs.Layout.{map_pages, IsWellFormed};
+ghost use Rattle.rss_base.specs.Paged.{WritesWaiting, HasFixed, HasPageCause};
+ghost use Rattle.rss_base.specs.declared.key.PageKey.{PageKey as Key};
 ghost use Rattle.rss_model.specs.Store.{IsStore};
 ghost use Rattle.rss_shadow.specs.Maps.{pages_of, spare};
 ghost use Rattle.rss_store.specs.Ready.{CanCommit, other_area};
@@ -40,6 +41,9 @@ pub(crate) fn checkpoint<S: Saving>(
     ensures spare { OnOk result (S.spare_of pages.new ≡ spare (record { current = (S.maps pages.old).current; shadow = (S.maps pages.old).current })) }
     ensures backing { OnOk result (S.backing pages.new ≡ record { log_pages = (S.backing pages.old).log_pages; area = root.new.area; shadow = (S.maps pages.old).current }) }
     ensures settled { OnOk result (S.is_settled pages.new ≡ true) }
+    ensures asks { S.asks pages.new ≡ S.asks pages.old }
+    ensures waiting { OnOk result ((key : Key) → S.waiting pages.new key ≡ false) }
+    ensures writes { WritesWaiting (S.waiting pages.old) (map_pages (S.slots_of pages.old) + 2) (S.writes pages.old) (S.writes pages.new) }
     ensures told { IsTold (S.disk pages.old) ↔ IsTold (S.disk pages.new) }
     ensures cause { HasPageCause (S.disk pages.old) (S.faults pages.old) (S.faults pages.new) result }
 {

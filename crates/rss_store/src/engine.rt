@@ -1,7 +1,7 @@
 // A store that is open.
 ghost use Rattle.std.proofs.Props.{props};
 ghost use Rattle.rss_base.proofs.Props.{IsSegmentOf-prop};
-ghost use Rattle.std.specs.Prelude.{◌≡◌, ◌≤◌, ◌<◌, ℕ, length, true, false, Ok, Err, IsOk, IfOk, IsErrOf};
+ghost use Rattle.std.specs.Prelude.{◌≡◌, ◌+◌, ◌≤◌, ◌<◌, ℕ, List, length, true, false, Ok, Err, IsOk, IfOk, IsErrOf};
 ghost use Rattle.rss_base.specs.DiskRule.{IsTold};
 ghost use Rattle.rss_base.specs.Faults.{Rises};
 ghost use Rattle.rss_base.specs.declared.place.Place.{Place};
@@ -13,7 +13,10 @@ ghost use Rattle.rss_model.specs.Turns.{IsAnswered, IsStopped, IsUnmade};
 ghost use Rattle.rss_model.specs.ReplyText.{answer_line};
 ghost use Rattle.rss_model.specs.Store.{tables_of};
 ghost use Rattle.rss_store.specs.Ready.{IsReady};
+ghost use Rattle.rss_model.specs.Costs.{most_asks, HasChanged, most_writes};
 ghost use Rattle.rss_store.specs.HomePages.{values_in};
+ghost use Rattle.rss_store.specs.Costs.{WaitsOnly};
+ghost use Rattle.rss_base.specs.declared.key.PageKey.{PageKey as Key};
 
 use crate::checkpoint::checkpoint;
 use crate::session::Session;
@@ -32,21 +35,23 @@ pub struct Store<S: Saving> {
     root: Root,
     number: u8,
     session: Session,
-    /// A call has met a fault, or one that changes the pages ran out of memory on its way.
+    /// A call has met a fault, or ran out of memory while it changed pages.
     down: bool,
     alloc: Global,
     ghost ready: { down ≡ false → IsReady (S.disk pages) (S.slots_of pages) (S.spare_of pages) (S.mapped pages) (S.held pages) (S.backing pages) (S.fixed pages) (S.is_settled pages) number root session.committed session.count } by { Prim.hlevel (props, IsSegmentOf-prop) },
     ghost size: { session.slots ≡ root.slots },
+    ghost waits: { down ≡ false → WaitsOnly (S.waiting pages) session.committed session.count },
 }
 
 impl<S: Saving> Store<S> {
-    ghost use Rattle.rss_store.specs.Sessions.{state};
+    ghost use Rattle.rss_store.specs.Parts.{pages_of, machine};
 
     /// The store of so many tuples in these pages, all committed.
     pub(crate) fn new(alloc: Global, pages: S, root: Root, number: u8, count: u32) -> Self
-        requires { IsReady (S.disk pages) (S.slots_of pages) (S.spare_of pages) (S.mapped pages) (S.held pages) (S.backing pages) (S.fixed pages) (S.is_settled pages) number root count count }
+        requires ready { IsReady (S.disk pages) (S.slots_of pages) (S.spare_of pages) (S.mapped pages) (S.held pages) (S.backing pages) (S.fixed pages) (S.is_settled pages) number root count count }
+        requires none_waits { (key : Key) → S.waiting pages key ≡ false }
         ensures pages { result.pages ≡ pages }
-        ensures state { state result.session (values_in (S.held result.pages) result.session.count) ≡ at_rest root.slots (tables_of (values_in (S.held pages) count)) }
+        ensures state { machine result ≡ at_rest root.slots (tables_of (values_in (S.held pages) count)) }
         ensures up { result.down ≡ false }
     {
         let session = Session::new(root.slots, count);
@@ -68,10 +73,12 @@ impl<S: Saving> Store<S> {
         tuple: &Tuple,
     ) -> Result<Reply, CallError>
         requires { self.old.down ≡ false }
-        ensures ok { IfOk result (λ reply. IsTold (S.disk self.old.pages) → IsAnswered (S.disk self.old.pages) (S.disk self.new.pages) (state self.old.session (values_in (S.held self.old.pages) self.old.session.count)) (Insert transaction relation.now tuple.now) (Ok reply) (state self.new.session (values_in (S.held self.new.pages) self.new.session.count))) }
-        ensures refused { (why : AnyRefusal) → result ≡ Err (Refused why) → IsTold (S.disk self.old.pages) → IsAnswered (S.disk self.old.pages) (S.disk self.new.pages) (state self.old.session (values_in (S.held self.old.pages) self.old.session.count)) (Insert transaction relation.now tuple.now) (Err why) (state self.new.session (values_in (S.held self.new.pages) self.new.session.count)) }
-        ensures stopped { IsErrOf result CallError.Device → IsTold (S.disk self.old.pages) → IsStopped (S.disk self.old.pages) (S.disk self.new.pages) (state self.old.session (values_in (S.held self.old.pages) self.old.session.count)) (Insert transaction relation.now tuple.now) }
-        ensures unmade { IsErrOf result CallError.NoMemory → IsTold (S.disk self.old.pages) → IsUnmade (S.disk self.old.pages) (S.disk self.new.pages) (state self.old.session (values_in (S.held self.old.pages) self.old.session.count)) (state self.new.session (values_in (S.held self.new.pages) self.new.session.count)) }
+        ensures ok { IfOk result (λ reply. IsTold (S.disk self.old.pages) → IsAnswered (S.disk self.old.pages) (S.disk self.new.pages) (machine self.old) (Insert transaction relation.now tuple.now) (Ok reply) (machine self.new)) }
+        ensures refused { (why : AnyRefusal) → result ≡ Err (Refused why) → IsTold (S.disk self.old.pages) → IsAnswered (S.disk self.old.pages) (S.disk self.new.pages) (machine self.old) (Insert transaction relation.now tuple.now) (Err why) (machine self.new) }
+        ensures stopped { IsErrOf result CallError.Device → IsTold (S.disk self.old.pages) → IsStopped (S.disk self.old.pages) (S.disk self.new.pages) (machine self.old) (Insert transaction relation.now tuple.now) }
+        ensures unmade { IsErrOf result CallError.NoMemory → IsTold (S.disk self.old.pages) → IsUnmade (S.disk self.old.pages) (S.disk self.new.pages) (machine self.old) (machine self.new) }
+        ensures asks { S.asks self.new.pages ≤ S.asks self.old.pages + most_asks (Insert transaction relation.now tuple.now) }
+        ensures writes { (pages : List ℕ) → HasChanged pages (machine self.old).changes → S.writes self.new.pages ≤ S.writes self.old.pages + most_writes (length pages) (machine self.old) (Insert transaction relation.now tuple.now) }
         ensures reply_line { IfOk result (λ reply. length (answer_line (Ok reply)) ≤ 8192) }
         ensures refusal_line { (why : AnyRefusal) → result ≡ Err (Refused why) → length (answer_line (Err why)) ≤ 8192 }
         ensures down { IsErrOf result CallError.Down → ⊥ }
@@ -98,10 +105,12 @@ impl<S: Saving> Store<S> {
     /// Gives a tuple.
     fn fetch(&mut self, transaction: u32, relation: &Name, tid: Tid) -> Result<Reply, CallError>
         requires { self.old.down ≡ false }
-        ensures ok { IfOk result (λ reply. IsTold (S.disk self.old.pages) → IsAnswered (S.disk self.old.pages) (S.disk self.new.pages) (state self.old.session (values_in (S.held self.old.pages) self.old.session.count)) (Fetch transaction relation.now tid) (Ok reply) (state self.new.session (values_in (S.held self.new.pages) self.new.session.count))) }
-        ensures refused { (why : AnyRefusal) → result ≡ Err (Refused why) → IsTold (S.disk self.old.pages) → IsAnswered (S.disk self.old.pages) (S.disk self.new.pages) (state self.old.session (values_in (S.held self.old.pages) self.old.session.count)) (Fetch transaction relation.now tid) (Err why) (state self.new.session (values_in (S.held self.new.pages) self.new.session.count)) }
-        ensures stopped { IsErrOf result CallError.Device → IsTold (S.disk self.old.pages) → IsStopped (S.disk self.old.pages) (S.disk self.new.pages) (state self.old.session (values_in (S.held self.old.pages) self.old.session.count)) (Fetch transaction relation.now tid) }
-        ensures unmade { IsErrOf result CallError.NoMemory → IsTold (S.disk self.old.pages) → IsUnmade (S.disk self.old.pages) (S.disk self.new.pages) (state self.old.session (values_in (S.held self.old.pages) self.old.session.count)) (state self.new.session (values_in (S.held self.new.pages) self.new.session.count)) }
+        ensures ok { IfOk result (λ reply. IsTold (S.disk self.old.pages) → IsAnswered (S.disk self.old.pages) (S.disk self.new.pages) (machine self.old) (Fetch transaction relation.now tid) (Ok reply) (machine self.new)) }
+        ensures refused { (why : AnyRefusal) → result ≡ Err (Refused why) → IsTold (S.disk self.old.pages) → IsAnswered (S.disk self.old.pages) (S.disk self.new.pages) (machine self.old) (Fetch transaction relation.now tid) (Err why) (machine self.new) }
+        ensures stopped { IsErrOf result CallError.Device → IsTold (S.disk self.old.pages) → IsStopped (S.disk self.old.pages) (S.disk self.new.pages) (machine self.old) (Fetch transaction relation.now tid) }
+        ensures unmade { IsErrOf result CallError.NoMemory → IsTold (S.disk self.old.pages) → IsUnmade (S.disk self.old.pages) (S.disk self.new.pages) (machine self.old) (machine self.new) }
+        ensures asks { S.asks self.new.pages ≤ S.asks self.old.pages + most_asks (Fetch transaction relation.now tid) }
+        ensures writes { (pages : List ℕ) → HasChanged pages (machine self.old).changes → S.writes self.new.pages ≤ S.writes self.old.pages + most_writes (length pages) (machine self.old) (Fetch transaction relation.now tid) }
         ensures reply_line { IfOk result (λ reply. length (answer_line (Ok reply)) ≤ 8192) }
         ensures refusal_line { (why : AnyRefusal) → result ≡ Err (Refused why) → length (answer_line (Err why)) ≤ 8192 }
         ensures down { IsErrOf result CallError.Down → ⊥ }
@@ -134,10 +143,12 @@ impl<S: Saving> Store<S> {
     /// Ends a transaction. Where it inserted nothing, nothing is written.
     fn end(&mut self, transaction: u32) -> Result<Reply, CallError>
         requires { self.old.down ≡ false }
-        ensures ok { IfOk result (λ reply. IsTold (S.disk self.old.pages) → IsAnswered (S.disk self.old.pages) (S.disk self.new.pages) (state self.old.session (values_in (S.held self.old.pages) self.old.session.count)) (End transaction) (Ok reply) (state self.new.session (values_in (S.held self.new.pages) self.new.session.count))) }
-        ensures refused { (why : AnyRefusal) → result ≡ Err (Refused why) → IsTold (S.disk self.old.pages) → IsAnswered (S.disk self.old.pages) (S.disk self.new.pages) (state self.old.session (values_in (S.held self.old.pages) self.old.session.count)) (End transaction) (Err why) (state self.new.session (values_in (S.held self.new.pages) self.new.session.count)) }
-        ensures stopped { IsErrOf result CallError.Device → IsTold (S.disk self.old.pages) → IsStopped (S.disk self.old.pages) (S.disk self.new.pages) (state self.old.session (values_in (S.held self.old.pages) self.old.session.count)) (End transaction) }
-        ensures unmade { IsErrOf result CallError.NoMemory → IsTold (S.disk self.old.pages) → IsUnmade (S.disk self.old.pages) (S.disk self.new.pages) (state self.old.session (values_in (S.held self.old.pages) self.old.session.count)) (state self.new.session (values_in (S.held self.new.pages) self.new.session.count)) }
+        ensures ok { IfOk result (λ reply. IsTold (S.disk self.old.pages) → IsAnswered (S.disk self.old.pages) (S.disk self.new.pages) (machine self.old) (End transaction) (Ok reply) (machine self.new)) }
+        ensures refused { (why : AnyRefusal) → result ≡ Err (Refused why) → IsTold (S.disk self.old.pages) → IsAnswered (S.disk self.old.pages) (S.disk self.new.pages) (machine self.old) (End transaction) (Err why) (machine self.new) }
+        ensures stopped { IsErrOf result CallError.Device → IsTold (S.disk self.old.pages) → IsStopped (S.disk self.old.pages) (S.disk self.new.pages) (machine self.old) (End transaction) }
+        ensures unmade { IsErrOf result CallError.NoMemory → IsTold (S.disk self.old.pages) → IsUnmade (S.disk self.old.pages) (S.disk self.new.pages) (machine self.old) (machine self.new) }
+        ensures asks { S.asks self.new.pages ≤ S.asks self.old.pages + most_asks (End transaction) }
+        ensures writes { (pages : List ℕ) → HasChanged pages (machine self.old).changes → S.writes self.new.pages ≤ S.writes self.old.pages + most_writes (length pages) (machine self.old) (End transaction) }
         ensures reply_line { IfOk result (λ reply. length (answer_line (Ok reply)) ≤ 8192) }
         ensures refusal_line { (why : AnyRefusal) → result ≡ Err (Refused why) → length (answer_line (Err why)) ≤ 8192 }
         ensures down { IsErrOf result CallError.Down → ⊥ }
@@ -166,7 +177,7 @@ impl<S: Saving> Store<S> {
 
     /// The pages, as the last call left them.
     pub fn into_pages(self) -> S
-        ensures { result ≡ self.pages }
+        ensures { result ≡ pages_of self }
     {
         let Store {
             pages,
@@ -183,15 +194,18 @@ impl<S: Saving> Store<S> {
 impl<S: Saving> Engine for Store<S> {
     ghost use Rattle.std.specs.Prelude.{◌≡◌, false};
     ghost use Rattle.rss_base.specs.DiskRule.{IsTold};
-    ghost use Rattle.rss_store.specs.HomePages.{values_in};
-    ghost use Rattle.rss_store.specs.Sessions.{state};
+    ghost use Rattle.rss_store.specs.Parts.{machine};
     ghost use Rattle.rss_store.specs.StoreLaws.{opens_ready};
 
     ghost disk = { λ e. S.disk e.pages };
 
-    ghost state = { λ e. state e.session (values_in (S.held e.pages) e.session.count) };
+    ghost state = { λ e. machine e };
 
     ghost is_up = { λ e. e.down ≡ false };
+
+    ghost asks = { λ e. S.asks e.pages };
+
+    ghost writes = { λ e. S.writes e.pages };
 
     ghost faults = { λ e. S.faults e.pages };
 

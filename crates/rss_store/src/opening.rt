@@ -1,9 +1,10 @@
 // The opening of a store.
-ghost use Rattle.std.specs.Prelude.{◌≡◌, ◌⊎◌, ◌↔◌, ◌*◌, ◌<◌, ◌≤◌, length, IsTrue, IfSome, IfNone, IfOk, IfErr, OnOk, IsErrOf, Some};
+ghost use Rattle.std.specs.Prelude.{◌≡◌, ◌⊎◌, ◌↔◌, ◌*◌, ◌<◌, ◌≤◌, length, false, IsTrue, IfSome, IfNone, IfOk, IfErr, OnOk, IsErrOf, Some};
 ghost use Rattle.rss_base.specs.DiskRule.{Pages as DevicePages, Told, IsTold, Leaves, LeavesOnly, Passes};
 ghost use Rattle.rss_base.specs.Faults.{Rises};
 ghost use Rattle.rss_base.specs.Layout.{device_pages, map_at, IsWellFormed, HasRoot};
 ghost use Rattle.rss_base.specs.PageMap.{IsTable, IsMap};
+ghost use Rattle.rss_base.specs.declared.key.PageKey.{PageKey as Key};
 ghost use Rattle.rss_base.specs.declared.fault.OpenFault.TheVariants.{Device as DeviceFailed, NotAStore as Unsound, Damaged as IsDamaged, NoMemory as LacksMemory, WrongSize as NoSize};
 ghost use Rattle.rss_base.specs.declared.place.Place.{Place as AnyPlace};
 ghost use Rattle.rss_base.specs.declared.place.Place.TheVariants.{Room as NoRoom};
@@ -143,6 +144,7 @@ fn pages_of_found<D: Device>(
     ensures ready { IfOk result (λ o. IsReady (⟦<Buffer<D> as Pages>⟧.disk o.pages) (⟦<Buffer<D> as Pages>⟧.slots_of o.pages) (⟦<Buffer<D> as Pages>⟧.spare_of o.pages) (⟦<Buffer<D> as Pages>⟧.mapped o.pages) (⟦<Buffer<D> as Pages>⟧.held o.pages)
         (⟦<Buffer<D> as Pages>⟧.backing o.pages) (⟦<Buffer<D> as Pages>⟧.fixed o.pages) (⟦<Buffer<D> as Pages>⟧.is_settled o.pages) o.number o.root o.count o.count) }
     ensures store { IfOk result (λ o. Told (D.disk device) (λ pages. IsStore pages o.number o.root (⟦<Buffer<D> as Pages>⟧.backing o.pages).shadow (values_in (⟦<Buffer<D> as Pages>⟧.held o.pages) o.count))) }
+    ensures none_waits { IfOk result (λ o. (key : Key) → ⟦<Buffer<D> as Pages>⟧.waiting o.pages key ≡ false) }
     ensures back { IfErr result (λ e. e.device ≡ device) }
     ensures refused { IfErr result (λ e. Told (D.disk device) (λ pages. IsRefused pages e.fault)) }
     ensures wrong_size { IfErr result (λ e. e.fault ≡ NoSize → ⊥) }
@@ -183,12 +185,13 @@ fn open_pages<D: Device>(alloc: Global, device: D) -> Result<Opened<D>, Unopened
     ensures ready { IfOk result (λ o. IsReady (⟦<Buffer<D> as Pages>⟧.disk o.pages) (⟦<Buffer<D> as Pages>⟧.slots_of o.pages) (⟦<Buffer<D> as Pages>⟧.spare_of o.pages) (⟦<Buffer<D> as Pages>⟧.mapped o.pages) (⟦<Buffer<D> as Pages>⟧.held o.pages)
         (⟦<Buffer<D> as Pages>⟧.backing o.pages) (⟦<Buffer<D> as Pages>⟧.fixed o.pages) (⟦<Buffer<D> as Pages>⟧.is_settled o.pages) o.number o.root o.count o.count) }
     ensures store { IfOk result (λ o. Told (D.disk device) (λ pages. IsStore pages o.number o.root (⟦<Buffer<D> as Pages>⟧.backing o.pages).shadow (values_in (⟦<Buffer<D> as Pages>⟧.held o.pages) o.count))) }
+    ensures none_waits { IfOk result (λ o. (key : Key) → ⟦<Buffer<D> as Pages>⟧.waiting o.pages key ≡ false) }
 
     // A stop afterwards leaves what a read gives.
     ensures only { IfOk result (λ o. Told (D.disk device) (LeavesOnly (⟦<Buffer<D> as Pages>⟧.disk o.pages))) }
     ensures contents { IfOk result (λ o. (⟦<Buffer<D> as Pages>⟧.disk o.pages).contents ≡ (D.disk device).contents) }
     ensures moments { IfOk result (λ o. IsTold (D.disk device) → Passes (D.disk device) (⟦<Buffer<D> as Pages>⟧.disk o.pages) (Leaves (D.disk device))) }
-    ensures writes { IfOk result (λ o. D.writes o.pages.device ≡ D.writes device) }
+    ensures writes { IfOk result (λ o. ⟦<Buffer<D> as Pages>⟧.writes o.pages ≡ D.writes device) }
     ensures later { IfOk result (λ o. D.faults device ≤ ⟦<Buffer<D> as Pages>⟧.faults o.pages) }
 
     // What is out of form, or no store, is refused at its place.
@@ -224,7 +227,7 @@ pub fn open<D: Device>(alloc: Global, device: D) -> Result<Store<Buffer<D>>, Uno
     ensures opens { IfOk result (λ store. IsTold (⟦<Store<Buffer<D>> as Engine>⟧.disk store) → Opens (⟦<Store<Buffer<D>> as Engine>⟧.disk store) (⟦<Store<Buffer<D>> as Engine>⟧.state store).slots (⟦<Store<Buffer<D>> as Engine>⟧.state store).base) }
     ensures up { IfOk result ⟦<Store<Buffer<D>> as Engine>⟧.is_up }
     ensures moments { IfOk result (λ store. IsTold (D.disk device) → Passes (D.disk device) (⟦<Store<Buffer<D>> as Engine>⟧.disk store) (Leaves (D.disk device))) }
-    ensures writes { IfOk result (λ store. D.writes store.pages.device ≡ D.writes device) }
+    ensures writes { IfOk result (λ store. ⟦<Store<Buffer<D>> as Engine>⟧.writes store ≡ D.writes device) }
     ensures told { IfOk result (λ store. IsTold (D.disk device) ↔ IsTold (⟦<Store<Buffer<D>> as Engine>⟧.disk store)) }
     ensures later { IfOk result (λ store. D.faults device ≤ ⟦<Store<Buffer<D>> as Engine>⟧.faults store) }
     ensures unbroken { IfOk result (λ store. (place : AnyPlace) → Told (D.disk device) (λ pages. IsBrokenAt place pages → ⊥)) }
@@ -237,6 +240,7 @@ pub fn open<D: Device>(alloc: Global, device: D) -> Result<Store<Buffer<D>>, Uno
     ensures overfull { IfErr result (λ e. Told (D.disk device) (λ pages. IsOverfull pages → (e.fault ≡ IsDamaged NoRoom) ⊎ (e.fault ≡ DeviceFailed) ⊎ (e.fault ≡ LacksMemory))) }
     ensures size { IfErr result (λ e. e.fault ≡ NoSize → ⊥) }
     ensures cause { IfErr result (λ e. e.fault ≡ DeviceFailed → Rises (D.faults device) (D.faults e.device)) }
+    ensures contents_back { IfErr result (λ e. (D.disk e.device).contents ≡ (D.disk device).contents) }
     ensures moments_back { IfErr result (λ e. IsTold (D.disk device) → Passes (D.disk device) (D.disk e.device) (Leaves (D.disk device))) }
     ensures writes_back { IfErr result (λ e. D.writes e.device ≡ D.writes device) }
     ensures told_back { IfErr result (λ e. IsTold (D.disk device) ↔ IsTold (D.disk e.device)) }

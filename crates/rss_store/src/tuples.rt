@@ -1,7 +1,7 @@
 // The tuples of a store in its pages, one behind the other.
-ghost use Rattle.std.specs.Prelude.{◌≡◌, ◌+◌, ◌/◌, ◌%◌, ◌<◌, ◌++◌, ◌∷◌, [], ℕ, ℤ, List, length, true, IfOk, OnOk, OnErr};
+ghost use Rattle.std.specs.Prelude.{◌≡◌, ◌+◌, ◌/◌, ◌%◌, ◌<◌, ◌≤◌, ◌++◌, ◌∷◌, [], ℕ, ℤ, List, length, true, IfOk, OnOk, OnErr};
 ghost use Rattle.rss_base.specs.DiskRule.{IsTold};
-ghost use Rattle.rss_base.specs.Paged.{page_key, LeavesFixed, HasPageCause};
+ghost use Rattle.rss_base.specs.Paged.{page_key, with_mapped, AreAmong, LeavesFixed, HasPageCause};
 ghost use Rattle.rss_base.specs.declared.key.PageKey.{PageKey as Key};
 ghost use Rattle.rss_base.specs.declared.key.Space.TheVariants.{Home};
 ghost use Rattle.rss_model.specs.Store.{home_pages, store_pages, HoldsTuples};
@@ -47,6 +47,9 @@ pub(crate) fn fetch<P: Pages>(pages: &mut P, place: u32) -> Result<i64, PageFaul
     ensures spare { P.spare_of pages.new ≡ P.spare_of pages.old }
     ensures slots { P.slots_of pages.new ≡ P.slots_of pages.old }
     ensures backing { P.backing pages.new ≡ P.backing pages.old }
+    ensures asks { P.asks pages.new ≤ P.asks pages.old + 1 }
+    ensures writes { P.writes pages.new ≤ P.writes pages.old + 1 }
+    ensures waiting { AreAmong (P.waiting pages.new) (P.waiting pages.old) }
     ensures leaves { LeavesFixed (P.is_settled pages.old ≡ true) (P.is_settled pages.new ≡ true) (P.disk pages.old) (P.disk pages.new) (P.fixed pages.old) (P.fixed pages.new) }
     ensures cause { HasPageCause (P.disk pages.old) (P.faults pages.old) (P.faults pages.new) result }
 {
@@ -66,6 +69,9 @@ pub(crate) fn append<P: Pages>(pages: &mut P, count: u32, value: i64) -> Result<
     ensures spare { OnOk result (P.spare_of pages.new + home_pages (count + 1) ≡ P.spare_of pages.old + home_pages count) }
     ensures slots { P.slots_of pages.new ≡ P.slots_of pages.old }
     ensures backing { P.backing pages.new ≡ P.backing pages.old }
+    ensures asks { P.asks pages.new ≤ P.asks pages.old + 1 }
+    ensures writes { P.writes pages.new ≤ P.writes pages.old + 2 }
+    ensures waiting { AreAmong (P.waiting pages.new) (with_mapped (P.waiting pages.old) (page_key 1 Home (count / 128)) true) }
     ensures leaves { LeavesFixed (P.is_settled pages.old ≡ true) (P.is_settled pages.new ≡ true) (P.disk pages.old) (P.disk pages.new) (P.fixed pages.old) (P.fixed pages.new) }
     ensures cause { HasPageCause (P.disk pages.old) (P.faults pages.old) (P.faults pages.new) result }
 {
@@ -88,6 +94,9 @@ fn append_page<P: Pages>(pages: &mut P, count: u32, value: i64) -> Result<(), Pa
     ensures spare { OnOk result (P.spare_of pages.new + home_pages (count + 1) ≡ P.spare_of pages.old + home_pages count) }
     ensures slots { P.slots_of pages.new ≡ P.slots_of pages.old }
     ensures backing { P.backing pages.new ≡ P.backing pages.old }
+    ensures asks { P.asks pages.new ≤ P.asks pages.old + 1 }
+    ensures writes { P.writes pages.new ≤ P.writes pages.old + 2 }
+    ensures waiting { AreAmong (P.waiting pages.new) (with_mapped (P.waiting pages.old) (page_key 1 Home (count / 128)) true) }
     ensures leaves { LeavesFixed (P.is_settled pages.old ≡ true) (P.is_settled pages.new ≡ true) (P.disk pages.old) (P.disk pages.new) (P.fixed pages.old) (P.fixed pages.new) }
     ensures cause { HasPageCause (P.disk pages.old) (P.faults pages.old) (P.faults pages.new) result }
 {
@@ -109,6 +118,9 @@ fn append_to_page<P: Pages>(pages: &mut P, count: u32, value: i64) -> Result<(),
     ensures spare { OnOk result (P.spare_of pages.new + home_pages (count + 1) ≡ P.spare_of pages.old + home_pages count) }
     ensures slots { P.slots_of pages.new ≡ P.slots_of pages.old }
     ensures backing { P.backing pages.new ≡ P.backing pages.old }
+    ensures asks { P.asks pages.new ≤ P.asks pages.old + 1 }
+    ensures writes { P.writes pages.new ≤ P.writes pages.old + 2 }
+    ensures waiting { AreAmong (P.waiting pages.new) (with_mapped (P.waiting pages.old) (page_key 1 Home (count / 128)) true) }
     ensures leaves { LeavesFixed (P.is_settled pages.old ≡ true) (P.is_settled pages.new ≡ true) (P.disk pages.old) (P.disk pages.new) (P.fixed pages.old) (P.fixed pages.new) }
     ensures cause { HasPageCause (P.disk pages.old) (P.faults pages.old) (P.faults pages.new) result }
 {

@@ -18,6 +18,7 @@ use Rattle.rss_store.specs.Sessions.{state}
 use Rattle.rss_store.proofs.HomePages.{length_values}
 use Rattle.rss_store.proofs.Calls.{end_refused, end_step}
 use Rattle.rss_store.proofs.Engines.{can_commit, half, ready_saved, stores_open, committed_open, all_front}
+use Rattle.rss_store.proofs.Costs.{waits_none, end_writes}
 use Rattle.rss_store.proofs.engine.Store.end.Goals as goal
 
 pub returns-then-ne-clause-refused : goal.returns-then-ne-clause-refused
@@ -91,6 +92,7 @@ invariant_of-self-2 g c =
       ready = λ up. ready_saved ready (g.S.Saving.maps store.pages).current ended.committed ended.count (g.met.S.Saving.is_table store.pages) (g.met.S.Saving.is_mapped store.pages) (g.met.S.Saving.are_slots store.pages) saved.root saved.number saved.slots saved.spare saved.mapped saved.backing saved.settled saved.told.1 saved.held
           (λ told. saved.fixes told (take session.committed values) values (can_commit ready told));
       size = ended.slots ∙ store.size ∙ ap (λ (r : Root). r.slots) (sym saved.root);
+      waits = λ up. waits_none saved.waiting;
     }
 
 pub returns-clause-ok : goal.returns-clause-ok
@@ -109,3 +111,19 @@ returns-clause-ok g c = λ told.
       moments = subst (λ (l : List ℤ). Passes (g.S.Pages.disk store.pages) (g.S.Pages.disk c.checkpoint.new.pages) (OpensToEither session.slots (tables_of (take session.committed values)) (tables_of l))) front
           (stores_open ready store.size saved.root (saved.moments told (take session.committed values) values (can_commit ready told)));
     }
+
+pub returns-in_err-self-clause-writes : goal.returns-in_err-self-clause-writes
+returns-in_err-self-clause-writes g c =
+    let store = c.args.self.now in
+    let session = store.session in
+    let is : session.transaction ≡ Some c.args.transaction = search rules in
+    let other : session.committed ≢ session.count = search rules in
+    end_writes (values_in (g.S.Pages.held store.pages) session.count) _ _ c.args.transaction is (length_values (g.S.Pages.held store.pages) session.count) ((store.ready c.requires).size ∙ sym store.size) (omega (arith, other, session.within)) (store.waits c.requires) c.in_err-self.ensures.writes
+
+pub returns-clause-writes : goal.returns-clause-writes
+returns-clause-writes g c =
+    let store = c.args.self.now in
+    let session = store.session in
+    let is : session.transaction ≡ Some c.args.transaction = search rules in
+    let other : session.committed ≢ session.count = search rules in
+    end_writes (values_in (g.S.Pages.held store.pages) session.count) _ _ c.args.transaction is (length_values (g.S.Pages.held store.pages) session.count) ((store.ready c.requires).size ∙ sym store.size) (omega (arith, other, session.within)) (store.waits c.requires) c.in_ok-self.ensures.writes

@@ -15,6 +15,7 @@ use Rattle.rss_store.specs.HomePages.{value_at, values_in}
 use Rattle.rss_store.specs.Sessions.{state}
 use Rattle.rss_store.proofs.HomePages.{length_values}
 use Rattle.rss_store.proofs.Engines.{value_there, calls_open, ready_read}
+use Rattle.rss_store.proofs.Costs.{waits_among}
 use Rattle.rss_store.proofs.engine.Store.fetch.Goals as goal
 
 pub returns-in-Err-clause-refused : goal.returns-in-Err-clause-refused
@@ -34,6 +35,7 @@ invariant_of-self g c =
     record {
       ready = λ up. ready_read (store.ready up) read.leaves read.slots read.backing read.mapped read.spare read.held;
       size = store.size;
+      waits = λ up. waits_among read.waiting (store.waits up);
     }
 
 pub returns-in-Err-fetch-clause-stopped : goal.returns-in-Err-fetch-clause-stopped
@@ -72,3 +74,22 @@ pub returns-in-Ok-single-clause-reply_line : goal.returns-in-Ok-single-clause-re
 returns-in-Ok-single-clause-reply_line g c =
     let fits : FitsSigned w64 c.in-Ok-fetch.value = search rules in
     rw (c.in-Ok-single.ensures, to_z-of_z w64 c.in-Ok-fetch.value fits) (tuple_line c.in-Ok-fetch.value fits)
+
+pub invariant_of-self-in-Err-fetch : goal.invariant_of-self-in-Err-fetch
+invariant_of-self-in-Err-fetch g c =
+    let store = c.args.self.now in
+    let read = c.in-Err-fetch.ensures in
+    record {
+      ready = λ up. ready_read (store.ready c.requires) read.leaves read.slots read.backing read.mapped read.spare read.held;
+      size = store.size;
+      waits = λ up. waits_among read.waiting (store.waits c.requires);
+    }
+
+pub returns-in-Err-single-clause-unmade : goal.returns-in-Err-single-clause-unmade
+returns-in-Err-single-clause-unmade g c = λ lacks told.
+    let store = c.args.self.now in
+    let read = c.in-Ok-fetch.ensures in
+    record {
+      state = ap (λ (h : Held). state store.session (values_in h store.session.count)) (read.held told);
+      moments = calls_open (store.ready c.requires) store.size told read.leaves;
+    }

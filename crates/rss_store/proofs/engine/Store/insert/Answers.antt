@@ -16,6 +16,7 @@ use Rattle.rss_store.specs.Sessions.{state}
 use Rattle.rss_store.proofs.HomePages.{length_values}
 use Rattle.rss_store.proofs.Calls.{insert_step}
 use Rattle.rss_store.proofs.Engines.{values_same, calls_open, ready_put, values_now}
+use Rattle.rss_store.proofs.Costs.{waits_inserted}
 use Rattle.rss_store.proofs.engine.Store.insert.Goals as goal
 
 pub returns-in-Err-clause-refused : goal.returns-in-Err-clause-refused
@@ -68,6 +69,7 @@ invariant_of-self-2 g c =
     record {
       ready = λ up. ready_put (store.ready c.requires) append.leaves append.slots append.backing z fits counted.count puts counted.committed room append.mapped append.spare;
       size = counted.slots ∙ store.size;
+      waits = λ up. rw (counted.committed, counted.count) (waits_inserted session.within append.waiting (store.waits c.requires));
     }
 
 pub returns-clause-ok : goal.returns-clause-ok

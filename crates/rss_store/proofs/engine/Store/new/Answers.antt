@@ -12,5 +12,5 @@ returns-clause-state g c =
     let values = values_in held c.args.count in
     let long = length_values held c.args.count in
     let session = c.new-session.ensures in
-    let fits : home_pages (length values) ≤ c.args.root.slots = omega (arith, long, c.requires.room) in
+    let fits : home_pages (length values) ≤ c.args.root.slots = omega (arith, long, c.requires.ready.room) in
     (λ i. state_of (session.slots i) (session.transaction i) (session.committed i) (values_in held (session.count i))) ∙ rests c.args.root.slots c.args.count values (sym long) fits
