@@ -1,6 +1,9 @@
 // Pages over a device and in memory, as they run.
+use crate::asserts::{assert_same, assert_same_slices};
 use crate::caller::keep;
-use crate::harness::{first_root, home, is_half_free, pages_with_root};
+use crate::harness::{
+    failing_at, first_root, home, image_at, is_half_free, page_at, pages_with_root,
+};
 use rss_base::{Page, PageFault, PageKey, Pages, Space, log_at};
 use rss_buffer::{Buffer, Saving, Stage};
 use rss_device::{MemDevice, MemPages, Unsynced};
@@ -44,70 +47,29 @@ const UNSYNCED: [Unsynced; 4] = [
     Unsynced::Filled(255),
 ];
 
-#[derive(Clone, Copy, Debug)]
+/// Why something wasn't done to pages.
+#[derive(Clone, Copy, Debug, PartialEq)]
+enum Undone {
+    Fault(PageFault),
+    /// It may not be done, for this reason.
+    Refused(&'static str),
+}
+
+impl From<PageFault> for Undone {
+    fn from(fault: PageFault) -> Self {
+        Undone::Fault(fault)
+    }
+}
+
+/// A step of a save.
+#[derive(Clone, Copy)]
 enum Step {
-    Take,
-    Read(u32),
-    Write(u32, u8),
-    Give(u32),
     /// Fills a log page with a byte.
     Piece(u32, u8),
     Save(u8),
     /// From the root of this number to one with this area.
     Switch(u8, u8),
     Adopt,
-}
-
-/// A page of these numbers.
-fn page_of(number: u32, round: u8) -> Page {
-    let mut page = [round; 4096];
-    let [.., low] = number.to_be_bytes();
-    page[0] = low;
-    page[4095] = low;
-    page
-}
-
-/// In the second round 25 pages are read, 30 are written, five are given back, and two of these are
-/// taken and written again.
-fn second_round() -> Rounds {
-    let mut rounds = FIRST_ROUND;
-    for number in 0..30 {
-        rounds[number] = Some(2);
-    }
-    for number in 30..32 {
-        rounds[number] = Some(3);
-    }
-    for number in 32..35 {
-        rounds[number] = None;
-    }
-    rounds
-}
-
-fn steps_of_first_round(alloc: Global) -> Result<Vec<Step>, Fail> {
-    let mut steps = Vec::new(alloc);
-    for number in 0..KEPT as u32 {
-        steps.push(Step::Take)?;
-        steps.push(Step::Write(number, 1))?;
-    }
-    Ok(steps)
-}
-
-fn steps_of_second_round(alloc: Global) -> Result<Vec<Step>, Fail> {
-    let mut steps = Vec::new(alloc);
-    for number in 35..KEPT as u32 {
-        steps.push(Step::Read(number))?;
-    }
-    for number in 0..30 {
-        steps.push(Step::Write(number, 2))?;
-    }
-    for number in 30..35 {
-        steps.push(Step::Give(number))?;
-    }
-    for number in 30..32 {
-        steps.push(Step::Take)?;
-        steps.push(Step::Write(number, 3))?;
-    }
-    Ok(steps)
 }
 
 /// The steps that save the first round, and those that save the second.
@@ -123,6 +85,34 @@ const SECOND_SAVE_WITH_PIECES: [Step; 5] = [
     Step::Switch(2, 0),
     Step::Adopt,
 ];
+
+/// A page of these numbers.
+fn page_of(number: u32, round: u8) -> Page {
+    let mut page = [round; 4096];
+    let [.., low] = number.to_be_bytes();
+    page[0] = low;
+    page[4095] = low;
+    page
+}
+
+/// The round in which the second one leaves a page. In it 25 pages are read, 30 are written, five are
+/// given back, and two of these are taken and written again.
+fn second_round_of(number: usize) -> Option<u8> {
+    match number {
+        0..30 => Some(2),
+        30..32 => Some(3),
+        32..35 => None,
+        _ => Some(1),
+    }
+}
+
+fn second_round() -> Rounds {
+    let mut rounds = FIRST_ROUND;
+    for number in 0..KEPT {
+        rounds[number] = second_round_of(number);
+    }
+    rounds
+}
 
 /// Opens the pages of a device, where half of its slots have room for them.
 fn open(alloc: Global, device: MemDevice) -> Result<Buffer<MemDevice>, Fail> {
@@ -145,161 +135,229 @@ fn empty(alloc: Global) -> Result<Buffer<MemDevice>, Fail> {
 }
 
 /// Takes a home page of segment 1, where one can be taken.
-fn take<P: Pages>(pages: &mut P) -> Result<Result<u32, PageFault>, Fail> {
+fn take<P: Pages>(pages: &mut P) -> Result<u32, Undone> {
     if pages.spare() == 0 {
-        return Err("no page can be taken".into());
+        return Err(Undone::Refused("no page can be taken"));
     }
-    Ok(pages.take(1, Space::Home))
+    Ok(pages.take(1, Space::Home)?)
 }
 
 /// Reads a page, where it is mapped.
-fn read<P: Pages>(pages: &mut P, key: PageKey) -> Result<Result<Page, PageFault>, Fail> {
+fn read<P: Pages>(pages: &mut P, key: PageKey) -> Result<Page, Undone> {
     if !pages.has(key) {
-        return Err("a page that isn't mapped".into());
+        return Err(Undone::Refused("a page that isn't mapped"));
     }
     let mut page = [0; 4096];
-    match pages.read(key, &mut page) {
-        Ok(()) => Ok(Ok(page)),
-        Err(fault) => Ok(Err(fault)),
-    }
+    pages.read(key, &mut page)?;
+    Ok(page)
 }
 
 /// Writes a page, where it is mapped.
-fn write<P: Pages>(
-    pages: &mut P,
-    key: PageKey,
-    page: &Page,
-) -> Result<Result<(), PageFault>, Fail> {
+fn write<P: Pages>(pages: &mut P, key: PageKey, page: &Page) -> Result<(), Undone> {
     if !pages.has(key) {
-        return Err("a page that isn't mapped".into());
+        return Err(Undone::Refused("a page that isn't mapped"));
     }
-    Ok(pages.write(key, page))
+    Ok(pages.write(key, page)?)
 }
 
 /// Gives a page back, where it is mapped.
-fn give<P: Pages>(pages: &mut P, key: PageKey) -> Result<Result<(), PageFault>, Fail> {
+fn give<P: Pages>(pages: &mut P, key: PageKey) -> Result<(), Undone> {
     if !pages.has(key) {
-        return Err("a page that isn't mapped".into());
+        return Err(Undone::Refused("a page that isn't mapped"));
     }
-    Ok(pages.give(key))
+    Ok(pages.give(key)?)
 }
 
 /// Fills a log page with a byte, where there is one of this number.
-fn write_piece<S: Saving>(
-    pages: &mut S,
-    number: u32,
-    byte: u8,
-) -> Result<Result<(), PageFault>, Fail> {
+fn write_piece<S: Saving>(pages: &mut S, number: u32, byte: u8) -> Result<(), Undone> {
     if number >= pages.log_pages() {
-        return Err("no such log page".into());
+        return Err(Undone::Refused("no such log page"));
     }
     let at = log_at(pages.slots()) + u64::from(number);
-    Ok(pages.write_piece(at, &[byte; 4096]))
+    Ok(pages.write_piece(at, &[byte; 4096])?)
 }
 
 /// Saves, where this area may be written.
-fn save<S: Saving>(pages: &mut S, area: u8) -> Result<Result<(), PageFault>, Fail> {
+fn save<S: Saving>(pages: &mut S, area: u8) -> Result<(), Undone> {
     if area > 1 || area == pages.area() {
-        return Err("no area to save to".into());
+        return Err(Undone::Refused("no area to save to"));
     }
-    Ok(pages.save(area))
+    Ok(pages.save(area)?)
 }
 
 /// Switches from the root of this number to one with this area.
-fn switch<S: Saving>(pages: &mut S, valid: u8, area: u8) -> Result<Result<u8, PageFault>, Fail> {
+fn switch<S: Saving>(pages: &mut S, valid: u8, area: u8) -> Result<(), Undone> {
     if valid < 1 || valid > 2 {
-        return Err("no such root".into());
+        return Err(Undone::Refused("no such root"));
     }
-    Ok(pages.switch(valid, &first_root(SLOTS, area)))
+    pages.switch(valid, &first_root(SLOTS, area))?;
+    Ok(())
 }
 
 /// Adopts what is saved and selected.
-fn adopt<S: Saving>(pages: &mut S) -> Result<(), Fail> {
+fn adopt<S: Saving>(pages: &mut S) -> Result<(), Undone> {
     if pages.stage() != Stage::Switched {
-        return Err("nothing to adopt".into());
+        return Err(Undone::Refused("nothing to adopt"));
     }
     if pages.shadow().mapped() > pages.slots() / 2 {
-        return Err("too many pages".into());
+        return Err(Undone::Refused("too many pages"));
     }
     pages.adopt();
     Ok(())
 }
 
-/// Does a step, where it may be done.
-fn do_step<S: Saving>(pages: &mut S, step: Step) -> Result<Result<(), PageFault>, Fail> {
+/// Does a step of a save, where it may be done.
+fn do_step<S: Saving>(pages: &mut S, step: Step) -> Result<(), Undone> {
     match step {
-        Step::Take => Ok(take(pages)?.map(|_| ())),
-        Step::Read(number) => Ok(read(pages, home(1, number))?.map(|_| ())),
-        Step::Write(number, round) => write(pages, home(1, number), &page_of(number, round)),
-        Step::Give(number) => give(pages, home(1, number)),
         Step::Piece(number, byte) => write_piece(pages, number, byte),
         Step::Save(area) => save(pages, area),
-        Step::Switch(valid, area) => Ok(switch(pages, valid, area)?.map(|_| ())),
-        Step::Adopt => Ok(Ok(adopt(pages)?)),
+        Step::Switch(valid, area) => switch(pages, valid, area),
+        Step::Adopt => adopt(pages),
     }
 }
 
-/// Does steps, up to the first that fails.
-fn do_steps<S: Saving>(pages: &mut S, steps: &[Step]) -> Result<Result<(), PageFault>, Fail> {
+/// Does the steps of a save, up to the first that fails.
+fn do_steps<S: Saving>(pages: &mut S, steps: &[Step]) -> Result<(), Undone> {
     for step in steps {
-        if let Err(fault) = do_step(pages, *step)? {
-            return Ok(Err(fault));
-        }
+        do_step(pages, *step)?;
     }
-    Ok(Ok(()))
+    Ok(())
+}
+
+/// Takes the pages of these numbers, and writes each in a round.
+fn take_pages<P: Pages>(pages: &mut P, first: u32, end: u32, round: u8) -> Result<(), Undone> {
+    for number in first..end {
+        take(pages)?;
+        write(pages, home(1, number), &page_of(number, round))?;
+    }
+    Ok(())
+}
+
+fn read_pages<P: Pages>(pages: &mut P, first: u32, end: u32) -> Result<(), Undone> {
+    for number in first..end {
+        read(pages, home(1, number))?;
+    }
+    Ok(())
+}
+
+fn write_pages<P: Pages>(pages: &mut P, first: u32, end: u32, round: u8) -> Result<(), Undone> {
+    for number in first..end {
+        write(pages, home(1, number), &page_of(number, round))?;
+    }
+    Ok(())
+}
+
+fn give_pages<P: Pages>(pages: &mut P, first: u32, end: u32) -> Result<(), Undone> {
+    for number in first..end {
+        give(pages, home(1, number))?;
+    }
+    Ok(())
+}
+
+/// Makes the first round.
+fn make_first<P: Pages>(pages: &mut P) -> Result<(), Undone> {
+    take_pages(pages, 0, KEPT as u32, 1)
+}
+
+/// Makes the second round, up to the first step that fails.
+fn make_second<P: Pages>(pages: &mut P) -> Result<(), Undone> {
+    read_pages(pages, 35, KEPT as u32)?;
+    write_pages(pages, 0, 30, 2)?;
+    give_pages(pages, 30, 35)?;
+    take_pages(pages, 30, 32, 3)
+}
+
+/// The round in which a page was written, where it is mapped.
+fn round_of<P: Pages>(pages: &mut P, number: u32) -> Result<Option<u8>, Undone> {
+    if !pages.has(home(1, number)) {
+        return Ok(None);
+    }
+    let page = read(pages, home(1, number))?;
+    if page != page_of(number, page[1]) {
+        return Err(Undone::Refused("a page that was not written"));
+    }
+    Ok(Some(page[1]))
 }
 
 /// Reads all pages.
-fn rounds_of<P: Pages>(pages: &mut P) -> Result<Rounds, Fail> {
+fn rounds_of<P: Pages>(pages: &mut P) -> Result<Rounds, Undone> {
     let mut rounds = [None; KEPT];
-    for number in 0..KEPT as u32 {
-        if pages.has(home(1, number)) {
-            let page = read(pages, home(1, number))??;
-            if page != page_of(number, page[1]) {
-                return Err("a page that was not written".into());
-            }
-            rounds[number as usize] = Some(page[1]);
-        }
+    for number in 0..KEPT {
+        rounds[number] = round_of(pages, number as u32)?;
     }
     Ok(rounds)
 }
 
 /// What an opening of these pages finds.
 fn rounds_in(alloc: Global, pages: Vec<Page>) -> Result<Rounds, Fail> {
-    rounds_of(&mut open(alloc, MemDevice::new(alloc, pages)?)?)
+    let mut pages = open(alloc, MemDevice::new(alloc, pages)?)?;
+    Ok(rounds_of(&mut pages)?)
 }
 
-/// The pages of the device of a store with the first round.
-fn first_store(alloc: Global) -> Result<Vec<Page>, Fail> {
+/// What an opening finds after a stop at a moment.
+fn rounds_after(
+    alloc: Global,
+    device: &MemDevice,
+    moment: usize,
+    unsynced: Unsynced,
+) -> Result<Rounds, Fail> {
+    rounds_in(alloc, image_at(alloc, device, moment, unsynced)?)
+}
+
+/// Makes and saves the first round.
+fn save_first<S: Saving>(pages: &mut S) -> Result<(), Undone> {
+    make_first(pages)?;
+    do_steps(pages, &FIRST_SAVE)
+}
+
+/// Makes and saves the second round, up to the first step that fails.
+fn save_second<S: Saving>(pages: &mut S, save: &[Step]) -> Result<(), Undone> {
+    make_second(pages)?;
+    do_steps(pages, save)
+}
+
+/// The device of pages to which something was done.
+fn device_of(pages: Buffer<MemDevice>, done: Result<(), Undone>) -> Result<MemDevice, Fail> {
+    match done {
+        Ok(()) => Ok(pages.into_device()),
+        Err(undone) => Err(undone.into()),
+    }
+}
+
+/// The device of a store with the first round.
+fn first_device(alloc: Global) -> Result<MemDevice, Fail> {
     let mut pages = empty(alloc)?;
-    do_steps(&mut pages, steps_of_first_round(alloc)?.as_slice())??;
-    do_steps(&mut pages, FIRST_SAVE.as_slice())??;
-    Ok(Vec::from_slice(alloc, pages.into_device().pages())?)
+    let done = save_first(&mut pages);
+    device_of(pages, done)
+}
+
+/// The pages of that device.
+fn first_store(alloc: Global) -> Result<Vec<Page>, Fail> {
+    let device = first_device(alloc)?;
+    Ok(Vec::from_slice(alloc, device.pages())?)
+}
+
+/// A device of these pages.
+fn copy_of(alloc: Global, pages: &[Page]) -> Result<MemDevice, Fail> {
+    Ok(MemDevice::new(alloc, Vec::from_slice(alloc, pages)?)?)
 }
 
 /// Opens the pages of a device of which this call fails.
 fn open_failing(alloc: Global, pages: &[Page], call: u64) -> Result<Buffer<MemDevice>, Fail> {
-    let device = MemDevice::new(alloc, Vec::from_slice(alloc, pages)?)?;
-    open(alloc, device.failing_at(vec![in alloc; call]?))
+    open(alloc, failing_at(alloc, copy_of(alloc, pages)?, call)?)
 }
 
-/// Makes and saves the second round, up to the first step that fails.
-fn second_save<S: Saving>(
-    alloc: Global,
-    pages: &mut S,
-    save: &[Step],
-) -> Result<Result<(), PageFault>, Fail> {
-    if let Err(fault) = do_steps(pages, steps_of_second_round(alloc)?.as_slice())? {
-        return Ok(Err(fault));
-    }
-    do_steps(pages, save)
+/// Opens the store with the first round on a device of which this call fails.
+fn open_first(alloc: Global, call: u64) -> Result<Buffer<MemDevice>, Fail> {
+    let store = first_store(alloc)?;
+    open_failing(alloc, store.as_slice(), call)
 }
 
 /// The device of a store with the first round, on which the second was made and so far saved.
 fn second_device(alloc: Global, save: &[Step]) -> Result<MemDevice, Fail> {
     let mut pages = open(alloc, MemDevice::new(alloc, first_store(alloc)?)?)?;
-    second_save(alloc, &mut pages, save)??;
-    Ok(pages.into_device())
+    let done = save_second(&mut pages, save);
+    device_of(pages, done)
 }
 
 /// All pages are of these rounds.
@@ -308,42 +366,60 @@ fn assert_rounds<P: Pages>(
     pages: &mut P,
     want: &Rounds,
     when: &str,
-) -> Result<(), Fail> {
-    assert_eq!(rt; rounds_of(pages)?, *want, "{when}");
+) -> Result<(), Undone> {
+    assert_same_slices(rt, &rounds_of(pages)?, want, when);
     Ok(())
 }
 
-/// Does the steps of a round and those that save it. All pages are read after each of these.
+/// Does the steps of a save. All pages are read before the first, and after each.
 fn assert_saved<S: Saving>(
     rt: &impl Abort,
     pages: &mut S,
-    round: &[Step],
     save: &[Step],
     want: &Rounds,
-) -> Result<(), Fail> {
-    do_steps(pages, round)??;
+) -> Result<(), Undone> {
     assert_rounds(rt, pages, want, "written")?;
     for step in save {
-        do_step(pages, *step)??;
+        do_step(pages, *step)?;
         assert_rounds(rt, pages, want, "on the way to the disk")?;
     }
     Ok(())
 }
 
-/// What a stop leaves is one of the two rounds, and where nothing is switched the first.
-fn assert_left(
-    rt: &impl Abort,
-    rounds: &Rounds,
-    is_switching: bool,
-    unsynced: Unsynced,
-    moment: usize,
-) {
-    if !is_switching || *rounds != second_round() {
-        assert_eq!(rt; *rounds, FIRST_ROUND, "{unsynced:?} at moment {moment}");
-    }
+/// Makes and saves the first round over pages that have none.
+fn assert_first<S: Saving>(rt: &impl Abort, pages: &mut S) -> Result<(), Undone> {
+    make_first(pages)?;
+    assert_saved(rt, pages, &FIRST_SAVE, &FIRST_ROUND)
 }
 
-/// Stops a device at a moment of the second round.
+/// Makes and saves the second round over those of the first.
+fn assert_second<S: Saving>(rt: &impl Abort, pages: &mut S) -> Result<(), Undone> {
+    assert_rounds(rt, pages, &FIRST_ROUND, "opened")?;
+    make_second(pages)?;
+    assert_saved(rt, pages, &SECOND_SAVE, &second_round())
+}
+
+/// The second round is there once more.
+fn assert_opened_again<P: Pages>(rt: &impl Abort, pages: &mut P) -> Result<(), Fail> {
+    Ok(assert_rounds(rt, pages, &second_round(), "opened again")?)
+}
+
+/// The device on which the first round is so made and saved.
+fn first_asserted(rt: &impl Abort, alloc: Global) -> Result<MemDevice, Fail> {
+    let mut pages = empty(alloc)?;
+    let done = assert_first(rt, &mut pages);
+    device_of(pages, done)
+}
+
+/// The device on which the second is.
+fn second_asserted(rt: &impl Abort, alloc: Global) -> Result<MemDevice, Fail> {
+    let mut pages = open(alloc, first_asserted(rt, alloc)?)?;
+    let done = assert_second(rt, &mut pages);
+    device_of(pages, done)
+}
+
+/// Stops a device at a moment of the second round. What that leaves is one of the two rounds, and
+/// where nothing is switched the first.
 fn assert_stop(
     rt: &impl Abort,
     alloc: Global,
@@ -351,186 +427,210 @@ fn assert_stop(
     moment: usize,
     is_switching: bool,
 ) -> Result<(), Fail> {
-    if moment > device.moment() {
-        return Err("a moment that isn't there".into());
-    }
-    for unsynced in UNSYNCED {
-        let image = device.image_at(alloc, moment, unsynced)?;
-        let rounds = rounds_in(alloc, image)?;
-        assert_left(rt, &rounds, is_switching, unsynced, moment);
+    for unsynced in &UNSYNCED {
+        let rounds = rounds_after(alloc, device, moment, *unsynced)?;
+        if !is_switching || rounds != second_round() {
+            assert_same_slices(rt, &rounds, &FIRST_ROUND, (*unsynced, "at moment", moment));
+        }
     }
     Ok(())
+}
+
+/// Stops it at each moment but the last, where up to this one nothing is switched.
+fn assert_stops(
+    rt: &impl Abort,
+    alloc: Global,
+    device: &MemDevice,
+    saved: usize,
+) -> Result<(), Fail> {
+    for moment in 0..device.moment() {
+        assert_stop(rt, alloc, device, moment, moment > saved)?;
+    }
+    Ok(())
+}
+
+/// Stops it at the last moment.
+fn assert_end(rt: &impl Abort, alloc: Global, device: &MemDevice) -> Result<(), Fail> {
+    for unsynced in &UNSYNCED {
+        let rounds = rounds_after(alloc, device, device.moment(), *unsynced)?;
+        assert_same_slices(rt, &rounds, &second_round(), (*unsynced, "at the end"));
+    }
+    Ok(())
+}
+
+/// What a second save leaves in which a call of the device fails.
+fn device_of_failure(
+    rt: &impl Abort,
+    alloc: Global,
+    store: &[Page],
+    call: u64,
+) -> Result<MemDevice, Fail> {
+    let mut pages = open_failing(alloc, store, call)?;
+    assert_fails(rt, &mut pages, call);
+    Ok(pages.into_device())
 }
 
 /// Fails a call of the device in the second round.
 fn assert_failure(rt: &impl Abort, alloc: Global, store: &[Page], call: u64) -> Result<(), Fail> {
-    let mut pages = open_failing(alloc, store, call)?;
-    let done = second_save(alloc, &mut pages, &SECOND_SAVE)?;
-    assert_eq!(rt; done, Err(PageFault::Device), "call {call}");
-    let device = pages.into_device();
+    let device = device_of_failure(rt, alloc, store, call)?;
     assert_stop(rt, alloc, &device, device.moment(), true)
 }
 
-/// Reads a page three times, and then another one, where the device's second read fails.
-fn assert_read_once<P: Pages>(rt: &impl Abort, pages: &mut P) -> Result<(), Fail> {
-    for _ in 0..3 {
-        assert_eq!(rt; read(pages, home(1, 0))?, Ok(page_of(0, 1)));
+/// Fails each of them.
+fn assert_failures(rt: &impl Abort, alloc: Global, store: &[Page]) -> Result<(), Fail> {
+    for call in OPENING..DONE {
+        assert_failure(rt, alloc, store, call)?;
     }
-    assert_eq!(rt; read(pages, home(1, 1))?, Err(PageFault::Device));
-    assert_eq!(rt; read(pages, home(1, 1))?, Ok(page_of(1, 1)));
-    assert_eq!(rt; read(pages, home(1, 0))?, Ok(page_of(0, 1)));
     Ok(())
 }
 
-/// Reads eight pages, the first of them again, and a ninth, where the device's tenth read fails. The
-/// first is then in memory and the second isn't, which wasn't used for the longest time.
-fn assert_eldest_leaves<P: Pages>(rt: &impl Abort, pages: &mut P) -> Result<(), Fail> {
-    for number in [0, 1, 2, 3, 4, 5, 6, 7, 0, 8] {
-        read(pages, home(1, number))??;
+/// Makes and saves the second round.
+fn assert_done<S: Saving>(rt: &impl Abort, pages: &mut S) {
+    let done = save_second(pages, &SECOND_SAVE);
+    assert_same(rt, &done, &Ok(()), "no call fails");
+}
+
+/// Makes it and saves it where the device fails.
+fn assert_fails<S: Saving>(rt: &impl Abort, pages: &mut S, call: u64) {
+    let done = save_second(pages, &SECOND_SAVE);
+    let want = Err(Undone::Fault(PageFault::Device));
+    assert_same(rt, &done, &want, ("call", call));
+}
+
+/// Reads a page, and finds it as it was written in the first round.
+fn assert_read<P: Pages>(rt: &impl Abort, pages: &mut P, number: u32, when: &str) {
+    let page = read(pages, home(1, number));
+    assert_same(rt, &page, &Ok(page_of(number, 1)), when);
+}
+
+/// Reads a page, and the device fails.
+fn assert_unread<P: Pages>(rt: &impl Abort, pages: &mut P, number: u32, when: &str) {
+    let page = read(pages, home(1, number));
+    assert_same(rt, &page, &Err(Undone::Fault(PageFault::Device)), when);
+}
+
+/// Reads a page three times, and then another one, where the device's second read fails.
+fn assert_read_once<P: Pages>(rt: &impl Abort, pages: &mut P) {
+    for when in ["once", "twice", "three times"] {
+        assert_read(rt, pages, 0, when);
     }
-    assert_eq!(rt; read(pages, home(1, 0))?, Ok(page_of(0, 1)));
-    assert_eq!(rt; read(pages, home(1, 1))?, Err(PageFault::Device));
+    assert_unread(rt, pages, 1, "the second read of the device");
+    assert_read(rt, pages, 1, "its third read");
+    assert_read(rt, pages, 0, "at last");
+}
+
+/// Reads eight pages, the first of them again, and a ninth.
+fn read_nine_pages<P: Pages>(pages: &mut P) -> Result<(), Undone> {
+    read_pages(pages, 0, 8)?;
+    read_pages(pages, 0, 1)?;
+    read_pages(pages, 8, 9)
+}
+
+/// Reads nine pages so, where the device's tenth read fails. The first is then in memory and the second isn't, which wasn't used for the longest time.
+fn assert_eldest_leaves<P: Pages>(rt: &impl Abort, pages: &mut P) -> Result<(), Fail> {
+    read_nine_pages(pages)?;
+    assert_read(rt, pages, 0, "the first page");
+    assert_unread(rt, pages, 1, "the second page");
     Ok(())
+}
+
+/// Reads all pages twice.
+fn assert_read_twice<P: Pages>(rt: &impl Abort, pages: &mut P) -> Result<(), Undone> {
+    assert_rounds(rt, pages, &FIRST_ROUND, "once")?;
+    assert_rounds(rt, pages, &FIRST_ROUND, "twice")
+}
+
+/// The device on which all pages were read twice.
+fn device_read_twice(rt: &impl Abort, alloc: Global) -> Result<MemDevice, Fail> {
+    let mut pages = open(alloc, MemDevice::new(alloc, first_store(alloc)?)?)?;
+    let done = assert_read_twice(rt, &mut pages);
+    device_of(pages, done)
+}
+
+/// Fills a log page with sevens.
+fn fill_piece<S: Saving>(rt: &impl Abort, pages: &mut S, number: u32) -> Result<(), Undone> {
+    write_piece(pages, number, 7)?;
+    assert_rounds(rt, pages, &FIRST_ROUND, "a log page is written")
+}
+
+/// A device on which a log page was so filled.
+fn device_with_piece(
+    rt: &impl Abort,
+    alloc: Global,
+    store: &[Page],
+    number: u32,
+) -> Result<MemDevice, Fail> {
+    let mut pages = open(alloc, copy_of(alloc, store)?)?;
+    let done = fill_piece(rt, &mut pages, number);
+    device_of(pages, done)
+}
+
+/// The pages of a device, but that a log page is filled so.
+fn pages_with_piece(alloc: Global, store: &[Page], number: u32) -> Result<Vec<Page>, Fail> {
+    let mut pages = Vec::from_slice(alloc, store)?;
+    if let Some(page) = pages.get_mut(LOG_AT + number as usize) {
+        *page = [7; 4096];
+    }
+    Ok(pages)
 }
 
 /// Fills a log page, and finds it on the device with all else as it was.
 fn assert_piece(rt: &impl Abort, alloc: Global, store: &[Page], number: u32) -> Result<(), Fail> {
-    let mut pages = open(
-        alloc,
-        MemDevice::new(alloc, Vec::from_slice(alloc, store)?)?,
-    )?;
-    do_step(&mut pages, Step::Piece(number, 7))??;
-    assert_rounds(rt, &mut pages, &FIRST_ROUND, "a log page is written")?;
-    let mut want = Vec::from_slice(alloc, store)?;
-    if let Some(page) = want.get_mut(LOG_AT + number as usize) {
-        *page = [7; 4096];
-    }
-    assert!(rt;
-        pages.into_device().pages() == want.as_slice(),
-        "log page {number}"
-    );
+    let device = device_with_piece(rt, alloc, store, number)?;
+    let want = pages_with_piece(alloc, store, number)?;
+    let is_alone = device.pages() == want.as_slice();
+    assert_same(rt, &is_alone, &true, ("log page", number));
     Ok(())
 }
 
-#[test]
-fn sixty_pages_in_eight_frames_are_read_as_they_were_written(rt: HostRuntime) -> Result<(), Fail> {
-    let alloc = rt.alloc();
-    let mut pages = empty(alloc)?;
-    let round = steps_of_first_round(alloc)?;
-    assert_saved(&rt, &mut pages, round.as_slice(), &FIRST_SAVE, &FIRST_ROUND)?;
-    let mut pages = open(alloc, pages.into_device())?;
-    assert_rounds(&rt, &mut pages, &FIRST_ROUND, "opened")?;
-    let round = steps_of_second_round(alloc)?;
-    assert_saved(
-        &rt,
-        &mut pages,
-        round.as_slice(),
-        &SECOND_SAVE,
-        &second_round(),
-    )?;
-    let mut pages = open(alloc, pages.into_device())?;
-    assert_rounds(&rt, &mut pages, &second_round(), "opened again")
-}
-
-#[test]
-fn a_stop_at_each_moment_finds_the_pages_of_before_the_switch_or_after_it(
-    rt: HostRuntime,
-) -> Result<(), Fail> {
-    let alloc = rt.alloc();
-    let saved = second_device(alloc, &SECOND_SAVE[..1])?.moment();
-    let device = second_device(alloc, &SECOND_SAVE)?;
-    for moment in 0..device.moment() {
-        assert_stop(&rt, alloc, &device, moment, moment > saved)?;
-    }
-    for unsynced in UNSYNCED {
-        let image = device.image_at(alloc, device.moment(), unsynced)?;
-        assert_eq!(rt;
-            rounds_in(alloc, image)?,
-            second_round(),
-            "{unsynced:?} at the end"
-        );
-    }
-    Ok(())
-}
-
-#[test]
-fn a_failed_call_of_the_device_is_a_device_fault_and_no_page_is_lost(
-    rt: HostRuntime,
-) -> Result<(), Fail> {
-    let alloc = rt.alloc();
-    let store = first_store(alloc)?;
-    for call in OPENING..DONE {
-        assert_failure(&rt, alloc, store.as_slice(), call)?;
-    }
-    // There is no further call.
-    let mut pages = open_failing(alloc, store.as_slice(), DONE)?;
-    assert_eq!(rt; second_save(alloc, &mut pages, &SECOND_SAVE)?, Ok(()));
-    Ok(())
-}
-
-#[test]
-fn a_page_in_memory_is_not_read_again(rt: HostRuntime) -> Result<(), Fail> {
-    let alloc = rt.alloc();
-    let store = first_store(alloc)?;
-    let mut pages = open_failing(alloc, store.as_slice(), OPENING + 1)?;
-    assert_read_once(&rt, &mut pages)
-}
-
-#[test]
-fn the_page_that_was_not_used_for_the_longest_time_leaves_memory(
-    rt: HostRuntime,
-) -> Result<(), Fail> {
-    let alloc = rt.alloc();
-    let store = first_store(alloc)?;
-    let mut pages = open_failing(alloc, store.as_slice(), OPENING + 9)?;
-    assert_eldest_leaves(&rt, &mut pages)
-}
-
-#[test]
-fn pages_that_are_only_read_are_not_written(rt: HostRuntime) -> Result<(), Fail> {
-    let alloc = rt.alloc();
-    let mut pages = open(alloc, MemDevice::new(alloc, first_store(alloc)?)?)?;
-    assert_rounds(&rt, &mut pages, &FIRST_ROUND, "once")?;
-    assert_rounds(&rt, &mut pages, &FIRST_ROUND, "twice")?;
-    // An opening syncs, and that is all.
-    assert_eq!(rt; pages.into_device().moment(), 1);
-    Ok(())
-}
-
-#[test]
-fn a_log_page_is_written_and_no_other_page(rt: HostRuntime) -> Result<(), Fail> {
-    let alloc = rt.alloc();
-    let store = first_store(alloc)?;
+fn assert_pieces(rt: &impl Abort, alloc: Global, store: &[Page]) -> Result<(), Fail> {
     for number in 0..8 {
-        assert_piece(&rt, alloc, store.as_slice(), number)?;
+        assert_piece(rt, alloc, store, number)?;
     }
     Ok(())
 }
 
-#[test]
-fn pages_are_saved_while_log_pages_are_written(rt: HostRuntime) -> Result<(), Fail> {
-    let alloc = rt.alloc();
-    let device = second_device(alloc, &SECOND_SAVE_WITH_PIECES)?;
-    let pages = Vec::from_slice(alloc, device.pages())?;
-    assert_eq!(rt; pages.get(LOG_AT), Some(&[7; 4096]));
-    assert_eq!(rt; pages.get(LOG_AT + 7), Some(&[8; 4096]));
-    assert_eq!(rt; rounds_in(alloc, pages)?, second_round());
+/// The first and the last log page are as they were written on the way, and so are all pages.
+fn assert_saved_with_pieces(
+    rt: &impl Abort,
+    alloc: Global,
+    device: &MemDevice,
+) -> Result<(), Fail> {
+    assert_same(
+        rt,
+        &page_at(device, LOG_AT)?,
+        &[7; 4096],
+        "the first log page",
+    );
+    assert_same(
+        rt,
+        &page_at(device, LOG_AT + 7)?,
+        &[8; 4096],
+        "the last log page",
+    );
+    let rounds = rounds_in(alloc, Vec::from_slice(alloc, device.pages())?)?;
+    assert_same_slices(rt, &rounds, &second_round(), "the pages");
     Ok(())
+}
+
+/// Keeps a page that is filled with a byte, and answers its number.
+fn keep_filled<P: Pages>(pages: &mut P, byte: u8) -> Result<u32, Undone> {
+    if pages.spare() == 0 {
+        return Err(Undone::Refused("no page can be taken"));
+    }
+    let mut page = [0; 4096];
+    let number = keep(pages, 1, &[byte; 4096], &mut page)?;
+    if page != [byte; 4096] {
+        return Err(Undone::Refused("a page that was not written"));
+    }
+    Ok(number)
 }
 
 /// Keeps so many pages, and answers their numbers as they were taken.
 fn kept<P: Pages>(alloc: Global, pages: &mut P, count: u8) -> Result<Vec<u32>, Fail> {
     let mut numbers = Vec::new(alloc);
-    let mut page = [0; 4096];
     for round in 0..count {
-        if pages.spare() == 0 {
-            return Err("no page can be taken".into());
-        }
-        let number = keep(pages, 1, &[round; 4096], &mut page)?;
-        if page != [round; 4096] {
-            return Err("a page that was not written".into());
-        }
-        numbers.push(number)?;
+        numbers.push(keep_filled(pages, round)?)?;
     }
     Ok(numbers)
 }
@@ -538,36 +638,123 @@ fn kept<P: Pages>(alloc: Global, pages: &mut P, count: u8) -> Result<Vec<u32>, F
 /// What a caller finds: it keeps 20 pages, gives two of them back, and keeps three.
 fn found<P: Pages>(alloc: Global, pages: &mut P) -> Result<Vec<u32>, Fail> {
     kept(alloc, pages, 20)?;
-    for number in [3, 11] {
-        give(pages, home(1, number))??;
-    }
+    give(pages, home(1, 3))?;
+    give(pages, home(1, 11))?;
     kept(alloc, pages, 3)
+}
+
+fn assert_found<P: Pages>(
+    rt: &impl Abort,
+    alloc: Global,
+    pages: &mut P,
+    place: &str,
+) -> Result<(), Fail> {
+    let numbers = found(alloc, pages)?;
+    assert_same_slices(rt, numbers.as_slice(), &[3, 11, 20], place);
+    Ok(())
+}
+
+/// So many pages are the same in both places.
+fn assert_same_pages<P: Pages, Q: Pages>(
+    rt: &impl Abort,
+    on_device: &mut P,
+    in_memory: &mut Q,
+) -> Result<(), Fail> {
+    for number in 0..21 {
+        let page = read(on_device, home(1, number))?;
+        let here = read(in_memory, home(1, number));
+        assert_same(rt, &here, &Ok(page), ("page", number));
+    }
+    Ok(())
+}
+
+/// A caller finds the same in both places.
+fn assert_alike<P: Pages, Q: Pages>(
+    rt: &impl Abort,
+    alloc: Global,
+    on_device: &mut P,
+    in_memory: &mut Q,
+) -> Result<(), Fail> {
+    assert_found(rt, alloc, on_device, "on a device")?;
+    assert_found(rt, alloc, in_memory, "in memory")?;
+    assert_same(
+        rt,
+        &on_device.spare(),
+        &in_memory.spare(),
+        "the spare pages",
+    );
+    assert_same_pages(rt, on_device, in_memory)
+}
+
+#[test]
+fn sixty_pages_in_eight_frames_are_read_as_they_were_written(rt: HostRuntime) -> Result<(), Fail> {
+    let mut pages = open(rt.alloc(), second_asserted(&rt, rt.alloc())?)?;
+    assert_opened_again(&rt, &mut pages)
+}
+
+#[test]
+fn a_stop_at_each_moment_finds_the_pages_of_before_the_switch_or_after_it(
+    rt: HostRuntime,
+) -> Result<(), Fail> {
+    let saved = second_device(rt.alloc(), &SECOND_SAVE[..1])?.moment();
+    let device = second_device(rt.alloc(), &SECOND_SAVE)?;
+    assert_stops(&rt, rt.alloc(), &device, saved)?;
+    assert_end(&rt, rt.alloc(), &device)
+}
+
+#[test]
+fn a_failed_call_of_the_device_is_a_device_fault_and_no_page_is_lost(
+    rt: HostRuntime,
+) -> Result<(), Fail> {
+    let store = first_store(rt.alloc())?;
+    assert_failures(&rt, rt.alloc(), store.as_slice())
+}
+
+#[test]
+fn a_second_save_has_no_further_call_of_the_device(rt: HostRuntime) -> Result<(), Fail> {
+    let mut pages = open_first(rt.alloc(), DONE)?;
+    assert_done(&rt, &mut pages);
+    Ok(())
+}
+
+#[test]
+fn a_page_in_memory_is_not_read_again(rt: HostRuntime) -> Result<(), Fail> {
+    let mut pages = open_first(rt.alloc(), OPENING + 1)?;
+    assert_read_once(&rt, &mut pages);
+    Ok(())
+}
+
+#[test]
+fn the_page_that_was_not_used_for_the_longest_time_leaves_memory(
+    rt: HostRuntime,
+) -> Result<(), Fail> {
+    let mut pages = open_first(rt.alloc(), OPENING + 9)?;
+    assert_eldest_leaves(&rt, &mut pages)
+}
+
+#[test]
+fn pages_that_are_only_read_are_not_written(rt: HostRuntime) -> Result<(), Fail> {
+    let device = device_read_twice(&rt, rt.alloc())?;
+    // An opening syncs, and that is all.
+    assert_same(&rt, &device.moment(), &1, "the last moment");
+    Ok(())
+}
+
+#[test]
+fn a_log_page_is_written_and_no_other_page(rt: HostRuntime) -> Result<(), Fail> {
+    let store = first_store(rt.alloc())?;
+    assert_pieces(&rt, rt.alloc(), store.as_slice())
+}
+
+#[test]
+fn pages_are_saved_while_log_pages_are_written(rt: HostRuntime) -> Result<(), Fail> {
+    let device = second_device(rt.alloc(), &SECOND_SAVE_WITH_PIECES)?;
+    assert_saved_with_pieces(&rt, rt.alloc(), &device)
 }
 
 #[test]
 fn a_caller_finds_the_same_over_a_device_and_in_memory(rt: HostRuntime) -> Result<(), Fail> {
-    let alloc = rt.alloc();
-    let mut on_device = empty(alloc)?;
-    let mut in_memory = MemPages::new(alloc, SLOTS)?;
-    let want = [3, 11, 20];
-    assert_eq!(rt;
-        found(alloc, &mut on_device)?.as_slice(),
-        want.as_slice(),
-        "on a device"
-    );
-    assert_eq!(rt;
-        found(alloc, &mut in_memory)?.as_slice(),
-        want.as_slice(),
-        "in memory"
-    );
-    assert_eq!(rt; on_device.spare(), in_memory.spare());
-    for number in 0..21 {
-        let there = read(&mut on_device, home(1, number))??;
-        assert_eq!(rt;
-            read(&mut in_memory, home(1, number))?,
-            Ok(there),
-            "page {number}"
-        );
-    }
-    Ok(())
+    let mut on_device = empty(rt.alloc())?;
+    let mut in_memory = MemPages::new(rt.alloc(), SLOTS)?;
+    assert_alike(&rt, rt.alloc(), &mut on_device, &mut in_memory)
 }

@@ -2,8 +2,8 @@
 ghost use Rattle.std.specs.Prelude.{◌*◌, ◌≤◌, length, IsTrue};
 ghost use Rattle.rss_shadow.specs.Maps.{pages_of};
 
-use rss_base::{Failed, OpenFault, Page, PageKey, Root, Space, Tail, map_pages};
-use rss_device::MemDevice;
+use rss_base::{Device, Failed, OpenFault, Page, PageKey, Root, Space, Tail, map_pages};
+use rss_device::{MemDevice, Unsynced};
 use rss_pagemap::{SlotTable, read_table};
 use rss_root::{encode, load, switch};
 use rss_shadow::Shadow;
@@ -33,6 +33,60 @@ pub(crate) fn pages_with_root(alloc: Global, pages: usize, root: &Root) -> Resul
     Ok(all)
 }
 
+/// Puts an entry of a map into pages: the one at this place of this page.
+pub(crate) fn put_entry(
+    pages: &mut [Page],
+    at: usize,
+    place: usize,
+    entry: [u8; 8],
+) -> Result<(), Fail> {
+    let page = pages.get_mut(at).ok_or("a page that isn't there")?;
+    let first = place % 512 * 8;
+    page[first..first + 8].copy_from_slice(&entry);
+    Ok(())
+}
+
+/// The bytes of a page that aren't 0, from a place on.
+pub(crate) fn others_from(
+    alloc: Global,
+    page: &Page,
+    first: usize,
+) -> Result<Vec<(usize, u8)>, Fail> {
+    let mut others = Vec::new(alloc);
+    for (at, byte) in page.iter().enumerate() {
+        if at >= first && *byte != 0 {
+            others.push((at, *byte))?;
+        }
+    }
+    Ok(others)
+}
+
+/// A page of a device.
+pub(crate) fn page_at(device: &MemDevice, at: usize) -> Result<Page, Fail> {
+    match device.pages().get(at) {
+        Some(page) => Ok(*page),
+        None => Err("a page that isn't there".into()),
+    }
+}
+
+/// The device, but that this call of it fails.
+pub(crate) fn failing_at(alloc: Global, device: MemDevice, call: u64) -> Result<MemDevice, Fail> {
+    Ok(device.failing_at(vec![in alloc; call]?))
+}
+
+/// What a stop leaves at a moment, where there is such a moment.
+pub(crate) fn image_at(
+    alloc: Global,
+    device: &MemDevice,
+    moment: usize,
+    unsynced: Unsynced,
+) -> Result<Vec<Page>, Fail> {
+    if moment > device.moment() {
+        return Err("a moment that isn't there".into());
+    }
+    Ok(device.image_at(alloc, moment, unsynced)?)
+}
+
 /// Switches a device to a root, where the device has the pages of the roots and the number is that
 /// of one.
 pub(crate) fn switch_from(
@@ -47,7 +101,7 @@ pub(crate) fn switch_from(
 }
 
 /// Reads the table of the selected root.
-pub(crate) fn load_table(alloc: Global, device: &mut MemDevice) -> Result<SlotTable, OpenFault> {
+pub(crate) fn load_table<D: Device>(alloc: Global, device: &mut D) -> Result<SlotTable, OpenFault> {
     let (root, _) = load(device)?;
     read_table(alloc, device, &root)
 }
@@ -102,53 +156,94 @@ pub(crate) fn home(segment: u8, number: u32) -> PageKey {
     }
 }
 
-/// Takes a home page, where one can be taken.
-pub(crate) fn take_home(maps: &mut Shadow, segment: u8) -> Result<u32, Fail> {
-    if maps.spare() == 0 || segment < 1 || segment > 8 {
-        return Err("no page can be taken".into());
+/// The two maps of a store. What asks for something of them is done where it may be done.
+pub(crate) trait Maps {
+    fn counts(&self) -> Counts;
+
+    fn slot_of(&self, key: PageKey) -> Option<u32>;
+
+    /// Whether a slot has a page.
+    fn is_owned(&self, slot: u32) -> Result<bool, Fail>;
+
+    fn try_take(&mut self, segment: u8, space: Space) -> Result<u32, Fail>;
+
+    fn try_take_at(&mut self, key: PageKey) -> Result<(), Fail>;
+
+    fn try_give(&mut self, key: PageKey) -> Result<(), Fail>;
+
+    /// The slot to which a page is to be written.
+    fn try_first_write(&mut self, key: PageKey) -> Result<u32, Fail>;
+
+    /// Makes the current map the shadow map.
+    fn try_adopt(&mut self) -> Result<(), Fail>;
+}
+
+/// How many pages can be taken, how many the current map has, and how many of these are heap pages.
+#[derive(Clone, Copy, Debug, PartialEq, Eq)]
+pub(crate) struct Counts {
+    pub(crate) spare: u32,
+    pub(crate) mapped: u32,
+    pub(crate) heap: u32,
+}
+
+impl Maps for Shadow {
+    fn counts(&self) -> Counts {
+        Counts {
+            spare: self.spare(),
+            mapped: self.mapped(),
+            heap: self.heap(),
+        }
     }
-    Ok(maps.take(segment, Space::Home))
-}
 
-/// Takes an image page, where one can be taken.
-pub(crate) fn take_image(maps: &mut Shadow, segment: u8) -> Result<u32, Fail> {
-    if maps.spare() == 0 || segment < 1 || segment > 8 {
-        return Err("no page can be taken".into());
+    fn slot_of(&self, key: PageKey) -> Option<u32> {
+        Shadow::slot_of(self, key)
     }
-    Ok(maps.take(segment, Space::Image))
-}
 
-/// Takes this page, where it can be taken.
-pub(crate) fn take_at(maps: &mut Shadow, key: PageKey) -> Result<(), Fail> {
-    if maps.spare() == 0 || !key.is_allowed(maps.current().slots()) || maps.slot_of(key).is_some() {
-        return Err("the page can't be taken".into());
+    fn is_owned(&self, slot: u32) -> Result<bool, Fail> {
+        match self.current().as_slice().get(slot as usize) {
+            Some(owner) => Ok(owner.is_some()),
+            None => Err("a slot that isn't there".into()),
+        }
     }
-    maps.take_at(key);
-    Ok(())
-}
 
-/// Gives a page back, where it is mapped.
-pub(crate) fn give(maps: &mut Shadow, key: PageKey) -> Result<(), Fail> {
-    let Some(_) = maps.slot_of(key) else {
-        return Err("the page isn't mapped".into());
-    };
-    maps.give(key);
-    Ok(())
-}
-
-/// The slot to which a page is to be written, where it is mapped.
-pub(crate) fn first_write(maps: &mut Shadow, key: PageKey) -> Result<u32, Fail> {
-    let Some(_) = maps.slot_of(key) else {
-        return Err("the page isn't mapped".into());
-    };
-    Ok(maps.first_write(key))
-}
-
-/// Makes the current map the shadow map, where half of the slots have room for it.
-pub(crate) fn adopt(maps: &mut Shadow) -> Result<(), Fail> {
-    if maps.mapped() > maps.current().slots() / 2 {
-        return Err("too many pages".into());
+    fn try_take(&mut self, segment: u8, space: Space) -> Result<u32, Fail> {
+        if self.spare() == 0 || segment < 1 || segment > 8 || space == Space::System {
+            return Err("no page can be taken".into());
+        }
+        Ok(self.take(segment, space))
     }
-    maps.adopt();
-    Ok(())
+
+    fn try_take_at(&mut self, key: PageKey) -> Result<(), Fail> {
+        if self.spare() == 0
+            || !key.is_allowed(self.current().slots())
+            || Shadow::slot_of(self, key).is_some()
+        {
+            return Err("the page can't be taken".into());
+        }
+        self.take_at(key);
+        Ok(())
+    }
+
+    fn try_give(&mut self, key: PageKey) -> Result<(), Fail> {
+        let Some(_) = Shadow::slot_of(self, key) else {
+            return Err("the page isn't mapped".into());
+        };
+        self.give(key);
+        Ok(())
+    }
+
+    fn try_first_write(&mut self, key: PageKey) -> Result<u32, Fail> {
+        let Some(_) = Shadow::slot_of(self, key) else {
+            return Err("the page isn't mapped".into());
+        };
+        Ok(self.first_write(key))
+    }
+
+    fn try_adopt(&mut self) -> Result<(), Fail> {
+        if self.mapped() > self.current().slots() / 2 {
+            return Err("too many pages".into());
+        }
+        self.adopt();
+        Ok(())
+    }
 }

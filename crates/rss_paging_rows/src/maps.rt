@@ -1,9 +1,14 @@
 // Maps, as bytes and on a device.
-use crate::harness::{first_root, load_table, pages_with_root, switch_from, write_to};
-use rss_base::{Failed, OpenFault, Page, PageKey, Place, Space};
+use crate::asserts::{assert_same, assert_same_slices};
+use crate::harness::{
+    failing_at, first_root, load_table, others_from, page_at, pages_with_root, put_entry,
+    switch_from, write_to,
+};
+use rss_base::{Device, Failed, OpenFault, Page, PageKey, Place, Space};
 use rss_device::MemDevice;
 use rss_pagemap::SlotTable;
 use std::alloc::Global;
+use std::process::Abort;
 use std::test::Fail;
 
 type Entry = [u8; 8];
@@ -95,51 +100,32 @@ const IN_SECOND: [(usize, Entry, Option<OpenFault>); 5] = [
     ),
 ];
 
-/// The bytes of a page that aren't 0.
-fn bytes_of(alloc: Global, page: &Page) -> Result<Vec<(usize, u8)>, Fail> {
-    let mut bytes = Vec::new(alloc);
-    for (at, byte) in page.iter().enumerate() {
-        if *byte != 0 {
-            bytes.push((at, *byte))?;
-        }
-    }
-    Ok(bytes)
-}
-
-/// A page of the device.
-fn page_at(device: &MemDevice, at: usize) -> Result<Page, Fail> {
-    Ok(
-        device
-            .pages()
-            .get(at)
-            .copied()
-            .ok_or("a page that isn't there")?,
-    )
-}
-
-/// Puts an entry into pages: the one at this place of this page.
-fn put_entry(pages: &mut Vec<Page>, at: usize, place: usize, entry: Entry) -> Result<(), Fail> {
-    let page = pages.get_mut(at).ok_or("a page that isn't there")?;
-    let first = place % 512 * 8;
-    page[first..first + 8].copy_from_slice(&entry);
-    Ok(())
+/// The bytes of a page of the device that aren't 0.
+fn bytes_at(alloc: Global, device: &MemDevice, at: usize) -> Result<Vec<(usize, u8)>, Fail> {
+    others_from(alloc, &page_at(device, at)?, 0)
 }
 
 /// The device of a store of 64 slots whose slot 0 has a page, and another slot this entry.
 fn device_with(alloc: Global, slot: u32, entry: Entry) -> Result<MemDevice, Fail> {
     let mut pages = pages_with_root(alloc, PAGES, &first_root(64, 0))?;
-    put_entry(&mut pages, 3, 0, FIRST)?;
-    put_entry(&mut pages, 3, slot as usize, entry)?;
+    put_entry(pages.as_mut_slice(), 3, 0, FIRST)?;
+    put_entry(pages.as_mut_slice(), 3, slot as usize, entry)?;
     Ok(MemDevice::new(alloc, pages)?)
 }
 
-/// The same device, but that a byte of its map area isn't 0.
-fn device_with_byte(alloc: Global, offset: usize) -> Result<MemDevice, Fail> {
-    let mut pages = pages_with_root(alloc, PAGES, &first_root(64, 0))?;
-    put_entry(&mut pages, 3, 0, FIRST)?;
+/// The same pages, but that a byte of the map area isn't 0.
+fn put_byte(pages: &mut [Page], offset: usize) -> Result<(), Fail> {
+    put_entry(pages, 3, 0, FIRST)?;
     let page = pages.get_mut(3).ok_or("a page that isn't there")?;
     let byte = page.get_mut(offset).ok_or("a byte that isn't there")?;
     *byte = 1;
+    Ok(())
+}
+
+/// The device of a store of 64 slots whose slot 0 has a page, and that has such a byte.
+fn device_with_byte(alloc: Global, offset: usize) -> Result<MemDevice, Fail> {
+    let mut pages = pages_with_root(alloc, PAGES, &first_root(64, 0))?;
+    put_byte(pages.as_mut_slice(), offset)?;
     Ok(MemDevice::new(alloc, pages)?)
 }
 
@@ -147,14 +133,47 @@ fn device_with_byte(alloc: Global, offset: usize) -> Result<MemDevice, Fail> {
 /// second page of its map area.
 fn device_of_513(alloc: Global, place: usize, entry: Entry) -> Result<MemDevice, Fail> {
     let mut pages = pages_with_root(alloc, 528, &first_root(513, 0))?;
-    put_entry(&mut pages, 3, 0, FIRST)?;
-    put_entry(&mut pages, 4, place, entry)?;
+    put_entry(pages.as_mut_slice(), 3, 0, FIRST)?;
+    put_entry(pages.as_mut_slice(), 4, place, entry)?;
     Ok(MemDevice::new(alloc, pages)?)
 }
 
 /// Why the table of a device can't be read.
-fn fault_of(alloc: Global, device: &mut MemDevice) -> Option<OpenFault> {
+fn fault_of<D: Device>(alloc: Global, device: &mut D) -> Option<OpenFault> {
     load_table(alloc, device).err()
+}
+
+/// Which page has a slot in the table of a device.
+fn owner_on<D: Device>(alloc: Global, device: &mut D, slot: u32) -> Result<Option<PageKey>, Fail> {
+    let table = load_table(alloc, device)?;
+    match table.as_slice().get(slot as usize) {
+        Some(owner) => Ok(*owner),
+        None => Err("a slot that isn't there".into()),
+    }
+}
+
+/// How an entry is read in a slot.
+fn owner_by(alloc: Global, slot: u32, entry: Entry) -> Result<Option<PageKey>, Fail> {
+    let mut device = device_with(alloc, slot, entry)?;
+    owner_on(alloc, &mut device, slot)
+}
+
+/// Why an entry can't be read in a slot.
+fn fault_by(alloc: Global, slot: u32, entry: Entry) -> Result<Option<OpenFault>, Fail> {
+    let mut device = device_with(alloc, slot, entry)?;
+    Ok(fault_of(alloc, &mut device))
+}
+
+/// Why a map area with a byte behind its entries can't be read.
+fn fault_by_byte(alloc: Global, offset: usize) -> Result<Option<OpenFault>, Fail> {
+    let mut device = device_with_byte(alloc, offset)?;
+    Ok(fault_of(alloc, &mut device))
+}
+
+/// Why an entry in the second page of a map area can't be read.
+fn fault_in_second(alloc: Global, place: usize, entry: Entry) -> Result<Option<OpenFault>, Fail> {
+    let mut device = device_of_513(alloc, place, entry)?;
+    Ok(fault_of(alloc, &mut device))
 }
 
 /// A table of 64 slots of which slot 9 has the last page of the system space.
@@ -164,100 +183,148 @@ fn table_of_last_system(alloc: Global) -> Result<SlotTable, Fail> {
     Ok(table)
 }
 
+/// The device of a store of 64 slots with this table in area 0.
+fn device_of(alloc: Global, table: &SlotTable) -> Result<MemDevice, Fail> {
+    let pages = pages_with_root(alloc, PAGES, &first_root(64, 0))?;
+    let mut device = MemDevice::new(alloc, pages)?;
+    write_to(&mut device, table, 0)??;
+    Ok(device)
+}
+
+/// A page of a device has these bytes that aren't 0.
+fn assert_bytes(
+    rt: &impl Abort,
+    alloc: Global,
+    device: &MemDevice,
+    at: usize,
+    want: &[(usize, u8)],
+) -> Result<(), Fail> {
+    let bytes = bytes_at(alloc, device, at)?;
+    assert_same_slices(rt, bytes.as_slice(), want, ("page", at));
+    Ok(())
+}
+
+/// Both areas of a device on which a table was written to area 0.
+fn assert_areas(rt: &impl Abort, alloc: Global, table: &SlotTable) -> Result<(), Fail> {
+    let device = device_of(alloc, table)?;
+    assert_bytes(rt, alloc, &device, 3, &OF_LAST_SYSTEM)?;
+    assert_bytes(rt, alloc, &device, 4, &[])
+}
+
+/// An entry is read as its page in each of the slots.
+fn assert_sound(
+    rt: &impl Abort,
+    alloc: Global,
+    entry: Entry,
+    want: Option<PageKey>,
+) -> Result<(), Fail> {
+    for slot in &SLOTS {
+        let owner = owner_by(alloc, *slot, entry)?;
+        assert_same(rt, &owner, &want, (entry, "in slot", *slot));
+    }
+    Ok(())
+}
+
+/// An entry is named by its slot in each of the slots.
+fn assert_wrong(rt: &impl Abort, alloc: Global, name: &str, entry: Entry) -> Result<(), Fail> {
+    for slot in &SLOTS {
+        let fault = fault_by(alloc, *slot, entry)?;
+        let want = Some(OpenFault::NotAStore(Place::Slot(*slot)));
+        assert_same(rt, &fault, &want, (name, "in slot", *slot));
+    }
+    Ok(())
+}
+
+/// The calls of a device whose areas have three pages each, and what a write of a table answers where
+/// one fails. There is no fourth call.
+const WRITE_CALLS: [(u64, Result<(), Failed>); 4] = [
+    (0, Err(Failed)),
+    (1, Err(Failed)),
+    (2, Err(Failed)),
+    (3, Ok(())),
+];
+
+/// A device of nine pages of which this call fails.
+fn nine_pages(alloc: Global, call: u64) -> Result<MemDevice, Fail> {
+    let pages = vec![in alloc; [0u8; 4096]; 9]?;
+    failing_at(alloc, MemDevice::new(alloc, pages)?, call)
+}
+
+/// Writes a table to a device of which this call fails.
+fn write_failing(alloc: Global, table: &SlotTable, call: u64) -> Result<Result<(), Failed>, Fail> {
+    let mut device = nine_pages(alloc, call)?;
+    write_to(&mut device, table, 1)
+}
+
+fn assert_write_calls(rt: &impl Abort, alloc: Global, table: &SlotTable) -> Result<(), Fail> {
+    for (call, want) in &WRITE_CALLS {
+        let written = write_failing(alloc, table, *call)?;
+        assert_same(rt, &written, want, ("call", *call));
+    }
+    Ok(())
+}
+
 #[test]
 fn a_new_table_is_free(rt: HostRuntime) -> Result<(), Fail> {
     let table = SlotTable::new(rt.alloc(), 64)?;
-    assert_eq!(rt; table.slots(), 64);
-    assert_eq!(rt; table.as_slice(), [None; 64].as_slice());
+    assert_same(&rt, &table.slots(), &64, "how many slots");
+    assert_same_slices(&rt, table.as_slice(), &[None; 64], "the slots");
     Ok(())
 }
 
 #[test]
 fn an_entry_has_the_bytes_of_its_format(rt: HostRuntime) -> Result<(), Fail> {
-    let alloc = rt.alloc();
-    let table = table_of_last_system(alloc)?;
-    let pages = pages_with_root(alloc, PAGES, &first_root(64, 0))?;
-    let mut device = MemDevice::new(alloc, pages)?;
-    assert_eq!(rt; write_to(&mut device, &table, 0)?, Ok(()));
-    let bytes = bytes_of(alloc, &page_at(&device, 3)?)?;
-    assert_eq!(rt; bytes.as_slice(), OF_LAST_SYSTEM.as_slice());
-    let bytes = bytes_of(alloc, &page_at(&device, 4)?)?;
-    assert_eq!(rt; bytes.len(), 0, "the other area");
-    Ok(())
+    let table = table_of_last_system(rt.alloc())?;
+    assert_areas(&rt, rt.alloc(), &table)
 }
 
 #[test]
 fn a_sound_entry_is_read_as_its_page(rt: HostRuntime) -> Result<(), Fail> {
-    let alloc = rt.alloc();
-    for (entry, want) in SOUND {
-        for slot in SLOTS {
-            let mut device = device_with(alloc, slot, entry)?;
-            let table = load_table(alloc, &mut device)?;
-            let owner = table.as_slice().get(slot as usize).copied();
-            assert_eq!(rt; owner, Some(want), "{entry:?} in slot {slot}");
-        }
+    for (entry, want) in &SOUND {
+        assert_sound(&rt, rt.alloc(), *entry, *want)?;
     }
     Ok(())
 }
 
 #[test]
 fn each_entry_turned_wrong_is_named(rt: HostRuntime) -> Result<(), Fail> {
-    let alloc = rt.alloc();
-    for (name, entry) in WRONG {
-        for slot in SLOTS {
-            let mut device = device_with(alloc, slot, entry)?;
-            let want = Some(OpenFault::NotAStore(Place::Slot(slot)));
-            assert_eq!(rt; fault_of(alloc, &mut device), want, "{name} in slot {slot}");
-        }
+    for (name, entry) in &WRONG {
+        assert_wrong(&rt, rt.alloc(), name, *entry)?;
     }
     Ok(())
 }
 
 #[test]
 fn bytes_behind_the_last_entry_are_named(rt: HostRuntime) -> Result<(), Fail> {
-    let alloc = rt.alloc();
     let want = Some(OpenFault::NotAStore(Place::Slot(64)));
-    for offset in [512, 4095] {
-        let mut device = device_with_byte(alloc, offset)?;
-        assert_eq!(rt; fault_of(alloc, &mut device), want, "byte {offset}");
+    for offset in &[512, 4095] {
+        let fault = fault_by_byte(rt.alloc(), *offset)?;
+        assert_same(&rt, &fault, &want, ("byte", *offset));
     }
     Ok(())
 }
 
 #[test]
 fn a_failed_read_of_a_table_is_a_device_fault(rt: HostRuntime) -> Result<(), Fail> {
-    let alloc = rt.alloc();
+    let device = device_with(rt.alloc(), 1, [0; 8])?;
     // The call behind the four of the root's.
-    let mut device = device_with(alloc, 1, [0; 8])?.failing_at(vec![in alloc; 4]?);
-    assert_eq!(rt; fault_of(alloc, &mut device), Some(OpenFault::Device));
+    let mut device = failing_at(rt.alloc(), device, 4)?;
+    let fault = fault_of(rt.alloc(), &mut device);
+    assert_same(&rt, &fault, &Some(OpenFault::Device), "the fifth call");
     Ok(())
 }
 
 #[test]
 fn a_failed_write_of_a_table_is_a_failure(rt: HostRuntime) -> Result<(), Fail> {
-    let alloc = rt.alloc();
-    let table = SlotTable::new(alloc, 1500)?;
-    // Each area has three pages. There is no fourth call.
-    for (k, want) in [
-        (0, Err(Failed)),
-        (1, Err(Failed)),
-        (2, Err(Failed)),
-        (3, Ok(())),
-    ] {
-        let pages = vec![in alloc; [0u8; 4096]; 9]?;
-        let mut device = MemDevice::new(alloc, pages)?.failing_at(vec![in alloc; k]?);
-        assert_eq!(rt; write_to(&mut device, &table, 1)?, want, "call {k}");
-    }
-    Ok(())
+    let table = SlotTable::new(rt.alloc(), 1500)?;
+    assert_write_calls(&rt, rt.alloc(), &table)
 }
 
 #[test]
 fn the_second_page_of_an_area_goes_on_behind_the_first(rt: HostRuntime) -> Result<(), Fail> {
-    let alloc = rt.alloc();
-    for (place, entry, want) in IN_SECOND {
-        let mut device = device_of_513(alloc, place, entry)?;
-        let fault = fault_of(alloc, &mut device);
-        assert_eq!(rt; fault, want, "{entry:?} at place {place}");
+    for (place, entry, want) in &IN_SECOND {
+        let fault = fault_in_second(rt.alloc(), *place, *entry)?;
+        assert_same(&rt, &fault, want, (*entry, "at place", *place));
     }
     Ok(())
 }
@@ -314,7 +381,7 @@ fn largest_store(alloc: Global) -> Result<Vec<Page>, Fail> {
     let mut pages = pages_with_root(alloc, MOST_PAGES, &first_root(MOST, 0))?;
     for slot in 0..MOST {
         put_entry(
-            &mut pages,
+            pages.as_mut_slice(),
             3 + slot as usize / 512,
             slot as usize % 512,
             entry_in_turn(slot),
@@ -332,17 +399,50 @@ fn first_other(table: &SlotTable) -> Option<usize> {
         .position(|(slot, owner)| *owner != owner_in_turn(slot as u32))
 }
 
+/// Reads the largest table from an area.
+fn assert_read<D: Device>(
+    rt: &impl Abort,
+    alloc: Global,
+    device: &mut D,
+    area: u8,
+) -> Result<SlotTable, Fail> {
+    let table = load_table(alloc, device)?;
+    assert_same(rt, &table.slots(), &65_536, ("slots in area", area));
+    assert_same(
+        rt,
+        &first_other(&table),
+        &None,
+        ("as it was read from area", area),
+    );
+    Ok(table)
+}
+
+/// Writes a table to area 1, and selects that.
+fn assert_moved(rt: &impl Abort, device: &mut MemDevice, table: &SlotTable) -> Result<(), Fail> {
+    assert_same(rt, &write_to(device, table, 1)?, &Ok(()), "the write");
+    let switched = switch_from(device, 1, &first_root(MOST, 1))?;
+    assert_same(rt, &switched, &Ok(2), "the switch");
+    Ok(())
+}
+
+/// Reads the largest table from area 0, and moves it to area 1.
+fn assert_read_and_moved(
+    rt: &impl Abort,
+    alloc: Global,
+    device: &mut MemDevice,
+) -> Result<(), Fail> {
+    let table = assert_read(rt, alloc, device, 0)?;
+    assert_moved(rt, device, &table)
+}
+
+fn assert_largest(rt: &impl Abort, alloc: Global, device: &mut MemDevice) -> Result<(), Fail> {
+    assert_read_and_moved(rt, alloc, device)?;
+    assert_read(rt, alloc, device, 1)?;
+    Ok(())
+}
+
 #[test]
 fn a_table_of_65536_slots_is_read_as_it_was_written(rt: HostRuntime) -> Result<(), Fail> {
-    let alloc = rt.alloc();
-    let mut device = MemDevice::new(alloc, largest_store(alloc)?)?;
-    let table = load_table(alloc, &mut device)?;
-    assert_eq!(rt; table.slots(), 65_536);
-    assert_eq!(rt; first_other(&table), None, "as it was read from area 0");
-    assert_eq!(rt; write_to(&mut device, &table, 1)?, Ok(()));
-    assert_eq!(rt; switch_from(&mut device, 1, &first_root(MOST, 1))?, Ok(2));
-    let table = load_table(alloc, &mut device)?;
-    assert_eq!(rt; table.slots(), 65_536);
-    assert_eq!(rt; first_other(&table), None, "as it was read from area 1");
-    Ok(())
+    let mut device = MemDevice::new(rt.alloc(), largest_store(rt.alloc())?)?;
+    assert_largest(&rt, rt.alloc(), &mut device)
 }

@@ -1,6 +1,7 @@
 // Roots, as bytes and on a device.
-use crate::harness::{first_root, pages_with_root, switch_from};
-use rss_base::{Failed, OpenFault, Page, Place, Root, Tail};
+use crate::asserts::{assert_same, assert_same_slices};
+use crate::harness::{failing_at, first_root, image_at, others_from, pages_with_root, switch_from};
+use rss_base::{Device, Failed, OpenFault, Page, Place, Root, Tail};
 use rss_device::{MemDevice, Unsynced};
 use rss_root::{decode, encode, load};
 use std::alloc::Global;
@@ -243,27 +244,22 @@ const TO_ROOT_1: Switch = Switch {
 /// The writes of both switches, and the moments right after them.
 const WRITES: [(usize, usize); 4] = [(0, 1), (1, 3), (2, 5), (3, 7)];
 
-/// The calls of a load, in their order.
-const LOAD_CALLS: [&str; 4] = ["the sync", "the size", "the selector", "the root"];
-
-/// The calls of a switch, in their order, and what a load finds where one fails and no stop comes.
-const SWITCH_CALLS: [(&str, Found); 4] = [
-    ("the write of the root", Found::Before),
-    ("the sync of the root", Found::Before),
-    ("the write of the selector", Found::Before),
-    ("the sync of the selector", Found::After),
+/// The calls of a load, in their order, and what it answers where one fails. There is no fifth call.
+const LOAD_CALLS: [(u64, &str, Answer); 5] = [
+    (0, "the sync", Err(OpenFault::Device)),
+    (1, "the size", Err(OpenFault::Device)),
+    (2, "the selector", Err(OpenFault::Device)),
+    (3, "the root", Err(OpenFault::Device)),
+    (4, "no call", Ok(LOADS)),
 ];
 
-/// The bytes of a page that aren't 0, from a place on.
-fn others_from(alloc: Global, page: &Page, first: usize) -> Result<Vec<(usize, u8)>, Fail> {
-    let mut others = Vec::new(alloc);
-    for (at, byte) in page.iter().enumerate() {
-        if at >= first && *byte != 0 {
-            others.push((at, *byte))?;
-        }
-    }
-    Ok(others)
-}
+/// The calls of a switch, in their order, and what a load finds where one fails and no stop comes.
+const SWITCH_CALLS: [(u64, &str, Found); 4] = [
+    (0, "the write of the root", Found::Before),
+    (1, "the sync of the root", Found::Before),
+    (2, "the write of the selector", Found::Before),
+    (3, "the sync of the selector", Found::After),
+];
 
 /// A root of a store of 64 slots and 8 log pages, whose log has only zeros.
 fn root_between(head: u64, end: u64) -> Root {
@@ -286,7 +282,7 @@ fn first_device(alloc: Global) -> Result<MemDevice, Fail> {
 }
 
 /// Loads the root of a device.
-fn answer_of(device: &mut MemDevice) -> Answer {
+fn answer_of<D: Device>(device: &mut D) -> Answer {
     let (root, number) = load(device)?;
     Ok(Loaded {
         number,
@@ -303,13 +299,35 @@ fn answer_in(alloc: Global, pages: Vec<Page>) -> Result<Answer, Fail> {
     Ok(answer_of(&mut device))
 }
 
-/// The first pages of a store, with bits of a byte turned.
-fn turned(alloc: Global, at: usize, offset: usize, bits: u8) -> Result<Vec<Page>, Fail> {
-    let mut pages = pages_with_root(alloc, PAGES, &first_root(64, 0))?;
+/// Turns bits of a byte of pages.
+fn turn(pages: &mut [Page], at: usize, offset: usize, bits: u8) -> Result<(), Fail> {
     let page = pages.get_mut(at).ok_or("a page that isn't there")?;
     let byte = page.get_mut(offset).ok_or("a byte that isn't there")?;
     *byte ^= bits;
-    Ok(pages)
+    Ok(())
+}
+
+/// Loads the root of a store of which bits of a byte are turned.
+fn answer_turned(alloc: Global, at: usize, offset: usize, bits: u8) -> Result<Answer, Fail> {
+    let mut pages = pages_with_root(alloc, PAGES, &first_root(64, 0))?;
+    turn(pages.as_mut_slice(), at, offset, bits)?;
+    answer_in(alloc, pages)
+}
+
+/// Loads the root of a device of so many pages.
+fn answer_of_size(alloc: Global, size: usize) -> Result<Answer, Fail> {
+    answer_in(alloc, pages_with_root(alloc, size, &first_root(64, 0))?)
+}
+
+/// The device of a store of 64 slots of which this call fails.
+fn failing_device(alloc: Global, call: u64) -> Result<MemDevice, Fail> {
+    failing_at(alloc, first_device(alloc)?, call)
+}
+
+/// Loads the root of a device of which this call fails.
+fn answer_failing(alloc: Global, call: u64) -> Result<Answer, Fail> {
+    let mut device = failing_device(alloc, call)?;
+    Ok(answer_of(&mut device))
 }
 
 /// Which of a switch's roots is found in these pages.
@@ -329,6 +347,22 @@ fn make(device: &mut MemDevice, switch: &Switch) -> Result<Result<u8, Failed>, F
     switch_from(device, switch.valid, &root_between(0, switch.after))
 }
 
+/// Which of a switch's roots is found after a stop.
+fn found_after(
+    alloc: Global,
+    device: &MemDevice,
+    switch: &Switch,
+    moment: usize,
+    unsynced: Unsynced,
+) -> Result<Found, Fail> {
+    found_in(alloc, image_at(alloc, device, moment, unsynced)?, switch)
+}
+
+/// Which of a switch's roots is found where no stop comes.
+fn found_on(alloc: Global, device: &MemDevice, switch: &Switch) -> Result<Found, Fail> {
+    found_in(alloc, Vec::from_slice(alloc, device.pages())?, switch)
+}
+
 /// Stops a device at a moment.
 fn assert_stop(
     rt: &impl Abort,
@@ -337,18 +371,9 @@ fn assert_stop(
     switch: &Switch,
     stop: &Stop,
 ) -> Result<(), Fail> {
-    if stop.moment > device.moment() {
-        return Err("a moment that isn't there".into());
-    }
     for (unsynced, want) in UNSYNCED.iter().zip(&stop.finds) {
-        let image = device.image_at(alloc, stop.moment, *unsynced)?;
-        let found = found_in(alloc, image, switch)?;
-        assert_eq!(rt;
-            found,
-            *want,
-            "{}, {}, {unsynced:?}",
-            switch.name, stop.when
-        );
+        let found = found_after(alloc, device, switch, stop.moment, *unsynced)?;
+        assert_same(rt, &found, want, (switch.name, stop.when, *unsynced));
     }
     Ok(())
 }
@@ -366,74 +391,106 @@ fn assert_stops(
     Ok(())
 }
 
-/// A device whose root was switched from root 1 and back.
-fn switched_twice(rt: &impl Abort, alloc: Global) -> Result<MemDevice, Fail> {
-    let mut device = first_device(alloc)?;
-    assert_eq!(rt; make(&mut device, &TO_ROOT_2)?, Ok(2));
-    assert_eq!(rt; make(&mut device, &TO_ROOT_1)?, Ok(1));
-    Ok(device)
-}
-
 /// The writes of both switches have their moments, and after the last one comes a sync.
 fn assert_writes(rt: &impl Abort, device: &MemDevice) {
-    for (write, moment) in WRITES {
-        assert_eq!(rt; device.moment_of_write(write), Some(moment), "{write}");
+    for (write, moment) in &WRITES {
+        assert_same(
+            rt,
+            &device.moment_of_write(*write),
+            &Some(*moment),
+            ("write", *write),
+        );
     }
-    assert_eq!(rt; device.moment(), 8, "the last moment");
+    assert_same(rt, &device.moment(), &8, "the last moment");
+}
+
+/// Makes a switch, which names this root.
+fn assert_made(
+    rt: &impl Abort,
+    device: &mut MemDevice,
+    switch: &Switch,
+    root: u8,
+) -> Result<(), Fail> {
+    assert_same(rt, &make(device, switch)?, &Ok(root), switch.name);
+    Ok(())
+}
+
+/// Switches a device from root 1 and back, and stops it at each moment.
+fn assert_switches(
+    rt: &impl Abort,
+    alloc: Global,
+    device: &mut MemDevice,
+    there: &Switch,
+    back: &Switch,
+) -> Result<(), Fail> {
+    assert_made(rt, device, there, 2)?;
+    assert_made(rt, device, back, 1)?;
+    assert_writes(rt, device);
+    assert_stops(rt, alloc, device, there)?;
+    assert_stops(rt, alloc, device, back)
 }
 
 /// Makes a switch over a device that fails a call, and loads what that leaves.
 fn assert_failed_switch(
     rt: &impl Abort,
     alloc: Global,
-    device: MemDevice,
-    call: &str,
-    want: Found,
+    device: &mut MemDevice,
+    switch: &Switch,
+    (call, want): (&str, Found),
 ) -> Result<(), Fail> {
-    let mut device = device;
-    assert_eq!(rt; make(&mut device, &TO_ROOT_2)?, Err(Failed), "{call}");
-    let left = Vec::from_slice(alloc, device.pages())?;
-    assert_eq!(rt; found_in(alloc, left, &TO_ROOT_2)?, want, "{call}");
+    assert_same(rt, &make(device, switch)?, &Err(Failed), call);
+    assert_same(rt, &found_on(alloc, device, switch)?, &want, call);
+    Ok(())
+}
+
+/// Fails each call of a switch.
+fn assert_failed_switches(rt: &impl Abort, alloc: Global, switch: &Switch) -> Result<(), Fail> {
+    for (call, name, want) in &SWITCH_CALLS {
+        let mut device = failing_device(alloc, *call)?;
+        assert_failed_switch(rt, alloc, &mut device, switch, (name, *want))?;
+    }
+    Ok(())
+}
+
+/// The bytes of a page from this place on that aren't 0.
+fn assert_rest(rt: &impl Abort, alloc: Global, page: &Page) -> Result<(), Fail> {
+    let others = others_from(alloc, page, 24)?;
+    assert_same_slices(rt, others.as_slice(), &REST, "the others");
     Ok(())
 }
 
 #[test]
 fn a_root_has_the_bytes_of_its_format(rt: HostRuntime) -> Result<(), Fail> {
     let page = encode(&first_root(64, 0));
-    assert_eq!(rt; &page[..24], FRONT.as_slice());
-    let others = others_from(rt.alloc(), &page, 24)?;
-    assert_eq!(rt; others.as_slice(), REST.as_slice());
-    Ok(())
+    assert_same_slices(&rt, &page[..24], &FRONT, "the front");
+    assert_rest(&rt, rt.alloc(), &page)
 }
 
 #[test]
 fn each_field_turned_names_its_place(rt: HostRuntime) -> Result<(), Fail> {
-    let alloc = rt.alloc();
-    let pages = pages_with_root(alloc, PAGES, &first_root(64, 0))?;
-    assert_eq!(rt; answer_in(alloc, pages)?, Ok(LOADS), "as it was made");
-    for (at, offset, bits, want) in TURNED {
-        let pages = turned(alloc, at, offset, bits)?;
-        let answer = answer_in(alloc, pages)?;
-        assert_eq!(rt; answer, want, "byte {offset} of page {at} by {bits}");
+    let answer = answer_of_size(rt.alloc(), PAGES)?;
+    assert_same(&rt, &answer, &Ok(LOADS), "as it was made");
+    for (at, offset, bits, want) in &TURNED {
+        let answer = answer_turned(rt.alloc(), *at, *offset, *bits)?;
+        assert_same(&rt, &answer, want, ("page", *at, "byte", *offset, *bits));
     }
     Ok(())
 }
 
 #[test]
 fn a_device_of_another_size_is_named(rt: HostRuntime) -> Result<(), Fail> {
-    let alloc = rt.alloc();
-    for size in [0, 1, 2, 76, 78] {
-        let pages = pages_with_root(alloc, size, &first_root(64, 0))?;
-        assert_eq!(rt; answer_in(alloc, pages)?, NOT_SIZE, "{size} pages");
+    for size in &[0, 1, 2, 76, 78] {
+        let answer = answer_of_size(rt.alloc(), *size)?;
+        assert_same(&rt, &answer, &NOT_SIZE, ("pages", *size));
     }
     Ok(())
 }
 
 #[test]
 fn the_log_needs_room_for_a_checkpoint(rt: HostRuntime) {
-    for (head, end, fits) in ROOMS {
-        let page = encode(&root_between(head, end));
-        assert_eq!(rt; decode(&page).is_some(), fits, "from {head} to {end}");
+    for (head, end, fits) in &ROOMS {
+        let page = encode(&root_between(*head, *end));
+        assert_same(&rt, &decode(&page).is_some(), fits, (*head, *end));
     }
 }
 
@@ -441,35 +498,25 @@ fn the_log_needs_room_for_a_checkpoint(rt: HostRuntime) {
 fn a_switch_stopped_at_each_write_finds_the_old_root_or_the_new_one(
     rt: HostRuntime,
 ) -> Result<(), Fail> {
-    let alloc = rt.alloc();
-    let device = switched_twice(&rt, alloc)?;
-    assert_writes(&rt, &device);
-    assert_stops(&rt, alloc, &device, &TO_ROOT_2)?;
-    assert_stops(&rt, alloc, &device, &TO_ROOT_1)
+    let mut device = first_device(rt.alloc())?;
+    assert_switches(&rt, rt.alloc(), &mut device, &TO_ROOT_2, &TO_ROOT_1)
 }
 
 #[test]
 fn a_failed_call_of_a_load_is_a_device_fault(rt: HostRuntime) -> Result<(), Fail> {
-    let alloc = rt.alloc();
-    for (k, call) in LOAD_CALLS.iter().enumerate() {
-        let mut device = first_device(alloc)?.failing_at(vec![in alloc; k as u64]?);
-        assert_eq!(rt; answer_of(&mut device), Err(OpenFault::Device), "{call}");
+    for (call, name, want) in &LOAD_CALLS {
+        assert_same(&rt, &answer_failing(rt.alloc(), *call)?, want, *name);
     }
-    // There is no fifth call.
-    let mut device = first_device(alloc)?.failing_at(vec![in alloc; 4]?);
-    assert_eq!(rt; answer_of(&mut device), Ok(LOADS));
     Ok(())
 }
 
 #[test]
 fn a_failed_call_of_a_switch_is_a_device_fault(rt: HostRuntime) -> Result<(), Fail> {
-    let alloc = rt.alloc();
-    for (k, (call, want)) in SWITCH_CALLS.iter().enumerate() {
-        let device = first_device(alloc)?.failing_at(vec![in alloc; k as u64]?);
-        assert_failed_switch(&rt, alloc, device, call, *want)?;
-    }
-    // There is no fifth call.
-    let mut device = first_device(alloc)?.failing_at(vec![in alloc; 4]?);
-    assert_eq!(rt; make(&mut device, &TO_ROOT_2)?, Ok(2));
-    Ok(())
+    assert_failed_switches(&rt, rt.alloc(), &TO_ROOT_2)
+}
+
+#[test]
+fn a_switch_has_no_fifth_call(rt: HostRuntime) -> Result<(), Fail> {
+    let mut device = failing_device(rt.alloc(), 4)?;
+    assert_made(&rt, &mut device, &TO_ROOT_2, 2)
 }

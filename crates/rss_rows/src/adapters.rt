@@ -1,21 +1,45 @@
 // Devices, sources, sinks and lists as they run.
 ghost use Rattle.std.specs.Prelude.{◌≡◌, ◌<◌};
 
+use crate::asserts::{assert_same, assert_same_slices};
+use crate::harness::image_at;
 use rss_base::{Device, Failed, Page, Sink, Source, Text, Tuple, Value, write_all};
 use rss_device::{FileDevice, MemDevice, MemSink, MemSource, ReaderSource, Unsynced, WriterSink};
 use std::alloc::Global;
+use std::process::Abort;
+use std::rt::Files;
 use std::test::Fail;
 use std::{env, fs, process};
 
 const TEXT: &[u8] = b"begin 1\nend 1\n";
 
-// What a source gives up to its end, read through this buffer.
-fn read_to_end<S: Source>(
-    alloc: Global,
-    source: &mut S,
-    buffer: &mut [u8],
-) -> Result<Vec<u8>, Fail> {
-    let mut all = Vec::new(alloc);
+/// What a stop may leave of pages that aren't synced, and the byte that fills the second page then:
+/// before it was written, after that, and once it was synced.
+static BEFORE: [(Unsynced, u8); 1] = [(Unsynced::Filled(255), 2)];
+
+static WRITTEN: [(Unsynced, u8); 3] = [
+    (Unsynced::Old, 2),
+    (Unsynced::New, 3),
+    (Unsynced::Filled(255), 255),
+];
+
+static SYNCED: [(Unsynced, u8); 2] = [(Unsynced::Old, 3), (Unsynced::Filled(255), 3)];
+
+/// The same after a write that failed, and after the next one, which didn't.
+static TORN: [(Unsynced, u8); 3] = [
+    (Unsynced::Old, 2),
+    (Unsynced::New, 2),
+    (Unsynced::Filled(255), 255),
+];
+
+static WRITTEN_AFTER: [(Unsynced, u8); 3] = [
+    (Unsynced::Old, 2),
+    (Unsynced::New, 4),
+    (Unsynced::Filled(255), 255),
+];
+
+/// Puts what a source gives up to its end, read through a buffer, behind what was read before.
+fn read_on<S: Source>(source: &mut S, buffer: &mut [u8], all: &mut Vec<u8>) -> Result<(), Fail> {
     for _ in 0..100 {
         let n = source.read(buffer)?;
         if n == 0 {
@@ -23,6 +47,17 @@ fn read_to_end<S: Source>(
         }
         all.extend_from_slice(&buffer[..n])?;
     }
+    Ok(())
+}
+
+/// What a source gives up to its end, read through this buffer.
+fn read_to_end<S: Source>(
+    alloc: Global,
+    source: &mut S,
+    buffer: &mut [u8],
+) -> Result<Vec<u8>, Fail> {
+    let mut all = Vec::new(alloc);
+    read_on(source, buffer, &mut all)?;
     Ok(all)
 }
 
@@ -39,28 +74,169 @@ fn is_full_of<D: Device>(device: &mut D, at: u64, byte: u8) -> Result<bool, Fail
     Ok(page.iter().all(|b| *b == byte))
 }
 
-#[test]
-fn file_device_keeps_its_pages(rt: HostRuntime) -> Result<(), Fail> {
-    let directory = env::temp_dir(&rt)?;
-    let id = process::id(rt.process());
-    let path = format!(in rt.alloc(); "{}/rss_file_device_{id}", directory.display())?;
-
-    let mut device = FileDevice::new(&rt, path.as_str());
-    assert_eq!(rt; device.size(), Err(Failed));
+/// Makes a device three pages, and writes the last two.
+fn write_two<D: Device>(device: &mut D) -> Result<(), Fail> {
     device.set_size(3)?;
     device.write(1, &page_full_of(7))?;
     device.write(2, &page_full_of(9))?;
     device.sync()?;
+    Ok(())
+}
 
-    let mut again = FileDevice::new(&rt, path.as_str());
-    let size = again.size()?;
-    assert_eq!(rt; size, 3);
-    assert!(rt; is_full_of(&mut again, 0, 0)?);
-    assert!(rt; is_full_of(&mut again, 1, 7)?);
-    assert!(rt; is_full_of(&mut again, 2, 9)?);
+/// A device has these three pages.
+fn assert_three<D: Device>(rt: &impl Abort, device: &mut D) -> Result<(), Fail> {
+    if device.size()? != 3 {
+        return Err("another size".into());
+    }
+    assert_same(rt, &is_full_of(device, 0, 0)?, &true, "page 0");
+    assert_same(rt, &is_full_of(device, 1, 7)?, &true, "page 1");
+    assert_same(rt, &is_full_of(device, 2, 9)?, &true, "page 2");
+    Ok(())
+}
 
-    fs::write(&rt, path.as_str(), "short")?;
-    assert_eq!(rt; again.size()?, u64::MAX);
+/// A path where no file is.
+fn new_path(rt: &HostRuntime) -> Result<String, Fail> {
+    let directory = env::temp_dir(rt)?;
+    let id = process::id(rt.process());
+    Ok(format!(in rt.alloc(); "{}/rss_file_device_{id}", directory.display())?)
+}
+
+/// Makes a file of three pages.
+fn make_file<R: Files + Abort>(rt: &R, path: &str) -> Result<(), Fail> {
+    let mut device = FileDevice::new(rt, path);
+    assert_same(rt, &device.size(), &Err(Failed), "no file");
+    write_two(&mut device)
+}
+
+/// Opens it, and again once it has another length.
+fn assert_file<R: Files + Abort>(rt: &R, path: &str) -> Result<(), Fail> {
+    let mut device = FileDevice::new(rt, path);
+    assert_three(rt, &mut device)?;
+    fs::write(rt, path, "short")?;
+    assert_same(rt, &device.size(), &Ok(u64::MAX), "a short file");
+    Ok(())
+}
+
+fn assert_source_fails<S: Source>(
+    rt: &impl Abort,
+    alloc: Global,
+    source: &mut S,
+) -> Result<(), Fail> {
+    let mut buffer = [0; 8];
+    assert_same(rt, &source.read(&mut buffer), &Ok(3), "the first read");
+    assert_same(rt, &source.read(&mut buffer), &Err(Failed), "the second");
+    let rest = read_to_end(alloc, source, &mut buffer)?;
+    assert_same_slices(rt, rest.as_slice(), b"in 1\nend 1\n", "the rest");
+    Ok(())
+}
+
+fn assert_sink_fails(rt: &impl Abort, sink: MemSink) {
+    let mut sink = sink;
+    assert_same(rt, &write_all(&mut sink, TEXT), &Err(Failed), "the text");
+    assert_same_slices(rt, sink.bytes(), b"begin ", "what was written");
+    let bytes = sink.into_bytes();
+    assert_same_slices(rt, bytes.as_slice(), b"begin ", "the bytes");
+}
+
+/// A device of two pages.
+fn two_pages(alloc: Global) -> Result<MemDevice, Fail> {
+    let pages = vec![in alloc; page_full_of(1), page_full_of(2)]?;
+    Ok(MemDevice::new(alloc, pages)?)
+}
+
+/// Writes the second page of a device. The test ends where it has none.
+fn write_second(rt: &impl Abort, device: &mut MemDevice, byte: u8) -> Result<(), Failed> {
+    assert!(rt; device.pages().len() >= 2, "no second page");
+    device.write(1, &page_full_of(byte))
+}
+
+/// A stop at a moment leaves these bytes in the second page.
+fn assert_images(
+    rt: &impl Abort,
+    alloc: Global,
+    device: &MemDevice,
+    moment: usize,
+    left: &[(Unsynced, u8)],
+) {
+    for (unsynced, byte) in left {
+        let image = image_at(rt, alloc, device, moment, *unsynced);
+        let is_left = image.as_slice() == [page_full_of(1), page_full_of(*byte)].as_slice();
+        assert_same(rt, &is_left, &true, (*unsynced, "at moment", moment));
+    }
+}
+
+/// Writes and syncs the second page, and stops that.
+fn assert_stops(rt: &impl Abort, alloc: Global, device: &mut MemDevice) {
+    assert_same(rt, &write_second(rt, device, 3), &Ok(()), "the write");
+    let written = device.moment();
+    assert_same(rt, &device.sync(), &Ok(()), "the sync");
+    let synced = device.moment();
+    assert_images(rt, alloc, device, 0, &BEFORE);
+    assert_images(rt, alloc, device, written, &WRITTEN);
+    assert_images(rt, alloc, device, synced, &SYNCED);
+}
+
+/// Writes the second page, which fails, and again, and syncs it, which fails. Answers the moments of
+/// the writes.
+fn fail_calls(rt: &impl Abort, device: &mut MemDevice) -> (usize, usize) {
+    assert_same(rt, &write_second(rt, device, 3), &Err(Failed), "a write");
+    let torn = device.moment();
+    assert_same(rt, &write_second(rt, device, 4), &Ok(()), "the next one");
+    assert_same(rt, &device.sync(), &Err(Failed), "the sync");
+    (torn, device.moment())
+}
+
+/// The device has two writes, which made these moments.
+fn assert_two_writes(rt: &impl Abort, device: &MemDevice, torn: usize, written: usize) {
+    assert_same(rt, &device.moment_of_write(0), &Some(torn), "a write");
+    assert_same(
+        rt,
+        &device.moment_of_write(1),
+        &Some(written),
+        "the next one",
+    );
+    assert_same(rt, &device.moment_of_write(2), &None, "no write");
+}
+
+/// Does so, and stops it.
+fn assert_failures(rt: &impl Abort, alloc: Global, device: &mut MemDevice) {
+    let (torn, written) = fail_calls(rt, device);
+    assert_two_writes(rt, device, torn, written);
+    assert_images(rt, alloc, device, torn, &TORN);
+    assert_images(rt, alloc, device, written, &WRITTEN_AFTER);
+}
+
+fn push_bytes(text: &mut Text, bytes: &[u8]) -> Result<(), Fail> {
+    for byte in bytes {
+        text.push(*byte)?;
+    }
+    Ok(())
+}
+
+/// A text of these bytes.
+fn text_of(alloc: Global, bytes: &[u8]) -> Result<Text, Fail> {
+    let mut text = Text::new(alloc);
+    push_bytes(&mut text, bytes)?;
+    Ok(text)
+}
+
+/// A tuple of 7 and a text.
+fn tuple_of(alloc: Global, text: Text) -> Result<Tuple, Fail> {
+    let mut tuple = Tuple::new(alloc);
+    tuple.push(Value::Int(7))?;
+    tuple.push(Value::Text(text))?;
+    Ok(tuple)
+}
+
+fn is_of_seven(tuple: &Tuple, text: &[u8]) -> bool {
+    matches!(tuple.as_slice(), [Value::Int(7), Value::Text(last)] if last.as_slice() == text)
+}
+
+#[test]
+fn file_device_keeps_its_pages(rt: HostRuntime) -> Result<(), Fail> {
+    let path = new_path(&rt)?;
+    make_file(&rt, path.as_str())?;
+    assert_file(&rt, path.as_str())?;
     fs::remove_file(&rt, path.as_str())?;
     Ok(())
 }
@@ -69,7 +245,7 @@ fn file_device_keeps_its_pages(rt: HostRuntime) -> Result<(), Fail> {
 fn reader_source_gives_its_text(rt: HostRuntime) -> Result<(), Fail> {
     let mut source = ReaderSource::new(TEXT);
     let all = read_to_end(rt.alloc(), &mut source, &mut [0; 4])?;
-    assert_eq!(rt; all.as_slice(), TEXT);
+    assert_same_slices(&rt, all.as_slice(), TEXT, "the text");
     Ok(())
 }
 
@@ -77,96 +253,38 @@ fn reader_source_gives_its_text(rt: HostRuntime) -> Result<(), Fail> {
 fn writer_sink_writes_its_text(rt: HostRuntime) -> Result<(), Fail> {
     let mut written = Vec::new(rt.alloc());
     write_all(&mut WriterSink::new(&mut written), TEXT)?;
-    assert_eq!(rt; written.as_slice(), TEXT);
+    assert_same_slices(&rt, written.as_slice(), TEXT, "the text");
     Ok(())
 }
 
 #[test]
 fn memory_fails_where_it_is_told_to(rt: HostRuntime) -> Result<(), Fail> {
     let mut source = MemSource::new(TEXT).in_pieces(3).failing_at(1);
-    let mut buffer = [0; 8];
-    assert_eq!(rt; source.read(&mut buffer)?, 3);
-    assert!(rt; source.read(&mut buffer).is_err());
-    let rest = read_to_end(rt.alloc(), &mut source, &mut buffer)?;
-    assert_eq!(rt; rest.as_slice(), b"in 1\nend 1\n".as_slice());
-
-    let mut sink = MemSink::new(rt.alloc()).taking(3).failing_at(2);
-    assert!(rt; write_all(&mut sink, TEXT).is_err());
-    assert_eq!(rt; sink.bytes(), b"begin ".as_slice());
-    assert_eq!(rt; sink.into_bytes().as_slice(), b"begin ".as_slice());
+    assert_source_fails(&rt, rt.alloc(), &mut source)?;
+    assert_sink_fails(&rt, MemSink::new(rt.alloc()).taking(3).failing_at(2));
     Ok(())
 }
 
 #[test]
 fn a_stop_leaves_unsynced_pages_open(rt: HostRuntime) -> Result<(), Fail> {
-    let alloc = rt.alloc();
-    let pages = vec![in alloc; page_full_of(1), page_full_of(2)]?;
-    let mut device = MemDevice::new(alloc, pages)?;
-    device.write(1, &page_full_of(3))?;
-    let written = device.moment();
-    device.sync()?;
-    let synced = device.moment();
-    for (moment, unsynced, byte) in [
-        (0, Unsynced::Filled(255), 2),
-        (written, Unsynced::Old, 2),
-        (written, Unsynced::New, 3),
-        (written, Unsynced::Filled(255), 255),
-        (synced, Unsynced::Old, 3),
-        (synced, Unsynced::Filled(255), 3),
-    ] {
-        let image = device.image_at(alloc, moment, unsynced)?;
-        let want = [page_full_of(1), page_full_of(byte)];
-        assert!(rt;
-            image.as_slice() == want.as_slice(),
-            "{unsynced:?} at {moment}"
-        );
-    }
+    let mut device = two_pages(rt.alloc())?;
+    assert_stops(&rt, rt.alloc(), &mut device);
     Ok(())
 }
 
 #[test]
 fn a_call_that_fails_brings_nothing_to_the_disk(rt: HostRuntime) -> Result<(), Fail> {
-    let alloc = rt.alloc();
-    let pages = vec![in alloc; page_full_of(1), page_full_of(2)]?;
-    let mut device = MemDevice::new(alloc, pages)?.failing_at(vec![in alloc; 0, 2]?);
-    assert!(rt; device.write(1, &page_full_of(3)).is_err());
-    let torn = device.moment();
-    assert!(rt; device.write(1, &page_full_of(4)).is_ok());
-    assert!(rt; device.sync().is_err());
-    let written = device.moment();
-    assert_eq!(rt; device.moment_of_write(0), Some(torn));
-    assert_eq!(rt; device.moment_of_write(1), Some(written));
-    assert_eq!(rt; device.moment_of_write(2), None);
-    for (moment, unsynced, byte) in [
-        (torn, Unsynced::Old, 2),
-        (torn, Unsynced::New, 2),
-        (torn, Unsynced::Filled(255), 255),
-        (written, Unsynced::Old, 2),
-        (written, Unsynced::New, 4),
-        (written, Unsynced::Filled(255), 255),
-    ] {
-        let image = device.image_at(alloc, moment, unsynced)?;
-        let want = [page_full_of(1), page_full_of(byte)];
-        assert!(rt;
-            image.as_slice() == want.as_slice(),
-            "{unsynced:?} at {moment}"
-        );
-    }
+    let calls = vec![in rt.alloc(); 0, 2]?;
+    let mut device = two_pages(rt.alloc())?.failing_at(calls);
+    assert_failures(&rt, rt.alloc(), &mut device);
     Ok(())
 }
 
 #[test]
 fn lists_keep_what_is_pushed(rt: HostRuntime) -> Result<(), Fail> {
-    let mut text = Text::new(rt.alloc());
-    for byte in TEXT {
-        text.push(*byte)?;
-    }
-    assert_eq!(rt; text.as_slice(), TEXT);
-    let mut tuple = Tuple::new(rt.alloc());
-    tuple.push(Value::Int(7))?;
-    tuple.push(Value::Text(text))?;
-    assert!(rt;
-        matches!(tuple.as_slice(), [Value::Int(7), Value::Text(last)] if last.as_slice() == TEXT)
-    );
+    let text = text_of(rt.alloc(), TEXT)?;
+    assert_same_slices(&rt, text.as_slice(), TEXT, "the text");
+    let tuple = tuple_of(rt.alloc(), text)?;
+    assert_same(&rt, &is_of_seven(&tuple, TEXT), &true, "the tuple");
     Ok(())
 }

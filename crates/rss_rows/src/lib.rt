@@ -4,9 +4,13 @@
 #[cfg(test)]
 mod adapters;
 #[cfg(test)]
+mod asserts;
+#[cfg(test)]
 mod formats;
 #[cfg(test)]
 mod harness;
+#[cfg(test)]
+mod lines;
 #[cfg(test)]
 mod many;
 #[cfg(test)]

@@ -1,8 +1,12 @@
 // Many transactions over a larger store, stopped at each of their moments.
-use crate::harness::{empty_store, without_moments};
-use crate::stops::{Commit, Probe, UNSYNCED, assert_stops, run_commit};
+use crate::harness::{Row, empty_store, without_moments};
+use crate::lines::{
+    write_absent, write_fetched, write_fetches, write_inserted, write_inserts, write_lines,
+};
+use crate::stops::{Commit, Probe, assert_stops, run_commit};
+use rss_device::{MemDevice, Unsynced};
 use std::alloc::Global;
-use std::fmt::Write;
+use std::process::Abort;
 use std::test::Fail;
 
 /// How many transactions there are, and how many tuples each inserts.
@@ -23,70 +27,129 @@ struct Transaction {
     after: String,
 }
 
-/// A transaction that inserts so many tuples behind the others. Each tuple's value is its place. Of
-/// the others the last is fetched too.
-fn new_transaction(alloc: Global, first: u32, count: u32) -> Result<Transaction, Fail> {
-    let mut insert = String::from_str(alloc, "begin 1\n")?;
-    let mut inserted = String::from_str(alloc, "ok\n")?;
-    let mut fetch = String::from_str(alloc, "begin 1\n")?;
-    let mut before = String::from_str(alloc, "ok\n")?;
-    let mut after = String::from_str(alloc, "ok\n")?;
-    if let Some(place) = first.checked_sub(1) {
-        writeln!(fetch, "fetch 1 r {}.{}", place / 128, place % 128)?;
-        writeln!(before, "ok {place}")?;
-        writeln!(after, "ok {place}")?;
+fn no_transaction(alloc: Global) -> Transaction {
+    Transaction {
+        insert: String::new(alloc),
+        inserted: String::new(alloc),
+        fetch: String::new(alloc),
+        before: String::new(alloc),
+        after: String::new(alloc),
     }
-    for place in first..first.saturating_add(count) {
-        let (page, slot) = (place / 128, place % 128);
-        writeln!(insert, "insert 1 r {place}")?;
-        writeln!(inserted, "ok {page}.{slot}")?;
-        writeln!(fetch, "fetch 1 r {page}.{slot}")?;
-        writeln!(before, "refused 9 no tuple r {page}.{slot}")?;
-        writeln!(after, "ok {place}")?;
-    }
-    insert.push_str("end 1\n")?;
-    inserted.push_str("ok\n")?;
-    Ok(Transaction {
-        insert,
-        inserted,
-        fetch,
-        before,
-        after,
-    })
+}
+
+/// Writes the script that inserts the tuples of these places, and its replies.
+fn write_insert(rt: &impl Abort, made: &mut Transaction, first: u32, end: u32) {
+    write_lines(rt, &mut made.insert, "begin 1\n");
+    write_inserts(rt, &mut made.insert, first, end);
+    write_lines(rt, &mut made.insert, "end 1\n");
+    write_lines(rt, &mut made.inserted, "ok\n");
+    write_inserted(rt, &mut made.inserted, first, end);
+    write_lines(rt, &mut made.inserted, "ok\n");
+}
+
+/// Writes the script that fetches them, and its replies. Of the others the last is fetched too.
+fn write_fetch(rt: &impl Abort, made: &mut Transaction, first: u32, end: u32) {
+    let last = first.saturating_sub(1);
+    write_lines(rt, &mut made.fetch, "begin 1\n");
+    write_fetches(rt, &mut made.fetch, last, end);
+    write_lines(rt, &mut made.before, "ok\n");
+    write_fetched(rt, &mut made.before, last, first);
+    write_absent(rt, &mut made.before, first, end);
+    write_lines(rt, &mut made.after, "ok\n");
+    write_fetched(rt, &mut made.after, last, end);
+}
+
+/// A transaction that inserts the tuples of these places behind the others.
+fn new_transaction(rt: &impl Abort, alloc: Global, first: u32, end: u32) -> Transaction {
+    let mut made = no_transaction(alloc);
+    write_insert(rt, &mut made, first, end);
+    write_fetch(rt, &mut made, first, end);
+    made
 }
 
 /// How many home pages have a tuple of these places.
-fn home_pages(first: u32, count: u32) -> u32 {
-    let last = first.saturating_add(count).saturating_sub(1);
+fn home_pages(first: u32, end: u32) -> u32 {
+    let last = end.saturating_sub(1);
     (last / 128).saturating_sub(first / 128) + 1
 }
 
-#[test]
-fn transactions_stopped_at_each_moment_keep_what_was_committed(
-    rt: HostRuntime,
-) -> Result<(), Fail> {
-    let alloc = rt.alloc();
-    let mut device = empty_store(alloc, 4096)?;
-    for k in 0..TRANSACTIONS {
-        let first = INSERTS * k;
-        let made = new_transaction(alloc, first, INSERTS)?;
-        let name = format!(in alloc; "transaction {k}")?;
-        let probe = Probe {
+/// Makes a commit over a store, and stops it. Answers the store, with no moments yet.
+fn assert_commit(
+    rt: &impl Abort,
+    alloc: Global,
+    device: MemDevice,
+    commit: &Commit,
+    unsynced: Unsynced,
+) -> Result<MemDevice, Fail> {
+    let after = run_commit(rt, alloc, device, commit)?;
+    assert_stops(rt, alloc, &after, commit, &[unsynced])?;
+    without_moments(alloc, &after)
+}
+
+/// The same with the transaction of this number, counted from 0, which inserts the tuples from this
+/// place on.
+fn assert_transaction(
+    rt: &impl Abort,
+    alloc: Global,
+    device: MemDevice,
+    number: u32,
+    first: u32,
+    unsynced: Unsynced,
+) -> Result<MemDevice, Fail> {
+    let end = first.saturating_add(INSERTS);
+    let made = new_transaction(rt, alloc, first, end);
+    let commit = Commit {
+        number,
+        row: Row {
+            script: made.insert.as_bytes(),
+            replies: made.inserted.as_bytes(),
+        },
+        probe: Probe {
             script: made.fetch.as_bytes(),
             before: made.before.as_bytes(),
             after: made.after.as_bytes(),
-        };
-        let commit = Commit {
-            name: name.as_str(),
-            script: made.insert.as_bytes(),
-            replies: made.inserted.as_bytes(),
-            probe,
-            writes: home_pages(first, INSERTS) as usize + MAP_PAGES + 2,
-            root: if k % 2 == 0 { 2 } else { 1 },
-        };
-        let after = run_commit(&rt, alloc, device, &commit)?;
-        assert_stops(&rt, alloc, &after, &commit, &[UNSYNCED[k as usize % 4]])?;
-        device = without_moments(alloc, &after)?;
+        },
+        writes: home_pages(first, end) as usize + MAP_PAGES + 2,
+        root: if number % 2 == 0 { 2 } else { 1 },
+    };
+    assert_commit(rt, alloc, device, &commit, unsynced)
+}
+
+/// Makes all transactions over an empty store, and stops each.
+fn assert_transactions(rt: &impl Abort, alloc: Global, unsynced: Unsynced) -> Result<(), Fail> {
+    let mut device = empty_store(alloc, 4096)?;
+    for number in 0..TRANSACTIONS {
+        device = assert_transaction(rt, alloc, device, number, INSERTS * number, unsynced)?;
     }
     Ok(())
+}
+
+// One test for each of `UNSYNCED`, since all four together would take long.
+
+#[test]
+fn transactions_stopped_with_old_pages_keep_what_was_committed(
+    rt: HostRuntime,
+) -> Result<(), Fail> {
+    assert_transactions(&rt, rt.alloc(), Unsynced::Old)
+}
+
+#[test]
+fn transactions_stopped_with_new_pages_keep_what_was_committed(
+    rt: HostRuntime,
+) -> Result<(), Fail> {
+    assert_transactions(&rt, rt.alloc(), Unsynced::New)
+}
+
+#[test]
+fn transactions_stopped_with_pages_of_zeros_keep_what_was_committed(
+    rt: HostRuntime,
+) -> Result<(), Fail> {
+    assert_transactions(&rt, rt.alloc(), Unsynced::Filled(0))
+}
+
+#[test]
+fn transactions_stopped_with_pages_of_255s_keep_what_was_committed(
+    rt: HostRuntime,
+) -> Result<(), Fail> {
+    assert_transactions(&rt, rt.alloc(), Unsynced::Filled(255))
 }

@@ -1,19 +1,19 @@
 // Devices that hold no store, and the places that are named.
-use crate::harness::{SMALL, copy_of_pages, empty_store, has_writes, run_script, run_words};
+use crate::asserts::assert_same;
+use crate::harness::{
+    ABSENT, PRESENT, PROBE, SMALL, copy_of_pages, empty_store, has_writes, run_words,
+    store_with_tuple,
+};
 use rss_base::{Page, Place, Source};
 use rss_device::{MemDevice, MemSink, MemSource};
 use rss_top::Status;
 use std::alloc::Global;
+use std::fmt::Debug;
 use std::process::Abort;
 use std::test::Fail;
 
-/// A script with one commit, and one that tells whether it was made.
-const COMMIT: &[u8] = b"begin 1\ninsert 1 r 8\nend 1\n";
-
-const PROBE: &[u8] = b"begin 1\nfetch 1 r 0.0\n";
-
 /// How a run of the probe ends.
-#[derive(Clone, Copy, Debug)]
+#[derive(Clone, Copy)]
 enum Ending {
     /// It gets these replies.
     Opens(&'static [u8]),
@@ -41,11 +41,15 @@ impl Ending {
 
 const NOT_THE_SIZE: Ending = Ending::NotAStore(Place::Size, b"not a store size\n");
 
+const NOT_ROOT_1: Ending = Ending::NotAStore(Place::Root(1), b"not a store root 1\n");
+
 const NOT_ROOT_2: Ending = Ending::NotAStore(Place::Root(2), b"not a store root 2\n");
 
-const PRESENT: Ending = Ending::Opens(b"ok\nok 8\n");
+const OPENS: Ending = Ending::Opens(PRESENT);
 
-const ABSENT: Ending = Ending::Opens(b"ok\nrefused 9 no tuple r 0.0\n");
+const OPENS_EMPTY: Ending = Ending::Opens(ABSENT);
+
+const NO_ROOM: Ending = Ending::Damaged(Place::Room, b"damaged room\n");
 
 /// The pages of the selector and the roots, the two maps, the first log page, the first and the last
 /// slot of the system space, that of the tuple, and one that is free.
@@ -71,7 +75,7 @@ const FREE: usize = 24;
 
 /// Bytes of a store of 64 slots with one tuple of value 8, in root 2 and map 1: page, offset, the
 /// bits that are turned, and how the probe ends then.
-const TURNED: [(usize, usize, u8, Ending); 34] = [
+static TURNED: [(usize, usize, u8, Ending); 34] = [
     // The mark, the version, and the zeros behind them.
     (ROOT_2, 0, 1, NOT_ROOT_2),
     (ROOT_2, 3, 128, NOT_ROOT_2),
@@ -83,7 +87,7 @@ const TURNED: [(usize, usize, u8, Ending); 34] = [
     (ROOT_2, 8, 1, NOT_ROOT_2),
     (ROOT_2, 12, 1, NOT_ROOT_2),
     // The area: the other one still has the map of the empty store.
-    (ROOT_2, 16, 1, ABSENT),
+    (ROOT_2, 16, 1, OPENS_EMPTY),
     (ROOT_2, 16, 2, NOT_ROOT_2),
     (ROOT_2, 17, 1, NOT_ROOT_2),
     // The log's head, checkpoint and end, which is where its tail ends.
@@ -124,94 +128,123 @@ const TURNED: [(usize, usize, u8, Ending); 34] = [
     (TUPLES, 4095, 1, Ending::DamagedSomewhere),
     // The root and the map that aren't selected, all of the selector but one bit, the log pages and
     // a free slot mean nothing.
-    (ROOT_1, 0, 255, PRESENT),
-    (MAP_0, 0, 255, PRESENT),
-    (SELECTOR, 0, 254, PRESENT),
-    (LOG, 0, 255, PRESENT),
-    (FREE, 0, 255, PRESENT),
+    (ROOT_1, 0, 255, OPENS),
+    (MAP_0, 0, 255, OPENS),
+    (SELECTOR, 0, 254, OPENS),
+    (LOG, 0, 255, OPENS),
+    (FREE, 0, 255, OPENS),
     // That bit selects the other root, which is that of the empty store.
-    (SELECTOR, 0, 1, ABSENT),
+    (SELECTOR, 0, 1, OPENS_EMPTY),
 ];
 
-/// The pages of a store with one tuple.
-fn store(alloc: Global) -> Result<Vec<Page>, Fail> {
-    let (status, _, made) = run_script(alloc, empty_store(alloc, SMALL)?, COMMIT, 100)?;
-    if status != Status::Ok {
-        return Err("the store wasn't made".into());
-    }
-    copy_of_pages(alloc, &made)
+/// Turns bits of a byte of pages.
+fn turn(pages: &mut [Page], at: usize, offset: usize, bits: u8) -> Result<(), Fail> {
+    let page = pages.get_mut(at).ok_or("a page that isn't there")?;
+    let byte = page.get_mut(offset).ok_or("a byte that isn't there")?;
+    *byte ^= bits;
+    Ok(())
 }
 
-/// An empty store whose map has so many home pages beside the ten of the system space.
-fn mapped(alloc: Global, homes: u8) -> Result<Vec<Page>, Fail> {
-    let mut pages = copy_of_pages(alloc, &empty_store(alloc, SMALL)?)?;
+/// The pages of a store with one tuple, with bits of a byte turned.
+fn turned(alloc: Global, at: usize, offset: usize, bits: u8) -> Result<Vec<Page>, Fail> {
+    let mut pages = store_with_tuple(alloc)?;
+    turn(pages.as_mut_slice(), at, offset, bits)?;
+    Ok(pages)
+}
+
+/// Maps so many home pages behind the ten pages of the system space.
+fn map_homes(pages: &mut [Page], homes: u8) -> Result<(), Fail> {
     let map = pages.get_mut(MAP_0).ok_or("a page that isn't there")?;
     for number in 0..homes {
         let at = 8 * (10 + usize::from(number));
         map[at..at + 8].copy_from_slice(&[1, 1, 0, 0, 0, 0, 0, number]);
     }
+    Ok(())
+}
+
+/// An empty store whose map has so many home pages beside the ten of the system space.
+fn mapped(alloc: Global, homes: u8) -> Result<Vec<Page>, Fail> {
+    let device = empty_store(alloc, SMALL)?;
+    let mut pages = copy_of_pages(alloc, &device)?;
+    map_homes(pages.as_mut_slice(), homes)?;
+    Ok(pages)
+}
+
+/// A store with one tuple and a page more.
+fn a_page_more(alloc: Global) -> Result<Vec<Page>, Fail> {
+    let mut pages = store_with_tuple(alloc)?;
+    pages.push([0; 4096])?;
+    Ok(pages)
+}
+
+/// A store with one tuple and a page less.
+fn a_page_less(alloc: Global) -> Result<Vec<Page>, Fail> {
+    let mut pages = store_with_tuple(alloc)?;
+    let _ = pages.pop();
     Ok(pages)
 }
 
 /// Runs the probe. Where it is refused, it is to have read nothing.
-fn assert_ending(
+fn assert_ending<C: Debug + Copy>(
     rt: &impl Abort,
     alloc: Global,
     pages: Vec<Page>,
-    ending: Ending,
-    what: &str,
+    ending: &Ending,
+    case: C,
 ) -> Result<(), Fail> {
     let device = MemDevice::new(alloc, pages)?;
     let mut source = MemSource::new(PROBE);
     let mut sink = MemSink::new(alloc);
     let (status, device) = run_words(alloc, &["run", "FILE"], &mut source, &mut sink, device)?;
-    assert!(rt;
-        ending.is(status, sink.bytes()),
-        "{what}: {status:?} in place of {ending:?}"
-    );
-    assert!(rt; has_writes(&device, 0), "{what}");
+    assert_same(rt, &ending.is(status, sink.bytes()), &true, (case, status));
+    assert_same(rt, &has_writes(&device, 0), &true, case);
     if status != Status::Ok {
-        assert_eq!(rt; source.read(&mut [0; 100])?, PROBE.len(), "{what}");
+        assert_same(rt, &source.read(&mut [0; 100]), &Ok(PROBE.len()), case);
     }
     Ok(())
 }
 
+/// Runs the probe over so many zeros.
+fn assert_zeros(rt: &impl Abort, alloc: Global, pages: usize, ending: &Ending) -> Result<(), Fail> {
+    let zeros = vec![in alloc; [0; 4096]; pages]?;
+    assert_ending(rt, alloc, zeros, ending, ("zeros", pages))
+}
+
+/// Runs the probe over a store of which bits of a byte are turned.
+fn assert_turned(
+    rt: &impl Abort,
+    alloc: Global,
+    (at, offset, bits): (usize, usize, u8),
+    ending: &Ending,
+) -> Result<(), Fail> {
+    let pages = turned(alloc, at, offset, bits)?;
+    assert_ending(rt, alloc, pages, ending, ("page and byte", at, offset))
+}
+
 #[test]
 fn a_device_of_another_size_is_no_store(rt: HostRuntime) -> Result<(), Fail> {
-    let alloc = rt.alloc();
-    for size in [0, 1, 2] {
-        let pages = vec![in alloc; [0; 4096]; size]?;
-        assert_ending(&rt, alloc, pages, NOT_THE_SIZE, "a few pages")?;
+    for pages in &[0, 1, 2] {
+        assert_zeros(&rt, rt.alloc(), *pages, &NOT_THE_SIZE)?;
     }
-    let mut pages = store(alloc)?;
-    pages.push([0; 4096])?;
-    assert_ending(&rt, alloc, pages, NOT_THE_SIZE, "a page more")?;
-    let mut pages = store(alloc)?;
-    let _ = pages.pop();
-    assert_ending(&rt, alloc, pages, NOT_THE_SIZE, "a page less")?;
-    let pages = vec![in alloc; [0; 4096]; 77]?;
-    let not_root_1 = Ending::NotAStore(Place::Root(1), b"not a store root 1\n");
-    assert_ending(&rt, alloc, pages, not_root_1, "zeros")
+    let pages = a_page_more(rt.alloc())?;
+    assert_ending(&rt, rt.alloc(), pages, &NOT_THE_SIZE, "a page more")?;
+    let pages = a_page_less(rt.alloc())?;
+    assert_ending(&rt, rt.alloc(), pages, &NOT_THE_SIZE, "a page less")?;
+    assert_zeros(&rt, rt.alloc(), 77, &NOT_ROOT_1)
 }
 
 #[test]
 fn a_byte_that_is_turned_is_found_where_it_matters(rt: HostRuntime) -> Result<(), Fail> {
-    let alloc = rt.alloc();
-    for (at, offset, bits, ending) in TURNED {
-        let mut pages = store(alloc)?;
-        let page = pages.get_mut(at).ok_or("a page that isn't there")?;
-        let byte = page.get_mut(offset).ok_or("a byte that isn't there")?;
-        *byte ^= bits;
-        let what = format!(in alloc; "byte {offset} of page {at}")?;
-        assert_ending(&rt, alloc, pages, ending, what.as_str())?;
+    for (at, offset, bits, ending) in &TURNED {
+        assert_turned(&rt, rt.alloc(), (*at, *offset, *bits), ending)?;
     }
     Ok(())
 }
 
 #[test]
 fn a_map_of_more_than_half_the_slots_has_no_room(rt: HostRuntime) -> Result<(), Fail> {
-    let alloc = rt.alloc();
-    let no_room = Ending::Damaged(Place::Room, b"damaged room\n");
-    assert_ending(&rt, alloc, mapped(alloc, 23)?, no_room, "33 pages")?;
-    assert_ending(&rt, alloc, mapped(alloc, 42)?, no_room, "52 pages")
+    let pages = mapped(rt.alloc(), 23)?;
+    assert_ending(&rt, rt.alloc(), pages, &NO_ROOM, "33 pages")?;
+    let pages = mapped(rt.alloc(), 42)?;
+    assert_ending(&rt, rt.alloc(), pages, &NO_ROOM, "52 pages")
 }

@@ -1,18 +1,16 @@
 // How a run ends, and what it leaves.
-use crate::harness::{SMALL, empty_store, run_script, run_words};
-use rss_base::Source;
+use crate::asserts::{assert_same, assert_same_slices};
+use crate::harness::{
+    ABSENT, PRESENT, SMALL, assert_probe, assert_untouched, empty_store, run_words,
+};
 use rss_device::{MemDevice, MemSink, MemSource};
 use rss_top::Status;
+use std::alloc::Global;
+use std::process::Abort;
 use std::test::Fail;
 
-/// A script with one commit, and one that tells whether it was made.
+/// A script with one commit.
 const COMMIT: &[u8] = b"begin 1\ninsert 1 r 8\nend 1\nfetch 1 r 0.0";
-
-const PROBE: &[u8] = b"begin 1\nfetch 1 r 0.0\n";
-
-const ABSENT: &[u8] = b"ok\nrefused 9 no tuple r 0.0\n";
-
-const PRESENT: &[u8] = b"ok\nok 8\n";
 
 /// A fault of the source or the sink while the commit's script is run.
 struct Fault {
@@ -31,7 +29,7 @@ struct Fault {
 /// No call has this number.
 const NEVER: u64 = u64::MAX;
 
-const FAULTS: [Fault; 6] = [
+static FAULTS: [Fault; 6] = [
     Fault {
         name: "no fault",
         piece: 8,
@@ -89,7 +87,7 @@ const FAULTS: [Fault; 6] = [
 ];
 
 /// Words that are no command, after the program's own name.
-const WORDS: [&[&str]; 16] = [
+static WORDS: [&[&str]; 16] = [
     &[],
     &["run"],
     &["FILE"],
@@ -108,37 +106,32 @@ const WORDS: [&[&str]; 16] = [
     &["format", "FILE", "64", "18446744073709551616"],
 ];
 
+/// Runs the commit's script over an empty store with a fault. Answers the device that this left.
+fn run_with(rt: &impl Abort, alloc: Global, fault: &Fault) -> Result<MemDevice, Fail> {
+    let mut source = MemSource::new(COMMIT)
+        .in_pieces(fault.piece)
+        .failing_at(fault.read);
+    let mut sink = MemSink::new(alloc).failing_at(fault.write);
+    let device = empty_store(alloc, SMALL)?;
+    let (status, device) = run_words(alloc, &["run", "FILE"], &mut source, &mut sink, device)?;
+    assert_same(rt, &status, &fault.status, fault.name);
+    assert_same_slices(rt, sink.bytes(), fault.replies, fault.name);
+    Ok(device)
+}
+
 #[test]
 fn a_fault_of_the_source_or_the_sink_ends_the_run(rt: HostRuntime) -> Result<(), Fail> {
-    let alloc = rt.alloc();
     for fault in &FAULTS {
-        let mut source = MemSource::new(COMMIT)
-            .in_pieces(fault.piece)
-            .failing_at(fault.read);
-        let mut sink = MemSink::new(alloc).failing_at(fault.write);
-        let device = empty_store(alloc, SMALL)?;
-        let (status, device) = run_words(alloc, &["run", "FILE"], &mut source, &mut sink, device)?;
-        assert_eq!(rt; status, fault.status, "{}", fault.name);
-        assert_eq!(rt; sink.bytes(), fault.replies, "{}", fault.name);
-        let (status, replies, _) = run_script(alloc, device, PROBE, 100)?;
-        assert_eq!(rt; status, Status::Ok, "the probe after {}", fault.name);
-        assert_eq!(rt; replies.as_slice(), fault.leaves, "{}", fault.name);
+        let device = run_with(&rt, rt.alloc(), fault)?;
+        assert_probe(&rt, rt.alloc(), device, fault.leaves, fault.name)?;
     }
     Ok(())
 }
 
 #[test]
 fn words_that_are_no_command_touch_nothing(rt: HostRuntime) -> Result<(), Fail> {
-    let alloc = rt.alloc();
-    for words in WORDS {
-        let mut source = MemSource::new(COMMIT);
-        let mut sink = MemSink::new(alloc);
-        let device = MemDevice::empty(alloc);
-        let (status, device) = run_words(alloc, words, &mut source, &mut sink, device)?;
-        assert_eq!(rt; status, Status::Words, "{words:?}");
-        assert_eq!(rt; sink.bytes(), b"".as_slice(), "{words:?}");
-        assert_eq!(rt; device.moment(), 0, "{words:?}");
-        assert_eq!(rt; source.read(&mut [0; 100])?, COMMIT.len(), "{words:?}");
+    for words in &WORDS {
+        assert_untouched(&rt, rt.alloc(), words, Status::Words, *words)?;
     }
     Ok(())
 }

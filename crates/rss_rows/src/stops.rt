@@ -1,6 +1,8 @@
 // Stops in the middle of a run, and the tables that an opening finds after them.
+use crate::asserts::{assert_same, assert_same_slices};
 use crate::harness::{
-    SMALL, WHOLE, copy_of_pages, empty_store, has_writes, run_script, without_moments,
+    Row, SMALL, WHOLE, assert_script, copy_of_pages, empty_store, failing_at, has_writes, image_at,
+    run_script, without_moments,
 };
 use rss_base::Page;
 use rss_device::{MemDevice, Unsynced};
@@ -18,7 +20,7 @@ pub(crate) enum Tables {
 
 /// What a stop may leave of the pages that were not synced. Of a selector the fill of 0 names
 /// root 1, and the fill of 255 names root 2.
-pub(crate) const UNSYNCED: [Unsynced; 4] = [
+const UNSYNCED: [Unsynced; 4] = [
     Unsynced::Old,
     Unsynced::New,
     Unsynced::Filled(0),
@@ -38,24 +40,42 @@ impl Probe<'_> {
     fn finds(&self, alloc: Global, pages: Vec<Page>) -> Result<Option<Tables>, Fail> {
         let device = MemDevice::new(alloc, pages)?;
         let (status, replies, _) = run_script(alloc, device, self.script, WHOLE)?;
-        Ok(if status != Status::Ok {
-            None
-        } else if replies.as_slice() == self.before {
+        if status != Status::Ok {
+            return Ok(None);
+        }
+        Ok(self.tables(replies.as_slice()))
+    }
+
+    /// Which tables have these replies.
+    fn tables(&self, replies: &[u8]) -> Option<Tables> {
+        if replies == self.before {
             Some(Tables::Before)
-        } else if replies.as_slice() == self.after {
+        } else if replies == self.after {
             Some(Tables::After)
         } else {
             None
-        })
+        }
+    }
+
+    /// What an opening finds after a stop.
+    fn finds_after(
+        &self,
+        rt: &impl Abort,
+        alloc: Global,
+        device: &MemDevice,
+        moment: usize,
+        unsynced: Unsynced,
+    ) -> Result<Option<Tables>, Fail> {
+        self.finds(alloc, image_at(rt, alloc, device, moment, unsynced))
     }
 }
 
 /// A script with one commit, and what tells whether it was made.
 #[derive(Clone, Copy)]
 pub(crate) struct Commit<'a> {
-    pub(crate) name: &'a str,
-    pub(crate) script: &'a [u8],
-    pub(crate) replies: &'a [u8],
+    /// How many commits came before it.
+    pub(crate) number: u32,
+    pub(crate) row: Row<'a>,
     pub(crate) probe: Probe<'a>,
     /// How many writes there are: of home pages, of the map, of the root, and of the selector, which
     /// is the last.
@@ -65,8 +85,19 @@ pub(crate) struct Commit<'a> {
 }
 
 impl Commit<'_> {
+    /// What an opening finds after a stop at a moment, where the write of the selector makes this one.
+    fn finds_at(&self, moment: usize, switched: usize, unsynced: Unsynced) -> Tables {
+        if moment < switched {
+            Tables::Before
+        } else if moment == switched {
+            self.finds_unsynced(unsynced)
+        } else {
+            Tables::After
+        }
+    }
+
     /// What an opening finds while the selector isn't synced.
-    fn finds(&self, unsynced: Unsynced) -> Tables {
+    fn finds_unsynced(&self, unsynced: Unsynced) -> Tables {
         let is_selected = match unsynced {
             Unsynced::Old => false,
             Unsynced::New => true,
@@ -81,10 +112,12 @@ impl Commit<'_> {
 }
 
 /// A commit over an empty store.
-const FIRST: Commit<'static> = Commit {
-    name: "the first commit",
-    script: b"begin 1\ninsert 1 r 7\nfetch 1 r 0.0\nend 1\n",
-    replies: b"ok\nok 0.0\nok 7\nok\n",
+static FIRST: Commit<'static> = Commit {
+    number: 0,
+    row: Row {
+        script: b"begin 1\ninsert 1 r 7\nfetch 1 r 0.0\nend 1\n",
+        replies: b"ok\nok 0.0\nok 7\nok\n",
+    },
     probe: Probe {
         script: b"begin 1\nfetch 1 r 0.0\nend 1\n",
         before: b"ok\nrefused 9 no tuple r 0.0\nok\n",
@@ -95,10 +128,12 @@ const FIRST: Commit<'static> = Commit {
 };
 
 /// A commit over the store that the first one left.
-const SECOND: Commit<'static> = Commit {
-    name: "the second commit",
-    script: b"begin 1\ninsert 1 r 8\nend 1\n",
-    replies: b"ok\nok 0.1\nok\n",
+static SECOND: Commit<'static> = Commit {
+    number: 1,
+    row: Row {
+        script: b"begin 1\ninsert 1 r 8\nend 1\n",
+        replies: b"ok\nok 0.1\nok\n",
+    },
     probe: Probe {
         script: b"begin 1\nfetch 1 r 0.0\nfetch 1 r 0.1\nend 1\n",
         before: b"ok\nok 7\nrefused 9 no tuple r 0.1\nok\n",
@@ -120,7 +155,7 @@ struct Failure {
 }
 
 /// A call of the opening.
-const OPENING: Failure = Failure {
+static OPENING: Failure = Failure {
     call: "a call of the opening",
     replies: b"",
     held: Tables::Before,
@@ -128,7 +163,7 @@ const OPENING: Failure = Failure {
 };
 
 /// The last calls of the device in the run of the first commit, in their order.
-const FAILURES: [Failure; 6] = [
+static FAILURES: [Failure; 6] = [
     Failure {
         call: "the write of the home page",
         replies: b"ok\nok 0.0\nok 7\n",
@@ -176,17 +211,59 @@ const FAILURES: [Failure; 6] = [
 /// No run has as many calls of the device.
 const MANY_CALLS: u64 = 1000;
 
+/// Makes a commit.
 pub(crate) fn run_commit(
     rt: &impl Abort,
     alloc: Global,
     device: MemDevice,
     commit: &Commit,
 ) -> Result<MemDevice, Fail> {
-    let (status, replies, after) = run_script(alloc, device, commit.script, WHOLE)?;
-    assert_eq!(rt; status, Status::Ok, "{}", commit.name);
-    assert_eq!(rt; replies.as_slice(), commit.replies, "{}", commit.name);
-    assert!(rt; has_writes(&after, commit.writes), "{}", commit.name);
+    let case = ("commit", commit.number);
+    let after = assert_script(rt, alloc, device, &commit.row, WHOLE, case)?;
+    assert_same(rt, &has_writes(&after, commit.writes), &true, case);
     Ok(after)
+}
+
+/// The moment that the write of the selector made.
+fn switched_at(device: &MemDevice, commit: &Commit) -> Result<usize, Fail> {
+    let write = commit.writes.checked_sub(1).ok_or("a commit writes")?;
+    Ok(
+        device
+            .moment_of_write(write)
+            .ok_or("a write that isn't there")?,
+    )
+}
+
+/// Stops the run of a commit that is over, at one of its moments.
+fn assert_stop(
+    rt: &impl Abort,
+    alloc: Global,
+    device: &MemDevice,
+    commit: &Commit,
+    (moment, want, unsynced): (usize, Tables, Unsynced),
+) -> Result<(), Fail> {
+    let found = commit
+        .probe
+        .finds_after(rt, alloc, device, moment, unsynced)?;
+    let case = (unsynced, "at moment", moment, "of commit", commit.number);
+    assert_same(rt, &found, &Some(want), case);
+    Ok(())
+}
+
+/// Stops it at one of its moments, with each of what the stop may leave.
+fn assert_stops_at(
+    rt: &impl Abort,
+    alloc: Global,
+    device: &MemDevice,
+    commit: &Commit,
+    (moment, switched): (usize, usize),
+    left: &[Unsynced],
+) -> Result<(), Fail> {
+    for unsynced in left {
+        let want = commit.finds_at(moment, switched, *unsynced);
+        assert_stop(rt, alloc, device, commit, (moment, want, *unsynced))?;
+    }
+    Ok(())
 }
 
 /// Stops the run of a commit that is over, at each of its moments, with what the stop may leave.
@@ -197,38 +274,28 @@ pub(crate) fn assert_stops(
     commit: &Commit,
     left: &[Unsynced],
 ) -> Result<(), Fail> {
-    let last_write = commit.writes.checked_sub(1).ok_or("a commit writes")?;
-    let switched = device
-        .moment_of_write(last_write)
-        .ok_or("a write that isn't there")?;
+    let switched = switched_at(device, commit)?;
     for moment in 0..=device.moment() {
-        for unsynced in left {
-            let image = device.image_at(alloc, moment, *unsynced)?;
-            let found = commit.probe.finds(alloc, image)?;
-            let want = if moment < switched {
-                Tables::Before
-            } else if moment == switched {
-                commit.finds(*unsynced)
-            } else {
-                Tables::After
-            };
-            assert_eq!(rt;
-                found,
-                Some(want),
-                "{unsynced:?} at moment {moment} of {}",
-                commit.name
-            );
-        }
+        assert_stops_at(rt, alloc, device, commit, (moment, switched), left)?;
     }
     Ok(())
+}
+
+/// An empty store of which this call fails.
+fn failing_store(alloc: Global, call: u64) -> Result<MemDevice, Fail> {
+    failing_at(alloc, empty_store(alloc, SMALL)?, call)
+}
+
+/// Runs the first commit over an empty store of which this call fails.
+fn run_failing(alloc: Global, call: u64) -> Result<(Status, Vec<u8>, MemDevice), Fail> {
+    run_script(alloc, failing_store(alloc, call)?, FIRST.row.script, WHOLE)
 }
 
 /// How many calls of the device the run of the first commit makes: the first call that it can't
 /// fail at.
 fn calls_of_first(alloc: Global) -> Result<u64, Fail> {
     for call in 0..MANY_CALLS {
-        let device = empty_store(alloc, SMALL)?.failing_at(vec![in alloc; call]?);
-        let (status, _, _) = run_script(alloc, device, FIRST.script, WHOLE)?;
+        let (status, _, _) = run_failing(alloc, call)?;
         if status == Status::Ok {
             return Ok(call);
         }
@@ -236,59 +303,102 @@ fn calls_of_first(alloc: Global) -> Result<u64, Fail> {
     Err("the run has too many calls".into())
 }
 
-/// Opens what a run that met a failure leaves, with no stop and after one.
+/// Opens what a run that met a failure leaves, with no stop.
+fn assert_held(
+    rt: &impl Abort,
+    alloc: Global,
+    device: &MemDevice,
+    failure: &Failure,
+) -> Result<(), Fail> {
+    let found = FIRST.probe.finds(alloc, copy_of_pages(alloc, device)?)?;
+    assert_same(
+        rt,
+        &found,
+        &Some(failure.held),
+        (failure.call, "with no stop"),
+    );
+    Ok(())
+}
+
+/// Opens it after a stop.
 fn assert_left(
     rt: &impl Abort,
     alloc: Global,
     device: &MemDevice,
     failure: &Failure,
 ) -> Result<(), Fail> {
-    let call = failure.call;
-    let held = FIRST.probe.finds(alloc, copy_of_pages(alloc, device)?)?;
-    assert_eq!(rt; held, Some(failure.held), "{call}, with no stop");
     for (unsynced, tables) in UNSYNCED.iter().zip(&failure.finds) {
-        let image = device.image_at(alloc, device.moment(), *unsynced)?;
-        let found = FIRST.probe.finds(alloc, image)?;
-        assert_eq!(rt; found, Some(*tables), "{call}, {unsynced:?}");
+        let found = FIRST
+            .probe
+            .finds_after(rt, alloc, device, device.moment(), *unsynced)?;
+        assert_same(rt, &found, &Some(*tables), (failure.call, *unsynced));
     }
     Ok(())
 }
 
-/// Runs the first commit over a device that fails a call.
+/// Runs the first commit over a device that fails a call. Answers the device that it left.
+fn fail_first(
+    rt: &impl Abort,
+    alloc: Global,
+    call: u64,
+    failure: &Failure,
+) -> Result<MemDevice, Fail> {
+    let (status, replies, after) = run_failing(alloc, call)?;
+    assert_same(rt, &status, &Status::DeviceFault, failure.call);
+    assert_same_slices(rt, replies.as_slice(), failure.replies, failure.call);
+    Ok(after)
+}
+
+/// Fails a call, and opens what that leaves, with no stop and after one.
 fn assert_failure(
     rt: &impl Abort,
     alloc: Global,
     call: u64,
     failure: &Failure,
 ) -> Result<(), Fail> {
-    let device = empty_store(alloc, SMALL)?.failing_at(vec![in alloc; call]?);
-    let (status, replies, after) = run_script(alloc, device, FIRST.script, WHOLE)?;
-    assert_eq!(rt; status, Status::DeviceFault, "{}", failure.call);
-    assert_eq!(rt; replies.as_slice(), failure.replies, "{}", failure.call);
-    assert_left(rt, alloc, &after, failure)
+    let device = fail_first(rt, alloc, call, failure)?;
+    assert_held(rt, alloc, &device, failure)?;
+    assert_left(rt, alloc, &device, failure)
+}
+
+/// Fails each call of the opening.
+fn assert_opening(rt: &impl Abort, alloc: Global, calls: u64) -> Result<(), Fail> {
+    for call in 0..calls {
+        assert_failure(rt, alloc, call, &OPENING)?;
+    }
+    Ok(())
+}
+
+/// Fails each of the last calls, of which this is the first.
+fn assert_failures(rt: &impl Abort, alloc: Global, first: u64) -> Result<(), Fail> {
+    let mut call = first;
+    for failure in &FAILURES {
+        assert_failure(rt, alloc, call, failure)?;
+        call = call.saturating_add(1);
+    }
+    Ok(())
+}
+
+/// Makes the first commit over an empty store, and stops it.
+fn assert_first(rt: &impl Abort, alloc: Global) -> Result<MemDevice, Fail> {
+    let device = run_commit(rt, alloc, empty_store(alloc, SMALL)?, &FIRST)?;
+    assert_stops(rt, alloc, &device, &FIRST, &UNSYNCED)?;
+    without_moments(alloc, &device)
 }
 
 #[test]
 fn a_commit_stopped_at_each_moment_opens_to_the_tables_before_or_after(
     rt: HostRuntime,
 ) -> Result<(), Fail> {
-    let alloc = rt.alloc();
-    let device = run_commit(&rt, alloc, empty_store(alloc, SMALL)?, &FIRST)?;
-    assert_stops(&rt, alloc, &device, &FIRST, &UNSYNCED)?;
-    let device = run_commit(&rt, alloc, without_moments(alloc, &device)?, &SECOND)?;
-    assert_stops(&rt, alloc, &device, &SECOND, &UNSYNCED)
+    let device = assert_first(&rt, rt.alloc())?;
+    let device = run_commit(&rt, rt.alloc(), device, &SECOND)?;
+    assert_stops(&rt, rt.alloc(), &device, &SECOND, &UNSYNCED)
 }
 
 #[test]
 fn a_device_call_that_fails_ends_the_run_with_status_4(rt: HostRuntime) -> Result<(), Fail> {
-    let alloc = rt.alloc();
-    let calls = calls_of_first(alloc)?;
+    let calls = calls_of_first(rt.alloc())?;
     let opening = calls.checked_sub(6).ok_or("the run has too few calls")?;
-    for call in 0..opening {
-        assert_failure(&rt, alloc, call, &OPENING)?;
-    }
-    for (failure, call) in FAILURES.iter().zip(opening..calls) {
-        assert_failure(&rt, alloc, call, failure)?;
-    }
-    Ok(())
+    assert_opening(&rt, rt.alloc(), opening)?;
+    assert_failures(&rt, rt.alloc(), opening)
 }
