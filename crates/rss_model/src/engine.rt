@@ -41,9 +41,11 @@ pub trait Engine {
         ensures stopped { IsErrOf result CallError.Device → is_up self.old → IsTold (disk self.old) → IsStopped (disk self.old) (disk self.new) (state self.old) call.now }
         ensures unmade { IsErrOf result CallError.NoMemory → is_up self.old → IsTold (disk self.old) → IsUnmade (disk self.old) (disk self.new) (state self.old) (state self.new) }
 
-        // It touches few pages, and an end writes no page more than it must.
+        // It touches few pages, and an end writes no page more than it must. A refusal costs nothing.
         ensures asks { asks self.new ≤ asks self.old + most_asks call.now }
         ensures writes { (pages : List ℕ) → HasChanged pages (state self.old).changes → writes self.new ≤ writes self.old + most_writes (length pages) (state self.old) call.now }
+        ensures refused_asks { (why : Refusal) → result ≡ Err (Refused why) → asks self.new ≡ asks self.old }
+        ensures refused_writes { (why : Refusal) → result ≡ Err (Refused why) → writes self.new ≡ writes self.old }
 
         // An answer's line is short.
         ensures reply_line { IfOk result (λ reply. length (answer_line (Ok reply)) ≤ 8192) }

@@ -79,6 +79,8 @@ impl<S: Saving> Store<S> {
         ensures unmade { IsErrOf result CallError.NoMemory → IsTold (S.disk self.old.pages) → IsUnmade (S.disk self.old.pages) (S.disk self.new.pages) (machine self.old) (machine self.new) }
         ensures asks { S.asks self.new.pages ≤ S.asks self.old.pages + most_asks (Insert transaction relation.now tuple.now) }
         ensures writes { (pages : List ℕ) → HasChanged pages (machine self.old).changes → S.writes self.new.pages ≤ S.writes self.old.pages + most_writes (length pages) (machine self.old) (Insert transaction relation.now tuple.now) }
+        ensures refused_asks { (why : AnyRefusal) → result ≡ Err (Refused why) → S.asks self.new.pages ≡ S.asks self.old.pages }
+        ensures refused_writes { (why : AnyRefusal) → result ≡ Err (Refused why) → S.writes self.new.pages ≡ S.writes self.old.pages }
         ensures reply_line { IfOk result (λ reply. length (answer_line (Ok reply)) ≤ 8192) }
         ensures refusal_line { (why : AnyRefusal) → result ≡ Err (Refused why) → length (answer_line (Err why)) ≤ 8192 }
         ensures down { IsErrOf result CallError.Down → ⊥ }
@@ -111,6 +113,8 @@ impl<S: Saving> Store<S> {
         ensures unmade { IsErrOf result CallError.NoMemory → IsTold (S.disk self.old.pages) → IsUnmade (S.disk self.old.pages) (S.disk self.new.pages) (machine self.old) (machine self.new) }
         ensures asks { S.asks self.new.pages ≤ S.asks self.old.pages + most_asks (Fetch transaction relation.now tid) }
         ensures writes { (pages : List ℕ) → HasChanged pages (machine self.old).changes → S.writes self.new.pages ≤ S.writes self.old.pages + most_writes (length pages) (machine self.old) (Fetch transaction relation.now tid) }
+        ensures refused_asks { (why : AnyRefusal) → result ≡ Err (Refused why) → S.asks self.new.pages ≡ S.asks self.old.pages }
+        ensures refused_writes { (why : AnyRefusal) → result ≡ Err (Refused why) → S.writes self.new.pages ≡ S.writes self.old.pages }
         ensures reply_line { IfOk result (λ reply. length (answer_line (Ok reply)) ≤ 8192) }
         ensures refusal_line { (why : AnyRefusal) → result ≡ Err (Refused why) → length (answer_line (Err why)) ≤ 8192 }
         ensures down { IsErrOf result CallError.Down → ⊥ }
@@ -149,6 +153,8 @@ impl<S: Saving> Store<S> {
         ensures unmade { IsErrOf result CallError.NoMemory → IsTold (S.disk self.old.pages) → IsUnmade (S.disk self.old.pages) (S.disk self.new.pages) (machine self.old) (machine self.new) }
         ensures asks { S.asks self.new.pages ≤ S.asks self.old.pages + most_asks (End transaction) }
         ensures writes { (pages : List ℕ) → HasChanged pages (machine self.old).changes → S.writes self.new.pages ≤ S.writes self.old.pages + most_writes (length pages) (machine self.old) (End transaction) }
+        ensures refused_asks { (why : AnyRefusal) → result ≡ Err (Refused why) → S.asks self.new.pages ≡ S.asks self.old.pages }
+        ensures refused_writes { (why : AnyRefusal) → result ≡ Err (Refused why) → S.writes self.new.pages ≡ S.writes self.old.pages }
         ensures reply_line { IfOk result (λ reply. length (answer_line (Ok reply)) ≤ 8192) }
         ensures refusal_line { (why : AnyRefusal) → result ≡ Err (Refused why) → length (answer_line (Err why)) ≤ 8192 }
         ensures down { IsErrOf result CallError.Down → ⊥ }
