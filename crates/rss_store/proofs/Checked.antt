@@ -2,13 +2,13 @@
 use Rattle.std.proofs.Common.{◌≡◌, ◌≢◌, ◌⊎◌, inl, inr, ℕ, ◌+◌, ◌-◌, ◌*◌, ◌<◌, true, min, List, Option, Some, None, refl, sym, ◌∙◌, ap, subst, arith}
 use Rattle.std.proofs.lemmas.Bool.{cases_eq, and_parts, or_cases, eqb-true, ltb-true}
 use Rattle.std.proofs.lemmas.Option.{same_Some}
-use Rattle.rss_base.specs.DiskRule.{Disk, Pages, page, Leaves}
+use Rattle.rss_base.specs.DiskRule.{Disk, Pages, page}
 use Rattle.rss_base.specs.PageMap.{IsSegmentOf, number_limit, space_code, IsKey, owner_of, AreDistinct}
 use Rattle.rss_base.specs.Paged.{page_key}
 use Rattle.rss_base.specs.declared.key.Space.{Space}
 use Rattle.rss_base.specs.declared.key.Space.TheVariants.{Home, Overflow, Image, System}
 use Rattle.rss_base.specs.declared.key.PageKey.{PageKey}
-use Rattle.rss_base.proofs.Moments.{started, no_more_then}
+use Rattle.rss_base.proofs.Moments.{no_more_then}
 use Rattle.rss_model.specs.Store.{home_pages, store_pages}
 use Rattle.rss_store.specs.HomePages.{IsHomePage}
 use Rattle.rss_store.specs.Opening.{OnlyReads, MayHave, HasTuplesOn, AreStoreKeys, HoldStorePages}
@@ -112,6 +112,3 @@ reads_then first second = record {
   same_writes = second.same_writes ∙ first.same_writes;
   later = omega (arith, first.later, second.later);
 }
-
-pub reads_none : (disk : Disk) (writes faults : ℕ) → OnlyReads disk disk writes writes faults faults
-reads_none disk writes faults = record { contents = refl; moments = λ pages told. started disk (Leaves disk); same_writes = refl; later = omega arith }

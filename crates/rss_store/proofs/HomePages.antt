@@ -75,19 +75,11 @@ value_held held values place d holds fit lt =
     ∙ on_at number slot values d (omega arith)
     ∙ ap (λ (n : ℕ). get_or values n d) (omega arith)
 
-pub tuple_at : (held : Held) (values : List ℤ) (place : ℕ) (bytes : List ℕ) (d : ℤ) → HoldsTuples held values → All (FitsSigned w64) values → place < length values → held (page_key 1 Home (place / 128)) ≡ Some bytes → value_in bytes (place % 128) ≡ slice_index_or values place d
-tuple_at held values place bytes d holds fit lt is = ap (λ (o : Option (List ℕ)). value_in (unwrap_or o []) (place % 128)) (sym is) ∙ value_held held values place d holds fit lt
-
 pub values_held : (held : Held) (values : List ℤ) → HoldsTuples held values → All (FitsSigned w64) values → values_in held (length values) ≡ values
 values_held held values holds fit =
     let long = length_values held (length values) in
     ext_get_or (pos 0) (values_in held (length values)) values long (λ i lt.
     get_or-map-range_with_len (value_at held) 0 (length values) i i (pos 0) (omega (arith, long)) (omega arith) ∙ value_held held values i (pos 0) holds fit (omega (arith, long)))
-
--- ---- no tuples
-
-pub no_tuples : (held : Held) → ((number : ℕ) → number < 10 → held (page_key 0 System number) ≡ Some (replicate 4096 0)) → HoldsTuples held []
-no_tuples held system = record { system = system; home = λ number lt. absurd (omega arith) }
 
 -- ---- one more tuple
 
@@ -137,12 +129,7 @@ last_none values none = nil_from_length (values_on (length values / 128) values)
 first_put : (values : List ℤ) (z : ℤ) → length values % 128 ≡ 0 → Some (home_page (length values / 128) (z ∷ [])) ≡ Some (home_page (length values / 128) (values_on (length values / 128) values ++ z ∷ []))
 first_put values z none = ap (λ (l : List ℤ). Some (home_page (length values / 128) (l ++ z ∷ []))) (sym (last_none values none))
 
-pub tuple_put_first : (held : Held) (values : List ℤ) (z : ℤ) → HoldsTuples held values → length values % 128 ≡ 0 → HoldsTuples (with_page held (page_key 1 Home (length values / 128)) (Some (home_page (length values / 128) (z ∷ [])))) (values ++ z ∷ [])
-tuple_put_first held values z holds none =
-    let key = page_key 1 Home (length values / 128) in
-    tuple_put_in held _ values z holds (λ other apart. with_other held key other _ apart) (with_itself held key _ ∙ first_put values z none)
-
--- and that page was taken just before
+-- its page was taken just before
 pub tuple_put_taken : (held : Held) (taken : Option (List ℕ)) (values : List ℤ) (z : ℤ) → HoldsTuples held values → length values % 128 ≡ 0
     → HoldsTuples (with_page (with_page held (page_key 1 Home (length values / 128)) taken) (page_key 1 Home (length values / 128)) (Some (home_page (length values / 128) (z ∷ [])))) (values ++ z ∷ [])
 tuple_put_taken held taken values z holds none =
