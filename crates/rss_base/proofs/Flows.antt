@@ -10,6 +10,10 @@ takes_none told = record { appends = λ all is. is ∙ ap Some (sym (append-nil 
 pub takes_then : (old mid new : Option (List ℕ)) (first second : List ℕ) → Takes old first mid → Takes mid second new → Takes old (first ++ second) new
 takes_then old mid new first second a b = record { appends = λ all is. b.appends (all ++ first) (a.appends all is) ∙ ap Some (append_assoc all first second) }
 
+-- a call that takes nothing adds nothing
+pub takes_kept : (old mid new : Option (List ℕ)) (bytes : List ℕ) → Takes old bytes mid → Takes mid [] new → Takes old bytes new
+takes_kept old mid new bytes first none = subst (λ (l : List ℕ). Takes old l new) (append-nil bytes) (takes_then old mid new bytes [] first none)
+
 pub gives_none : (told : Option (List ℕ)) → Gives told [] told
 gives_none told = record { moves = λ all is. (all, is, refl) }
 
@@ -20,6 +24,10 @@ gives_then old mid new first second a b = record {
       let two = b.moves one.0 one.1 in
       (two.0, two.1, one.2 ∙ ap (λ (l : List ℕ). first ++ l) two.2 ∙ sym (append_assoc first second two.0));
 }
+
+-- a call that gives nothing leaves what is left
+pub gives_kept : (old mid new : Option (List ℕ)) (bytes : List ℕ) → Gives old bytes mid → Gives mid [] new → Gives old bytes new
+gives_kept old mid new bytes first none = subst (λ (l : List ℕ). Gives old l new) (append-nil bytes) (gives_then old mid new bytes [] first none)
 
 -- the next bytes of a text of which the front was taken
 pub takes_more : (old mid new : Option (List ℕ)) (bytes : List ℕ) (done more : ℕ) → Takes old (take done bytes) mid → Takes mid (take more (take (length bytes - done) (drop done bytes))) new → Takes old (take (done + more) bytes) new

@@ -1,7 +1,7 @@
 -- How calls of a device follow one another.
-use Rattle.std.proofs.Common.{◌≡◌, ◌⊎◌, inl, inr, ⊎_elim, ℕ, ◌≤◌, Option, refl, sym, ◌∙◌, subst, arith}
+use Rattle.std.proofs.Common.{◌≡◌, ◌⊎◌, inl, inr, ⊎_elim, ℕ, ◌≤◌, Some, refl, sym, ◌∙◌, subst, arith}
 use Rattle.std.proofs.lemmas.Bool.{cases_lt}
-use Rattle.rss_base.specs.DiskRule.{Disk, Pages, Leaves, LeavesOnly, SameOff, TornAt, TornIn, Passes, Continues, IsRewritten, IsRewrittenIn}
+use Rattle.rss_base.specs.DiskRule.{Disk, Pages, Leaves, LeavesOnly, Places, IsAt, SameOff, TornIn, Passes, Continues, GoesOn, OnlyReads, WritesIn}
 
 -- before the first call
 pub started : (disk : Disk) (P : Pages → Type 0) → Passes disk disk P
@@ -33,6 +33,20 @@ widened passes is = record {
   each = λ t image lt le left. is image (passes.each t image lt le left);
 }
 
+-- ---- pages that change in some places
+
+pub none_changed : {places : Places} (pages : Pages) → SameOff places pages pages
+none_changed pages = record { size = refl; others = λ q off. refl }
+
+pub changed_then : {places : Places} {old mid new : Pages} → SameOff places old mid → SameOff places mid new → SameOff places old new
+changed_then first second = record { size = second.size ∙ first.size; others = λ q off. second.others q off ∙ first.others q off }
+
+-- more places may have changed
+pub changed_among : {places wider : Places} {old new : Pages} → ((q : ℕ) → places q → wider q) → SameOff places old new → SameOff wider old new
+changed_among is same = record { size = same.size; others = λ q off. same.others q (λ inside. off (is q inside)) }
+
+-- ---- what a stop leaves
+
 -- what a stop after a call leaves was left before it, or within it
 pub now : {P : Pages → Type 0} {old new : Disk} → Passes old new P → (image : Pages) → Leaves new image → Leaves old image ⊎ P image
 now {old = old} {new = new} passes image left = elim (cases_lt old.moment new.moment) [
@@ -43,45 +57,9 @@ now {old = old} {new = new} passes image left = elim (cases_lt old.moment new.mo
     same_moment : {a b : ℕ} → a ≤ b → b ≤ a → b ≡ a
     same_moment p q = omega arith
 
--- no write at all is one that tears nothing
-pub untorn : (at : ℕ) {P : Pages → Type 0} (image : Pages) → P image → TornAt at P image
-untorn at image has = record { before = image; was = has; same = record { size = refl; others = λ q other. refl } }
-
--- a write, and then a call that leaves no more than it did
-pub written_then : {at : ℕ} {old mid new : Disk} → Passes old mid (TornAt at (Leaves old)) → Passes mid new (Leaves mid) → Passes old new (TornAt at (Leaves old))
-written_then {at = at} {old = old} first second = then first second (λ image left. ⊎_elim (λ before. untorn at image before) (λ torn. torn) (now first image left))
-
 -- nothing of some places was written
-pub none_torn : {places : ℕ → Type 0} {P : Pages → Type 0} (image : Pages) → P image → TornIn places P image
-none_torn image has = record { before = image; was = has; same = record { size = refl; others = λ q off. refl } }
-
--- one page more of some places is written
-pub write_within : {places : ℕ → Type 0} {at : ℕ} {old mid new : Disk} → places at → Passes old mid (TornIn places (Leaves old)) → Passes mid new (TornAt at (Leaves mid)) → Passes old new (TornIn places (Leaves old))
-write_within {places = places} {at = at} {old = old} inside first second = then first second (λ image torn.
-    let earlier : TornIn places (Leaves old) torn.before = ⊎_elim (λ left. none_torn torn.before left) (λ within. within) (now first torn.before torn.was) in
-    record {
-      before = earlier.before;
-      was = earlier.was;
-      same = record {
-        size = torn.same.size ∙ earlier.same.size;
-        others = λ q off. torn.same.others q (λ is. off (subst places (sym is) inside)) ∙ earlier.same.others q off;
-      };
-    })
-
--- the page that is written is one of some places, as those were that were written before
-pub rewritten_within : {places : ℕ → Type 0} {at : ℕ} {before mid : Pages} {contents : Option Pages} → places at → SameOff places before mid → IsRewritten at mid contents → IsRewrittenIn places before contents
-rewritten_within {places = places} inside earlier last = record {
-  after = last.after;
-  told = last.told;
-  same = record {
-    size = last.same.size ∙ earlier.size;
-    others = λ q off. last.same.others q (λ is. off (subst places (sym is) inside)) ∙ earlier.others q off;
-  };
-}
-
--- the first such page
-pub rewritten : {places : ℕ → Type 0} {at : ℕ} {before : Pages} {contents : Option Pages} → places at → IsRewritten at before contents → IsRewrittenIn places before contents
-rewritten inside kept = rewritten_within inside (record { size = refl; others = λ q off. refl }) kept
+pub none_torn : {places : Places} {P : Pages → Type 0} (image : Pages) → P image → TornIn places P image
+none_torn image has = record { before = image; was = has; same = none_changed image }
 
 -- a call that leaves no more than could be left before it
 pub no_more : {old new : Disk} → Passes old new (Leaves old) → (image : Pages) → Leaves new image → Leaves old image
@@ -100,3 +78,71 @@ continues_then first second = then first second (λ image has. tt)
 -- two such calls
 pub no_more_then : {old mid new : Disk} → Passes old mid (Leaves old) → Passes mid new (Leaves mid) → Passes old new (Leaves old)
 no_more_then first second = then first second (no_more first)
+
+-- ---- calls of a device
+
+pub reads_none : (disk : Disk) (writes faults : ℕ) → OnlyReads disk disk writes writes faults faults
+reads_none disk writes faults = record { contents = refl; moments = λ told. started disk (Leaves disk); same_writes = refl; later = omega arith }
+
+-- a call that reads, after others
+pub reads_then : {old mid new : Disk} {w v u f h k : ℕ} → OnlyReads old mid w v f h → OnlyReads mid new v u h k → OnlyReads old new w u f k
+reads_then first second = record {
+  contents = second.contents ∙ first.contents;
+  moments = λ told. no_more_then (first.moments told) (second.moments (record { pages = told.pages; is = first.contents ∙ told.is }));
+  same_writes = second.same_writes ∙ first.same_writes;
+  later = omega (arith, first.later, second.later);
+}
+
+-- after calls that only read a stop leaves what it left before them
+pub only_read : {old new : Disk} {w v f h : ℕ} (pages : Pages) → old.contents ≡ Some pages → LeavesOnly old pages → OnlyReads old new w v f h → LeavesOnly new pages
+only_read pages told only reads = only_stays pages only (reads.moments (record { pages = pages; is = told }))
+
+pub writes_none : {places : Places} (disk : Disk) → WritesIn places disk disk
+writes_none disk = record {
+  told = (λ told. told, λ told. told);
+  kept = λ pages told. record { after = pages; told = told; same = none_changed pages };
+  moments = λ told. started disk (TornIn _ (Leaves disk));
+}
+
+-- a call that only reads writes in no place
+pub writes_nothing : {places : Places} {old new : Disk} {w v f h : ℕ} → OnlyReads old new w v f h → WritesIn places old new
+writes_nothing reads = record {
+  told = (λ told. record { pages = told.pages; is = reads.contents ∙ told.is }, λ told. record { pages = told.pages; is = sym reads.contents ∙ told.is });
+  kept = λ pages told. record { after = pages; told = reads.contents ∙ told; same = none_changed pages };
+  moments = λ told. widened (reads.moments told) none_torn;
+}
+
+-- a call that writes, after others
+pub writes_then : {places : Places} {old mid new : Disk} → WritesIn places old mid → WritesIn places mid new → WritesIn places old new
+writes_then {places = places} {old = old} first second = record {
+  told = (λ told. second.told.0 (first.told.0 told), λ told. first.told.1 (second.told.1 told));
+  kept = λ pages told.
+      let one = first.kept pages told in
+      let two = second.kept one.after one.told in
+      record { after = two.after; told = two.told; same = changed_then one.same two.same };
+  moments = λ told. then (first.moments told) (second.moments (first.told.0 told)) (λ image torn.
+      let earlier : TornIn places (Leaves old) torn.before = ⊎_elim (none_torn torn.before) (λ within. within) (now (first.moments told) torn.before torn.was) in
+      record { before = earlier.before; was = earlier.was; same = changed_then earlier.same torn.same });
+}
+
+-- more places may be written
+pub writes_among : {places wider : Places} {old new : Disk} → ((q : ℕ) → places q → wider q) → WritesIn places old new → WritesIn wider old new
+writes_among is writes = record {
+  told = writes.told;
+  kept = λ pages told. let kept = writes.kept pages told in record { after = kept.after; told = kept.told; same = changed_among is kept.same };
+  moments = λ told. widened (writes.moments told) (λ image torn. record { before = torn.before; was = torn.was; same = changed_among is torn.same });
+}
+
+-- the page that is written is one of these
+pub writes_one : {places : Places} {at : ℕ} {old new : Disk} → places at → WritesIn (IsAt at) old new → WritesIn places old new
+writes_one {places = places} inside writes = writes_among (λ q is. subst places (sym is) inside) writes
+
+-- one call, and then others
+pub goes_on : {places : Places} {old new : Disk} → WritesIn places old new → GoesOn old new
+goes_on writes = record { told = writes.told; history = λ told. continues (writes.moments told) }
+
+pub goes_then : {old mid new : Disk} → GoesOn old mid → GoesOn mid new → GoesOn old new
+goes_then first second = record {
+  told = (λ told. second.told.0 (first.told.0 told), λ told. first.told.1 (second.told.1 told));
+  history = λ told. continues_then (first.history told) (second.history (first.told.0 told));
+}

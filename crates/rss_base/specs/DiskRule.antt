@@ -1,5 +1,5 @@
 -- The disk rule: what a device tells of its pages, and what a stop may leave of them.
-use Rattle.std.specs.Prelude.{◌≡◌, ◌≢◌, ◌↔◌, ℕ, ◌+◌, ◌<◌, ◌≤◌, List, [], length, slice_index_or, Option, Some, ⊤}
+use Rattle.std.specs.Prelude.{◌≡◌, ◌↔◌, ℕ, ◌+◌, ◌<◌, ◌≤◌, List, [], length, slice_index_or, Option, Some, ⊤}
 
 -- a list of pages, each a list of bytes
 abbrev pub Pages : Type 0
@@ -33,50 +33,42 @@ Leaves disk pages = disk.images disk.moment pages
 abbrev pub LeavesOnly : Disk → Pages → Type 0
 LeavesOnly disk pages = (image : Pages) → Leaves disk image → image ≡ pages
 
--- the same pages but for this one
-pub record SameBut (at : ℕ) (old new : Pages) : Type 0 where
-  pub size : length new ≡ length old
-  pub others : (q : ℕ) → q ≢ at → page new q ≡ page old q
+-- a set of places
+abbrev pub Places : Type 1
+Places = ℕ → Type 0
 
--- pages that have P, with any bytes in one of them
-pub record TornAt (at : ℕ) (P : Pages → Type 0) (image : Pages) : Type 0 where
-  pub before : Pages
-  pub was : P before
-  pub same : SameBut at before image
+-- this place alone
+abbrev pub IsAt : ℕ → Places
+IsAt at q = q ≡ at
+
+-- so many places, from one on
+abbrev pub IsWithin : ℕ → ℕ → Places
+IsWithin first count q = (first ≤ q) × (q < first + count)
 
 -- the same pages outside these places
-pub record SameOff (places : ℕ → Type 0) (old new : Pages) : Type 0 where
+pub record SameOff (places : Places) (old new : Pages) : Type 0 where
   pub size : length new ≡ length old
   pub others : (q : ℕ) → (places q → ⊥) → page new q ≡ page old q
 
 -- pages that have P, with any bytes in these places
-pub record TornIn (places : ℕ → Type 0) (P : Pages → Type 0) (image : Pages) : Type 0 where
+pub record TornIn (places : Places) (P : Pages → Type 0) (image : Pages) : Type 0 where
   pub before : Pages
   pub was : P before
   pub same : SameOff places before image
-
--- so many places, from one on
-abbrev pub IsWithin : ℕ → ℕ → ℕ → Type 0
-IsWithin first count q = (first ≤ q) × (q < first + count)
 
 -- Time goes on from old to new: the past stays as it was, and each new moment's images have P.
 pub record Passes (old new : Disk) (P : Pages → Type 0) : Type 0 where
   pub later : old.moment ≤ new.moment
   pub past : (t : ℕ) (image : Pages) → t ≤ old.moment → new.images t image ↔ old.images t image
-  pub each : (t : ℕ) (image : Pages) → old.moment < t → t ≤ new.moment → new.images t image → P image
+  pub each : (t : ℕ) (image : Pages) → old.moment < t → t ≤ new.moment → new.images t image
+      → P image
 
 -- time goes on, whatever its moments leave
 abbrev pub Continues : Disk → Disk → Type 0
 Continues old new = Passes old new (λ _. ⊤)
 
--- what a read gives now is the same but for this page
-pub record IsRewritten (at : ℕ) (before : Pages) (contents : Option Pages) : Type 0 where
-  pub after : Pages
-  pub told : contents ≡ Some after
-  pub same : SameBut at before after
-
 -- what a read gives now is the same outside these places
-pub record IsRewrittenIn (places : ℕ → Type 0) (before : Pages) (contents : Option Pages) : Type 0 where
+pub record IsRewrittenIn (places : Places) (before : Pages) (contents : Option Pages) : Type 0 where
   pub after : Pages
   pub told : contents ≡ Some after
   pub same : SameOff places before after
@@ -86,3 +78,26 @@ pub record IsResized (before : Pages) (contents : Option Pages) : Type 0 where
   pub after : Pages
   pub told : contents ≡ Some after
   pub same : (q : ℕ) → q < length before → q < length after → page after q ≡ page before q
+
+-- ---- what calls of a device have in common
+
+-- the device tells its contents as before, and time goes on
+pub record GoesOn (old new : Disk) : Type 0 where
+  pub told : IsTold old ↔ IsTold new
+  pub history : IsTold old → Continues old new
+
+-- A call that only reads: the device tells what it told, a stop within it leaves what was left
+-- before, no write is counted, and the count of the faults never falls.
+pub record OnlyReads (old new : Disk) (writes writes_now faults faults_now : ℕ) : Type 0 where
+  pub contents : new.contents ≡ old.contents
+  pub moments : IsTold old → Passes old new (Leaves old)
+  pub same_writes : writes_now ≡ writes
+  pub later : faults ≤ faults_now
+
+-- A call that writes at most in these places: a device that tells its contents tells them as before,
+-- the other pages read as they did, and a stop within it leaves what was left before, with any bytes
+-- in these places.
+pub record WritesIn (places : Places) (old new : Disk) : Type 0 where
+  pub told : IsTold old ↔ IsTold new
+  pub kept : Told old (λ pages. IsRewrittenIn places pages new.contents)
+  pub moments : IsTold old → Passes old new (TornIn places (Leaves old))

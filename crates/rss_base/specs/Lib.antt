@@ -1,8 +1,13 @@
 pub mod Faults
 pub mod Streams
 pub mod DiskRule
+pub mod Sizes
 pub mod Layout
 pub mod PageMap
 pub mod Paged
+pub mod Steps
 pub mod StoredPages
 pub mod Answers
+pub mod LogRecords
+pub mod LogPages
+pub mod TupleTypes

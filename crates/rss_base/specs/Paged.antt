@@ -1,12 +1,15 @@
 -- Pages by their keys, over a device of which a part is fixed.
-use Rattle.std.specs.Prelude.{◌≡◌, ◌↔◌, ℕ, ◌+◌, ◌<◌, ◌≤◌, Bool, true, false, ◌&&◌, ◌==◌, if◌then◌else◌, List, length, Contains, Option, Some, Result, Err, IsErrOf}
+use Rattle.std.specs.Prelude.{◌≡◌, ◌↔◌, ℕ, ◌+◌, ◌<◌, ◌≤◌, Bool, true, false, ◌&&◌, ◌==◌, if◌then◌else◌, List, length, Contains, sum_by, count_by, Option, Some, Result, Err, IsErrOf}
+use Rattle.std.specs.List.{range_with_len}
 use Rattle.rss_base.specs.DiskRule.{Disk, Pages, page, IsTold, Passes}
 use Rattle.rss_base.specs.Faults.{Rises}
+use Rattle.rss_base.specs.Sizes.{segments, system_pages}
 use Rattle.rss_base.specs.PageMap.{space_code}
 use Rattle.rss_base.specs.declared.place.Place.{Place}
 use Rattle.rss_base.specs.declared.fault.PageFault.{PageFault}
 use Rattle.rss_base.specs.declared.fault.PageFault.TheVariants.{Device as DeviceFailed, Damaged}
 use Rattle.rss_base.specs.declared.key.Space.{Space}
+use Rattle.rss_base.specs.declared.key.Space.TheVariants.{Home, Overflow, Image, System}
 use Rattle.rss_base.specs.declared.key.PageKey.{PageKey}
 
 -- ---- what pages hold
@@ -39,6 +42,22 @@ page_key segment space number = record { segment = segment; space = space; numbe
 pub record IsLeastUnmapped (mapped : Mapped) (segment : ℕ) (space : Space) (number : ℕ) : Type 0 where
   pub free : mapped (page_key segment space number) ≡ false
   pub lesser : (k : ℕ) → k < number → mapped (page_key segment space k) ≡ true
+
+-- ---- how many pages are mapped
+
+-- of a segment and a space, with numbers below a limit
+abbrev pub mapped_in : Mapped → Space → ℕ → ℕ → ℕ
+mapped_in mapped space limit segment = count_by (λ number. mapped (page_key segment space number)) (range_with_len 0 limit)
+
+-- of a space, in all segments
+abbrev pub mapped_of : Mapped → Space → ℕ → ℕ
+mapped_of mapped space limit = sum_by (mapped_in mapped space limit) (range_with_len 1 segments)
+
+-- of all pages that a map of so many slots may name
+unfoldable pub mapped_pages : ℕ → Mapped → ℕ
+mapped_pages slots mapped =
+    mapped_of mapped Home slots + mapped_of mapped Overflow slots + mapped_of mapped Image slots
+    + mapped_in mapped System system_pages 0
 
 -- ---- which pages wait to be written
 
@@ -84,3 +103,15 @@ pub record HasPageCause {T : Type 0} (disk : Disk) (before now : ℕ) (result : 
   pub later : before ≤ now
   pub failed : IsErrOf result DeviceFailed → Rises before now
   pub sound : (place : Place) → result ≡ Err (Damaged place) → IsTold disk → ⊥
+
+-- ---- the first number from one on
+
+-- the first number from one on that has a property
+pub record IsFirstFrom (property : ℕ → Type 0) (from number : ℕ) : Type 0 where
+  pub later : from ≤ number
+  pub has : property number
+  pub none_before : (k : ℕ) → from ≤ k → k < number → property k → ⊥
+
+-- no number from one on has it
+abbrev pub NoneFrom : (ℕ → Type 0) → ℕ → Type 0
+NoneFrom property from = (k : ℕ) → from ≤ k → property k → ⊥

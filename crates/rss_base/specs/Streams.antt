@@ -3,7 +3,8 @@ use Rattle.std.specs.Prelude.{◌≡◌, ℕ, List, ◌++◌, Option, Some}
 
 -- the source of old gave these bytes, and those of new are left, where it tells them
 pub record Gives (old : Option (List ℕ)) (bytes : List ℕ) (new : Option (List ℕ)) : Type 0 where
-  pub moves : (all : List ℕ) → old ≡ Some all → (rest : List ℕ) × (new ≡ Some rest) × (all ≡ bytes ++ rest)
+  pub moves : (all : List ℕ) → old ≡ Some all
+      → (rest : List ℕ) × (new ≡ Some rest) × (all ≡ bytes ++ rest)
 
 -- these bytes were added, where the sink tells what was written
 pub record Takes (old : Option (List ℕ)) (bytes : List ℕ) (new : Option (List ℕ)) : Type 0 where

@@ -1,7 +1,7 @@
 // What a store is kept on.
-ghost use Rattle.std.specs.Prelude.{◌≡◌, ◌↔◌, ◌+◌, ◌-◌, ◌^◌, ◌<◌, ◌≤◌, ℕ, ⊤, length, min, Some, IfOk, OnOk, slice_set};
-ghost use Rattle.rss_base.specs.Faults.{HasCause};
-ghost use Rattle.rss_base.specs.DiskRule.{Disk, page, Told, IsTold, IsResized, IsRewritten, Leaves, LeavesOnly, TornAt, Passes};
+ghost use Rattle.std.specs.Prelude.{◌≡◌, ◌<◌, ◌≤◌, ℕ, length, Some, IfOk, OnOk, slice_set};
+ghost use Rattle.rss_base.specs.Faults.{count_limit, counted, HasCause};
+ghost use Rattle.rss_base.specs.DiskRule.{Disk, page, Told, IsResized, Leaves, LeavesOnly, IsAt, GoesOn, OnlyReads, WritesIn};
 
 use crate::{Failed, Page};
 
@@ -27,18 +27,17 @@ pub trait Device {
     fn size(&mut self) -> Result<u64, Failed>
         ensures size { IfOk result (λ n. n ≡ size_of self.new) }
         ensures same_size { Told (disk self.old) (λ _. size_of self.new ≡ size_of self.old) }
-        ensures contents { (disk self.new).contents ≡ (disk self.old).contents }
-        ensures moments { Told (disk self.old) (λ _. Passes (disk self.old) (disk self.new) (Leaves (disk self.old))) }
-        ensures writes { writes self.new ≡ writes self.old }
+        ensures reads { OnlyReads (disk self.old) (disk self.new)
+            (writes self.old) (writes self.new) (faults self.old) (faults self.new) }
         ensures cause { HasCause (faults self.old) (faults self.new) result };
 
     /// Makes the device this many pages. The pages that are new hold any bytes. After a failure the
     /// device has any size.
     fn set_size(&mut self, pages: u64) -> Result<(), Failed>
         ensures size { OnOk result (size_of self.new ≡ pages) }
-        ensures kept { OnOk result (Told (disk self.old) (λ before. IsResized before (disk self.new).contents)) }
-        ensures told { IsTold (disk self.old) ↔ IsTold (disk self.new) }
-        ensures moments { Told (disk self.old) (λ _. Passes (disk self.old) (disk self.new) (λ _. ⊤)) }
+        ensures kept { OnOk result (Told (disk self.old) (λ before.
+            IsResized before (disk self.new).contents)) }
+        ensures goes_on { GoesOn (disk self.old) (disk self.new) }
         ensures writes { writes self.new ≡ writes self.old }
         ensures cause { HasCause (faults self.old) (faults self.new) result };
 
@@ -46,29 +45,26 @@ pub trait Device {
         requires { at < size_of self.old }
         ensures page { OnOk result (Told (disk self.old) (λ pages. into.new ≡ page pages at)) }
         ensures size { size_of self.new ≡ size_of self.old }
-        ensures contents { (disk self.new).contents ≡ (disk self.old).contents }
-        ensures moments { Told (disk self.old) (λ _. Passes (disk self.old) (disk self.new) (Leaves (disk self.old))) }
-        ensures writes { writes self.new ≡ writes self.old }
+        ensures reads { OnlyReads (disk self.old) (disk self.new)
+            (writes self.old) (writes self.new) (faults self.old) (faults self.new) }
         ensures cause { HasCause (faults self.old) (faults self.new) result };
 
     /// Writes a page. It is sure to outlast a stop only after the next sync.
     fn write(&mut self, at: u64, from: &Page) -> Result<(), Failed>
         requires { at < size_of self.old }
-        ensures written { OnOk result (Told (disk self.old) (λ pages. (disk self.new).contents ≡ Some (slice_set pages at from.now))) }
-        ensures told { IsTold (disk self.old) ↔ IsTold (disk self.new) }
-        ensures kept { Told (disk self.old) (λ pages. IsRewritten at pages (disk self.new).contents) }
+        ensures written { OnOk result (Told (disk self.old) (λ pages.
+            (disk self.new).contents ≡ Some (slice_set pages at from.now))) }
+        ensures only { WritesIn (IsAt at) (disk self.old) (disk self.new) }
         ensures size { size_of self.new ≡ size_of self.old }
-        ensures moments { Told (disk self.old) (λ _. Passes (disk self.old) (disk self.new) (TornAt at (Leaves (disk self.old)))) }
-        ensures writes { writes self.new ≡ min (writes self.old + 1) (2 ^ 64 - 1) }
+        ensures writes { writes self.new ≡ counted (writes self.old) }
         ensures cause { HasCause (faults self.old) (faults self.new) result };
 
     /// Brings every page that was written to the disk.
     fn sync(&mut self) -> Result<(), Failed>
         ensures synced { OnOk result (Told (disk self.old) (LeavesOnly (disk self.new))) }
         ensures size { size_of self.new ≡ size_of self.old }
-        ensures contents { (disk self.new).contents ≡ (disk self.old).contents }
-        ensures moments { Told (disk self.old) (λ _. Passes (disk self.old) (disk self.new) (Leaves (disk self.old))) }
-        ensures writes { writes self.new ≡ writes self.old }
+        ensures reads { OnlyReads (disk self.old) (disk self.new)
+            (writes self.old) (writes self.new) (faults self.old) (faults self.new) }
         ensures cause { HasCause (faults self.old) (faults self.new) result };
 
     /// A device as it reads is one of its images.
@@ -76,4 +72,7 @@ pub trait Device {
 
     /// The size is that of the pages.
     ghost sized: { (device : Self) → Told (disk device) (λ pages. length pages ≡ size_of device) };
+
+    /// A count of writes stays at its limit.
+    ghost counts: { (device : Self) → writes device ≤ count_limit };
 }

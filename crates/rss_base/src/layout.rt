@@ -8,13 +8,14 @@ use crate::Root;
 pub const ENTRIES_OF_PAGE: u32 = 512;
 
 /// The pages in front of the map areas: the selector and the two roots.
-const HEAD_PAGES: u64 = 3;
+pub const HEAD_PAGES: u64 = 3;
 
 /// How many pages a map area has, for so many slots.
 pub fn map_pages(slots: u32) -> u64
     ensures { result ≡ map_pages slots }
 {
-    (u64::from(slots) + 511) / 512
+    let entries = u64::from(ENTRIES_OF_PAGE);
+    (u64::from(slots) + (entries - 1)) / entries
 }
 
 /// Where a map area begins.

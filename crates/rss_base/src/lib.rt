@@ -3,14 +3,19 @@
 #![tactic(auto)]
 
 mod answer;
+mod bounded;
 mod call;
+mod change;
 mod device;
 mod durable;
 mod fault;
+mod field;
 mod fields;
 mod item;
 mod key;
 mod layout;
+mod log_record;
+mod marks;
 mod name;
 mod page;
 mod pages;
@@ -26,14 +31,19 @@ mod tuple;
 mod value;
 
 pub use answer::{CallError, Reply};
+pub use bounded::{BODY_BYTES, Body, BoundedBytes, KEY_BYTES, Key};
 pub use call::Call;
+pub use change::Change;
 pub use device::Device;
 pub use durable::put;
 pub use fault::{Failed, OpenFault, PageFault, Unopened};
+pub use field::{FieldDef, Fields};
 pub use fields::{put_bytes, u32_at, u64_at};
 pub use item::Item;
 pub use key::{PageKey, SEGMENTS, SYSTEM_PAGES, Space};
-pub use layout::{ENTRIES_OF_PAGE, device_pages, log_at, map_at, map_pages, slots_at};
+pub use layout::{ENTRIES_OF_PAGE, HEAD_PAGES, device_pages, log_at, map_at, map_pages, slots_at};
+pub use log_record::LogRecord;
+pub use marks::{MARKS_MOST, Marks};
 pub use name::{Name, RELATION_R};
 pub use page::{PAGE_BYTES, Page};
 pub use pages::Pages;

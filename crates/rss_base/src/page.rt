@@ -4,4 +4,4 @@
 pub const PAGE_BYTES: usize = 4096;
 
 /// A page of a device.
-pub type Page = [u8; 4096];
+pub type Page = [u8; PAGE_BYTES];

@@ -1,5 +1,5 @@
 // What replies are written to.
-ghost use Rattle.std.specs.Prelude.{◌≡◌, ◌<◌, ◌≤◌, ℕ, List, Option, length, take, IfOk, OnOk, OnErr};
+ghost use Rattle.std.specs.Prelude.{◌<◌, ◌≤◌, ℕ, List, [], Option, length, take, IfOk, OnOk, OnErr};
 ghost use Rattle.rss_base.specs.Faults.{HasCause};
 ghost use Rattle.rss_base.specs.Streams.{Takes, TakesFront};
 
@@ -19,7 +19,7 @@ pub trait Sink {
         ensures within { IfOk result (λ n. n ≤ length from.now) }
         ensures some { IfOk result (λ n. 0 < length from.now → 0 < n) }
         ensures takes { IfOk result (λ n. Takes (written self.old) (take n from.now) (written self.new)) }
-        ensures failed { OnErr result (written self.new ≡ written self.old) }
+        ensures failed { OnErr result (Takes (written self.old) [] (written self.new)) }
         ensures cause { HasCause (faults self.old) (faults self.new) result };
 }
 

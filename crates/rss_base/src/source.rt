@@ -18,7 +18,8 @@ pub trait Source {
     fn read(&mut self, into: &mut [u8]) -> Result<usize, Failed>
         ensures within { IfOk result (λ n. n ≤ length into.old) }
         ensures gives { IfOk result (λ n. Gives (left self.old) (take n into.new) (left self.new)) }
-        ensures end { result ≡ Ok 0 → 0 < length into.old → (all : List ℕ) → left self.old ≡ Some all → all ≡ [] }
-        ensures failed { OnErr result (left self.new ≡ left self.old) }
+        ensures end { result ≡ Ok 0 → 0 < length into.old
+            → (all : List ℕ) → left self.old ≡ Some all → all ≡ [] }
+        ensures failed { OnErr result (Gives (left self.old) [] (left self.new)) }
         ensures cause { HasCause (faults self.old) (faults self.new) result };
 }

@@ -1,5 +1,6 @@
 // The last part of the log.
 ghost use Rattle.std.specs.Prelude.{◌≡◌, ◌+◌, ◌<◌, [], ◌∷◌, ◌++◌, length};
+ghost use Rattle.rss_base.specs.Sizes.{piece_bytes};
 
 use std::marker::Model;
 
@@ -15,12 +16,13 @@ pub struct Tail {
 
 impl Model for Tail {
     ghost use Rattle.std.specs.Prelude.{◌<◌, List, ℕ, take};
+    ghost use Rattle.rss_base.specs.Sizes.{piece_bytes};
 
     ghost Value = { List ℕ };
 
     ghost view = { λ t. take t.len t.bytes };
 
-    ghost invariant = { λ t. t.len < 4000 };
+    ghost invariant = { λ t. t.len < piece_bytes };
 }
 
 impl Tail {
@@ -36,7 +38,7 @@ impl Tail {
 
     /// These bytes.
     pub fn from_slice(bytes: &[u8]) -> Self
-        requires { length bytes.now < 4000 }
+        requires { length bytes.now < piece_bytes }
         ensures { result ≡ bytes.now }
     {
         let mut piece = [0; PIECE_BYTES];
@@ -48,7 +50,7 @@ impl Tail {
     }
 
     pub fn push(&mut self, byte: u8)
-        requires { length self.old + 1 < 4000 }
+        requires { length self.old + 1 < piece_bytes }
         ensures { self.new ≡ self.old ++ byte ∷ [] }
     {
         self.bytes[self.len] = byte;
@@ -57,7 +59,7 @@ impl Tail {
 
     pub fn as_slice(&self) -> &[u8]
         ensures bytes { result.now ≡ self.now }
-        ensures short { length self.now < 4000 }
+        ensures short { length self.now < piece_bytes }
     {
         &self.bytes[..self.len]
     }

@@ -1,32 +1,34 @@
 -- What changing one page does to a buffer: the page gets a slot or loses it, and its frame is changed with it.
-use Rattle.std.proofs.Common.{◌≡◌, ◌≢◌, inl, inr, ℕ, ◌+◌, ◌<◌, ◌≤◌, Bool, true, false, List, length, set, Option, Some, None, refl, sym, ◌∙◌, ap, subst, arith, length-set, get_or-set_same, get_or-set_other}
-use Rattle.std.specs.Prelude.{is_some, option_map}
+use Rattle.std.proofs.Common.{◌≡◌, ◌≢◌, ◌⊎◌, inl, inr, ℕ, ◌+◌, ◌<◌, ◌≤◌, true, false, List, length, replicate, set, Option, Some, None, refl, sym, ◌∙◌, ap, subst, arith, length-set, get_or-set_same, get_or-set_other}
+use Rattle.std.specs.Prelude.{is_some, is_none, option_map, unwrap_or}
 use Rattle.std.proofs.Math.Path.{fun_ext}
 use Rattle.std.proofs.lemmas.Bool.{cases_Bool, cond-true, cond-false}
 use Rattle.std.proofs.lemmas.Option.{same_Some}
 use Rattle.std.proofs.lemmas.List.{set-set, set-get_or}
-use Rattle.rss_base.specs.DiskRule.{Disk, Pages, page, Told}
+use Rattle.rss_base.specs.DiskRule.{Pages, page, Told, IsTold}
 use Rattle.rss_base.specs.Layout.{slots_at}
-use Rattle.rss_base.specs.PageMap.{IsKey, IsTable, owner_of}
-use Rattle.rss_base.specs.Paged.{Mapped, is_same, with_mapped, with_page, page_key, IsLeastUnmapped}
+use Rattle.rss_base.specs.PageMap.{IsKey, IsTable, owner_of, page_count}
+use Rattle.rss_base.specs.Paged.{Mapped, Held, Fixed, LeavesFixed, is_same, with_mapped, with_page, page_key, IsLeastUnmapped}
+use Rattle.rss_base.specs.Steps.{Keys, no_page, PagesStep, WritesPage, TakesPage, GivesPage}
 use Rattle.rss_base.specs.declared.key.Space.{Space}
 use Rattle.rss_base.specs.declared.key.Space.TheVariants.{Home, Overflow, Image, System}
 use Rattle.rss_base.specs.declared.key.PageKey.{PageKey}
 use Rattle.rss_pagemap.proofs.Owners.{table_set}
-use Rattle.rss_shadow.specs.Maps.{Maps, HasPage, LacksPage, GainsPage, LosesPage, MovesPage, IsLeastLacking}
-use Rattle.rss_shadow.proofs.Counts.{Owners, no_owner, Assigns-set, owned_within}
+use Rattle.rss_shadow.specs.Maps.{Maps, spare, HasPage, LacksPage, GainsPage, LosesPage, MovesPage, IsLeastLacking}
+use Rattle.rss_shadow.proofs.Counts.{Owners, no_owner, one_page, Assigns-set, owned_within}
 use Rattle.rss_shadow.proofs.Slots.{Changes, Changes-then, Changes-gains, Changes-loses}
 use Rattle.rss_buffer.specs.declared.frames.Frame.{Frame}
-use Rattle.rss_buffer.specs.declared.stage.Stage.{Stage}
 use Rattle.rss_buffer.specs.declared.stage.Stage.TheVariants.{Changing}
 use Rattle.rss_buffer.specs.Frames.{FrameOf, with_frame}
-use Rattle.rss_buffer.specs.Slots.{held_in, held_by, pages_of}
+use Rattle.rss_buffer.specs.Slots.{held_in, held_by, fixed_by, told_pages}
 use Rattle.rss_base.specs.StoredPages.{slot_of, mapped_by}
-use Rattle.rss_buffer.specs.Buffered.{AreFrames, StaysFixed, IsBuffer}
-use Rattle.rss_buffer.specs.BufferLaws.{owner_of-slot_of, the_slot}
-use Rattle.rss_base.proofs.Keys.{is_same-true, is_same-itself}
+use Rattle.rss_buffer.specs.Buffered.{BufferView, AreFrames, StaysFixed, HaveSlots, IsBuffer, held_of, KeepsPages}
+use Rattle.rss_buffer.specs.Saving.{changed_by}
+use Rattle.rss_buffer.specs.Views.{pages_view}
+use Rattle.rss_base.proofs.Steps.{PassesOn, kept_all}
+use Rattle.rss_base.proofs.Keys.{is_same-true, is_same-itself, owner_of-slot_of, the_slot}
 use Rattle.rss_buffer.proofs.Lookups.{with_frame-same, with_frame-other}
-use Rattle.rss_buffer.proofs.Found.{mapped-owned, mapped-has, mapped-lacks, slot_of-here, slot_of-others, mapped-changed}
+use Rattle.rss_buffer.proofs.Found.{mapped-owned, LacksPage-unmapped, mapped-has, mapped-lacks, slot_of-here, slot_of-others, mapped-changed}
 use Rattle.rss_buffer.proofs.Turns.{with_frame-cases}
 
 -- ---- one page has this slot now, or none
@@ -36,29 +38,36 @@ pub record Reslots (old new : Maps) (key : PageKey) (slot : Option ℕ) : Type 0
   pub table : IsTable new.current
   pub long : length new.current ≡ length old.current
   pub changes : Changes old.current new.current key slot
+  pub room : HaveSlots new
   pub shadow : new.shadow ≡ old.shadow
 
-pub Reslots-gains : (old new : Maps) (key : PageKey) → IsTable old.current → IsKey (length old.current) key → LacksPage old.current key → (gains : GainsPage old new key) → Reslots old new key (Some gains.slot)
-Reslots-gains old new key table is lacks gains =
+pub Reslots-gains : (old new : Maps) (key : PageKey) → IsTable old.current → 0 < spare old → IsKey (length old.current) key → LacksPage old.current key → (gains : GainsPage old new key) → Reslots old new key (Some gains.slot)
+Reslots-gains old new key table spared is lacks gains =
     let within = gains.free.within in
     let after : Owners = set old.current gains.slot (Some key) in
+    let one = Assigns-set old.current gains.slot (Some key) within in
+    let long = length-set old.current gains.slot (Some key) in
     subst (λ (owners : Owners). Reslots old (record { current = owners; shadow = new.shadow }) key (Some gains.slot)) (sym gains.current) (record {
       was = table;
       table = table_set old.current gains.slot (Some key) table within is (λ other owned. absurd (lacks other owned));
       long = length-set old.current gains.slot (Some key);
-      changes = Changes-gains old.current after key gains.slot (Assigns-set old.current gains.slot (Some key) within) gains.free.current lacks;
+      changes = Changes-gains old.current after key gains.slot one gains.free.current lacks;
+      room = omega (arith, one.pages, ap one_page gains.free.current, long, ap (λ (o : Owners). page_count o) gains.shadow);
       shadow = gains.shadow;
     })
 
-pub Reslots-loses : (old new : Maps) (key : PageKey) → IsTable old.current → (loses : LosesPage old new key) → Reslots old new key None
-Reslots-loses old new key table loses =
+pub Reslots-loses : (old new : Maps) (key : PageKey) → IsTable old.current → HaveSlots old → (loses : LosesPage old new key) → Reslots old new key None
+Reslots-loses old new key table room loses =
     let within = owned_within old.current loses.slot key loses.owned in
     let after : Owners = set old.current loses.slot None in
+    let one = Assigns-set old.current loses.slot None within in
+    let long = length-set old.current loses.slot no_owner in
     subst (λ (owners : Owners). Reslots old (record { current = owners; shadow = new.shadow }) key None) (sym loses.current) (record {
       was = table;
       table = table_set old.current loses.slot None table within tt tt;
       long = length-set old.current loses.slot no_owner;
-      changes = Changes-loses old.current after key loses.slot (Assigns-set old.current loses.slot None within) loses.owned table.distinct;
+      changes = Changes-loses old.current after key loses.slot one loses.owned table.distinct;
+      room = omega (arith, one.pages, room, long, ap (λ (o : Owners). page_count o) loses.shadow);
       shadow = loses.shadow;
     })
 
@@ -83,14 +92,16 @@ moves_within old new key slot moves = by (owner_of old.shadow moves.from) refl
     by None is = subst (λ (s : ℕ). s < length old.current) (sym (moves.stays is)) (owned_within old.current moves.from key moves.owned)
     by (Some other) is = (moves.free (λ none. let no : None ≡ Some other = sym none ∙ is in cc)).within
 
-pub Reslots-moves : (old new : Maps) (key : PageKey) (slot : ℕ) → IsTable old.current → (moves : MovesPage old new key slot) → Reslots old new key (Some slot)
-Reslots-moves old new key slot table moves =
+pub Reslots-moves : (old new : Maps) (key : PageKey) (slot : ℕ) → IsTable old.current → HaveSlots old → (moves : MovesPage old new key slot) → Reslots old new key (Some slot)
+Reslots-moves old new key slot table room moves =
     let from_in = owned_within old.current moves.from key moves.owned in
     let middle : Owners = set old.current moves.from None in
     let last : Owners = set middle slot (Some key) in
     let long = length-set old.current moves.from no_owner in
     let within : slot < length middle = omega (arith, long, moves_within old new key slot moves) in
-    let first = Changes-loses old.current middle key moves.from (Assigns-set old.current moves.from None from_in) moves.owned table.distinct in
+    let gone = Assigns-set old.current moves.from None from_in in
+    let back = Assigns-set middle slot (Some key) within in
+    let first = Changes-loses old.current middle key moves.from gone moves.owned table.distinct in
     let lacks : LacksPage middle key = λ s owned. let no : None ≡ Some s = (first.here s).1 owned in cc in
     let mid_table : IsTable middle = table_set old.current moves.from None table from_in tt tt in
     let is : IsKey (length middle) key = subst (λ (n : ℕ). IsKey n key) (sym long) (table.allowed moves.from key moves.owned) in
@@ -98,7 +109,8 @@ Reslots-moves old new key slot table moves =
       was = table;
       table = table_set middle slot (Some key) mid_table within is (λ other owned. absurd (lacks other owned));
       long = length-set middle slot (Some key) ∙ long;
-      changes = Changes-then old.current middle last key None (Some slot) first (Changes-gains middle last key slot (Assigns-set middle slot (Some key) within) (slot_after old new key slot moves) lacks);
+      changes = Changes-then old.current middle last key None (Some slot) first (Changes-gains middle last key slot back (slot_after old new key slot moves) lacks);
+      room = omega (arith, gone.pages, back.pages, ap one_page moves.owned, ap one_page (slot_after old new key slot moves), room, long, length-set middle slot (Some key), ap (λ (o : Owners). page_count o) moves.shadow);
       shadow = moves.shadow;
     })
 
@@ -115,8 +127,17 @@ IsLeastUnmapped-lacking owners segment space number least = record {
   lesser = λ k below. mapped-has owners (page_key segment space k) (least.lesser k below);
 }
 
-pub Reslots-takes : (old new : Maps) (segment : ℕ) (space : Space) (number : ℕ) → IsTable old.current → 1 ≤ segment → segment ≤ 8 → space ≢ System → IsLeastLacking old.current segment space number → (gains : GainsPage old new (page_key segment space number)) → Reslots old new (page_key segment space number) (Some gains.slot)
-Reslots-takes old new segment space number table low high other least gains = Reslots-gains old new (page_key segment space number) table (IsKey-least old.current segment space number low high other least) least.lacking gains
+pub Reslots-takes : (old new : Maps) (segment : ℕ) (space : Space) (number : ℕ) → IsTable old.current → 0 < spare old → 1 ≤ segment → segment ≤ 8 → space ≢ System → IsLeastLacking old.current segment space number → (gains : GainsPage old new (page_key segment space number)) → Reslots old new (page_key segment space number) (Some gains.slot)
+Reslots-takes old new segment space number table spared low high other least gains = Reslots-gains old new (page_key segment space number) table spared (IsKey-least old.current segment space number low high other least) least.lacking gains
+
+-- the same by what was known of the maps before
+pub Reslots-gained : {before old new : Maps} {key : PageKey} → IsTable old.current → old ≡ before → 0 < spare before → IsKey (length before.current) key → mapped_by before.current key ≡ false → (gains : GainsPage old new key) → Reslots old new key (Some gains.slot)
+Reslots-gained {before = before} {old = old} {new = new} {key = key} table same room is unmapped gains =
+    Reslots-gains old new key table
+    (subst (λ (m : Maps). 0 < spare m) (sym same) room)
+    (subst (λ (m : Maps). IsKey (length m.current) key) (sym same) is)
+    (LacksPage-unmapped old.current key (ap (λ (m : Maps). mapped_by m.current key) same ∙ unmapped))
+    gains
 
 gained : (old new : Maps) (key : PageKey) (gains : GainsPage old new key) → owner_of new.current gains.slot ≡ Some key
 gained old new key gains = ap (λ (owners : Owners). owner_of owners gains.slot) gains.current ∙ get_or-set_same old.current gains.slot (Some key) None gains.free.within
@@ -148,24 +169,24 @@ mapped-reslots {old = old} {new = new} {key = key} {slot = slot} re = mapped-cha
 off_by : (other key : PageKey) → is_same other key ≡ false → other ≢ key
 off_by other key off at = let same : is_same other key ≡ true = ap (λ (k : PageKey). is_same k key) at ∙ is_same-itself key in cc
 
-pub held-reslots : {old new : Maps} {key : PageKey} {slot : Option ℕ} {frames_now : FrameOf} (first : ℕ) (frames : FrameOf) (frame : Option Frame) (contents : Option Pages) (bytes : Option (List ℕ)) → Reslots old new key slot → frames_now ≡ with_frame frames key frame → option_map (λ s. held_in frame (page (pages_of contents) (first + s))) slot ≡ bytes → held_by first new.current frames_now contents ≡ with_page (held_by first old.current frames contents) key bytes
+pub held-reslots : {old new : Maps} {key : PageKey} {slot : Option ℕ} {frames_now : FrameOf} (first : ℕ) (frames : FrameOf) (frame : Option Frame) (contents : Option Pages) (bytes : Option (List ℕ)) → Reslots old new key slot → frames_now ≡ with_frame frames key frame → option_map (λ s. held_in frame (page (told_pages contents) (first + s))) slot ≡ bytes → held_by first new.current frames_now contents ≡ with_page (held_by first old.current frames contents) key bytes
 held-reslots {old = old} {new = new} {key = key} {slot = slot} first frames frame contents bytes re now is = ap (λ (f : FrameOf). held_by first new.current f contents) now ∙ fun_ext (λ other. elim (cases_Bool (is_same other key)) [
   | inl here ↦
       ap (held_by first new.current (with_frame frames key frame) contents) (is_same-true other key here)
-      ∙ ap (λ (f : Option Frame). option_map (λ s. held_in f (page (pages_of contents) (first + s))) (slot_of new.current key)) (with_frame-same frames key frame)
-      ∙ ap (option_map (λ s. held_in frame (page (pages_of contents) (first + s)))) (slot_of-here old.current new.current key slot re.was.distinct re.table.distinct re.changes) ∙ is
+      ∙ ap (λ (f : Option Frame). option_map (λ s. held_in f (page (told_pages contents) (first + s))) (slot_of new.current key)) (with_frame-same frames key frame)
+      ∙ ap (option_map (λ s. held_in frame (page (told_pages contents) (first + s)))) (slot_of-here old.current new.current key slot re.was.distinct re.table.distinct re.changes) ∙ is
       ∙ sym (cond-true (is_same other key) bytes (held_by first old.current frames contents other) here)
   | inr off ↦
-      ap (λ (f : Option Frame). option_map (λ s. held_in f (page (pages_of contents) (first + s))) (slot_of new.current other)) (with_frame-other frames key frame other (off_by other key off))
-      ∙ ap (option_map (λ s. held_in (frames other) (page (pages_of contents) (first + s)))) (slot_of-others old.current new.current key slot re.was.distinct re.table.distinct re.changes other (off_by other key off))
+      ap (λ (f : Option Frame). option_map (λ s. held_in f (page (told_pages contents) (first + s))) (slot_of new.current other)) (with_frame-other frames key frame other (off_by other key off))
+      ∙ ap (option_map (λ s. held_in (frames other) (page (told_pages contents) (first + s)))) (slot_of-others old.current new.current key slot re.was.distinct re.table.distinct re.changes other (off_by other key off))
       ∙ sym (cond-false (is_same other key) bytes (held_by first old.current frames contents other) off)
 ])
 
 -- what a page in memory holds
 pub held-there : (first : ℕ) (owners : Owners) (frames : FrameOf) (contents : Option Pages) (key : PageKey) (frame : Frame) → mapped_by owners key ≡ true → frames key ≡ Some frame → held_by first owners frames contents key ≡ Some frame.page
 held-there first owners frames contents key frame mapped there =
-    ap (option_map (λ s. held_in (frames key) (page (pages_of contents) (first + s)))) (the_slot owners key mapped).1
-    ∙ ap (λ (f : Option Frame). Some (held_in f (page (pages_of contents) (first + (the_slot owners key mapped).0)))) there
+    ap (option_map (λ s. held_in (frames key) (page (told_pages contents) (first + s)))) (the_slot owners key mapped).1
+    ∙ ap (λ (f : Option Frame). Some (held_in f (page (told_pages contents) (first + (the_slot owners key mapped).0)))) there
 
 -- ---- the whole
 
@@ -182,39 +203,133 @@ Fits-changed shadow slot frame changed none f is = record {
   own = λ s at. ap (owner_of shadow) (sym (same_Some slot s at)) ∙ none;
 }
 
-module _ {disk : Disk} {size log_pages first : ℕ} {maps maps_now : Maps} {frames : FrameOf} {settled : Bool} {stage : Stage} {key : PageKey} {slot : Option ℕ} (buffer : IsBuffer disk size log_pages first maps frames settled stage) (re : Reslots maps maps_now key slot) (frame : Option Frame) (fits : (f : Frame) → frame ≡ Some f → Fits maps.shadow slot f) where
-  still_mapped : (other : PageKey) → other ≢ key → mapped_by maps.current other ≡ true → mapped_by maps_now.current other ≡ true
-  still_mapped other off is =
-      let found = the_slot maps.current other is in
-      mapped-owned maps_now.current other found.0 ((re.changes.others found.0 other off).0 (owner_of-slot_of maps.current other found.0 found.1))
+-- The page has this slot now, or none, and its frame is this one, or none.
+module _ {b : BufferView} {maps : Maps} {key : PageKey} {slot : Option ℕ} (re : Reslots b.maps maps key slot) (frame : Option Frame) {frames : FrameOf} (now : frames ≡ with_frame b.frames key frame) where
+  module _ (buffer : IsBuffer b) (fits : (f : Frame) → frame ≡ Some f → Fits b.maps.shadow slot f) where
+    still_mapped : (other : PageKey) → other ≢ key → mapped_by b.maps.current other ≡ true → mapped_by maps.current other ≡ true
+    still_mapped other off is =
+        let found = the_slot b.maps.current other is in
+        mapped-owned maps.current other found.0 ((re.changes.others found.0 other off).0 (owner_of-slot_of b.maps.current other found.0 found.1))
 
-  AreFrames-reslots : AreFrames maps_now (with_frame frames key frame)
-  AreFrames-reslots = record {
-    mapped = λ other f is. elim (with_frame-cases frames key frame other f is) [
-      | inl here ↦ ap (mapped_by maps_now.current) here.0 ∙ ap (λ (o : Option ℕ). is_some o) (slot_of-here maps.current maps_now.current key slot re.was.distinct re.table.distinct re.changes) ∙ (fits f here.1).mapped
-      | inr there ↦ still_mapped other there.0 (buffer.frames_hold.mapped other f there.1)
-    ];
-    own_slot = λ other f s is changed owned. ap (λ (shadow : Owners). owner_of shadow s) re.shadow ∙ elim (with_frame-cases frames key frame other f is) [
-      | inl here ↦ (fits f here.1).own s ((re.changes.here s).1 (owned ∙ ap Some here.0))
-      | inr there ↦ buffer.frames_hold.own_slot other f s there.1 changed ((re.changes.others s other there.0).1 owned)
-    ];
-  }
+    AreFrames-reslots : AreFrames maps (with_frame b.frames key frame)
+    AreFrames-reslots = record {
+      mapped = λ other f is. elim (with_frame-cases b.frames key frame other f is) [
+        | inl here ↦ ap (mapped_by maps.current) here.0 ∙ ap (λ (o : Option ℕ). is_some o) (slot_of-here b.maps.current maps.current key slot re.was.distinct re.table.distinct re.changes) ∙ (fits f here.1).mapped
+        | inr there ↦ still_mapped other there.0 (buffer.frames_hold.mapped other f there.1)
+      ];
+      own_slot = λ other f s is changed owned. ap (λ (shadow : Owners). owner_of shadow s) re.shadow ∙ elim (with_frame-cases b.frames key frame other f is) [
+        | inl here ↦ (fits f here.1).own s ((re.changes.here s).1 (owned ∙ ap Some here.0))
+        | inr there ↦ buffer.frames_hold.own_slot other f s there.1 changed ((re.changes.others s other there.0).1 owned)
+      ];
+    }
 
-  pub IsBuffer-reslots : {frames_now : FrameOf} → frames_now ≡ with_frame frames key frame → IsBuffer disk size log_pages first maps_now frames_now settled Changing
-  IsBuffer-reslots now = subst (λ (now : FrameOf). IsBuffer disk size log_pages first maps_now now settled Changing) (sym now) (record {
-    table = re.table;
-    count = ap (λ (owners : Owners). length owners) re.shadow ∙ buffer.count ∙ sym re.long;
-    place = buffer.place ∙ ap (λ (n : ℕ). slots_at n log_pages) (sym re.long);
-    room = buffer.room ∙ ap (λ (n : ℕ). first + n) (sym re.long);
-    frames_hold = AreFrames-reslots;
-    clean = λ pages is other f s there clean owned. elim (with_frame-cases frames key frame other f there) [
-      | inl here ↦ absurd (let no : true ≡ false = sym (fits f here.1).changed ∙ clean in cc)
-      | inr off ↦ buffer.clean pages is other f s off.1 clean ((re.changes.others s other off.0).1 owned)
-    ];
-    fixed = λ is. subst (λ (shadow : Owners). Told disk (StaysFixed disk first shadow)) (sym re.shadow) (buffer.fixed is);
-    at_stage = record {
-      none_changed = λ is. absurd (is refl);
-      saved = λ area is. absurd (cc);
-      synced = λ is. absurd (cc);
-    };
-  })
+    pub IsBuffer-reslots : IsBuffer (record b { maps = maps; frames = frames; stage = Changing })
+    IsBuffer-reslots = subst (λ (f : FrameOf). IsBuffer (record b { maps = maps; frames = f; stage = Changing })) (sym now) (record {
+      table = re.table;
+      count = ap (λ (owners : Owners). length owners) re.shadow ∙ buffer.count ∙ sym re.long;
+      room = re.room;
+      place = buffer.place ∙ ap (λ (n : ℕ). slots_at n b.log_pages) (sym re.long);
+      ends = buffer.ends ∙ ap (λ (n : ℕ). b.first + n) (sym re.long);
+      frames_hold = AreFrames-reslots;
+      clean = λ pages is other f s there clean owned. elim (with_frame-cases b.frames key frame other f there) [
+        | inl here ↦ absurd (let no : true ≡ false = sym (fits f here.1).changed ∙ clean in cc)
+        | inr off ↦ buffer.clean pages is other f s off.1 clean ((re.changes.others s other off.0).1 owned)
+      ];
+      fixed = λ is. subst (λ (shadow : Owners). Told b.disk (StaysFixed b.disk b.first shadow)) (sym re.shadow) (buffer.fixed is);
+      at_stage = record {
+        none_changed = λ is. absurd (is refl);
+        saved = λ area is. absurd (cc);
+        synced = λ is. absurd (cc);
+      };
+    })
+
+  -- ---- what a layer above sees of it
+
+  module _ {old : BufferView} (keeps : KeepsPages old b) where
+    -- the same shadow map, whose slots are fixed
+    fixed_same : fixed_by b.first maps.shadow b.disk.contents ≡ fixed_by b.first b.maps.shadow b.disk.contents
+    fixed_same = ap (λ (shadow : Owners). fixed_by b.first shadow b.disk.contents) re.shadow
+
+    pub passes_on : {asks writes : ℕ} → b.writes ≤ old.writes + writes → PassesOn asks writes (pages_view old) (pages_view (record b { maps = maps; frames = frames; stage = Changing }))
+    passes_on few = record {
+      slots = re.long ∙ ap (λ (m : Maps). length m.current) keeps.maps;
+      backing = λ i. record { log_pages = keeps.log_pages i; area = keeps.area i; shadow = (re.shadow ∙ ap (λ (m : Maps). m.shadow) keeps.maps) i };
+      leaves = subst (λ (f : Fixed). LeavesFixed (old.settled ≡ true) (b.settled ≡ true) old.disk b.disk (fixed_by old.first old.maps.shadow old.disk.contents) f) (sym fixed_same) keeps.leaves;
+      later = keeps.later;
+      asks_low = omega (arith, keeps.asks);
+      asks_high = omega (arith, keeps.asks);
+      writes_low = keeps.writes;
+      writes_high = few;
+    }
+
+    mapped_now : mapped_by maps.current ≡ with_mapped (mapped_by old.maps.current) key (is_some slot)
+    mapped_now = mapped-reslots re ∙ ap (λ (m : Maps). with_mapped (mapped_by m.current) key (is_some slot)) keeps.maps
+
+    held_now : (bytes : Option (List ℕ)) → option_map (λ s. held_in frame (page (told_pages b.disk.contents) (b.first + s))) slot ≡ bytes → IsTold old.disk → held_of (record b { maps = maps; frames = frames; stage = Changing }) ≡ with_page (held_of old) key bytes
+    held_now bytes is told =
+        held-reslots b.first b.frames frame b.disk.contents bytes re now is
+        ∙ ap (λ (held : Held). with_page held key bytes) (keeps.held told)
+
+    -- no other page was changed
+    pub changed-off : (other : PageKey) → changed_by maps other ≡ true → (changed_by old.maps other ≡ true) ⊎ (other ≡ key)
+    changed-off other is = elim (cases_Bool (is_same other key)) [
+      | inl here ↦ inr (is_same-true other key here)
+      | inr off ↦
+          let slot_is = slot_of-others b.maps.current maps.current key slot re.was.distinct re.table.distinct re.changes other (off_by other key off) in
+          let now_is : changed_by maps other ≡ changed_by b.maps other =
+          ap (λ (o : Option ℕ). unwrap_or (option_map (λ s. is_none (owner_of maps.shadow s)) o) false) slot_is
+          ∙ ap (λ (shadow : Owners). unwrap_or (option_map (λ s. is_none (owner_of shadow s)) (slot_of b.maps.current other)) false) re.shadow in
+          inl (sym (ap (λ (m : Maps). changed_by m other) keeps.maps) ∙ sym now_is ∙ is)
+    ]
+
+-- a page that was mapped is written
+pub writes_page : {old b : BufferView} {maps : Maps} {key : PageKey} {slot : ℕ} {frames : FrameOf} (re : Reslots b.maps maps key (Some slot)) (bytes : List ℕ) (now : frames ≡ with_frame b.frames key (Some (record { page = bytes; changed = true }))) → KeepsPages old b → mapped_by old.maps.current key ≡ true → WritesPage key bytes (pages_view old) (pages_view (record b { maps = maps; frames = frames; stage = Changing }))
+writes_page {old = old} {b = b} {key = key} re bytes now keeps is = record {
+  mapped = mapped_now {b = b} re (Some (record { page = bytes; changed = true })) now keeps ∙ with_mapped-same (mapped_by old.maps.current) key is;
+  held = held_now {b = b} re (Some (record { page = bytes; changed = true })) now keeps (Some bytes) refl;
+}
+
+pub takes_page : {old b : BufferView} {maps : Maps} {key : PageKey} {slot : ℕ} {frames : FrameOf} (re : Reslots b.maps maps key (Some slot)) (now : frames ≡ with_frame b.frames key (Some (record { page = replicate 4096 0; changed = true }))) → KeepsPages old b → TakesPage key (pages_view old) (pages_view (record b { maps = maps; frames = frames; stage = Changing }))
+takes_page {b = b} re now keeps = record {
+  mapped = mapped_now {b = b} re (Some (record { page = replicate 4096 0; changed = true })) now keeps;
+  held = held_now {b = b} re (Some (record { page = replicate 4096 0; changed = true })) now keeps (Some (replicate 4096 0)) refl;
+}
+
+pub gives_page : {old b : BufferView} {maps : Maps} {key : PageKey} {frames : FrameOf} (re : Reslots b.maps maps key None) (now : frames ≡ with_frame b.frames key None) → KeepsPages old b → GivesPage key (pages_view old) (pages_view (record b { maps = maps; frames = frames; stage = Changing }))
+gives_page {b = b} re now keeps = record {
+  mapped = mapped_now {b = b} re None now keeps;
+  held = held_now {b = b} re None now keeps None refl;
+}
+
+-- ---- a call that changed no page
+
+pub keeps_on : {old new : BufferView} {asks writes : ℕ} → KeepsPages old new → new.writes ≤ old.writes + writes → PassesOn asks writes (pages_view old) (pages_view new)
+keeps_on keeps few = record {
+  slots = ap (λ (m : Maps). length m.current) keeps.maps;
+  backing = λ i. record { log_pages = keeps.log_pages i; area = keeps.area i; shadow = ap (λ (m : Maps). m.shadow) keeps.maps i };
+  leaves = keeps.leaves;
+  later = keeps.later;
+  asks_low = omega (arith, keeps.asks);
+  asks_high = omega (arith, keeps.asks);
+  writes_low = keeps.writes;
+  writes_high = few;
+}
+
+-- no page was touched
+pub keeps_step : {old new : BufferView} {touched : Keys} {asks writes : ℕ} → KeepsPages old new → new.writes ≤ old.writes + writes → PagesStep touched asks writes (pages_view old) (pages_view new)
+keeps_step keeps few = kept_all (keeps_on keeps few) (ap (λ (m : Maps). changed_by m) keeps.maps) (ap (λ (m : Maps). mapped_by m.current) keeps.maps) keeps.held
+
+-- the same of a page that was asked for
+pub asked_step : {old new : BufferView} {asks writes : ℕ} → KeepsPages (record old { asks = asks }) new → old.asks ≤ asks → asks ≤ old.asks + 1 → new.writes ≤ old.writes + writes → PagesStep no_page 1 writes (pages_view old) (pages_view new)
+asked_step keeps low high few =
+    let on = keeps_on {asks = 0} keeps few in
+    kept_all (record {
+      slots = on.slots;
+      backing = on.backing;
+      leaves = on.leaves;
+      later = on.later;
+      asks_low = omega (arith, low, keeps.asks);
+      asks_high = omega (arith, high, keeps.asks);
+      writes_low = on.writes_low;
+      writes_high = on.writes_high;
+    }) (ap (λ (m : Maps). changed_by m) keeps.maps) (ap (λ (m : Maps). mapped_by m.current) keeps.maps) keeps.held

@@ -1,10 +1,10 @@
 -- Writes outside the data slots leave what pages hold, and those outside a map area leave its map.
-use Rattle.std.proofs.Common.{◌≡◌, ◌↔◌, ℕ, ◌+◌, ◌*◌, ◌/◌, ◌%◌, ◌<◌, ◌≤◌, Bool, true, false, List, [], length, take, drop, Option, Some, option_map, refl, sym, ◌∙◌, ap, subst, arith}
+use Rattle.std.proofs.Common.{◌≡◌, ◌≢◌, ◌↔◌, ℕ, ◌+◌, ◌*◌, ◌/◌, ◌%◌, ◌<◌, ◌≤◌, Bool, true, false, List, [], length, take, drop, Option, Some, None, option_map, refl, sym, ◌∙◌, ap, subst, arith}
 use Rattle.std.proofs.Math.Path.{fun_ext}
 use Rattle.std.proofs.lemmas.Option.{same_Some}
-use Rattle.rss_base.specs.DiskRule.{Disk, Pages, page, Told, IsTold, LeavesOnly, SameOff, IsWithin, IsRewritten, IsRewrittenIn}
+use Rattle.rss_base.specs.DiskRule.{Disk, Pages, page, Told, IsTold, LeavesOnly, SameOff, IsWithin, IsRewrittenIn}
 use Rattle.rss_base.specs.Layout.{map_pages, map_at, log_at, slots_at}
-use Rattle.rss_base.specs.PageMap.{IsMap, IsTable, entry_at}
+use Rattle.rss_base.specs.PageMap.{IsMap, IsTable, entry_at, page_count}
 use Rattle.rss_base.specs.Paged.{HasFixed}
 use Rattle.rss_base.specs.declared.key.PageKey.{PageKey}
 use Rattle.rss_pagemap.proofs.Written.{area_ends}
@@ -12,17 +12,14 @@ use Rattle.rss_shadow.specs.Maps.{Maps}
 use Rattle.rss_buffer.specs.Frames.{FrameOf, frame_in}
 use Rattle.rss_buffer.specs.Slots.{held_in, held_by, fixed_by}
 use Rattle.rss_base.specs.StoredPages.{slot_of}
-use Rattle.rss_buffer.specs.Buffered.{AreClean, StaysFixed, IsAtStage, IsBuffer}
+use Rattle.rss_buffer.specs.Buffered.{BufferView, NoneChanged, AreClean, StaysFixed, HoldsMapAt, IsAtStage, IsBuffer}
 use Rattle.rss_buffer.specs.Saved.{unsynced}
+use Rattle.rss_buffer.specs.declared.frames.Frame.{Frame}
 use Rattle.rss_buffer.proofs.Loose.{fixed_page}
 use Rattle.rss_buffer.specs.declared.stage.Stage.{Stage}
 use Rattle.rss_buffer.specs.declared.stage.Stage.TheVariants.{Changing, Saved, Switched}
 
 -- ---- what a write of some places leaves
-
--- one page is written
-pub rewritten_one : (at : ℕ) (before : Pages) (contents : Option Pages) → IsRewritten at before contents → IsRewrittenIn (λ q. q ≡ at) before contents
-rewritten_one at before contents kept = record { after = kept.after; told = kept.told; same = record { size = kept.same.size; others = kept.same.others } }
 
 -- what held of the pages before a write of some places holds after it, where it doesn't speak of these places
 pub told_after : {old new : Disk} {places : ℕ → Type 0} (P Q : Pages → Type 0) → IsTold old ↔ IsTold new → Told old (λ pages. IsRewrittenIn places pages new.contents) → ((before after : Pages) → SameOff places before after → P before → Q after) → Told old P → Told new Q
@@ -74,11 +71,11 @@ above_roots slots area q low within = omega (arith, within.0)
 
 -- ---- the stage
 
-pub changing : (disk : Disk) (maps : Maps) (frames : FrameOf) → IsAtStage disk maps frames Changing
-changing disk maps frames = record {
-  none_changed = λ other. absurd (other refl);
-  saved = λ area is. absurd (cc);
-  synced = λ is. absurd (cc);
+pub changing : (b : BufferView) → b.stage ≡ Changing → IsAtStage b
+changing b is = record {
+  none_changed = λ other. absurd (other is);
+  saved = λ area at. absurd (cc);
+  synced = λ at. absurd (cc);
 }
 
 pub unsynced-area : (stage : Stage) → ((area : ℕ) → stage ≡ Saved area → area < 2) → (area : ℕ) → unsynced stage ≡ Saved area → area < 2
@@ -86,33 +83,39 @@ unsynced-area Changing low area is = absurd (cc)
 unsynced-area (Saved saved) low area is = low area is
 unsynced-area Switched low area is = absurd (cc)
 
+-- how far the saving of a map that is kept has come
+stage_by : (b : BufferView) → (b.stage ≢ Changing → NoneChanged b.frames) → ((area : ℕ) → b.stage ≡ Saved area → Told b.disk (HoldsMapAt b.maps.current area)) → (b.stage ≡ Switched → ⊥) → IsAtStage b
+stage_by b none saved not = record { none_changed = none; saved = saved; synced = λ is. absurd (not is) }
+
 -- after a write behind the map areas
-pub unsynced-at : {old new : Disk} {places : ℕ → Type 0} (maps : Maps) (frames : FrameOf) (stage : Stage) → ((q : ℕ) → places q → log_at (length maps.current) ≤ q) → ((area : ℕ) → stage ≡ Saved area → area < 2) → IsTold old ↔ IsTold new → Told old (λ pages. IsRewrittenIn places pages new.contents) → IsAtStage old maps frames stage
-    → IsAtStage new maps frames (unsynced stage)
-unsynced-at {new = new} maps frames Changing past low told kept at_stage = changing new maps frames
-unsynced-at maps frames (Saved saved) past low told kept at_stage =
-    let slots = length maps.current in
-    record {
-      none_changed = at_stage.none_changed;
-      saved = λ area is. told_after (λ pages. IsMap slots pages (map_at slots area) maps.current) (λ pages. IsMap slots pages (map_at slots area) maps.current) told kept
-          (λ before after same map. same_map slots (map_at slots area) maps.current before after (λ q within. same.others q (λ is_place. below_log slots area q (low area is) (past q is_place) within)) map)
-          (at_stage.saved area is);
-      synced = λ is. absurd (cc);
-    }
-unsynced-at {new = new} maps frames Switched past low told kept at_stage = changing new maps frames
+pub unsynced-at : {b : BufferView} {places : ℕ → Type 0} (disk : Disk) {size writes faults : ℕ} {settled : Bool} → ((q : ℕ) → places q → log_at (length b.maps.current) ≤ q) → ((area : ℕ) → b.stage ≡ Saved area → area < 2) → IsTold b.disk ↔ IsTold disk → Told b.disk (λ pages. IsRewrittenIn places pages disk.contents) → IsAtStage b
+    → IsAtStage (record b { disk = disk; size = size; settled = settled; stage = unsynced b.stage; writes = writes; faults = faults })
+unsynced-at {b = b} {places = places} disk {size = size} {writes = writes} {faults = faults} {settled = settled} past low told kept at_stage = by b.stage refl
+  where
+    by : (stage : Stage) → b.stage ≡ stage → IsAtStage (record b { disk = disk; size = size; settled = settled; stage = unsynced stage; writes = writes; faults = faults })
+    by Changing is = changing (record b { disk = disk; size = size; settled = settled; stage = Changing; writes = writes; faults = faults }) refl
+    by (Saved saved) is = stage_by (record b { disk = disk; size = size; settled = settled; stage = Saved saved; writes = writes; faults = faults })
+        (λ other. at_stage.none_changed (λ at. other (sym is ∙ at)))
+        (λ area at. told_after (HoldsMapAt b.maps.current area) (HoldsMapAt b.maps.current area) told kept
+        (λ before after same map. same_map (length b.maps.current) (map_at (length b.maps.current) area) b.maps.current before after
+        (λ q within. same.others q (λ is_place. below_log (length b.maps.current) area q (low area (is ∙ at)) (past q is_place) within)) map)
+        (at_stage.saved area (is ∙ at)))
+        (λ at. cc)
+    by Switched is = changing (record b { disk = disk; size = size; settled = settled; stage = Changing; writes = writes; faults = faults }) refl
 
 -- ---- a buffer
 
 -- after a write outside the data slots
-pub buffer_after : {old new : Disk} {places : ℕ → Type 0} {size size_now log_pages first : ℕ} {maps : Maps} {frames : FrameOf} {settled : Bool} {stage stage_now : Stage} → IsBuffer old size log_pages first maps frames settled stage → size_now ≡ size → ((q : ℕ) → places q → q < first) → IsTold old ↔ IsTold new → Told old (λ pages. IsRewrittenIn places pages new.contents)
-    → IsAtStage new maps frames stage_now → IsBuffer new size_now log_pages first maps frames false stage_now
-buffer_after {first = first} {maps = maps} {frames = frames} buffer same_size below told kept at_stage = record {
+pub buffer_after : {b : BufferView} {places : ℕ → Type 0} {disk : Disk} {size writes faults : ℕ} {stage : Stage} → IsBuffer b → size ≡ b.size → ((q : ℕ) → places q → q < b.first) → IsTold b.disk ↔ IsTold disk → Told b.disk (λ pages. IsRewrittenIn places pages disk.contents)
+    → IsAtStage (record b { disk = disk; size = size; settled = false; stage = stage; writes = writes; faults = faults }) → IsBuffer (record b { disk = disk; size = size; settled = false; stage = stage; writes = writes; faults = faults })
+buffer_after {b = b} buffer same_size below told kept at_stage = record {
   table = buffer.table;
   count = buffer.count;
+  room = buffer.room;
   place = buffer.place;
-  room = same_size ∙ buffer.room;
+  ends = same_size ∙ buffer.ends;
   frames_hold = buffer.frames_hold;
-  clean = clean_after first maps frames below told kept buffer.clean;
+  clean = clean_after b.first b.maps b.frames below told kept buffer.clean;
   fixed = λ is. cc;
   at_stage = at_stage;
 }
@@ -125,48 +128,54 @@ pub fixed_synced : (disk : Disk) (first : ℕ) (shadow : List (Option PageKey)) 
 fixed_synced disk first shadow only = λ pages is image left. subst (λ (p : Pages). HasFixed (fixed_by first shadow (Some pages)) p) (sym (only pages is image left)) (fixed_itself first shadow pages)
 
 -- once a stop leaves only what a read gives
-pub buffer_synced : {disk : Disk} {size log_pages first : ℕ} {maps : Maps} {frames : FrameOf} {settled : Bool} {stage stage_now : Stage} → IsBuffer disk size log_pages first maps frames settled stage → Told disk (LeavesOnly disk) → IsAtStage disk maps frames stage_now → IsBuffer disk size log_pages first maps frames true stage_now
-buffer_synced {disk = disk} {first = first} {maps = maps} buffer only at_stage = record {
+pub buffer_synced : {b : BufferView} {area : ℕ} {stage : Stage} → IsBuffer b → Told b.disk (LeavesOnly b.disk) → IsAtStage (record b { settled = true; area = area; stage = stage }) → IsBuffer (record b { settled = true; area = area; stage = stage })
+buffer_synced {b = b} buffer only at_stage = record {
   table = buffer.table;
   count = buffer.count;
-  place = buffer.place;
   room = buffer.room;
+  place = buffer.place;
+  ends = buffer.ends;
   frames_hold = buffer.frames_hold;
   clean = buffer.clean;
-  fixed = λ is. fixed_synced disk first maps.shadow only;
+  fixed = λ is. fixed_synced b.disk b.first b.maps.shadow only;
   at_stage = at_stage;
 }
 
--- a buffer with nothing in memory
-pub buffer_new : {disk : Disk} {size log_pages first : ℕ} (table : List (Option PageKey)) → IsTable table → first ≡ slots_at (length table) log_pages → size ≡ first + length table → Told disk (LeavesOnly disk) → IsBuffer disk size log_pages first (record { current = table; shadow = table }) (frame_in []) true Changing
-buffer_new {disk = disk} {first = first} table is_table place room only =
-    let both : Maps = record { current = table; shadow = table } in
-    record {
-      table = is_table;
-      count = refl;
-      place = place;
-      room = room;
-      frames_hold = record { mapped = λ key frame here. absurd (cc); own_slot = λ key frame slot here changed owned. absurd (cc) };
-      clean = λ pages told key frame slot here. absurd (cc);
-      fixed = λ is. fixed_synced disk first table only;
-      at_stage = changing disk both (frame_in []);
-    }
+-- a buffer with nothing in memory, of one map
+pub buffer_new : (b : BufferView) → b.frames ≡ frame_in [] → b.maps.shadow ≡ b.maps.current → b.stage ≡ Changing → IsTable b.maps.current → 2 * page_count b.maps.current ≤ length b.maps.current → b.first ≡ slots_at (length b.maps.current) b.log_pages → b.size ≡ b.first + length b.maps.current → Told b.disk (LeavesOnly b.disk) → IsBuffer b
+buffer_new b no_frames same stage table half place ends only = record {
+  table = table;
+  count = ap (λ (o : List (Option PageKey)). length o) same;
+  room = omega (arith, half, ap (λ (o : List (Option PageKey)). page_count o) same);
+  place = place;
+  ends = ends;
+  frames_hold = record {
+    mapped = λ key frame here. none key frame here;
+    own_slot = λ key frame slot here changed owned. none key frame here;
+  };
+  clean = λ pages told key frame slot here. none key frame here;
+  fixed = λ is. fixed_synced b.disk b.first b.maps.shadow only;
+  at_stage = changing b stage;
+}
+  where
+    none : {P : Type 0} (key : PageKey) (frame : Frame) → b.frames key ≡ Some frame → P
+    none key frame here = let no : None ≡ Some frame = sym (ap (λ (f : FrameOf). f key) no_frames) ∙ here in absurd (cc)
 
 -- the current map becomes the shadow map
-pub buffer_adopted : {disk : Disk} {size log_pages first : ℕ} {maps : Maps} {frames : FrameOf} {settled : Bool} {stage : Stage} → stage ≡ Switched → IsBuffer disk size log_pages first maps frames settled stage → IsBuffer disk size log_pages first (record { current = maps.current; shadow = maps.current }) frames true Changing
-buffer_adopted {disk = disk} {first = first} {maps = maps} {frames = frames} is buffer =
+pub buffer_adopted : {b : BufferView} → b.stage ≡ Switched → 2 * page_count b.maps.current ≤ length b.maps.current → IsBuffer b → IsBuffer (record b { maps = record { current = b.maps.current; shadow = b.maps.current }; settled = true; stage = Changing })
+buffer_adopted {b = b} is half buffer =
     let none = buffer.at_stage.none_changed (λ other. cc) in
-    let both : Maps = record { current = maps.current; shadow = maps.current } in
     record {
       table = buffer.table;
       count = refl;
+      room = omega (arith, half);
       place = buffer.place;
-      room = buffer.room;
+      ends = buffer.ends;
       frames_hold = record {
         mapped = buffer.frames_hold.mapped;
         own_slot = λ key frame slot here changed owned. let not = none key frame here in absurd (cc);
       };
       clean = buffer.clean;
-      fixed = λ settled. fixed_synced disk first maps.current (buffer.at_stage.synced is);
-      at_stage = changing disk both frames;
+      fixed = λ settled. fixed_synced b.disk b.first b.maps.current (buffer.at_stage.synced is);
+      at_stage = changing (record b { maps = record { current = b.maps.current; shadow = b.maps.current }; settled = true; stage = Changing }) refl;
     }

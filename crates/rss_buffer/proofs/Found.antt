@@ -9,8 +9,7 @@ use Rattle.rss_base.specs.declared.key.PageKey.{PageKey}
 use Rattle.rss_shadow.specs.Maps.{HasPage, LacksPage}
 use Rattle.rss_shadow.proofs.Slots.{Changes}
 use Rattle.rss_base.specs.StoredPages.{slot_from, slot_of, mapped_by}
-use Rattle.rss_buffer.specs.BufferLaws.{owner_of-slot_of, the_slot}
-use Rattle.rss_base.proofs.Keys.{is_same-itself, is_same-true}
+use Rattle.rss_base.proofs.Keys.{is_same-itself, is_same-true, owner_of-slot_of, the_slot}
 
 abbrev Owners : Type 0
 Owners = List (Option PageKey)

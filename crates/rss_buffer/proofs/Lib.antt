@@ -7,3 +7,4 @@ pub mod Changed
 pub mod Elsewhere
 pub mod Saves
 pub mod Stops
+pub mod SavingSteps

@@ -1,8 +1,8 @@
 -- The frames of pages.
-use Rattle.std.proofs.Common.{◌≡◌, ◌≢◌, ℕ, ◌+◌, ◌-◌, ◌<◌, Bool, true, false, cond, ◌==◌, ◌&&◌, ◌⊎◌, inl, inr, List, [], ◌∷◌, length, take, slice_get, option_map, Option, Some, None, IsSome, box_value, refl, sym, ◌∙◌, ap, subst, arith}
+use Rattle.std.proofs.Common.{◌≡◌, ◌≢◌, ℕ, ◌+◌, ◌-◌, ◌<◌, Bool, true, false, cond, ◌==◌, ◌&&◌, ◌⊎◌, inl, inr, List, [], ◌∷◌, length, take, slice_get, option_map, Option, Some, None, IsSome, is_some, box_value, refl, sym, ◌∙◌, ap, subst, arith}
 use Rattle.std.proofs.Math.Path.{fun_ext}
 use Rattle.std.proofs.Math.Bool.{and_assoc}
-use Rattle.std.proofs.lemmas.Bool.{cond_both}
+use Rattle.std.proofs.lemmas.Bool.{cases_Bool, cond-true, cond-false, cond_both}
 use Rattle.std.proofs.lemmas.List.{take_all}
 use Rattle.std.proofs.lemmas.Option.{slice_get_cases}
 use Rattle.std.proofs.lemmas.Map.{lookup-remove_entry, lookup-set_value}
@@ -23,7 +23,9 @@ use Rattle.rss_base.specs.PageMap.{space_code}
 use Rattle.rss_base.specs.Paged.{is_same}
 use Rattle.rss_base.proofs.Keys.{is_same-true, is_same-itself, is_same-other}
 use Rattle.rss_buffer.specs.declared.frames.Frame.{Frame}
+use Rattle.std.specs.Box.{with_value}
 use Rattle.rss_buffer.specs.Frames.{FrameOf, frame_in, with_frame}
+use Rattle.rss_buffer.specs.Buffered.{unchanged}
 use Rattle.rss_base.specs.contracts.key.PageKeyPartialEq.TheImpl as key_eq
 use Rattle.rss_base.specs.contracts.key.SpacePartialEq.TheImpl as space_eq
 
@@ -34,6 +36,13 @@ with_frame-same frames key frame = rw (is_same-itself key)
 
 pub with_frame-other : (frames : FrameOf) (key : PageKey) (frame : Option Frame) (other : PageKey) → other ≢ key → with_frame frames key frame other ≡ frames other
 with_frame-other frames key frame other apart = rw (is_same-other other key apart)
+
+-- nothing changes where it has that frame, or none, already
+pub with_frame-itself : (frames : FrameOf) (key : PageKey) (frame : Option Frame) → frames key ≡ frame → with_frame frames key frame ≡ frames
+with_frame-itself frames key frame is = fun_ext (λ other. elim (cases_Bool (is_same other key)) [
+  | inl here ↦ cond-true (is_same other key) frame (frames other) here ∙ sym is ∙ sym (ap frames (is_same-true other key here))
+  | inr off ↦ cond-false (is_same other key) frame (frames other) off
+])
 
 -- ---- the keys that a cache compares
 
@@ -163,6 +172,9 @@ module _ (entries : List (PageKey × Kept)) (key : PageKey) where
   pub frame_in-absent : {P : Type 0} → None ≡ lookup (compared key) entries → IsSome (frame_in entries key) → P
   frame_in-absent none some = let there = IsSome-compared some in absurd (cc)
 
+  pub frame_in-none : None ≡ lookup (compared key) entries → frame_in entries key ≡ None
+  frame_in-none none = sym frame_in-compared ∙ ap unboxed (sym none)
+
   pub frame_in-remove_entry : IsApart compared entries → frame_in (remove_entry (compared key) entries) ≡ with_frame (frame_in entries) key None
   frame_in-remove_entry = rw compared-is_same (λ apart. unboxed_by entries _ key None (removed entries key apart))
 
@@ -174,6 +186,16 @@ module _ (entries : List (PageKey × Kept)) (key : PageKey) where
 
   pub frame_in-promoted-set_value : (box : Kept) → IsApart compared entries → IsSome (frame_in entries key) → frame_in (set_value (compared key) (promoted (compared key) entries) box) ≡ with_frame (frame_in entries) key (Some box.value)
   frame_in-promoted-set_value box = rw compared-is_same (λ apart there. unboxed_by entries _ key (Some box) (written_first entries key box apart (IsSome-unboxed (entry_in entries key) there)))
+
+  -- a page of which nothing was changed
+  pub frame_in-set_same : (box : Kept) → frame_in entries key ≡ Some box.value → frame_in (set_value (compared key) entries box) ≡ frame_in entries
+  frame_in-set_same box at = frame_in-set_value box (ap (λ o. is_some o) at) ∙ with_frame-itself (frame_in entries) key (Some box.value) at
+
+  -- a frame that is noted to stand in its slot
+  pub settled_now : (box : Kept) (frame : Frame) → frame_in entries key ≡ Some box.value → frame ≡ box.value → frame_in (set_value (compared key) entries (with_value box (record { page = frame.page; changed = false }))) ≡ with_frame (frame_in entries) key (Some (unchanged box.value))
+  settled_now box frame at same =
+      frame_in-set_value (with_value box (record { page = frame.page; changed = false })) (ap (λ o. is_some o) at)
+      ∙ ap (λ (f : Frame). with_frame (frame_in entries) key (Some (unchanged f))) same
 
   pub frame_in-put_entries : (cap : ℕ) (box : Kept) → IsApart compared entries → (length entries < cap) ⊎ IsSome (frame_in entries key) → frame_in (put_entries compared (lru_cache entries cap) key box) ≡ with_frame (frame_in entries) key (Some box.value)
   frame_in-put_entries cap box = rw compared-is_same (λ apart room. unboxed_by entries _ key (Some box) (put_by entries cap key box (lookup_entry (is_same key) entries) refl apart (has room)))

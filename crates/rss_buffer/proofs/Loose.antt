@@ -1,14 +1,14 @@
 -- Data slots that the shadow map doesn't use, and what is fixed outside them.
-use Rattle.std.proofs.Common.{◌≡◌, ◌↔◌, ◌⊎◌, inl, inr, ⊎_elim, ℕ, ◌+◌, ◌-◌, Bool, true, false, not, cond, List, Option, Some, None, refl, sym, ◌∙◌, ap, subst, arith}
+use Rattle.std.proofs.Common.{◌≡◌, inl, inr, ⊎_elim, ℕ, ◌+◌, ◌-◌, Bool, true, false, not, cond, List, Option, Some, None, sym, ◌∙◌, ap, subst, arith}
 use Rattle.std.specs.Prelude.{is_some}
 use Rattle.std.proofs.Math.Path.{fun_ext}
 use Rattle.std.proofs.lemmas.Option.{same_Some}
 use Rattle.std.proofs.lemmas.Bool.{cases_Bool, le-leb, and_from, cond-true}
-use Rattle.rss_base.specs.DiskRule.{Disk, Pages, page, Told, IsTold, Leaves, SameBut, SameOff, TornAt, TornIn, IsRewritten, Passes}
+use Rattle.rss_base.specs.DiskRule.{Disk, Pages, page, Told, Leaves, SameOff, TornIn, Passes}
 use Rattle.rss_base.specs.PageMap.{owner_of}
 use Rattle.rss_base.specs.Paged.{Fixed, HasFixed, LeavesFixed}
 use Rattle.rss_base.specs.declared.key.PageKey.{PageKey}
-use Rattle.rss_base.proofs.Moments.{then, widened, now, none_torn}
+use Rattle.rss_base.proofs.Moments.{widened, now}
 use Rattle.rss_buffer.specs.Slots.{is_loose, fixed_by}
 use Rattle.rss_buffer.specs.Buffered.{IsLoose, StaysFixed, WritesLoose}
 
@@ -47,42 +47,6 @@ module _ (first : ℕ) (shadow : List (Option PageKey)) where
       }
 
   -- ---- a call that writes loose pages alone
-
-  SameOff-then : {places : ℕ → Type 0} {old mid new : Pages} → SameOff places old mid → SameOff places mid new → SameOff places old new
-  SameOff-then one two = record { size = two.size ∙ one.size; others = λ q off. two.others q off ∙ one.others q off }
-
-  pub WritesLoose-at : (at : ℕ) (old new : Disk) → IsLoose first shadow at → (IsTold old ↔ IsTold new) → Told old (λ pages. IsRewritten at pages new.contents) → Told old (λ _. Passes old new (TornAt at (Leaves old))) → WritesLoose first shadow old new
-  WritesLoose-at at old new loose told kept moments = record {
-    told = told;
-    kept = λ pages is. let written = kept pages is in record { after = written.after; told = written.told; same = off pages written.after written.same };
-    moments = λ is. widened (moments is.pages is.is) (λ image torn. record { before = torn.before; was = torn.was; same = off torn.before image torn.same });
-  }
-    where
-      off : (before after : Pages) → SameBut at before after → SameOff (IsLoose first shadow) before after
-      off before after same = record { size = same.size; others = λ q fixed. same.others q (λ is. fixed (subst (IsLoose first shadow) (sym is) loose)) }
-
-  pub WritesLoose-none : (old new : Disk) → new.contents ≡ old.contents → Told old (λ _. Passes old new (Leaves old)) → WritesLoose first shadow old new
-  WritesLoose-none old new same moments = record {
-    told = (λ is. record { pages = is.pages; is = same ∙ is.is }, λ is. record { pages = is.pages; is = sym same ∙ is.is });
-    kept = λ pages is. record { after = pages; told = same ∙ is; same = record { size = refl; others = λ q off. refl } };
-    moments = λ is. widened (moments is.pages is.is) none_torn;
-  }
-
-  pub WritesLoose-then : (old mid new : Disk) → WritesLoose first shadow old mid → WritesLoose first shadow mid new → WritesLoose first shadow old new
-  WritesLoose-then old mid new one two = record {
-    told = (λ is. two.told.0 (one.told.0 is), λ is. one.told.1 (two.told.1 is));
-    kept = λ pages is.
-        let a = one.kept pages is in
-        let b = two.kept a.after a.told in
-        record { after = b.after; told = b.told; same = SameOff-then a.same b.same };
-    moments = λ is. then (one.moments is) (two.moments (one.told.0 is)) (λ image torn.
-        let earlier : TornIn (IsLoose first shadow) (Leaves old) torn.before = earlier_of (now (one.moments is) torn.before torn.was) in
-        record { before = earlier.before; was = earlier.was; same = SameOff-then earlier.same torn.same });
-  }
-    where
-      earlier_of : {image : Pages} → Leaves old image ⊎ TornIn (IsLoose first shadow) (Leaves old) image → TornIn (IsLoose first shadow) (Leaves old) image
-      earlier_of {image = image} (inl left) = none_torn image left
-      earlier_of (inr torn) = torn
 
   -- what was fixed still is, and at each moment of the call
   pub StaysFixed-writes : (old new : Disk) → WritesLoose first shadow old new → Told old (StaysFixed old first shadow) → Told new (StaysFixed new first shadow)

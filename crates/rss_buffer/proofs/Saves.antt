@@ -1,35 +1,36 @@
 -- What is written to the slots and to a map area, and what a switch then selects.
-use Rattle.std.proofs.Common.{◌≡◌, ◌↔◌, inl, inr, ⊎_elim, ℕ, ◌+◌, ◌<◌, Bool, true, false, List, [], length, set, Option, Some, None, option_map, refl, sym, ◌∙◌, ap, subst, arith, length-set, get_or-set_other, get_or-set_same}
+use Rattle.std.proofs.Common.{◌≡◌, ◌↔◌, inl, inr, ℕ, ◌+◌, ◌<◌, ◌≤◌, Bool, true, false, List, [], length, set, Option, Some, None, option_map, refl, sym, ◌∙◌, ap, subst, arith, length-set, get_or-set_other, get_or-set_same}
 use Rattle.std.proofs.lemmas.Bool.{cases_eq}
 use Rattle.std.proofs.lemmas.Option.{same_Some}
-use Rattle.rss_base.specs.DiskRule.{Disk, Pages, page, Told, IsTold, Leaves, SameOff, TornIn, IsWithin, IsRewrittenIn, Passes}
-use Rattle.rss_base.specs.Layout.{map_pages, map_at, slots_at, device_pages, selected, selected_by, root_page, IsWellFormed}
-use Rattle.rss_base.specs.PageMap.{owner_of, IsMap, HoldsMap}
-use Rattle.rss_base.specs.Paged.{Held}
+use Rattle.rss_base.specs.DiskRule.{Disk, Pages, page, Told, IsTold, SameOff, IsWithin, WritesIn}
+use Rattle.rss_base.specs.Layout.{map_pages, map_at, IsAreaPage, slots_at, device_pages, selected, selected_by, root_page, IsWellFormed}
+use Rattle.rss_base.specs.PageMap.{owner_of, HoldsMap}
+use Rattle.std.specs.Prelude.{Result, Ok, Err, IsErr, IfErr}
+use Rattle.rss_base.specs.Faults.{Rises}
+use Rattle.rss_base.specs.Paged.{Held, HasPageCause}
+use Rattle.rss_base.specs.declared.fault.PageFault.{PageFault}
+use Rattle.rss_base.specs.declared.fault.PageFault.TheVariants.{Device as DeviceFailed}
 use Rattle.rss_base.specs.declared.root.Root.{Root}
 use Rattle.rss_base.specs.declared.key.PageKey.{PageKey}
-use Rattle.rss_base.proofs.Moments.{then, widened, now, none_torn}
+use Rattle.rss_base.proofs.Moments.{writes_among, writes_then}
 use Rattle.rss_pagemap.proofs.Owners.{owned_within}
 use Rattle.rss_shadow.specs.Maps.{Maps}
 use Rattle.rss_buffer.specs.declared.frames.Frame.{Frame}
+use Rattle.rss_buffer.specs.Saving.{SavingStep, SavingCall}
+use Rattle.rss_buffer.specs.Views.{pages_view, saving_view}
 use Rattle.rss_buffer.specs.declared.stage.Stage.{Stage}
-use Rattle.rss_buffer.specs.declared.stage.Stage.TheVariants.{Saved}
+use Rattle.rss_buffer.specs.declared.stage.Stage.TheVariants.{Saved, Switched}
 use Rattle.rss_buffer.specs.Frames.{FrameOf}
 use Rattle.rss_buffer.specs.Slots.{held_in, held_by}
 use Rattle.rss_base.specs.StoredPages.{mapped_by}
-use Rattle.rss_buffer.specs.Buffered.{NoneChanged, IsAtStage, IsBuffer, unchanged, with_unchanged, IsLoose, WritesLoose}
+use Rattle.rss_buffer.specs.Buffered.{BufferView, NoneChanged, HoldsMapAt, IsAtStage, IsBuffer, held_of, unchanged, with_unchanged, IsLoose, WritesLoose, KeepsPages, WritesPages}
 use Rattle.rss_buffer.specs.Saved.{IsSaveable, AreWritten}
 use Rattle.rss_base.specs.StoredPages.{StandInSlots, SavesPages, HoldsPages}
 use Rattle.rss_buffer.proofs.Found.{slot_of-owned, HasPage-mapped}
-use Rattle.rss_buffer.proofs.Loose.{WritesLoose-then}
 use Rattle.rss_buffer.proofs.Turns.{with_frame-cases}
 use Rattle.rss_buffer.proofs.Elsewhere.{same_map, below_log, above_roots}
 
 -- ---- the changed pages
-
-pub writes_then : {first : ℕ} {maps : Maps} {old mid new : Disk} (first_mid : ℕ) (maps_mid : Maps) → first_mid ≡ first → maps_mid ≡ maps → WritesLoose first maps.shadow old mid → WritesLoose first_mid maps_mid.shadow mid new → WritesLoose first maps.shadow old new
-writes_then {first = first} {maps = maps} {old = old} {mid = mid} {new = new} first_mid maps_mid same_first same_maps before after =
-    WritesLoose-then first maps.shadow old mid new before (subst (λ (n : ℕ). WritesLoose n maps.shadow mid new) same_first (subst (λ (m : Maps). WritesLoose first_mid m.shadow mid new) same_maps after))
 
 -- one page more stands in its slot
 unchanged_frame : (before : Option Frame) (frame : Frame) → option_map unchanged before ≡ Some frame → frame.changed ≡ false
@@ -58,20 +59,24 @@ in_slot : (frame : Option Frame) (bytes : List ℕ) → ((here : Frame) → fram
 in_slot None bytes same = refl
 in_slot (Some here) bytes same = same here refl
 
-module _ {disk : Disk} {size log_pages first : ℕ} {maps : Maps} {frames : FrameOf} {settled : Bool} {stage : Stage} (buffer : IsBuffer disk size log_pages first maps frames settled stage) (none : NoneChanged frames) where
+module _ {b : BufferView} (buffer : IsBuffer b) (none : NoneChanged b.frames) where
   -- where no page was changed, each one stands in its slot
-  pub stands : Told disk (λ pages. StandInSlots first pages maps.current (held_by first maps.current frames disk.contents))
+  pub stands : Told b.disk (λ pages. StandInSlots b.first pages b.maps.current (held_of b))
   stands = λ pages told slot key owned.
-      ap (λ (contents : Option Pages). held_by first maps.current frames contents key) told
-      ∙ ap (option_map (λ (s : ℕ). held_in (frames key) (page pages (first + s)))) (slot_of-owned maps.current key slot buffer.table.distinct owned)
-      ∙ ap Some (in_slot (frames key) (page pages (first + slot)) (λ frame here. buffer.clean pages told key frame slot here (none key frame here) owned))
+      ap (λ (contents : Option Pages). held_by b.first b.maps.current b.frames contents key) told
+      ∙ ap (option_map (λ (s : ℕ). held_in (b.frames key) (page pages (b.first + s)))) (slot_of-owned b.maps.current key slot buffer.table.distinct owned)
+      ∙ ap Some (in_slot (b.frames key) (page pages (b.first + slot)) (λ frame here. buffer.clean pages told key frame slot here (none key frame here) owned))
 
   -- the same, by what was known before
-  pub flushed : (maps_was : Maps) (log_was : ℕ) (held : Held) → maps ≡ maps_was → log_pages ≡ log_was → held_by first maps.current frames disk.contents ≡ held → Told disk (λ pages. StandInSlots (slots_at (length maps_was.current) log_was) pages maps_was.current held)
-  flushed maps_was log_was held same_maps same_log same_held = λ pages told slot key owned.
-      let place : first ≡ slots_at (length maps_was.current) log_was = buffer.place ∙ ap (λ (m : Maps). slots_at (length m.current) log_pages) same_maps ∙ ap (slots_at (length maps_was.current)) same_log in
-      let here : owner_of maps.current slot ≡ Some key = ap (λ (m : Maps). owner_of m.current slot) same_maps ∙ owned in
+  pub flushed : (maps : Maps) (log_pages : ℕ) (held : Held) → b.maps ≡ maps → b.log_pages ≡ log_pages → held_of b ≡ held → Told b.disk (λ pages. StandInSlots (slots_at (length maps.current) log_pages) pages maps.current held)
+  flushed maps log_pages held same_maps same_log same_held = λ pages told slot key owned.
+      let place : b.first ≡ slots_at (length maps.current) log_pages = buffer.place ∙ ap (λ (m : Maps). slots_at (length m.current) b.log_pages) same_maps ∙ ap (slots_at (length maps.current)) same_log in
+      let here : owner_of b.maps.current slot ≡ Some key = ap (λ (m : Maps). owner_of m.current slot) same_maps ∙ owned in
       ap (λ (h : Held). h key) (sym same_held) ∙ stands pages told slot key here ∙ ap (λ (n : ℕ). Some (page pages (n + slot))) place
+
+-- what a flush of such pages leaves
+pub flushed_from : {old new : BufferView} → IsBuffer new → KeepsPages old new → NoneChanged new.frames → IsTold old.disk → Told new.disk (λ pages. StandInSlots (slots_at (length old.maps.current) old.log_pages) pages old.maps.current (held_of old))
+flushed_from {old = old} buffer keeps none told = flushed buffer none old.maps old.log_pages (held_of old) keeps.maps keeps.log_pages (keeps.held told)
 
 -- pages that are the same in the area and in the slots of the owners save the same
 pub same_saves : (log_pages area : ℕ) (owners : List (Option PageKey)) (held : Held) (before after : Pages) → ((q : ℕ) → IsWithin (map_at (length owners) area) (map_pages (length owners)) q → page after q ≡ page before q)
@@ -88,15 +93,53 @@ saves_map log_pages area owners held before contents two stand holds pages told 
   stand = λ slot key owned. stand slot key owned ∙ ap Some (sym (holds.same.others (slots_at (length owners) log_pages + slot) (λ within. below_log (length owners) area (slots_at (length owners) log_pages + slot) two (omega arith) within)));
 })
 
-pub at_saved : {mid new : Disk} (maps : Maps) (frames : FrameOf) (area : ℕ) → NoneChanged frames → IsTold mid ↔ IsTold new → Told mid (λ pages. HoldsMap pages (map_at (length maps.current) area) maps.current new.contents) → IsAtStage new maps frames (Saved area)
-at_saved maps frames area none told written = record {
+pub at_saved : (b : BufferView) (area : ℕ) {mid : Disk} → b.stage ≡ Saved area → NoneChanged b.frames → IsTold mid ↔ IsTold b.disk → Told mid (λ pages. HoldsMap pages (map_at (length b.maps.current) area) b.maps.current b.disk.contents) → IsAtStage b
+at_saved b area at none told written = record {
   none_changed = λ other. none;
   saved = λ saved is pages now.
       let was = told.1 (record { pages = pages; is = now }) in
       let holds = written was.pages was.is in
+      let stages : Saved area ≡ Saved saved = sym at ∙ is in
       let same : area ≡ saved = cc in
-      subst (λ (n : ℕ). IsMap (length maps.current) pages (map_at (length maps.current) n) maps.current) same (subst (λ (p : Pages). IsMap (length maps.current) p (map_at (length maps.current) area) maps.current) (same_Some holds.after pages (sym holds.told ∙ now)) holds.map);
-  synced = λ is. absurd (cc);
+      subst (λ (n : ℕ). HoldsMapAt b.maps.current n pages) same (subst (HoldsMapAt b.maps.current area) (same_Some holds.after pages (sym holds.told ∙ now)) holds.map);
+  synced = λ is. let stages : Saved area ≡ Switched = sym at ∙ is in absurd (cc);
+}
+
+-- ---- what a layer above sees of it
+
+pub backing_kept : {old new : BufferView} → KeepsPages old new → (pages_view new).backing ≡ (pages_view old).backing
+backing_kept keeps = λ i. record { log_pages = keeps.log_pages i; area = keeps.area i; shadow = ap (λ (m : Maps). m.shadow) keeps.maps i }
+
+pub saving_kept : {old new : BufferView} → KeepsPages old new → SavingStep (pages_view old) (pages_view new) (saving_view old) (saving_view new)
+saving_kept keeps = record {
+  current = ap (λ (m : Maps). m.current) keeps.maps;
+  waiting = keeps.waiting;
+  held = keeps.held;
+  log_pages = keeps.log_pages;
+  asks = keeps.asks;
+  told = keeps.leaves.told;
+  later = keeps.later;
+}
+
+-- a call that fails by the device alone
+pub cause_of_device : {T : Type 0} {disk : Disk} {faults faults_now : ℕ} (result : Result T PageFault) → IfErr result (λ fault. fault ≡ DeviceFailed) → HasPageCause disk faults faults_now result → IsErr result → Rises faults faults_now
+cause_of_device (Ok value) fault cause is = absurd (cc)
+cause_of_device (Err e) fault cause is = cause.failed (ap Err fault)
+
+pub saving_flushed : {T : Type 0} {old new : BufferView} (result : Result T PageFault) → WritesPages old new result → SavingCall (pages_view old) (pages_view new) (saving_view old) (saving_view new) result
+saving_flushed result did = record { step = saving_kept did.keeps; fault = did.fault; cause = cause_of_device result did.fault did.cause }
+
+-- and then something is written outside the data slots
+pub saving_after : {old mid : BufferView} (disk : Disk) {area writes faults : ℕ} {settled : Bool} {stage : Stage} → KeepsPages old mid → IsTold mid.disk ↔ IsTold disk → (IsTold mid.disk → held_by mid.first mid.maps.current mid.frames disk.contents ≡ held_of mid) → mid.faults ≤ faults
+    → SavingStep (pages_view old) (pages_view (record mid { disk = disk; area = area; settled = settled; stage = stage; writes = writes; faults = faults })) (saving_view old) (saving_view (record mid { disk = disk; area = area; settled = settled; stage = stage; writes = writes; faults = faults }))
+saving_after disk keeps told held later = record {
+  current = ap (λ (m : Maps). m.current) keeps.maps;
+  waiting = keeps.waiting;
+  held = λ is. held (keeps.leaves.told.0 is) ∙ keeps.held is;
+  log_pages = keeps.log_pages;
+  asks = keeps.asks;
+  told = (λ is. told.0 (keeps.leaves.told.0 is), λ is. keeps.leaves.told.1 (told.1 is));
+  later = omega (arith, keeps.later, later);
 }
 
 -- ---- what saving may write
@@ -108,48 +151,18 @@ module _ {first slots_first : ℕ} (maps : Maps) (area : ℕ) (place : first ≡
   area_saveable : (q : ℕ) → IsWithin (map_at (length maps.current) area) (map_pages (length maps.current)) q → IsSaveable slots_first area maps.shadow q
   area_saveable q within = inr (subst (λ (n : ℕ). IsWithin (map_at n area) (map_pages n) q) (sym count) within)
 
-  pub flush_kept : {old mid : Disk} → WritesLoose first maps.shadow old mid → Told old (λ pages. IsRewrittenIn (IsSaveable slots_first area maps.shadow) pages mid.contents)
-  flush_kept writes = λ pages told.
-      let rewritten = writes.kept pages told in
-      record { after = rewritten.after; told = rewritten.told; same = record { size = rewritten.same.size; others = λ q off. rewritten.same.others q (λ is. off (loose_saveable q is)) } }
+  pub flush_writes : {old mid : Disk} → WritesLoose first maps.shadow old mid → WritesIn (IsSaveable slots_first area maps.shadow) old mid
+  flush_writes = writes_among loose_saveable
 
-  pub flush_moments : {old mid : Disk} → WritesLoose first maps.shadow old mid → IsTold old → Passes old mid (TornIn (IsSaveable slots_first area maps.shadow) (Leaves old))
-  flush_moments writes told = widened (writes.moments told) (λ image torn. record { before = torn.before; was = torn.was; same = record { size = torn.same.size; others = λ q off. torn.same.others q (λ is. off (loose_saveable q is)) } })
-
-  pub save_kept : {old mid : Disk} (contents : Option Pages) → WritesLoose first maps.shadow old mid → Told mid (λ pages. IsRewrittenIn (IsWithin (map_at (length maps.current) area) (map_pages (length maps.current))) pages contents) → Told old (λ pages. IsRewrittenIn (IsSaveable slots_first area maps.shadow) pages contents)
-  save_kept contents writes kept = λ pages told.
-      let earlier = writes.kept pages told in
-      let later = kept earlier.after earlier.told in
-      record {
-        after = later.after;
-        told = later.told;
-        same = record {
-          size = later.same.size ∙ earlier.same.size;
-          others = λ q off. later.same.others q (λ is. off (area_saveable q is)) ∙ earlier.same.others q (λ is. off (loose_saveable q is));
-        };
-      }
-
-  pub save_moments : {old mid new : Disk} → WritesLoose first maps.shadow old mid → Told mid (λ _. Passes mid new (TornIn (IsWithin (map_at (length maps.current) area) (map_pages (length maps.current))) (Leaves mid))) → IsTold old → Passes old new (TornIn (IsSaveable slots_first area maps.shadow) (Leaves old))
-  save_moments {old = old} writes moments told =
-      let mid_told = writes.told.0 told in
-      let first_part = flush_moments writes told in
-      then first_part (moments mid_told.pages mid_told.is) (λ image torn.
-      let earlier : TornIn (IsSaveable slots_first area maps.shadow) (Leaves old) torn.before = ⊎_elim (λ left. none_torn torn.before left) (λ within. within) (now first_part torn.before torn.was) in
-      record {
-        before = earlier.before;
-        was = earlier.was;
-        same = record {
-          size = torn.same.size ∙ earlier.same.size;
-          others = λ q off. torn.same.others q (λ is. off (area_saveable q is)) ∙ earlier.same.others q off;
-        };
-      })
+  pub save_writes : {old mid new : Disk} → WritesLoose first maps.shadow old mid → WritesIn (IsAreaPage (length maps.current) area) mid new → WritesIn (IsSaveable slots_first area maps.shadow) old new
+  save_writes writes table = writes_then (flush_writes writes) (writes_among area_saveable table)
 
 -- ---- the switch
 
-pub saved_by : {disk : Disk} {size log_pages first : ℕ} {maps : Maps} {frames : FrameOf} {settled : Bool} {stage : Stage} (area : ℕ) → stage ≡ Saved area → IsBuffer disk size log_pages first maps frames settled stage → Told disk (λ pages. SavesPages log_pages area pages maps.current (held_by first maps.current frames disk.contents))
-saved_by {disk = disk} {log_pages = log_pages} {first = first} {maps = maps} {frames = frames} area is buffer = λ pages told. record {
+pub saved_by : {b : BufferView} (area : ℕ) → b.stage ≡ Saved area → IsBuffer b → Told b.disk (λ pages. SavesPages b.log_pages area pages b.maps.current (held_of b))
+saved_by {b = b} area is buffer = λ pages told. record {
   map = buffer.at_stage.saved area is pages told;
-  stand = flushed buffer (buffer.at_stage.none_changed (λ other. cc)) maps log_pages (held_by first maps.current frames disk.contents) refl refl refl pages told;
+  stand = flushed buffer (buffer.at_stage.none_changed (λ other. cc)) b.maps b.log_pages (held_of b) refl refl refl pages told;
 }
 
 -- a root is written and selected

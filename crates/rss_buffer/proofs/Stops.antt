@@ -3,7 +3,7 @@ use Rattle.std.proofs.Common.{◌≡◌, ◌≢◌, ◌⊎◌, inl, inr, ⊎_eli
 use Rattle.std.specs.Prelude.{is_some}
 use Rattle.std.proofs.lemmas.Bool.{cases_eq, cases_lt, and_parts, leb-true, cond-false, false_from_ne_true, true≢false}
 use Rattle.std.proofs.lemmas.Nat.{row_fits}
-use Rattle.rss_base.specs.DiskRule.{Disk, Pages, page, Leaves, SameBut, SameOff, IsWithin}
+use Rattle.rss_base.specs.DiskRule.{Disk, Pages, page, Leaves, SameOff, IsAt, IsWithin}
 use Rattle.rss_base.specs.Layout.{map_pages, map_at, slots_at, selected, selected_by, root_page, IsWellFormed}
 use Rattle.rss_base.specs.PageMap.{owner_of}
 use Rattle.rss_base.specs.Paged.{Held, HasFixed}
@@ -92,11 +92,11 @@ saving_holds area {number = number} {root = root} {owners = owners} holds two ot
     same_holds holds selects saved.size (λ q used. saved.others q (⊎_elim (used_fixed first q place low holds.root_there.there.formed.area used) (used_outside area q low two other used)))
 
 -- one of the selector and the roots is written, and the same root selected
-same_root : {before image : Pages} {number : ℕ} {root : Root} {owners : List (Option PageKey)} {held : Held} (at : ℕ) → at < 3 → at ≢ number → HoldsPages before number root owners held → number ≡ selected image → SameBut at before image → HoldsPages image number root owners held
+same_root : {before image : Pages} {number : ℕ} {root : Root} {owners : List (Option PageKey)} {held : Held} (at : ℕ) → at < 3 → at ≢ number → HoldsPages before number root owners held → number ≡ selected image → SameOff (IsAt at) before image → HoldsPages image number root owners held
 same_root at low off holds selects same = same_holds holds selects same.size (λ q used. same.others q (λ is. ⊎_elim (λ here. off (sym is ∙ here)) (λ past. omega (arith, past, is)) (used_rooted q used)))
 
 -- the other root is written
-pub other_root : {before image : Pages} {number : ℕ} {root : Root} {owners : List (Option PageKey)} {held : Held} → HoldsPages before number root owners held → SameBut (3 - number) before image → HoldsPages image number root owners held
+pub other_root : {before image : Pages} {number : ℕ} {root : Root} {owners : List (Option PageKey)} {held : Held} → HoldsPages before number root owners held → SameOff (IsAt (3 - number)) before image → HoldsPages image number root owners held
 other_root {number = number} holds same =
     let named = holds.root_there.selects in
     same_root (3 - number) (omega (arith, named)) (omega (arith, named)) holds (named ∙ ap selected_by (sym (same.others 0 (omega (arith, named))))) same

@@ -1,29 +1,31 @@
 -- What moving pages between memory and their slots does to a buffer.
-use Rattle.std.proofs.Common.{◌≡◌, ◌≢◌, ◌⊎◌, ◌↔◌, inl, inr, ℕ, ◌+◌, ◌<◌, Bool, true, false, List, [], length, Option, Some, None, refl, sym, ◌∙◌, ap, subst, arith, get_or-set_same}
-use Rattle.std.specs.Prelude.{is_some, option_map, slice_set, IsSome, IfSome, Result, Ok, Err, is_err, OnOk, OnErr}
+use Rattle.std.proofs.Common.{◌≡◌, ◌≢◌, ◌⊎◌, inl, inr, ℕ, ◌+◌, ◌<◌, ◌≤◌, true, false, List, [], length, Option, Some, None, refl, sym, ◌∙◌, ap, subst, arith, get_or-set_same}
+use Rattle.std.specs.Prelude.{is_some, option_map, slice_set, Result, Ok, Err, is_err, IsErrAnd, OnOk, OnErr}
+use Rattle.std.proofs.lemmas.Result.{err_from_is_err_and, on_ok_weaker}
+use Rattle.rss_base.specs.declared.fault.PageFault.{PageFault}
+use Rattle.rss_base.specs.declared.fault.PageFault.TheVariants.{Device as DeviceFailed, Damaged}
 use Rattle.std.proofs.Math.Path.{fun_ext}
 use Rattle.std.proofs.lemmas.Bool.{cases_Bool, cond-true, cond-false}
 use Rattle.std.proofs.lemmas.Option.{same_Some}
-use Rattle.rss_base.specs.DiskRule.{Disk, Pages, page, Told, IsTold, Leaves, TornAt, IsRewritten, Passes}
+use Rattle.rss_base.specs.DiskRule.{Disk, Pages, page, Told, IsTold, IsAt, OnlyReads, WritesIn}
 use Rattle.rss_base.specs.PageMap.{owner_of}
-use Rattle.rss_base.specs.Paged.{is_same}
+use Rattle.rss_base.specs.Paged.{is_same, AreAmong, HasPageCause}
 use Rattle.rss_base.specs.declared.key.PageKey.{PageKey}
-use Rattle.rss_base.proofs.Moments.{started, only_stays}
+use Rattle.rss_base.proofs.Moments.{only_stays, reads_none, writes_none, writes_nothing, writes_one, writes_then}
 use Rattle.rss_shadow.specs.Maps.{Maps}
 use Rattle.rss_shadow.proofs.Counts.{owned_within}
 use Rattle.rss_buffer.specs.declared.frames.Frame.{Frame}
-use Rattle.rss_buffer.specs.declared.stage.Stage.{Stage}
 use Rattle.rss_buffer.specs.declared.stage.Stage.TheVariants.{Changing, Saved, Switched}
-use Rattle.rss_buffer.specs.Frames.{FrameOf, with_frame}
+use Rattle.rss_buffer.specs.Frames.{FrameOf, with_frame, waiting_in}
 use Rattle.rss_buffer.specs.Slots.{held_in, held_by}
 use Rattle.rss_base.specs.StoredPages.{slot_of, mapped_by}
-use Rattle.rss_buffer.specs.Buffered.{NoneChanged, AreFrames, AreClean, IsAtStage, IsBuffer, IsChangedIn, unchanged, with_unchanged, WritesLoose, KeepsPages}
-use Rattle.rss_buffer.specs.BufferLaws.{owner_of-slot_of}
+use Rattle.rss_buffer.specs.Buffered.{BufferView, NoneChanged, AreFrames, AreClean, IsAtStage, IsBuffer, IsLoose, held_of, unchanged, with_unchanged, WritesLoose, KeepsPages, MovesPages, WritesPages}
 use Rattle.rss_base.proofs.Calls.{leaves_then, leaves_rests}
-use Rattle.rss_base.proofs.Keys.{is_same-true, is_same-itself}
+use Rattle.rss_base.proofs.Keys.{is_same-true, is_same-itself, owner_of-slot_of}
 use Rattle.rss_buffer.proofs.Lookups.{with_frame-same}
 use Rattle.rss_buffer.proofs.Found.{mapped-owned}
-use Rattle.rss_buffer.proofs.Loose.{IsLoose-slot, WritesLoose-at, WritesLoose-none, StaysFixed-writes, LeavesFixed-writes}
+use Rattle.rss_buffer.proofs.Waits.{waits-less, waits-alike, settles-rests, settles-then, settles-count, settles-writes}
+use Rattle.rss_buffer.proofs.Loose.{IsLoose-slot, StaysFixed-writes, LeavesFixed-writes}
 
 -- ---- what pages hold
 
@@ -65,26 +67,6 @@ pub err_then : {T E P : Type 0} (result : Result T E) → is_err result ≡ true
 err_then (Ok x) is err = absurd (cc)
 err_then (Err e) is err = err
 
--- the page is in memory, and stands in its slot
-pub record IsCleanIn (frames : FrameOf) (key : PageKey) : Type 0 where
-  pub frame : Frame
-  pub there : frames key ≡ Some frame
-  pub clean : frame.changed ≡ false
-
-pub IsChangedIn-frame : (frames : FrameOf) (key : PageKey) (changed : Bool) → IsSome (frames key) → IfSome (frames key) (λ frame. frame.changed ≡ changed) → (frame : Frame) × (frames key ≡ Some frame) × (frame.changed ≡ changed)
-IsChangedIn-frame frames key changed there some = by (frames key) there some
-  where
-    by : (o : Option Frame) → IsSome o → IfSome o (λ frame. frame.changed ≡ changed) → (frame : Frame) × (o ≡ Some frame) × (frame.changed ≡ changed)
-    by None there some = absurd (cc)
-    by (Some frame) there some = (frame, refl, some)
-
-pub IsCleanIn-unchanged : (frames frames_now : FrameOf) (key : PageKey) (frame : Frame) → frames key ≡ Some frame → frames_now ≡ with_unchanged frames key → IsCleanIn frames_now key
-IsCleanIn-unchanged frames frames_now key frame there now = record {
-  frame = unchanged frame;
-  there = ap (λ (f : FrameOf). f key) now ∙ with_frame-same frames key (option_map unchanged (frames key)) ∙ ap (option_map unchanged) there;
-  clean = refl;
-}
-
 -- a page that isn't in memory isn't brought there by a change of another's frame
 none_more : (frames : FrameOf) (key : PageKey) (frame : Option Frame) (other : PageKey) → (frames key ≡ None → frame ≡ None) → frames other ≡ None → with_frame frames key frame other ≡ None
 none_more frames key frame other same none = elim (cases_Bool (is_same other key)) [
@@ -100,22 +82,36 @@ none_more-removed frames frames_now key other now none = ap (λ (f : FrameOf). f
 
 -- ---- one call after another
 
-pub KeepsPages-rests : (disk : Disk) (first : ℕ) (maps : Maps) (frames : FrameOf) (settled : Bool) → KeepsPages disk first maps frames settled disk first maps frames settled
-KeepsPages-rests disk first maps frames settled = record {
-  same_first = refl;
-  same_maps = refl;
-  same_settled = refl;
+pub KeepsPages-rests : (view : BufferView) → KeepsPages view view
+KeepsPages-rests view = record {
+  first = refl;
+  maps = refl;
+  settled = refl;
+  log_pages = refl;
+  area = refl;
+  stage = refl;
+  asks = refl;
   held = λ told. refl;
-  leaves = leaves_rests (settled ≡ true) disk _;
+  leaves = leaves_rests (view.settled ≡ true) view.disk _;
+  waiting = λ key is. is;
+  writes = omega arith;
+  later = omega arith;
 }
 
-pub KeepsPages-then : {old mid new : Disk} {first first_mid first_now : ℕ} {maps maps_mid maps_now : Maps} {frames frames_mid frames_now : FrameOf} {settled settled_mid settled_now : Bool} → KeepsPages old first maps frames settled mid first_mid maps_mid frames_mid settled_mid → KeepsPages mid first_mid maps_mid frames_mid settled_mid new first_now maps_now frames_now settled_now → KeepsPages old first maps frames settled new first_now maps_now frames_now settled_now
+pub KeepsPages-then : {old mid new : BufferView} → KeepsPages old mid → KeepsPages mid new → KeepsPages old new
 KeepsPages-then one two = record {
-  same_first = two.same_first ∙ one.same_first;
-  same_maps = two.same_maps ∙ one.same_maps;
-  same_settled = two.same_settled ∙ one.same_settled;
+  first = two.first ∙ one.first;
+  maps = two.maps ∙ one.maps;
+  settled = two.settled ∙ one.settled;
+  log_pages = two.log_pages ∙ one.log_pages;
+  area = two.area ∙ one.area;
+  stage = two.stage ∙ one.stage;
+  asks = two.asks ∙ one.asks;
   held = λ told. two.held (one.leaves.told.0 told) ∙ one.held told;
   leaves = leaves_then one.leaves two.leaves;
+  waiting = λ key is. one.waiting key (two.waiting key is);
+  writes = omega (arith, one.writes, two.writes);
+  later = omega (arith, one.later, two.later);
 }
 
 -- ---- the frames after a change at one page
@@ -156,206 +152,358 @@ NoneChanged-removed frames key none = λ other f is. elim (with_frame-cases fram
   | inr there ↦ none other f there.1
 ]
 
-module _ {disk : Disk} {size log_pages first : ℕ} {maps : Maps} {frames : FrameOf} {settled : Bool} {stage : Stage} (buffer : IsBuffer disk size log_pages first maps frames settled stage) where
-  -- what any call that writes loose pages alone leaves
-  IsBuffer-writes : {new : Disk} {size_now : ℕ} {frames_now : FrameOf} → WritesLoose first maps.shadow disk new → size_now ≡ size → AreFrames maps frames_now → Told new (AreClean first maps frames_now) → IsAtStage new maps frames_now stage → IsBuffer new size_now log_pages first maps frames_now settled stage
-  IsBuffer-writes {new = new} writes same frames_hold clean at_stage = record {
-    table = buffer.table;
-    count = buffer.count;
-    place = buffer.place;
-    room = same ∙ buffer.room;
-    frames_hold = frames_hold;
-    clean = clean;
-    fixed = λ is. StaysFixed-writes first maps.shadow disk new writes (buffer.fixed is);
-    at_stage = at_stage;
-  }
+-- ---- a buffer
 
-  KeepsPages-writes : {new : Disk} {frames_now : FrameOf} → WritesLoose first maps.shadow disk new → (IsTold disk → held_by first maps.current frames_now new.contents ≡ held_by first maps.current frames disk.contents) → KeepsPages disk first maps frames settled new first maps frames_now settled
-  KeepsPages-writes {new = new} writes held = record {
-    same_first = refl;
-    same_maps = refl;
-    same_settled = refl;
-    held = held;
-    leaves = LeavesFixed-writes first maps.shadow (settled ≡ true) disk new writes buffer.fixed;
-  }
+-- the counts and the area say nothing of its pages
+pub IsBuffer-counts : {b : BufferView} {area asks writes faults : ℕ} → IsBuffer b → IsBuffer (record b { area = area; asks = asks; writes = writes; faults = faults })
+IsBuffer-counts buffer = record {
+  table = buffer.table;
+  count = buffer.count;
+  room = buffer.room;
+  place = buffer.place;
+  ends = buffer.ends;
+  frames_hold = buffer.frames_hold;
+  clean = buffer.clean;
+  fixed = buffer.fixed;
+  at_stage = record {
+    none_changed = buffer.at_stage.none_changed;
+    saved = buffer.at_stage.saved;
+    synced = buffer.at_stage.synced;
+  };
+}
+
+module _ {b : BufferView} (buffer : IsBuffer b) where
+  -- what any call that writes loose pages alone leaves
+  module _ {disk : Disk} {size writes faults : ℕ} {frames : FrameOf} where
+    IsBuffer-writes : WritesLoose b.first b.maps.shadow b.disk disk → size ≡ b.size → AreFrames b.maps frames → Told disk (AreClean b.first b.maps frames) → IsAtStage (record b { disk = disk; size = size; frames = frames; writes = writes; faults = faults }) → IsBuffer (record b { disk = disk; size = size; frames = frames; writes = writes; faults = faults })
+    IsBuffer-writes loose same are clean at_stage = record {
+      table = buffer.table;
+      count = buffer.count;
+      room = buffer.room;
+      place = buffer.place;
+      ends = same ∙ buffer.ends;
+      frames_hold = are;
+      clean = clean;
+      fixed = λ is. StaysFixed-writes b.first b.maps.shadow b.disk disk loose (buffer.fixed is);
+      at_stage = at_stage;
+    }
+
+    KeepsPages-writes : WritesLoose b.first b.maps.shadow b.disk disk → AreAmong (waiting_in frames) (waiting_in b.frames) → b.writes ≤ writes → b.faults ≤ faults → (IsTold b.disk → held_by b.first b.maps.current frames disk.contents ≡ held_of b) → KeepsPages b (record b { disk = disk; size = size; frames = frames; writes = writes; faults = faults })
+    KeepsPages-writes loose waiting more later held = record {
+      first = refl;
+      maps = refl;
+      settled = refl;
+      log_pages = refl;
+      area = refl;
+      stage = refl;
+      asks = refl;
+      held = held;
+      leaves = LeavesFixed-writes b.first b.maps.shadow (b.settled ≡ true) b.disk disk loose buffer.fixed;
+      waiting = waiting;
+      writes = more;
+      later = later;
+    }
 
   -- ---- a page that was changed is written to its slot
 
-  module _ (key : PageKey) (slot : ℕ) (new : Disk) (changed : IsChangedIn frames key) (owned : owner_of maps.current slot ≡ Some key) (told : IsTold disk ↔ IsTold new) (kept : Told disk (λ pages. IsRewritten (first + slot) pages new.contents)) (moments : Told disk (λ _. Passes disk new (TornAt (first + slot) (Leaves disk)))) where
-    pub writes-back : WritesLoose first maps.shadow disk new
-    writes-back = WritesLoose-at first maps.shadow (first + slot) disk new (IsLoose-slot first maps.shadow slot (buffer.frames_hold.own_slot key changed.frame slot changed.there changed.changed owned)) told kept moments
+  module _ (key : PageKey) (frame : Frame) (slot : ℕ) (there : b.frames key ≡ Some frame) (changed : frame.changed ≡ true) (owned : owner_of b.maps.current slot ≡ Some key)
+      (disk : Disk) (only : WritesIn (IsAt (b.first + slot)) b.disk disk) where
+    pub loose-back : WritesLoose b.first b.maps.shadow b.disk disk
+    loose-back = writes_one {places = IsLoose b.first b.maps.shadow} (IsLoose-slot b.first b.maps.shadow slot (buffer.frames_hold.own_slot key frame slot there changed owned)) only
 
     -- no other page stands there
-    other_slot : (other : PageKey) (s : ℕ) → other ≢ key → owner_of maps.current s ≡ Some other → first + s ≢ first + slot
+    other_slot : (other : PageKey) (s : ℕ) → other ≢ key → owner_of b.maps.current s ≡ Some other → b.first + s ≢ b.first + slot
     other_slot other s off is at =
         let same : s ≡ slot = omega arith in
-        let here : Some other ≡ Some key = sym is ∙ ap (owner_of maps.current) same ∙ owned in
+        let here : Some other ≡ Some key = sym is ∙ ap (owner_of b.maps.current) same ∙ owned in
         off (same_Some other key here)
 
-    held-written : (frames_now : FrameOf) → ((other : PageKey) (bytes : List ℕ) → held_in (frames_now other) bytes ≡ held_in (frames other) bytes) → IsTold disk → held_by first maps.current frames_now new.contents ≡ held_by first maps.current frames disk.contents
-    held-written frames_now alike told =
-        let written = kept told.pages told.is in
-        ap (held_by first maps.current frames_now) written.told
-        ∙ held-same first maps.current frames frames_now told.pages written.after (λ other s is.
-        alike other (page written.after (first + s)) ∙ held_in-same (frames other) (page told.pages (first + s)) (page written.after (first + s))
-        (λ none. written.same.others (first + s) (other_slot other s (λ at. let some : frames other ≡ Some changed.frame = ap frames at ∙ changed.there in cc) is)))
-        ∙ sym (ap (held_by first maps.current frames) told.is)
+    held-written : (frames : FrameOf) → ((other : PageKey) (bytes : List ℕ) → held_in (frames other) bytes ≡ held_in (b.frames other) bytes) → IsTold b.disk → held_by b.first b.maps.current frames disk.contents ≡ held_of b
+    held-written frames alike is_told =
+        let written = only.kept is_told.pages is_told.is in
+        ap (held_by b.first b.maps.current frames) written.told
+        ∙ held-same b.first b.maps.current b.frames frames is_told.pages written.after (λ other s is.
+        alike other (page written.after (b.first + s)) ∙ held_in-same (b.frames other) (page is_told.pages (b.first + s)) (page written.after (b.first + s))
+        (λ none. written.same.others (b.first + s) (other_slot other s (λ at. let some : b.frames other ≡ Some frame = ap b.frames at ∙ there in cc) is)))
+        ∙ sym (ap (held_by b.first b.maps.current b.frames) is_told.is)
 
-    at_stage-written : (frames_now : FrameOf) → IsAtStage new maps frames_now stage
-    at_stage-written frames_now = record {
+    not_saved : (b.stage ≢ Changing) → ⊥
+    not_saved is = let clean = buffer.at_stage.none_changed is key frame there in let no : true ≡ false = sym changed ∙ clean in cc
+
+    at_stage-written : {size writes faults : ℕ} (frames : FrameOf) → IsAtStage (record b { disk = disk; size = size; frames = frames; writes = writes; faults = faults })
+    at_stage-written frames = record {
       none_changed = λ is. absurd (not_saved is);
       saved = λ area is. absurd (not_saved (λ at. let no : Saved area ≡ Changing = sym is ∙ at in cc));
       synced = λ is. absurd (not_saved (λ at. let no : Switched ≡ Changing = sym is ∙ at in cc));
     }
-      where
-        not_saved : (stage ≢ Changing) → ⊥
-        not_saved is = let clean = buffer.at_stage.none_changed is key changed.frame changed.there in let no : true ≡ false = sym changed.changed ∙ clean in cc
 
     -- the pages of the other frames still stand in their slots
-    clean-others : (pages : Pages) (is : disk.contents ≡ Some pages) (other : PageKey) (f : Frame) (s : ℕ) → other ≢ key → frames other ≡ Some f → f.changed ≡ false → owner_of maps.current s ≡ Some other → f.page ≡ page (kept pages is).after (first + s)
-    clean-others pages is other f s off there clean owns = buffer.clean pages is other f s there clean owns ∙ sym ((kept pages is).same.others (first + s) (other_slot other s off owns))
+    clean-others : (pages : Pages) (is : b.disk.contents ≡ Some pages) (other : PageKey) (f : Frame) (s : ℕ) → other ≢ key → b.frames other ≡ Some f → f.changed ≡ false → owner_of b.maps.current s ≡ Some other → f.page ≡ page (only.kept pages is).after (b.first + s)
+    clean-others pages is other f s off here clean owns = buffer.clean pages is other f s here clean owns ∙ sym ((only.kept pages is).same.others (b.first + s) (other_slot other s off owns))
 
     -- the write failed
-    module _ {size_now : ℕ} (same : size_now ≡ size) where
-      pub IsBuffer-failed : IsBuffer new size_now log_pages first maps frames settled stage
-      IsBuffer-failed = IsBuffer-writes writes-back same buffer.frames_hold (λ pages is other f s there clean owns.
-          let was = told.1 (record { pages = pages; is = is }) in
-          let after : (kept was.pages was.is).after ≡ pages = same_Some _ _ (sym (kept was.pages was.is).told ∙ is) in
-          let off : other ≢ key = λ at. let frame : changed.frame ≡ f = same_Some _ _ (sym changed.there ∙ ap frames (sym at) ∙ there) in let no : true ≡ false = sym changed.changed ∙ ap (λ (x : Frame). x.changed) frame ∙ clean in cc in
-          clean-others was.pages was.is other f s off there clean owns ∙ ap (λ (p : Pages). page p (first + s)) after)
-          (at_stage-written frames)
+    pub IsBuffer-failed : {size writes faults : ℕ} {frames : FrameOf} → frames ≡ b.frames → size ≡ b.size → IsBuffer (record b { disk = disk; size = size; frames = frames; writes = writes; faults = faults })
+    IsBuffer-failed {size = size} {writes = writes} {faults = faults} now same = subst (λ (f : FrameOf). IsBuffer (record b { disk = disk; size = size; frames = f; writes = writes; faults = faults })) (sym now) (IsBuffer-writes loose-back same buffer.frames_hold (λ pages is other f s here clean owns.
+        let was = only.told.1 (record { pages = pages; is = is }) in
+        let after : (only.kept was.pages was.is).after ≡ pages = same_Some _ _ (sym (only.kept was.pages was.is).told ∙ is) in
+        let off : other ≢ key = λ at. let same_frame : frame ≡ f = same_Some _ _ (sym there ∙ ap b.frames (sym at) ∙ here) in let no : true ≡ false = sym changed ∙ ap (λ (x : Frame). x.changed) same_frame ∙ clean in cc in
+        clean-others was.pages was.is other f s off here clean owns ∙ ap (λ (p : Pages). page p (b.first + s)) after)
+        (at_stage-written b.frames))
 
-    pub KeepsPages-failed : KeepsPages disk first maps frames settled new first maps frames settled
-    KeepsPages-failed = KeepsPages-writes writes-back (held-written frames (λ other bytes. refl))
+    pub KeepsPages-failed : {size writes faults : ℕ} {frames : FrameOf} → frames ≡ b.frames → b.writes ≤ writes → b.faults ≤ faults → KeepsPages b (record b { disk = disk; size = size; frames = frames; writes = writes; faults = faults })
+    KeepsPages-failed {frames = frames} now more later = KeepsPages-writes loose-back (waits-alike b.frames frames now) more later
+        (λ is_told. ap (λ (f : FrameOf). held_by b.first b.maps.current f disk.contents) now ∙ held-written b.frames (λ other bytes. refl) is_told)
 
     -- it was written, and is noted as such
     abbrev settled_frames : FrameOf
-    settled_frames = with_frame frames key (Some (unchanged changed.frame))
+    settled_frames = with_frame b.frames key (Some (unchanged frame))
 
-    held_in-settled : (other : PageKey) (bytes : List ℕ) → held_in (settled_frames other) bytes ≡ held_in (frames other) bytes
+    held_in-settled : (other : PageKey) (bytes : List ℕ) → held_in (settled_frames other) bytes ≡ held_in (b.frames other) bytes
     held_in-settled other bytes = elim (cases_Bool (is_same other key)) [
       | inl here ↦
           let at = is_same-true other key here in
-          ap (λ (k : PageKey). held_in (settled_frames k) bytes) at ∙ ap (λ (o : Option Frame). held_in o bytes) (with_frame-same frames key (Some (unchanged changed.frame)))
-          ∙ sym (ap (λ (o : Option Frame). held_in o bytes) (ap frames at ∙ changed.there))
-      | inr off ↦ ap (λ (o : Option Frame). held_in o bytes) (cond-false (is_same other key) (Some (unchanged changed.frame)) (frames other) off)
+          ap (λ (k : PageKey). held_in (settled_frames k) bytes) at ∙ ap (λ (o : Option Frame). held_in o bytes) (with_frame-same b.frames key (Some (unchanged frame)))
+          ∙ sym (ap (λ (o : Option Frame). held_in o bytes) (ap b.frames at ∙ there))
+      | inr off ↦ ap (λ (o : Option Frame). held_in o bytes) (cond-false (is_same other key) (Some (unchanged frame)) (b.frames other) off)
     ]
 
-    pub KeepsPages-written : {frames_now : FrameOf} → frames_now ≡ settled_frames → KeepsPages disk first maps frames settled new first maps frames_now settled
-    KeepsPages-written now = subst (λ (now : FrameOf). KeepsPages disk first maps frames settled new first maps now settled) (sym now) (KeepsPages-writes writes-back (held-written settled_frames held_in-settled))
+    module _ {frames : FrameOf} (now : frames ≡ settled_frames) where
+      pub KeepsPages-written : {size writes faults : ℕ} → b.writes ≤ writes → b.faults ≤ faults → KeepsPages b (record b { disk = disk; size = size; frames = frames; writes = writes; faults = faults })
+      KeepsPages-written more later = KeepsPages-writes loose-back (waits-less b.frames frames key (Some (unchanged frame)) now refl) more later
+          (λ is_told. ap (λ (f : FrameOf). held_by b.first b.maps.current f disk.contents) now ∙ held-written settled_frames held_in-settled is_told)
 
-    pub IsBuffer-written : {size_now : ℕ} {frames_now : FrameOf} {bytes : List ℕ} → size_now ≡ size → frames_now ≡ settled_frames → bytes ≡ changed.frame.page → Told disk (λ pages. length pages ≡ size) → Told disk (λ pages. new.contents ≡ Some (slice_set pages (first + slot) bytes)) → IsBuffer new size_now log_pages first maps frames_now settled stage
-    IsBuffer-written {size_now = size_now} {bytes = bytes} same now from sized written = subst (λ (now : FrameOf). IsBuffer new size_now log_pages first maps now settled stage) (sym now)
-        (IsBuffer-writes writes-back same (AreFrames-put maps frames key (unchanged changed.frame) buffer.frames_hold (buffer.frames_hold.mapped key changed.frame changed.there) refl) clean (at_stage-written settled_frames))
-      where
-        within : slot < length maps.current
-        within = owned_within maps.current slot key owned
+      pub IsBuffer-written : {size writes faults : ℕ} {bytes : List ℕ} → size ≡ b.size → bytes ≡ frame.page → Told b.disk (λ pages. length pages ≡ b.size) → Told b.disk (λ pages. disk.contents ≡ Some (slice_set pages (b.first + slot) bytes)) → IsBuffer (record b { disk = disk; size = size; frames = frames; writes = writes; faults = faults })
+      IsBuffer-written {size = size} {writes = writes} {faults = faults} {bytes = bytes} same from sized written =
+          subst (λ (f : FrameOf). IsBuffer (record b { disk = disk; size = size; frames = f; writes = writes; faults = faults })) (sym now)
+          (IsBuffer-writes loose-back same (AreFrames-put b.maps b.frames key (unchanged frame) buffer.frames_hold (buffer.frames_hold.mapped key frame there) refl) clean (at_stage-written settled_frames))
+        where
+          within : slot < length b.maps.current
+          within = owned_within b.maps.current slot key owned
 
-        clean : Told new (AreClean first maps settled_frames)
-        clean pages is other f s there is_clean owns =
-            let was = told.1 (record { pages = pages; is = is }) in
-            elim (with_frame-cases frames key (Some (unchanged changed.frame)) other f there) [
-              | inl here ↦
-                  let set : slice_set was.pages (first + slot) bytes ≡ pages = same_Some _ _ (sym (written was.pages was.is) ∙ is) in
-                  let long : first + slot < length was.pages = omega (arith, sized was.pages was.is, buffer.room, within) in
-                  let at : s ≡ slot = buffer.table.distinct s slot key (owns ∙ ap Some here.0) owned in
-                  ap (λ (x : Frame). x.page) (sym (same_Some _ _ here.1)) ∙ sym from ∙ sym (get_or-set_same was.pages (first + slot) bytes [] long)
-                  ∙ ap (λ (p : Pages). page p (first + slot)) set ∙ ap (λ (t : ℕ). page pages (first + t)) (sym at)
-              | inr off ↦
-                  let after : (kept was.pages was.is).after ≡ pages = same_Some _ _ (sym (kept was.pages was.is).told ∙ is) in
-                  clean-others was.pages was.is other f s off.0 off.1 is_clean owns ∙ ap (λ (p : Pages). page p (first + s)) after
-            ]
+          clean : Told disk (AreClean b.first b.maps settled_frames)
+          clean pages is other f s here is_clean owns =
+              let was = only.told.1 (record { pages = pages; is = is }) in
+              elim (with_frame-cases b.frames key (Some (unchanged frame)) other f here) [
+                | inl at_key ↦
+                    let set : slice_set was.pages (b.first + slot) bytes ≡ pages = same_Some _ _ (sym (written was.pages was.is) ∙ is) in
+                    let long : b.first + slot < length was.pages = omega (arith, sized was.pages was.is, buffer.ends, within) in
+                    let at : s ≡ slot = buffer.table.distinct s slot key (owns ∙ ap Some at_key.0) owned in
+                    ap (λ (x : Frame). x.page) (sym (same_Some _ _ at_key.1)) ∙ sym from ∙ sym (get_or-set_same was.pages (b.first + slot) bytes [] long)
+                    ∙ ap (λ (p : Pages). page p (b.first + slot)) set ∙ ap (λ (t : ℕ). page pages (b.first + t)) (sym at)
+                | inr off ↦
+                    let after : (only.kept was.pages was.is).after ≡ pages = same_Some _ _ (sym (only.kept was.pages was.is).told ∙ is) in
+                    clean-others was.pages was.is other f s off.0 off.1 is_clean owns ∙ ap (λ (p : Pages). page p (b.first + s)) after
+              ]
 
   -- ---- nothing is written
 
-  module _ {new : Disk} (same : new.contents ≡ disk.contents) (moments : Told disk (λ _. Passes disk new (Leaves disk))) where
-    writes-rests : WritesLoose first maps.shadow disk new
-    writes-rests = WritesLoose-none first maps.shadow disk new same moments
+  module _ {disk : Disk} {w v f h : ℕ} (reads : OnlyReads b.disk disk w v f h) where
+    writes-rests : WritesLoose b.first b.maps.shadow b.disk disk
+    writes-rests = writes_nothing reads
 
-    at_stage-rests : {frames_now : FrameOf} → (NoneChanged frames → NoneChanged frames_now) → IsAtStage new maps frames_now stage
+    at_stage-rests : {size writes faults : ℕ} {frames : FrameOf} → (NoneChanged b.frames → NoneChanged frames) → IsAtStage (record b { disk = disk; size = size; frames = frames; writes = writes; faults = faults })
     at_stage-rests none = record {
       none_changed = λ is. none (buffer.at_stage.none_changed is);
-      saved = λ area is pages told. buffer.at_stage.saved area is pages (sym same ∙ told);
-      synced = λ is pages told. only_stays pages (buffer.at_stage.synced is pages (sym same ∙ told)) (moments pages (sym same ∙ told));
+      saved = λ area is pages told. buffer.at_stage.saved area is pages (sym reads.contents ∙ told);
+      synced = λ is pages told. only_stays pages (buffer.at_stage.synced is pages (sym reads.contents ∙ told)) (reads.moments (record { pages = pages; is = sym reads.contents ∙ told }));
     }
 
-    pub IsBuffer-rests : {size_now : ℕ} → size_now ≡ size → IsBuffer new size_now log_pages first maps frames settled stage
-    IsBuffer-rests size_same = IsBuffer-writes writes-rests size_same buffer.frames_hold (λ pages is. buffer.clean pages (sym same ∙ is)) (at_stage-rests (λ none. none))
+    pub IsBuffer-rests : {size writes faults : ℕ} → size ≡ b.size → IsBuffer (record b { disk = disk; size = size; writes = writes; faults = faults })
+    IsBuffer-rests size_same = IsBuffer-writes writes-rests size_same buffer.frames_hold (λ pages is. buffer.clean pages (sym reads.contents ∙ is)) (at_stage-rests (λ none. none))
 
-    pub KeepsPages-read : KeepsPages disk first maps frames settled new first maps frames settled
-    KeepsPages-read = KeepsPages-writes writes-rests (λ told. ap (held_by first maps.current frames) same)
+    pub KeepsPages-read : {size writes faults : ℕ} → b.writes ≤ writes → b.faults ≤ faults → KeepsPages b (record b { disk = disk; size = size; writes = writes; faults = faults })
+    KeepsPages-read more later = KeepsPages-writes writes-rests (λ other is. is) more later (λ told. ap (held_by b.first b.maps.current b.frames) reads.contents)
 
     -- a page that isn't in memory is brought there
-    module _ (key : PageKey) (slot : ℕ) (bytes : List ℕ) (none : frames key ≡ None) (owned : owner_of maps.current slot ≡ Some key) (read : Told disk (λ pages. bytes ≡ page pages (first + slot))) where
+    module _ (key : PageKey) (slot : ℕ) (bytes : List ℕ) (none : b.frames key ≡ None) (owned : owner_of b.maps.current slot ≡ Some key) (read : Told b.disk (λ pages. bytes ≡ page pages (b.first + slot))) where
       abbrev loaded : Frame
       loaded = record { page = bytes; changed = false }
 
-      pub IsBuffer-loaded : {size_now : ℕ} {frames_now : FrameOf} → size_now ≡ size → frames_now ≡ with_frame frames key (Some loaded) → IsBuffer new size_now log_pages first maps frames_now settled stage
-      IsBuffer-loaded {size_now = size_now} size_same now = subst (λ (now : FrameOf). IsBuffer new size_now log_pages first maps now settled stage) (sym now)
-          (IsBuffer-writes writes-rests size_same (AreFrames-put maps frames key loaded buffer.frames_hold (mapped-owned maps.current key slot owned) refl) clean (at_stage-rests (NoneChanged-put frames key loaded refl)))
+      abbrev loaded_frames : FrameOf
+      loaded_frames = with_frame b.frames key (Some loaded)
+
+      IsBuffer-loaded : {size writes faults : ℕ} → size ≡ b.size → IsBuffer (record b { disk = disk; size = size; frames = loaded_frames; writes = writes; faults = faults })
+      IsBuffer-loaded size_same =
+          IsBuffer-writes writes-rests size_same (AreFrames-put b.maps b.frames key loaded buffer.frames_hold (mapped-owned b.maps.current key slot owned) refl) clean (at_stage-rests (NoneChanged-put b.frames key loaded refl))
         where
-          clean : Told new (AreClean first maps (with_frame frames key (Some loaded)))
-          clean pages is other f s there is_clean owns = elim (with_frame-cases frames key (Some loaded) other f there) [
+          clean : Told disk (AreClean b.first b.maps loaded_frames)
+          clean pages is other f s there is_clean owns = elim (with_frame-cases b.frames key (Some loaded) other f there) [
             | inl here ↦
                 let at : s ≡ slot = buffer.table.distinct s slot key (owns ∙ ap Some here.0) owned in
-                ap (λ (x : Frame). x.page) (sym (same_Some _ _ here.1)) ∙ read pages (sym same ∙ is) ∙ ap (λ (t : ℕ). page pages (first + t)) (sym at)
-            | inr off ↦ buffer.clean pages (sym same ∙ is) other f s off.1 is_clean owns
+                ap (λ (x : Frame). x.page) (sym (same_Some _ _ here.1)) ∙ read pages (sym reads.contents ∙ is) ∙ ap (λ (t : ℕ). page pages (b.first + t)) (sym at)
+            | inr off ↦ buffer.clean pages (sym reads.contents ∙ is) other f s off.1 is_clean owns
           ]
 
-      pub KeepsPages-loaded : {frames_now : FrameOf} → frames_now ≡ with_frame frames key (Some loaded) → KeepsPages disk first maps frames settled new first maps frames_now settled
-      KeepsPages-loaded now = subst (λ (now : FrameOf). KeepsPages disk first maps frames settled new first maps now settled) (sym now) (KeepsPages-writes writes-rests held)
-        where
-          held : IsTold disk → held_by first maps.current (with_frame frames key (Some loaded)) new.contents ≡ held_by first maps.current frames disk.contents
-          held told = ap (held_by first maps.current (with_frame frames key (Some loaded))) (same ∙ told.is)
-              ∙ held-same first maps.current frames (with_frame frames key (Some loaded)) told.pages told.pages (λ other s owns. elim (cases_Bool (is_same other key)) [
-                | inl here ↦
-                    let key_at = is_same-true other key here in
-                    let at : s ≡ slot = buffer.table.distinct s slot key (owns ∙ ap Some key_at) owned in
-                    ap (λ (k : PageKey). held_in (with_frame frames key (Some loaded) k) (page told.pages (first + s))) key_at
-                    ∙ ap (λ (o : Option Frame). held_in o (page told.pages (first + s))) (with_frame-same frames key (Some loaded))
-                    ∙ read told.pages told.is ∙ ap (λ (t : ℕ). page told.pages (first + t)) (sym at)
-                    ∙ sym (ap (λ (o : Option Frame). held_in o (page told.pages (first + s))) (ap frames key_at ∙ none))
-                | inr off ↦ ap (λ (o : Option Frame). held_in o (page told.pages (first + s))) (cond-false (is_same other key) (Some loaded) (frames other) off)
-              ])
-              ∙ sym (ap (held_by first maps.current frames) told.is)
+      held-loaded : IsTold b.disk → held_by b.first b.maps.current loaded_frames disk.contents ≡ held_of b
+      held-loaded told = ap (held_by b.first b.maps.current loaded_frames) (reads.contents ∙ told.is)
+          ∙ held-same b.first b.maps.current b.frames loaded_frames told.pages told.pages (λ other s owns. elim (cases_Bool (is_same other key)) [
+            | inl here ↦
+                let key_at = is_same-true other key here in
+                let at : s ≡ slot = buffer.table.distinct s slot key (owns ∙ ap Some key_at) owned in
+                ap (λ (k : PageKey). held_in (loaded_frames k) (page told.pages (b.first + s))) key_at
+                ∙ ap (λ (o : Option Frame). held_in o (page told.pages (b.first + s))) (with_frame-same b.frames key (Some loaded))
+                ∙ read told.pages told.is ∙ ap (λ (t : ℕ). page told.pages (b.first + t)) (sym at)
+                ∙ sym (ap (λ (o : Option Frame). held_in o (page told.pages (b.first + s))) (ap b.frames key_at ∙ none))
+            | inr off ↦ ap (λ (o : Option Frame). held_in o (page told.pages (b.first + s))) (cond-false (is_same other key) (Some loaded) (b.frames other) off)
+          ])
+          ∙ sym (ap (held_by b.first b.maps.current b.frames) told.is)
 
       -- there may be no memory for it
-      pub IsBuffer-loads : {size_now : ℕ} {frames_now : FrameOf} → size_now ≡ size → (frames_now ≡ with_frame frames key (Some loaded)) ⊎ (frames_now ≡ frames) → IsBuffer new size_now log_pages first maps frames_now settled stage
-      IsBuffer-loads size_same (inl now) = IsBuffer-loaded size_same now
-      IsBuffer-loads {size_now = size_now} size_same (inr now) = subst (λ (now : FrameOf). IsBuffer new size_now log_pages first maps now settled stage) (sym now) (IsBuffer-rests size_same)
+      pub IsBuffer-loads : {size writes faults : ℕ} {frames : FrameOf} → size ≡ b.size → (frames ≡ loaded_frames) ⊎ (frames ≡ b.frames) → IsBuffer (record b { disk = disk; size = size; frames = frames; writes = writes; faults = faults })
+      IsBuffer-loads {size = size} {writes = writes} {faults = faults} size_same (inl now) = subst (λ (f : FrameOf). IsBuffer (record b { disk = disk; size = size; frames = f; writes = writes; faults = faults })) (sym now) (IsBuffer-loaded size_same)
+      IsBuffer-loads {size = size} {writes = writes} {faults = faults} size_same (inr now) = subst (λ (f : FrameOf). IsBuffer (record b { disk = disk; size = size; frames = f; writes = writes; faults = faults })) (sym now) (IsBuffer-rests size_same)
 
-      pub KeepsPages-loads : {frames_now : FrameOf} → (frames_now ≡ with_frame frames key (Some loaded)) ⊎ (frames_now ≡ frames) → KeepsPages disk first maps frames settled new first maps frames_now settled
-      KeepsPages-loads (inl now) = KeepsPages-loaded now
-      KeepsPages-loads (inr now) = subst (λ (now : FrameOf). KeepsPages disk first maps frames settled new first maps now settled) (sym now) KeepsPages-read
+      pub KeepsPages-loads : {size writes faults : ℕ} {frames : FrameOf} → b.writes ≤ writes → b.faults ≤ faults → (frames ≡ loaded_frames) ⊎ (frames ≡ b.frames) → KeepsPages b (record b { disk = disk; size = size; frames = frames; writes = writes; faults = faults })
+      KeepsPages-loads {frames = frames} more later (inl now) = KeepsPages-writes writes-rests (waits-less b.frames frames key (Some loaded) now refl) more later (λ told. ap (λ (f : FrameOf). held_by b.first b.maps.current f disk.contents) now ∙ held-loaded told)
+      KeepsPages-loads {frames = frames} more later (inr now) = KeepsPages-writes writes-rests (waits-alike b.frames frames now) more later (λ told. ap (λ (f : FrameOf). held_by b.first b.maps.current f disk.contents) now ∙ ap (held_by b.first b.maps.current b.frames) reads.contents)
 
   -- ---- a page that stands in its slot leaves memory
 
-  nothing_same : disk.contents ≡ disk.contents
-  nothing_same = refl
+  module _ (key : PageKey) (clean : (frame : Frame) → b.frames key ≡ Some frame → frame.changed ≡ false) {frames : FrameOf} (now : frames ≡ with_frame b.frames key None) where
+    abbrev left_frames : FrameOf
+    left_frames = with_frame b.frames key None
 
-  nothing_left : Told disk (λ _. Passes disk disk (Leaves disk))
-  nothing_left pages is = started disk (Leaves disk)
-
-  module _ (key : PageKey) (frame : Frame) (there : frames key ≡ Some frame) (clean : frame.changed ≡ false) where
-    pub IsBuffer-removed : {frames_now : FrameOf} → frames_now ≡ with_frame frames key None → IsBuffer disk size log_pages first maps frames_now settled stage
-    IsBuffer-removed now = subst (λ (now : FrameOf). IsBuffer disk size log_pages first maps now settled stage) (sym now)
-        (IsBuffer-writes (writes-rests nothing_same nothing_left) refl (AreFrames-removed maps frames key buffer.frames_hold) (λ pages is other f s there is_clean owns. elim (with_frame-cases frames key None other f there) [
+    pub IsBuffer-removed : IsBuffer (record b { frames = frames })
+    IsBuffer-removed = subst (λ (f : FrameOf). IsBuffer (record b { frames = f })) (sym now)
+        (IsBuffer-writes (writes-rests (reads_none b.disk b.writes b.faults)) refl (AreFrames-removed b.maps b.frames key buffer.frames_hold) (λ pages is other f s there is_clean owns. elim (with_frame-cases b.frames key None other f there) [
           | inl here ↦ absurd (cc)
           | inr off ↦ buffer.clean pages is other f s off.1 is_clean owns
-        ]) (at_stage-rests nothing_same nothing_left (NoneChanged-removed frames key)))
+        ]) (at_stage-rests (reads_none b.disk b.writes b.faults) (NoneChanged-removed b.frames key)))
 
-    pub KeepsPages-removed : {frames_now : FrameOf} → frames_now ≡ with_frame frames key None → KeepsPages disk first maps frames settled disk first maps frames_now settled
-    KeepsPages-removed now = subst (λ (now : FrameOf). KeepsPages disk first maps frames settled disk first maps now settled) (sym now) (KeepsPages-writes (writes-rests nothing_same nothing_left) held)
+    left_slot : (pages : Pages) → b.disk.contents ≡ Some pages → (s : ℕ) → owner_of b.maps.current s ≡ Some key → page pages (b.first + s) ≡ held_in (b.frames key) (page pages (b.first + s))
+    left_slot pages is s owns = by (b.frames key) refl
       where
-        held : IsTold disk → held_by first maps.current (with_frame frames key None) disk.contents ≡ held_by first maps.current frames disk.contents
-        held told = ap (held_by first maps.current (with_frame frames key None)) told.is
-            ∙ held-same first maps.current frames (with_frame frames key None) told.pages told.pages (λ other s owns. elim (cases_Bool (is_same other key)) [
-              | inl here ↦
-                  let key_at = is_same-true other key here in
-                  ap (λ (k : PageKey). held_in (with_frame frames key None k) (page told.pages (first + s))) key_at
-                  ∙ ap (λ (o : Option Frame). held_in o (page told.pages (first + s))) (with_frame-same frames key None)
-                  ∙ sym (buffer.clean told.pages told.is key frame s there clean (owns ∙ ap Some key_at))
-                  ∙ sym (ap (λ (o : Option Frame). held_in o (page told.pages (first + s))) (ap frames key_at ∙ there))
-              | inr off ↦ ap (λ (o : Option Frame). held_in o (page told.pages (first + s))) (cond-false (is_same other key) None (frames other) off)
-            ])
-            ∙ sym (ap (held_by first maps.current frames) told.is)
+        by : (o : Option Frame) → b.frames key ≡ o → page pages (b.first + s) ≡ held_in o (page pages (b.first + s))
+        by None there = refl
+        by (Some frame) there = sym (buffer.clean pages is key frame s there (clean frame there) owns)
+
+    held-removed : IsTold b.disk → held_by b.first b.maps.current left_frames b.disk.contents ≡ held_of b
+    held-removed told = ap (held_by b.first b.maps.current left_frames) told.is
+        ∙ held-same b.first b.maps.current b.frames left_frames told.pages told.pages (λ other s owns. elim (cases_Bool (is_same other key)) [
+          | inl here ↦
+              let key_at = is_same-true other key here in
+              ap (λ (k : PageKey). held_in (left_frames k) (page told.pages (b.first + s))) key_at
+              ∙ ap (λ (o : Option Frame). held_in o (page told.pages (b.first + s))) (with_frame-same b.frames key None)
+              ∙ left_slot told.pages told.is s (owns ∙ ap Some key_at)
+              ∙ sym (ap (λ (k : PageKey). held_in (b.frames k) (page told.pages (b.first + s))) key_at)
+          | inr off ↦ ap (λ (o : Option Frame). held_in o (page told.pages (b.first + s))) (cond-false (is_same other key) None (b.frames other) off)
+        ])
+        ∙ sym (ap (held_by b.first b.maps.current b.frames) told.is)
+
+    pub KeepsPages-removed : KeepsPages b (record b { frames = frames })
+    KeepsPages-removed = KeepsPages-writes (writes-rests (reads_none b.disk b.writes b.faults)) (waits-less b.frames frames key None now refl) (omega arith) (omega arith)
+        (λ told. ap (λ (f : FrameOf). held_by b.first b.maps.current f b.disk.contents) now ∙ held-removed told)
+
+-- a page in memory is mapped
+pub mapped_there : {b : BufferView} → IsBuffer b → (key : PageKey) → is_some (b.frames key) ≡ true → mapped_by b.maps.current key ≡ true
+mapped_there {b = b} buffer key there = by (b.frames key) refl there
+  where
+    by : (o : Option Frame) → b.frames key ≡ o → is_some o ≡ true → mapped_by b.maps.current key ≡ true
+    by None is some = absurd (cc)
+    by (Some frame) is some = buffer.frames_hold.mapped key frame is
+
+-- ---- nothing is done
+
+loose_then : {old mid : BufferView} (disk : Disk) → KeepsPages old mid → WritesLoose old.first old.maps.shadow old.disk mid.disk → WritesLoose mid.first mid.maps.shadow mid.disk disk → WritesLoose old.first old.maps.shadow old.disk disk
+loose_then {old = old} {mid = mid} disk keeps before after =
+    writes_then before (subst (λ (n : ℕ). WritesLoose n old.maps.shadow mid.disk disk) keeps.first (subst (λ (m : Maps). WritesLoose mid.first m.shadow mid.disk disk) keeps.maps after))
+
+-- the maps and the frames are the same
+pub IsBuffer-same : {b : BufferView} {frames : FrameOf} → IsBuffer b → frames ≡ b.frames → IsBuffer (record b { frames = frames })
+IsBuffer-same {b = b} buffer now = subst (λ (f : FrameOf). IsBuffer (record b { frames = f })) (sym now) buffer
+
+pub KeepsPages-same : {b : BufferView} {frames : FrameOf} → frames ≡ b.frames → KeepsPages b (record b { frames = frames })
+KeepsPages-same {b = b} now = subst (λ (f : FrameOf). KeepsPages b (record b { frames = f })) (sym now) (KeepsPages-rests b)
+
+pub IsBuffer-back : {b : BufferView} {maps : Maps} {frames : FrameOf} → IsBuffer b → maps ≡ b.maps → frames ≡ b.frames → IsBuffer (record b { maps = maps; frames = frames })
+IsBuffer-back {b = b} {frames = frames} buffer back now = subst (λ (m : Maps). IsBuffer (record b { maps = m; frames = frames })) (sym back) (IsBuffer-same buffer now)
+
+pub KeepsPages-back : {b : BufferView} {maps : Maps} {frames : FrameOf} → maps ≡ b.maps → frames ≡ b.frames → KeepsPages b (record b { maps = maps; frames = frames })
+KeepsPages-back {b = b} {frames = frames} back now = subst (λ (m : Maps). KeepsPages b (record b { maps = m; frames = frames })) (sym back) (KeepsPages-same now)
+
+pub no_cause : {T : Type 0} (disk : Disk) (faults : ℕ) (value : T) → HasPageCause disk faults faults (Ok value)
+no_cause disk faults value = record { later = omega arith; failed = λ is. absurd (cc); sound = λ place is. absurd (cc) }
+
+-- the error of a call is passed on
+pub cause_fails : {T U : Type 0} {disk : Disk} {faults faults_now : ℕ} {fault : PageFault} (result : Result U PageFault) → IsErrAnd result (λ why. why ≡ fault) → HasPageCause {T = T} disk faults faults_now (Err fault) → HasPageCause disk faults faults_now result
+cause_fails {U = U} {disk = disk} {faults = faults} {faults_now = faults_now} {fault = fault} result is cause =
+    let why = err_from_is_err_and result is in
+    subst (λ (r : Result U PageFault). HasPageCause disk faults faults_now r) (sym (why.1 ∙ ap Err why.2)) (record {
+      later = cause.later;
+      failed = λ at. let same : fault ≡ DeviceFailed = cc in cause.failed (ap Err same);
+      sound = λ place at told. let same : fault ≡ Damaged place = cc in cause.sound place (ap Err same) told;
+    })
+
+pub MovesPages-keeps : {T : Type 0} {old new : BufferView} (value : T) → KeepsPages old new → new.writes ≤ old.writes + 1 → MovesPages old new (Ok value)
+MovesPages-keeps value keeps few = record {
+  keeps = keeps;
+  few = few;
+  cause = record { later = keeps.later; failed = λ is. absurd (cc); sound = λ place is. absurd (cc) };
+}
+
+-- the error of a call is passed on
+pub MovesPages-fails : {T U : Type 0} {old new : BufferView} {fault : PageFault} (result : Result U PageFault) → IsErrAnd result (λ why. why ≡ fault) → MovesPages {T = T} old new (Err fault) → MovesPages old new result
+MovesPages-fails result is call = record { keeps = call.keeps; few = call.few; cause = cause_fails result is call.cause }
+
+-- nothing is written
+pub WritesPages-none : {T : Type 0} {b : BufferView} {frames : FrameOf} (value : T) → frames ≡ b.frames → WritesPages b (record b { frames = frames }) (Ok value)
+WritesPages-none {b = b} value now = subst (λ (f : FrameOf). WritesPages b (record b { frames = f }) (Ok value)) (sym now) (record {
+  keeps = KeepsPages-rests b;
+  loose = writes_none b.disk;
+  settles = settles-rests (waiting_in b.frames) b.writes;
+  few = settles-count (settles-rests (waiting_in b.frames) b.writes);
+  fault = tt;
+  cause = no_cause b.disk b.faults value;
+})
+
+pub WritesPages-then : {T : Type 0} {old mid new : BufferView} {result : Result T PageFault} → WritesPages {T = Unit {0}} old mid (Ok tt) → WritesPages mid new result → WritesPages old new result
+WritesPages-then {old = old} {mid = mid} {new = new} {result = result} one two = record {
+  keeps = KeepsPages-then one.keeps two.keeps;
+  loose = loose_then new.disk one.keeps one.loose two.loose;
+  settles = on_ok_weaker result (λ settles. settles-then one.settles settles) two.settles;
+  few = settles-writes one.settles two.few;
+  fault = two.fault;
+  cause = record {
+    later = omega (arith, one.cause.later, two.cause.later);
+    failed = λ is. let rose = two.cause.failed is in omega (arith, rose, one.cause.later);
+    sound = λ place is told. two.cause.sound place is (one.loose.told.0 told);
+  };
+}
+
+pub WritesPages-fails : {T U : Type 0} {old new : BufferView} {fault : PageFault} (result : Result U PageFault) → IsErrAnd result (λ why. why ≡ fault) → WritesPages {T = T} old new (Err fault) → WritesPages old new result
+WritesPages-fails {U = U} {old = old} {new = new} {fault = fault} result is call =
+    let why = err_from_is_err_and result is in
+    subst (λ (r : Result U PageFault). WritesPages old new r) (sym (why.1 ∙ ap Err why.2)) (record {
+      keeps = call.keeps;
+      loose = call.loose;
+      settles = tt;
+      few = call.few;
+      fault = call.fault;
+      cause = cause_fails {U = U} (Err fault) refl call.cause;
+    })
+
+-- ---- a page after it was written to its slot, where it was in memory
+
+-- it stands there
+pub unchanged-clean_at : (frames frames_now : FrameOf) (key : PageKey) → frames_now ≡ with_unchanged frames key → (frame : Frame) → frames_now key ≡ Some frame → frame.changed ≡ false
+unchanged-clean_at frames frames_now key now frame there = by (frames key) (sym (ap (λ (f : FrameOf). f key) now ∙ with_frame-same frames key (option_map unchanged (frames key))) ∙ there)
+  where
+    by : (o : Option Frame) → option_map unchanged o ≡ Some frame → frame.changed ≡ false
+    by None is = absurd (cc)
+    by (Some before) is = ap (λ (f : Frame). f.changed) (sym (same_Some (unchanged before) frame is))
+
+-- it is there as before
+pub unchanged-there : (frames frames_now : FrameOf) (key : PageKey) → frames_now ≡ with_unchanged frames key → is_some (frames key) ≡ true → is_some (frames_now key) ≡ true
+unchanged-there frames frames_now key now there =
+    ap (λ (f : FrameOf). is_some (f key)) now ∙ ap (λ (o : Option Frame). is_some o) (with_frame-same frames key (option_map unchanged (frames key))) ∙ by (frames key) there
+  where
+    by : (o : Option Frame) → is_some o ≡ true → is_some (option_map unchanged o) ≡ true
+    by None is = absurd (cc)
+    by (Some frame) is = refl
+
+-- nothing changes where it has no frame, or one that stands in its slot
+pub unchanged-same : (frames : FrameOf) (key : PageKey) → option_map unchanged (frames key) ≡ frames key → frames ≡ with_unchanged frames key
+unchanged-same frames key same = fun_ext (λ other. elim (cases_Bool (is_same other key)) [
+  | inl here ↦ ap frames (is_same-true other key here) ∙ sym same ∙ sym (cond-true (is_same other key) (option_map unchanged (frames key)) (frames other) here)
+  | inr off ↦ sym (cond-false (is_same other key) (option_map unchanged (frames key)) (frames other) off)
+])

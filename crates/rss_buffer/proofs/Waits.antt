@@ -10,7 +10,7 @@ use Rattle.rss_base.specs.declared.key.PageKey.{PageKey}
 use Rattle.rss_base.proofs.Keys.{is_same-itself}
 use Rattle.rss_buffer.specs.declared.frames.Frame.{Frame}
 use Rattle.rss_buffer.specs.Frames.{FrameOf, with_frame, is_changed, waiting_in, Settles}
-use Rattle.rss_buffer.specs.Buffered.{NoneChanged, IsChangedIn, unchanged}
+use Rattle.rss_buffer.specs.Buffered.{NoneChanged, unchanged}
 
 -- ---- after a change at one page
 
@@ -24,12 +24,6 @@ among-less waiting key = λ other is. elim (cases_Bool (is_same other key)) [
   | inr off ↦ sym (cond-false (is_same other key) false (waiting other) off) ∙ is
 ]
 
-among-more : (waiting : Mapped) (key : PageKey) → AreAmong waiting (with_mapped waiting key true)
-among-more waiting key = λ other is. elim (cases_Bool (is_same other key)) [
-  | inl here ↦ cond-true (is_same other key) true (waiting other) here
-  | inr off ↦ cond-false (is_same other key) true (waiting other) off ∙ is
-]
-
 -- a page that leaves memory, or stands in its slot now, doesn't wait
 pub waits-less : (frames frames_now : FrameOf) (key : PageKey) (frame : Option Frame) → frames_now ≡ with_frame frames key frame → is_changed frame ≡ false → AreAmong (waiting_in frames_now) (waiting_in frames)
 waits-less frames frames_now key frame now clean = λ other is.
@@ -38,17 +32,8 @@ waits-less frames frames_now key frame now clean = λ other is.
 pub waits-alike : (frames frames_now : FrameOf) → frames_now ≡ frames → AreAmong (waiting_in frames_now) (waiting_in frames)
 waits-alike frames frames_now same = λ key is. ap (λ (f : FrameOf). waiting_in f key) (sym same) ∙ is
 
--- one page more may wait
-pub waits-more : (frames frames_mid frames_now : FrameOf) (key : PageKey) (frame : Option Frame) → AreAmong (waiting_in frames_mid) (waiting_in frames) → frames_now ≡ with_frame frames_mid key frame → AreAmong (waiting_in frames_now) (with_mapped (waiting_in frames) key true)
-waits-more frames frames_mid frames_now key frame among now = λ other is. elim (cases_Bool (is_same other key)) [
-  | inl here ↦ cond-true (is_same other key) true (waiting_in frames other) here
-  | inr off ↦
-      let before = sym (ap (λ (w : Mapped). w other) (waiting-now frames_mid frames_now key frame now) ∙ cond-false (is_same other key) (is_changed frame) (waiting_in frames_mid other) off) ∙ is in
-      among-more (waiting_in frames) key other (among other before)
-]
-
-pub changed-waits : (frames : FrameOf) (key : PageKey) → IsChangedIn frames key → waiting_in frames key ≡ true
-changed-waits frames key changed = ap is_changed changed.there ∙ changed.changed
+pub changed-waits : (frames : FrameOf) (key : PageKey) (frame : Frame) → frames key ≡ Some frame → frame.changed ≡ true → waiting_in frames key ≡ true
+changed-waits frames key frame there changed = ap is_changed there ∙ changed
 
 pub unchanged-clean : (frame : Option Frame) → is_changed (option_map unchanged frame) ≡ false
 unchanged-clean None = refl

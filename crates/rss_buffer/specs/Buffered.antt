@@ -1,17 +1,48 @@
--- What holds of a buffer between any two calls.
-use Rattle.std.specs.Prelude.{◌≡◌, ◌≢◌, ◌↔◌, ℕ, ◌+◌, Bool, true, false, List, length, Option, Some, None, option_map}
-use Rattle.rss_base.specs.DiskRule.{Disk, Pages, page, Told, IsTold, IsRewrittenIn, Leaves, LeavesOnly, TornIn, Passes}
+-- What holds of a buffer between any two calls, and what each call within it passes on.
+use Rattle.std.specs.Prelude.{◌≡◌, ◌≢◌, ℕ, ◌+◌, ◌≤◌, Bool, true, false, List, length, Option, Some, None, option_map, Result, IfErr, OnOk}
+use Rattle.rss_base.specs.DiskRule.{Disk, Pages, page, Told, IsTold, Leaves, LeavesOnly, WritesIn}
 use Rattle.rss_base.specs.Layout.{map_at, slots_at}
-use Rattle.rss_base.specs.PageMap.{owner_of, IsTable, IsMap}
-use Rattle.rss_base.specs.Paged.{HasFixed, LeavesFixed}
+use Rattle.rss_base.specs.PageMap.{owner_of, page_count, IsTable, IsMap}
+use Rattle.rss_base.specs.Paged.{Held, AreAmong, WritesWaiting, HasFixed, LeavesFixed, HasPageCause}
+use Rattle.rss_base.specs.StoredPages.{mapped_by}
+use Rattle.rss_base.specs.declared.fault.PageFault.{PageFault}
+use Rattle.rss_base.specs.declared.fault.PageFault.TheVariants.{Device as DeviceFailed}
 use Rattle.rss_base.specs.declared.key.PageKey.{PageKey}
 use Rattle.rss_shadow.specs.Maps.{Maps}
 use Rattle.rss_buffer.specs.declared.frames.Frame.{Frame}
 use Rattle.rss_buffer.specs.declared.stage.Stage.{Stage}
 use Rattle.rss_buffer.specs.declared.stage.Stage.TheVariants.{Changing, Saved, Switched}
-use Rattle.rss_buffer.specs.Frames.{FrameOf, with_frame}
+use Rattle.rss_buffer.specs.Frames.{FrameOf, with_frame, waiting_in, Settles}
 use Rattle.rss_buffer.specs.Slots.{held_by, is_loose, fixed_by}
-use Rattle.rss_base.specs.StoredPages.{mapped_by}
+
+-- What there is to see of a buffer within the crate.
+-- disk, size: what the device tells, and how many pages it has.
+-- first: where the data slots begin on it.
+-- maps: the current map, and the shadow map.
+-- frames: the pages in memory.
+-- settled: no page but a data slot is on its way to the disk.
+-- log_pages, area: how many log pages there are, and the map area that the selected root names.
+-- stage: how far the saving has come.
+-- asks, writes, faults: how many reads of a page there were, and writes and faults of the device.
+pub record BufferView : Type 1 where
+  pub disk : Disk
+  pub size : ℕ
+  pub first : ℕ
+  pub maps : Maps
+  pub frames : FrameOf
+  pub settled : Bool
+  pub log_pages : ℕ
+  pub area : ℕ
+  pub stage : Stage
+  pub asks : ℕ
+  pub writes : ℕ
+  pub faults : ℕ
+
+-- what each page holds
+abbrev pub held_of : BufferView → Held
+held_of view = held_by view.first view.maps.current view.frames view.disk.contents
+
+-- ---- what holds between any two calls
 
 -- no frame holds a page that isn't in its slot as yet
 abbrev pub NoneChanged : FrameOf → Type 0
@@ -19,61 +50,96 @@ NoneChanged frames = (key : PageKey) (frame : Frame) → frames key ≡ Some fra
 
 -- The frames are those of mapped pages, and a page that was changed has a slot that the shadow map doesn't use.
 pub record AreFrames (maps : Maps) (frames : FrameOf) : Type 0 where
-  pub mapped : (key : PageKey) (frame : Frame) → frames key ≡ Some frame → mapped_by maps.current key ≡ true
-  pub own_slot : (key : PageKey) (frame : Frame) (slot : ℕ) → frames key ≡ Some frame → frame.changed ≡ true → owner_of maps.current slot ≡ Some key → owner_of maps.shadow slot ≡ None
+  pub mapped : (key : PageKey) (frame : Frame) → frames key ≡ Some frame
+      → mapped_by maps.current key ≡ true
+  pub own_slot : (key : PageKey) (frame : Frame) (slot : ℕ) → frames key ≡ Some frame
+      → frame.changed ≡ true → owner_of maps.current slot ≡ Some key
+      → owner_of maps.shadow slot ≡ None
 
 -- a page that wasn't changed stands in its slot
 abbrev pub AreClean : ℕ → Maps → FrameOf → Pages → Type 0
-AreClean first maps frames pages = (key : PageKey) (frame : Frame) (slot : ℕ) → frames key ≡ Some frame → frame.changed ≡ false → owner_of maps.current slot ≡ Some key → frame.page ≡ page pages (first + slot)
+AreClean first maps frames pages =
+    (key : PageKey) (frame : Frame) (slot : ℕ) → frames key ≡ Some frame → frame.changed ≡ false
+    → owner_of maps.current slot ≡ Some key → frame.page ≡ page pages (first + slot)
 
 -- a stop leaves what is fixed
 abbrev pub StaysFixed : Disk → ℕ → List (Option PageKey) → Pages → Type 0
-StaysFixed disk first shadow pages = (image : Pages) → Leaves disk image → HasFixed (fixed_by first shadow (Some pages)) image
+StaysFixed disk first shadow pages =
+    (image : Pages) → Leaves disk image → HasFixed (fixed_by first shadow (Some pages)) image
+
+-- the area holds this map
+abbrev pub HoldsMapAt : List (Option PageKey) → ℕ → Pages → Type 0
+HoldsMapAt owners area pages = IsMap (length owners) pages (map_at (length owners) area) owners
 
 -- Once the current map is saved no page is changed, and its area holds it; once its root is selected a stop leaves what a read gives.
-pub record IsAtStage (disk : Disk) (maps : Maps) (frames : FrameOf) (stage : Stage) : Type 0 where
-  pub none_changed : stage ≢ Changing → NoneChanged frames
-  pub saved : (area : ℕ) → stage ≡ Saved area → Told disk (λ pages. IsMap (length maps.current) pages (map_at (length maps.current) area) maps.current)
-  pub synced : stage ≡ Switched → Told disk (LeavesOnly disk)
+pub record IsAtStage (view : BufferView) : Type 0 where
+  pub none_changed : view.stage ≢ Changing → NoneChanged view.frames
+  pub saved : (area : ℕ) → view.stage ≡ Saved area → Told view.disk (HoldsMapAt view.maps.current area)
+  pub synced : view.stage ≡ Switched → Told view.disk (LeavesOnly view.disk)
 
-pub record IsBuffer (disk : Disk) (size log_pages first : ℕ) (maps : Maps) (frames : FrameOf) (settled : Bool) (stage : Stage) : Type 0 where
-  pub table : IsTable maps.current
-  pub count : length maps.shadow ≡ length maps.current
-  pub place : first ≡ slots_at (length maps.current) log_pages
-  pub room : size ≡ first + length maps.current
-  pub frames_hold : AreFrames maps frames
-  pub clean : Told disk (AreClean first maps frames)
-  pub fixed : settled ≡ true → Told disk (StaysFixed disk first maps.shadow)
-  pub at_stage : IsAtStage disk maps frames stage
+-- each page of either map has a slot of its own
+abbrev pub HaveSlots : Maps → Type 0
+HaveSlots maps = page_count maps.shadow + page_count maps.current ≤ length maps.current
 
--- the page is in memory, and isn't in its slot as yet
-pub record IsChangedIn (frames : FrameOf) (key : PageKey) : Type 0 where
-  pub frame : Frame
-  pub there : frames key ≡ Some frame
-  pub changed : frame.changed ≡ true
+pub record IsBuffer (view : BufferView) : Type 0 where
+  pub table : IsTable view.maps.current
+  pub count : length view.maps.shadow ≡ length view.maps.current
+  pub room : HaveSlots view.maps
+  pub place : view.first ≡ slots_at (length view.maps.current) view.log_pages
+  pub ends : view.size ≡ view.first + length view.maps.current
+  pub frames_hold : AreFrames view.maps view.frames
+  pub clean : Told view.disk (AreClean view.first view.maps view.frames)
+  pub fixed : view.settled ≡ true → Told view.disk (StaysFixed view.disk view.first view.maps.shadow)
+  pub at_stage : IsAtStage view
+
+-- ---- what is done to the frames
 
 -- the frame of a page that stands in its slot
 abbrev pub unchanged : Frame → Frame
 unchanged frame = record { page = frame.page; changed = false }
 
--- the same frames, but that this page stands in its slot now
+-- the same frames, but that this page, where it is in memory, stands in its slot now
 abbrev pub with_unchanged : FrameOf → PageKey → FrameOf
 with_unchanged frames key = with_frame frames key (option_map unchanged (frames key))
+
+-- ---- what each call within the crate passes on
 
 -- a data slot that the shadow map doesn't use
 abbrev pub IsLoose : ℕ → List (Option PageKey) → ℕ → Type 0
 IsLoose first shadow q = is_loose first shadow q ≡ true
 
 -- a call that writes no other pages of the device than such slots
-pub record WritesLoose (first : ℕ) (shadow : List (Option PageKey)) (old new : Disk) : Type 0 where
-  pub told : IsTold old ↔ IsTold new
-  pub kept : Told old (λ pages. IsRewrittenIn (IsLoose first shadow) pages new.contents)
-  pub moments : IsTold old → Passes old new (TornIn (IsLoose first shadow) (Leaves old))
+abbrev pub WritesLoose : ℕ → List (Option PageKey) → Disk → Disk → Type 0
+WritesLoose first shadow old new = WritesIn (IsLoose first shadow) old new
 
--- A call that moves pages between memory and their slots: the maps stay, what each page holds, and what is fixed.
-pub record KeepsPages (old : Disk) (first : ℕ) (maps : Maps) (frames : FrameOf) (settled : Bool) (new : Disk) (first_now : ℕ) (maps_now : Maps) (frames_now : FrameOf) (settled_now : Bool) : Type 0 where
-  pub same_first : first_now ≡ first
-  pub same_maps : maps_now ≡ maps
-  pub same_settled : settled_now ≡ settled
-  pub held : IsTold old → held_by first_now maps_now.current frames_now new.contents ≡ held_by first maps.current frames old.contents
-  pub leaves : LeavesFixed (settled ≡ true) (settled_now ≡ true) old new (fixed_by first maps.shadow old.contents) (fixed_by first_now maps_now.shadow new.contents)
+-- Pages move between memory and their slots: the maps stay, what each page holds, and what is fixed. No more pages wait to be written.
+pub record KeepsPages (old new : BufferView) : Type 0 where
+  pub first : new.first ≡ old.first
+  pub maps : new.maps ≡ old.maps
+  pub settled : new.settled ≡ old.settled
+  pub log_pages : new.log_pages ≡ old.log_pages
+  pub area : new.area ≡ old.area
+  pub stage : new.stage ≡ old.stage
+  pub asks : new.asks ≡ old.asks
+  pub held : IsTold old.disk → held_of new ≡ held_of old
+  pub leaves : LeavesFixed (old.settled ≡ true) (new.settled ≡ true) old.disk new.disk
+      (fixed_by old.first old.maps.shadow old.disk.contents)
+      (fixed_by new.first new.maps.shadow new.disk.contents)
+  pub waiting : AreAmong (waiting_in new.frames) (waiting_in old.frames)
+  pub writes : old.writes ≤ new.writes
+  pub later : old.faults ≤ new.faults
+
+-- A call that makes one write at most, for room in memory.
+pub record MovesPages {T : Type 0} (old new : BufferView) (result : Result T PageFault) : Type 0 where
+  pub keeps : KeepsPages old new
+  pub few : new.writes ≤ old.writes + 1
+  pub cause : HasPageCause old.disk old.faults new.faults result
+
+-- A call that writes pages that wait to their slots, each of them once.
+pub record WritesPages {T : Type 0} (old new : BufferView) (result : Result T PageFault) : Type 0 where
+  pub keeps : KeepsPages old new
+  pub loose : WritesLoose old.first old.maps.shadow old.disk new.disk
+  pub settles : OnOk result (Settles (waiting_in old.frames) (waiting_in new.frames) old.writes new.writes)
+  pub few : WritesWaiting (waiting_in old.frames) 0 old.writes new.writes
+  pub fault : IfErr result (λ fault. fault ≡ DeviceFailed)
+  pub cause : HasPageCause old.disk old.faults new.faults result

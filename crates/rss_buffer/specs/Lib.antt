@@ -9,5 +9,7 @@ pub mod Frames
 pub mod Slots
 pub mod Buffered
 pub mod Saved
+pub mod Saving
+pub mod Views
 pub mod Devices
 pub mod BufferLaws

@@ -8,9 +8,9 @@ use Rattle.rss_base.specs.declared.key.PageKey.{PageKey}
 use Rattle.rss_buffer.specs.declared.frames.Frame.{Frame}
 use Rattle.rss_buffer.specs.Frames.{FrameOf}
 
--- what a read gives, where the device tells it
-abbrev pub pages_of : Option Pages → Pages
-pages_of contents = unwrap_or contents []
+-- what a read gives where the device tells it, and else no pages
+abbrev pub told_pages : Option Pages → Pages
+told_pages contents = unwrap_or contents []
 
 -- what a page holds: what is in its frame, and else what is in its slot
 abbrev pub held_in : Option Frame → List ℕ → List ℕ
@@ -19,7 +19,9 @@ held_in (Some frame) slot = frame.page
 
 -- what each page of the map holds. The data slots begin at first.
 abbrev pub held_by : ℕ → List (Option PageKey) → FrameOf → Option Pages → Held
-held_by first owners frames contents key = option_map (λ slot. held_in (frames key) (page (pages_of contents) (first + slot))) (slot_of owners key)
+held_by first owners frames contents key =
+    option_map (λ slot. held_in (frames key) (page (told_pages contents) (first + slot)))
+    (slot_of owners key)
 
 -- a data slot that the shadow map doesn't use
 abbrev pub is_loose : ℕ → List (Option PageKey) → ℕ → Bool
@@ -27,4 +29,7 @@ is_loose first shadow q = nat_le first q && not (is_some (owner_of shadow (q - f
 
 -- what is fixed: all but those slots
 abbrev pub fixed_by : ℕ → List (Option PageKey) → Option Pages → Fixed
-fixed_by first shadow contents = record { size = length (pages_of contents); held_at = λ q. if is_loose first shadow q then None else Some (page (pages_of contents) q) }
+fixed_by first shadow contents = record {
+  size = length (told_pages contents);
+  held_at = λ q. if is_loose first shadow q then None else Some (page (told_pages contents) q);
+}

@@ -1,16 +1,15 @@
 // Pages over a device.
 ghost use Rattle.std.proofs.Props.{props};
 ghost use Rattle.rss_base.proofs.Props.{IsSegmentOf-prop};
-ghost use Rattle.std.specs.Prelude.{◌≡◌, ◌*◌, ◌<◌, ◌≤◌, ℕ, [], length, true, false, IfOk, IfErr};
+ghost use Rattle.std.specs.Prelude.{◌≡◌, ◌*◌, ◌<◌, ◌≤◌, ℕ, [], length, IfOk, IfErr};
 ghost use Rattle.rss_base.specs.DiskRule.{Told, LeavesOnly};
-ghost use Rattle.rss_base.specs.Layout.{IsWellFormed, device_pages, map_at, slots_at};
-ghost use Rattle.rss_base.specs.PageMap.{IsMap};
-ghost use Rattle.rss_base.specs.declared.key.PageKey.{PageKey as Key};
-ghost use Rattle.rss_base.specs.declared.fault.OpenFault.TheVariants.{NoMemory as LacksMemory};
-ghost use Rattle.rss_shadow.specs.Maps.{pages_of};
-ghost use Rattle.rss_buffer.specs.Frames.{frame_in};
-ghost use Rattle.rss_buffer.specs.Buffered.{IsBuffer};
+ghost use Rattle.rss_base.specs.Layout.{IsWellFormed, device_pages, slots_at};
+ghost use Rattle.rss_base.specs.PageMap.{page_count};
 ghost use Rattle.rss_base.specs.StoredPages.{StandInSlots};
+ghost use Rattle.rss_base.specs.declared.fault.OpenFault.TheVariants.{NoMemory as LacksMemory};
+ghost use Rattle.rss_buffer.specs.Frames.{frame_in};
+ghost use Rattle.rss_buffer.specs.Buffered.{HoldsMapAt, IsBuffer};
+ghost use Rattle.rss_buffer.specs.Saving.{IsFresh};
 ghost use Rattle.rss_buffer.specs.declared.stage.Stage.TheVariants.{Saved};
 
 use crate::frames::Frames;
@@ -20,6 +19,12 @@ use rss_pagemap::SlotTable;
 use rss_shadow::Shadow;
 use std::alloc::{AllocError, Global};
 use std::num::NonZeroUsize;
+
+/// The fewest pages that a buffer keeps in memory.
+pub const LEAST_FRAMES: u32 = 8;
+
+/// The most pages that a buffer keeps in memory.
+pub const MOST_FRAMES: u32 = 1024;
 
 /// The pages of a store. As many as there are frames are kept in memory; of the others, those that
 /// were changed stand in slots that no saved page has.
@@ -38,7 +43,20 @@ pub struct Buffer<D: Device> {
     pub(crate) settled: bool,
     pub(crate) asks: u64,
     ghost saved_area: { (area : ℕ) → stage ≡ Saved area → area < 2 },
-    ghost holds: { IsBuffer (D.disk device) (D.size_of device) log_pages first_slot shadow (frame_in frames.cache.entries) settled stage } by { Prim.hlevel (props, IsSegmentOf-prop) },
+    ghost holds: { IsBuffer (record {
+      disk = D.disk device;
+      size = D.size_of device;
+      first = first_slot;
+      maps = shadow;
+      frames = frame_in frames.cache.entries;
+      settled = settled;
+      log_pages = log_pages;
+      area = area;
+      stage = stage;
+      asks = asks;
+      writes = D.writes device;
+      faults = D.faults device;
+    }) } by { Prim.hlevel (props, IsSegmentOf-prop) },
 }
 
 impl<D: Device> Buffer<D> {
@@ -53,24 +71,20 @@ impl<D: Device> Buffer<D> {
         table: SlotTable,
         frames: u32,
     ) -> Result<Buffer<D>, Unopened<D>>
-        requires least { 8 ≤ frames }
-        requires most { frames ≤ 1024 }
+        requires least { LEAST_FRAMES ≤ frames }
+        requires most { frames ≤ MOST_FRAMES }
         requires formed { IsWellFormed root.now }
         requires size { D.size_of device ≡ device_pages root.now }
         requires count { length table ≡ root.now.slots }
-        requires half { 2 * pages_of table ≤ length table }
-        requires map { Told (D.disk device) (λ pages. IsMap root.now.slots pages (map_at root.now.slots root.now.area) table) }
+        requires half { 2 * page_count table ≤ length table }
+        requires map { Told (D.disk device) (HoldsMapAt table root.now.area) }
         requires synced { Told (D.disk device) (LeavesOnly (D.disk device)) }
         ensures device { IfOk result (λ buffer. device_of buffer ≡ device) }
-        ensures held { IfOk result (λ buffer. Told (D.disk device) (λ pages. StandInSlots (slots_at root.now.slots root.now.log_pages) pages table (⟦<Buffer<D> as Pages>⟧.held buffer))) }
-        ensures maps { IfOk result (λ buffer. ⟦<Buffer<D> as Saving>⟧.maps buffer ≡ record { current = table; shadow = table }) }
-        ensures log_pages { IfOk result (λ buffer. ⟦<Buffer<D> as Saving>⟧.log_pages_of buffer ≡ root.now.log_pages) }
-        ensures area { IfOk result (λ buffer. ⟦<Buffer<D> as Saving>⟧.area_of buffer ≡ root.now.area) }
-        ensures stage { IfOk result (λ buffer. ⟦<Buffer<D> as Saving>⟧.stage_of buffer ≡ Stage.Changing) }
-        ensures settled { IfOk result (λ buffer. ⟦<Buffer<D> as Pages>⟧.is_settled buffer ≡ true) }
-        ensures asks { IfOk result (λ buffer. ⟦<Buffer<D> as Pages>⟧.asks buffer ≡ 0) }
-        ensures waiting { IfOk result (λ buffer. (key : Key) → ⟦<Buffer<D> as Pages>⟧.waiting buffer key ≡ false) }
-        ensures writes { IfOk result (λ buffer. ⟦<Buffer<D> as Pages>⟧.writes buffer ≡ D.writes device) }
+        ensures held { IfOk result (λ buffer. Told (D.disk device) (λ pages.
+            StandInSlots (slots_at root.now.slots root.now.log_pages) pages table
+            (⟦<Buffer<D> as Pages>⟧.view buffer).held)) }
+        ensures fresh { IfOk result (λ buffer. IsFresh root.now table (D.writes device)
+            (⟦<Buffer<D> as Pages>⟧.view buffer) (⟦<Buffer<D> as Saving>⟧.saving buffer)) }
         ensures back { IfErr result (λ e. (e.device ≡ device) × (e.fault ≡ LacksMemory)) }
     {
         let Ok(frames) = new_frames(alloc, frames) else {

@@ -48,17 +48,16 @@ impl Frames {
         self.cache.len() >= self.cache.cap().get()
     }
 
-    /// The page that wasn't used for the longest time, and whether it was changed.
-    pub(crate) fn eldest(&self) -> Option<(PageKey, bool)>
-        ensures some { IfSome result (λ eldest. IfSome (frame_in self.now.cache.entries eldest.0) (λ frame. frame.changed ≡ eldest.1)) }
-        ensures there { IfSome result (λ eldest. IsSome (frame_in self.now.cache.entries eldest.0)) }
+    /// The page that wasn't used for the longest time.
+    pub(crate) fn eldest(&self) -> Option<PageKey>
+        ensures there { IfSome result (λ key. IsSome (frame_in self.now.cache.entries key)) }
         ensures none { IfNone result (self.now.cache.entries ≡ []) }
         ensures holds_some { 0 < self.now.cache.cap }
     {
         // `len` is called for its clause that the keys are distinct, which the proof cites.
         let _len = self.cache.len();
-        let (key, frame) = self.cache.peek_lru()?;
-        Some((*key, frame.changed))
+        let (key, _) = self.cache.peek_lru()?;
+        Some(*key)
     }
 
     /// The frame of a page.
@@ -81,8 +80,12 @@ impl Frames {
 
     /// Puts a page into memory, in place of what is there of it.
     pub(crate) fn put(&mut self, key: PageKey, page: &Page, changed: bool) -> Result<(), AllocError>
-        requires { (length self.old.cache.entries < self.old.cache.cap) ⊎ IsSome (frame_in self.old.cache.entries key) }
-        ensures ok { OnOk result (frame_in self.new.cache.entries ≡ with_frame (frame_in self.old.cache.entries) key (Some (record { page = page.now; changed = changed }))) }
+        requires { (length self.old.cache.entries < self.old.cache.cap)
+            ⊎ IsSome (frame_in self.old.cache.entries key) }
+        ensures ok { OnOk result
+            (frame_in self.new.cache.entries
+            ≡ with_frame (frame_in self.old.cache.entries) key
+            (Some (record { page = page.now; changed = changed }))) }
         ensures err { OnErr result (self.new ≡ self.old) }
         ensures succeeds { IsSome (frame_in self.old.cache.entries key) → IsOk result }
         ensures room { self.new.cache.cap ≡ self.old.cache.cap }
@@ -104,23 +107,14 @@ impl Frames {
         Ok(())
     }
 
-    /// Notes that the page stands in its slot.
-    pub(crate) fn settle(&mut self, key: PageKey)
-        requires { IsSome (frame_in self.old.cache.entries key) }
-        ensures settled { IfSome (frame_in self.old.cache.entries key) (λ frame. frame_in self.new.cache.entries ≡ with_frame (frame_in self.old.cache.entries) key (Some (record { page = frame.page; changed = false }))) }
-        ensures room { self.new.cache.cap ≡ self.old.cache.cap }
-    {
-        let Some(frame) = self.cache.peek_mut(&key) else {
-            unreachable!()
-        };
-        frame.changed = false;
-    }
-
     /// Drops the page from memory.
     pub(crate) fn remove(&mut self, key: PageKey)
-        ensures gone { frame_in self.new.cache.entries ≡ with_frame (frame_in self.old.cache.entries) key None }
-        ensures fewer { IsSome (frame_in self.old.cache.entries key) → length self.new.cache.entries < length self.old.cache.entries }
-        ensures free { IsSome (frame_in self.old.cache.entries key) → length self.new.cache.entries < self.new.cache.cap }
+        ensures gone { frame_in self.new.cache.entries
+            ≡ with_frame (frame_in self.old.cache.entries) key None }
+        ensures fewer { IsSome (frame_in self.old.cache.entries key)
+            → length self.new.cache.entries < length self.old.cache.entries }
+        ensures free { IsSome (frame_in self.old.cache.entries key)
+            → length self.new.cache.entries < self.new.cache.cap }
         ensures room { self.new.cache.cap ≡ self.old.cache.cap }
     {
         // `len` is called for its clause that the keys are distinct, which the proof cites.

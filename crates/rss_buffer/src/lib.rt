@@ -8,6 +8,6 @@ mod pages;
 mod saving;
 mod stage;
 
-pub use buffer::Buffer;
+pub use buffer::{Buffer, LEAST_FRAMES, MOST_FRAMES};
 pub use saving::Saving;
 pub use stage::Stage;

@@ -3,10 +3,10 @@ use Rattle.std.proofs.Common.{◌≡◌, ◌≢◌, ◌⊎◌, inl, inr, ℕ, �
 use Rattle.std.proofs.lemmas.List.{take_all, take-append-le, ext_get_or, take_more}
 use Rattle.std.proofs.lemmas.Bool.{cases_eq}
 use Rattle.std.specs.Prelude.{Bool, true, false, if◌then◌else◌}
-use Rattle.rss_base.proofs.Moments.{started}
-use Rattle.rss_base.specs.DiskRule.{Pages, page, Leaves, LeavesOnly, TornAt, Passes}
+use Rattle.rss_base.proofs.Moments.{started, none_changed}
+use Rattle.rss_base.specs.DiskRule.{Pages, page, Leaves, LeavesOnly, IsAt, SameOff, TornIn, Passes, WritesIn}
 use Rattle.rss_device.specs.Memory.{Among, IsPage, Held, step, replay, at_first, IsImage, IsKept, disk_of}
-use Rattle.rss_device.specs.MemoryLaws.{all_events}
+use Rattle.rss_device.specs.MemoryLaws.{all_events, same_some}
 use Rattle.rss_device.specs.declared.event.Event.{Event}
 use Rattle.rss_device.specs.declared.event.Event.TheVariants.{Wrote, Torn, Synced}
 
@@ -59,7 +59,7 @@ MayHold held q bytes = (bytes ≡ page held.synced q) ⊎ ((bytes ≡ page held.
 torn : (held : Held) (at : ℕ) (image : Pages) → at < length held.pages → length image ≡ length held.pages
     → ((q : ℕ) → q ≢ at → (Among held.loose q → ⊥) → page image q ≡ page held.pages q)
     → ((q : ℕ) → q ≢ at → Among held.loose q → MayHold held q (page image q))
-    → TornAt at (IsImage held) image
+    → TornIn (IsAt at) (IsImage held) image
 torn held at image room size kept loose =
     let back = set image at (page held.pages at) in
     let there : page back at ≡ page held.pages at = get_or-set_same image at (page held.pages at) [] (omega (arith, size)) in
@@ -79,10 +79,10 @@ torn held at image room size kept loose =
       same = record { size = sym (length-set image at (page held.pages at)); others = λ q other. sym (get_or-set_other image at q (page held.pages at) [] other) };
     }
 
-pub torn_write : (held : Held) (at : ℕ) (image : Pages) → at < length held.pages → IsImage (step held (Torn at)) image → TornAt at (IsImage held) image
+pub torn_write : (held : Held) (at : ℕ) (image : Pages) → at < length held.pages → IsImage (step held (Torn at)) image → TornIn (IsAt at) (IsImage held) image
 torn_write held at image room is = torn held at image room is.size (λ q other not. is.kept q (λ in_it. not (in_front held.loose at q other in_it))) (λ q other in_it. is.loose q (inr in_it))
 
-pub whole_write : (held : Held) (at : ℕ) (bytes : List ℕ) (image : Pages) → at < length held.pages → IsImage (step held (Wrote at bytes)) image → TornAt at (IsImage held) image
+pub whole_write : (held : Held) (at : ℕ) (bytes : List ℕ) (image : Pages) → at < length held.pages → IsImage (step held (Wrote at bytes)) image → TornIn (IsAt at) (IsImage held) image
 whole_write held at bytes image room is =
     torn held at image room (is.size ∙ length-set held.pages at bytes)
     (λ q other not. is.kept q (λ in_it. not (in_front held.loose at q other in_it)) ∙ get_or-set_other held.pages at q bytes [] other)
@@ -103,13 +103,13 @@ module _ (first : Pages) (events : List Event) (pages : Pages) (kept : IsKept fi
   room : (at : ℕ) → at < length pages → at < length (replay (at_first first) events).pages
   room at lt = subst (λ (p : Pages). at < length p) kept lt
 
-  leaves : (at : ℕ) (image : Pages) → TornAt at (IsImage (replay (at_first first) events)) image → TornAt at (Leaves (disk_of first events pages)) image
+  leaves : (at : ℕ) (image : Pages) → TornIn (IsAt at) (IsImage (replay (at_first first) events)) image → TornIn (IsAt at) (Leaves (disk_of first events pages)) image
   leaves at image torn = record { before = torn.before; was = leaves_now first events pages Synced torn.before torn.was; same = torn.same }
 
-  pub tears : (later : List Event) (at : ℕ) (after : Pages) → at < length pages → later ≡ events ++ Torn at ∷ [] → Passes (disk_of first events pages) (disk_of first later after) (TornAt at (Leaves (disk_of first events pages)))
+  pub tears : (later : List Event) (at : ℕ) (after : Pages) → at < length pages → later ≡ events ++ Torn at ∷ [] → Passes (disk_of first events pages) (disk_of first later after) (TornIn (IsAt at) (Leaves (disk_of first events pages)))
   tears later at after lt is = one_more first events pages (Torn at) later after _ is (λ image left. leaves at image (torn_write (replay (at_first first) events) at image (room at lt) left))
 
-  pub writes : (later : List Event) (at : ℕ) (bytes : List ℕ) (after : Pages) → at < length pages → later ≡ events ++ Wrote at bytes ∷ [] → Passes (disk_of first events pages) (disk_of first later after) (TornAt at (Leaves (disk_of first events pages)))
+  pub writes : (later : List Event) (at : ℕ) (bytes : List ℕ) (after : Pages) → at < length pages → later ≡ events ++ Wrote at bytes ∷ [] → Passes (disk_of first events pages) (disk_of first later after) (TornIn (IsAt at) (Leaves (disk_of first events pages)))
   writes later at bytes after lt is = one_more first events pages (Wrote at bytes) later after _ is (λ image left. leaves at image (whole_write (replay (at_first first) events) at bytes image (room at lt) left))
 
   pub syncs : (later : List Event) → later ≡ events ++ Synced ∷ [] → Passes (disk_of first events pages) (disk_of first later pages) (Leaves (disk_of first events pages))
@@ -127,6 +127,28 @@ either false e = inr e
 
 pub kept_same : (first pages : Pages) (events later : List Event) → later ≡ events → IsKept first events pages → IsKept first later pages
 kept_same first pages events later same kept = subst (λ (es : List Event). IsKept first es pages) (sym same) kept
+
+-- what is written in one page: what a read gives, and what a stop leaves
+pub written_at : (first : Pages) (events later : List Event) (pages : Pages) (at : ℕ) (bytes : List ℕ) → Passes (disk_of first events pages) (disk_of first later (set pages at bytes)) (TornIn (IsAt at) (Leaves (disk_of first events pages)))
+    → WritesIn (IsAt at) (disk_of first events pages) (disk_of first later (set pages at bytes))
+written_at first events later pages at bytes passes = record {
+  told = (λ told. record { pages = set pages at bytes; is = refl }, λ told. record { pages = pages; is = refl });
+  kept = λ before told. record {
+    after = set pages at bytes;
+    told = refl;
+    same = subst (λ (p : Pages). SameOff (IsAt at) p (set pages at bytes)) (same_some told) (record { size = length-set pages at bytes; others = λ q other. get_or-set_other pages at q bytes [] other });
+  };
+  moments = λ told. passes;
+}
+
+-- what was written in no page
+pub written_none : (first : Pages) (events later : List Event) (pages : Pages) (at : ℕ) → Passes (disk_of first events pages) (disk_of first later pages) (TornIn (IsAt at) (Leaves (disk_of first events pages)))
+    → WritesIn (IsAt at) (disk_of first events pages) (disk_of first later pages)
+written_none first events later pages at passes = record {
+  told = (λ told. record { pages = pages; is = refl }, λ told. record { pages = pages; is = refl });
+  kept = λ before told. record { after = before; told = told; same = none_changed before };
+  moments = λ told. passes;
+}
 
 pub stays : (first pages : Pages) (events later : List Event) (P : Pages → Type 0) → later ≡ events → Passes (disk_of first events pages) (disk_of first later pages) P
 stays first pages events later P same = subst (λ (es : List Event). Passes (disk_of first events pages) (disk_of first es pages) P) (sym same) (started (disk_of first events pages) P)

@@ -1,6 +1,7 @@
 pub mod Memory
 pub mod MemoryLaws
 pub mod Stop
+pub mod Failing
 pub mod MemDevice
 pub mod MemSource
 pub mod MemSink

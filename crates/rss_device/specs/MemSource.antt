@@ -1,5 +1,5 @@
 -- How a source in memory was set up.
-use Rattle.std.specs.Prelude.{ℕ, Option}
+use Rattle.std.specs.Prelude.{ℕ, List, Option, Some}
 use Rattle.rss_device.specs.declared.source.MemSource.{MemSource}
 
 -- how many bytes it gives a read at most, where that isn't 0
@@ -9,3 +9,14 @@ piece_of source = source.piece
 -- the number of the read that fails, counted from 0 from here on
 abbrev pub failing_read : MemSource → Option ℕ
 failing_read source = source.reads_before_fault
+
+-- the bytes that are left
+abbrev pub bytes_left : MemSource → List ℕ
+bytes_left source = source.left.now
+
+abbrev pub told_left : MemSource → Option (List ℕ)
+told_left source = Some (bytes_left source)
+
+-- how often it has failed
+abbrev pub faults_of : MemSource → ℕ
+faults_of source = source.faults

@@ -1,5 +1,6 @@
 -- A device in memory, by what it held at first and what has happened to it since.
 use Rattle.std.specs.Prelude.{◌≡◌, ◌⊎◌, ℕ, zero, suc, ◌-◌, ◌<◌, List, [], ◌∷◌, ◌++◌, length, take, replicate, slice_set, Some, All, Bool, true, false, count_by}
+use Rattle.rss_base.specs.Sizes.{page_bytes, zero_page}
 use Rattle.rss_base.specs.DiskRule.{Disk, Pages, page}
 use Rattle.rss_device.specs.declared.event.Event.{Event}
 use Rattle.rss_device.specs.declared.event.Event.TheVariants.{Wrote, Torn, Synced, Sized}
@@ -13,7 +14,7 @@ pub record Held : Type 0 where
 
 -- so many pages, of which the new ones hold zeros
 abbrev pub resized : ℕ → Pages → Pages
-resized n pages = take n pages ++ replicate (n - length pages) (replicate 4096 0)
+resized n pages = take n pages ++ replicate (n - length pages) zero_page
 
 -- the numbers below this one
 abbrev pub up_to : ℕ → List ℕ
@@ -21,18 +22,26 @@ up_to zero = []
 up_to (suc n) = n ∷ up_to n
 
 abbrev pub step : Held → Event → Held
-step held (Wrote at bytes) = record { pages = slice_set held.pages at bytes; synced = held.synced; loose = at ∷ held.loose }
+step held (Wrote at bytes) = record {
+  pages = slice_set held.pages at bytes;
+  synced = held.synced;
+  loose = at ∷ held.loose;
+}
 step held (Torn at) = record { pages = held.pages; synced = held.synced; loose = at ∷ held.loose }
 step held Synced = record { pages = held.pages; synced = held.pages; loose = [] }
-step held (Sized n) = record { pages = resized n held.pages; synced = resized n held.synced; loose = up_to n }
+step held (Sized n) = record {
+  pages = resized n held.pages;
+  synced = resized n held.synced;
+  loose = up_to n;
+}
 
 abbrev pub replay : Held → List Event → Held
 replay held [] = held
 replay held (event ∷ events) = replay (step held event) events
 
--- 4,096 bytes
+-- the bytes of a page
 abbrev pub IsPage : List ℕ → Type 0
-IsPage bytes = (length bytes ≡ 4096) × All (λ b. b < 256) bytes
+IsPage bytes = (length bytes ≡ page_bytes) × All (λ b. b < 256) bytes
 
 -- one of these numbers
 abbrev pub Among : List ℕ → ℕ → Type 0
@@ -44,7 +53,8 @@ Among (y ∷ ys) x = (x ≡ y) ⊎ Among ys x
 pub record IsImage (held : Held) (image : Pages) : Type 0 where
   pub size : length image ≡ length held.pages
   pub kept : (q : ℕ) → (Among held.loose q → ⊥) → page image q ≡ page held.pages q
-  pub loose : (q : ℕ) → Among held.loose q → (page image q ≡ page held.synced q) ⊎ ((page image q ≡ page held.pages q) ⊎ IsPage (page image q))
+  pub loose : (q : ℕ) → Among held.loose q
+      → (page image q ≡ page held.synced q) ⊎ ((page image q ≡ page held.pages q) ⊎ IsPage (page image q))
 
 -- nothing is loose at first
 abbrev pub at_first : Pages → Held
@@ -52,7 +62,11 @@ at_first pages = record { pages = pages; synced = pages; loose = [] }
 
 -- what such a device tells: one moment an event
 abbrev pub disk_of : Pages → List Event → Pages → Disk
-disk_of first events pages = record { contents = Some pages; moment = length events; images = λ t image. IsImage (replay (at_first first) (take t events)) image }
+disk_of first events pages = record {
+  contents = Some pages;
+  moment = length events;
+  images = λ t image. IsImage (replay (at_first first) (take t events)) image;
+}
 
 -- the pages are those that the events left
 abbrev pub IsKept : Pages → List Event → Pages → Type 0

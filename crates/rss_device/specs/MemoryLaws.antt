@@ -15,7 +15,9 @@ as_read held = record { size = refl; kept = λ q not. refl; loose = λ q loose. 
 pub all_events : (events : List Event) → take (length events) events ≡ events
 all_events events = take_all (length events) events (omega arith)
 
-pub reads : (first : Pages) (events : List Event) (pages : Pages) → IsKept first events pages → (now : Pages) → Some pages ≡ Some now → IsImage (replay (at_first first) (take (length events) events)) now
+pub reads : (first : Pages) (events : List Event) (pages : Pages) → IsKept first events pages
+    → (now : Pages) → Some pages ≡ Some now
+    → IsImage (replay (at_first first) (take (length events) events)) now
 reads first events pages kept now told =
     let start = at_first first in
     subst (λ (es : List Event). IsImage (replay start es) now) (sym (all_events events))

@@ -1,5 +1,6 @@
 -- The images that a stop of a device in memory is tried with.
 use Rattle.std.specs.Prelude.{◌≡◌, ◌<◌, ℕ, List, [], ◌∷◌, ◌++◌, length, replicate, ⊤}
+use Rattle.rss_base.specs.Sizes.{page_bytes}
 use Rattle.rss_base.specs.DiskRule.{Pages, page}
 use Rattle.rss_device.specs.Memory.{Held, Among, IsPage}
 use Rattle.rss_device.specs.declared.event.Event.{Event}
@@ -11,7 +12,8 @@ use Rattle.rss_device.specs.declared.image.Unsynced.TheVariants.{Old, New, Fille
 pub record IsFilled (fill : ℕ) (held : Held) (image : Pages) : Type 0 where
   pub size : length image ≡ length held.pages
   pub kept : (q : ℕ) → (Among held.loose q → ⊥) → page image q ≡ page held.pages q
-  pub filled : (q : ℕ) → Among held.loose q → q < length held.pages → page image q ≡ replicate 4096 fill
+  pub filled : (q : ℕ) → Among held.loose q → q < length held.pages
+      → page image q ≡ replicate page_bytes fill
   pub whole : (q : ℕ) → Among held.loose q → q < length held.pages → IsPage (page image q)
 
 -- what a stop leaves, where every loose page is as it was, as it was written last, or filled

@@ -1,6 +1,7 @@
 // Calls that fail on purpose, and the count of faults.
-ghost use Rattle.std.specs.Prelude.{◌≡◌, ◌↔◌, ℕ, ◌+◌, ◌-◌, ◌^◌, ◌≤◌, [], Contains, IsTrue, None, Some, min};
-ghost use Rattle.rss_base.specs.Faults.{Rises};
+ghost use Rattle.std.specs.Prelude.{◌≡◌, ◌↔◌, ◌≤◌, [], Contains, IsTrue, Some};
+ghost use Rattle.rss_base.specs.Faults.{counted, Rises};
+ghost use Rattle.rss_device.specs.Failing.{after_call};
 
 use rss_base::Failed;
 use std::alloc::Global;
@@ -17,8 +18,7 @@ pub(crate) fn failed(faults: &mut u64) -> Failed
 /// Whether this call fails, where so many calls before it don't.
 pub(crate) fn is_due(calls_before: &mut Option<u64>) -> bool
     ensures due { IsTrue result ↔ (calls_before.old ≡ Some 0) }
-    ensures earlier { (calls : ℕ) → calls_before.old ≡ Some (calls + 1) → calls_before.new ≡ Some calls }
-    ensures once { IsTrue result → calls_before.new ≡ None }
+    ensures next { calls_before.new ≡ after_call calls_before.old }
 {
     match *calls_before {
         None => false,
@@ -43,7 +43,8 @@ pub(crate) struct FailingCalls {
 
 impl FailingCalls {
     pub(crate) fn none(alloc: Global) -> Self
-        ensures { result.failing.items ≡ [] }
+        ensures failing { result.failing.items ≡ [] }
+        ensures next { result.next ≡ 0 }
     {
         FailingCalls {
             next: 0,
@@ -53,7 +54,8 @@ impl FailingCalls {
 
     /// The same calls, of which these fail.
     pub(crate) fn fail_at(&mut self, calls: Vec<u64>)
-        ensures { self.new.failing.items ≡ calls.items }
+        ensures failing { self.new.failing.items ≡ calls.items }
+        ensures next { self.new.next ≡ self.old.next }
     {
         self.failing = calls;
     }
@@ -61,7 +63,7 @@ impl FailingCalls {
     /// Counts a call, and answers whether it fails.
     pub(crate) fn next_fails(&mut self) -> bool
         ensures due { IsTrue result ↔ Contains self.old.failing.items self.old.next }
-        ensures next { self.new.next ≡ min (self.old.next + 1) (2 ^ 64 - 1) }
+        ensures next { self.new.next ≡ counted self.old.next }
         ensures same { self.new.failing.items ≡ self.old.failing.items }
     {
         let call = self.next;

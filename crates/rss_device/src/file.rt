@@ -1,33 +1,34 @@
 // A device in a file.
-ghost use Rattle.std.specs.Prelude.{◌≡◌, ◌≢◌, ◌+◌, ◌-◌, ◌*◌, ◌/◌, ◌%◌, ◌^◌, ◌<◌, ◌≤◌, min, None, IsOk, IfOk, ⊤};
+ghost use Rattle.std.specs.Prelude.{◌≡◌, ◌↔◌, ◌+◌, ◌-◌, ◌^◌, ◌<◌, min, None, IsOk, ⊤};
 ghost use Rattle.rss_base.specs.Faults.{HasCause};
 
 use crate::failing::failed;
+use crate::locked_file::LockedFile;
+use crate::store_file::StoreFiles;
 use rss_base::{Device, Failed, Page};
-use std::fs::{OpenFile, OpenOptions};
 use std::io;
-use std::io::{ErrorKind, Read, Seek, SeekFrom, Write};
-use std::rt::Files;
 
 /// Pages in a file, one behind the other. It tells nothing of what the file holds.
 ///
-/// The file is opened at the first call. Where there is none, `set_size` makes it, and any other call
-/// fails, as each does that can't open it.
+/// The file is opened and locked at the first call, and the lock is held until the device is dropped.
+/// Where there is no file, `set_size` makes it. Any other call fails then, as each does that can't
+/// open the file, or finds that another process has its lock.
 #[derive(Drop)]
-pub struct FileDevice<'a, R: Files> {
-    files: &'a R,
+pub struct FileDevice<'a, S: StoreFiles> {
+    files: &'a S,
     path: &'a str,
-    file: Option<R::File>,
+    file: Option<LockedFile<S::File>>,
     pages: u64,
     faults: u64,
     writes: u64,
+    ghost counts: { writes < 2 ^ 64 },
 }
 
-impl<'a, R: Files> FileDevice<'a, R> {
+impl<'a, S: StoreFiles> FileDevice<'a, S> {
     /// The file at this path, which isn't touched yet.
-    pub fn new(files: &'a R, path: &'a str) -> Self
-        ensures faults { ⟦<FileDevice<'a, R> as Device>⟧.faults result ≡ 0 }
-        ensures writes { ⟦<FileDevice<'a, R> as Device>⟧.writes result ≡ 0 }
+    pub fn new(files: &'a S, path: &'a str) -> Self
+        ensures faults { ⟦<FileDevice<'a, S> as Device>⟧.faults result ≡ 0 }
+        ensures writes { ⟦<FileDevice<'a, S> as Device>⟧.writes result ≡ 0 }
     {
         FileDevice {
             files,
@@ -40,7 +41,9 @@ impl<'a, R: Files> FileDevice<'a, R> {
     }
 }
 
-impl<R: Files> Device for FileDevice<'_, R> {
+impl<S: StoreFiles> Device for FileDevice<'_, S> {
+    ghost use Rattle.std.proofs.Common.{arith};
+
     ghost disk = { λ d. record { contents = None; moment = 0; images = λ t image. ⊤ } };
 
     ghost size_of = { λ d. d.pages };
@@ -53,19 +56,22 @@ impl<R: Files> Device for FileDevice<'_, R> {
 
     ghost sized = { λ d pages told. absurd (Prim.cc (told)) };
 
-    /// Where the file ends within a page, this is `u64::MAX`, which is the size of no store.
+    ghost counts = { λ d. Prim.omega (arith, d.counts) };
+
+    /// A file of fewer than three whole pages has as many as are whole. Where a longer one ends
+    /// within a page, this is `u64::MAX`, which is the size of no store.
     fn size(&mut self) -> Result<u64, Failed> {
-        let bytes = match opened(self.files, self.path, &mut self.file, false) {
-            Ok(file) => length_of(file),
+        let pages = match opened(self.files, self.path, &mut self.file, false) {
+            Ok(file) => file.pages(),
             Err(error) => Err(error),
         };
-        self.pages = pages_in(counted(bytes, &mut self.faults)?);
+        self.pages = counted(pages, &mut self.faults)?;
         Ok(self.pages)
     }
 
     fn set_size(&mut self, pages: u64) -> Result<(), Failed> {
         let set = match opened(self.files, self.path, &mut self.file, true) {
-            Ok(file) => set_pages(file, pages),
+            Ok(file) => file.set_pages(pages),
             Err(error) => Err(error),
         };
         counted(set, &mut self.faults)?;
@@ -75,7 +81,7 @@ impl<R: Files> Device for FileDevice<'_, R> {
 
     fn read(&mut self, at: u64, into: &mut Page) -> Result<(), Failed> {
         let read = match opened(self.files, self.path, &mut self.file, false) {
-            Ok(file) => read_page(file, at, into),
+            Ok(file) => file.read(at, into),
             Err(error) => Err(error),
         };
         counted(read, &mut self.faults)
@@ -84,7 +90,7 @@ impl<R: Files> Device for FileDevice<'_, R> {
     fn write(&mut self, at: u64, from: &Page) -> Result<(), Failed> {
         self.writes = self.writes.saturating_add(1);
         let written = match opened(self.files, self.path, &mut self.file, false) {
-            Ok(file) => write_page(file, at, from),
+            Ok(file) => file.write(at, from),
             Err(error) => Err(error),
         };
         counted(written, &mut self.faults)
@@ -92,78 +98,34 @@ impl<R: Files> Device for FileDevice<'_, R> {
 
     fn sync(&mut self) -> Result<(), Failed> {
         let synced = match opened(self.files, self.path, &mut self.file, false) {
-            Ok(file) => file.sync_all(),
+            Ok(file) => file.sync(),
             Err(error) => Err(error),
         };
         counted(synced, &mut self.faults)
     }
 }
 
-/// The file, opened if it isn't yet, and made where there is none and `create` says so.
-fn opened<'f, R: Files>(
-    files: &R,
+/// The file, opened if it isn't yet, and made where there is none and `make` says so.
+fn opened<'f, S: StoreFiles>(
+    files: &S,
     path: &str,
-    file: &'f mut Option<R::File>,
-    create: bool,
-) -> io::Result<&'f mut R::File> {
+    file: &'f mut Option<LockedFile<S::File>>,
+    make: bool,
+) -> io::Result<&'f LockedFile<S::File>> {
     let open = match file.take() {
         Some(open) => open,
-        None => OpenOptions::new()
-            .read(true)
-            .write(true)
-            .create(create)
-            .open(files, path)?,
+        None => LockedFile::open(files, path, make)?,
     };
     Ok(file.insert(open))
 }
 
 /// Counts a fault where this failed.
 fn counted<T: Drop>(outcome: io::Result<T>, faults: &mut u64) -> Result<T, Failed>
+    ensures ok { IsOk result ↔ IsOk outcome }
     ensures cause { HasCause faults.old faults.new result }
 {
     match outcome {
         Ok(value) => Ok(value),
         Err(_) => Err(failed(faults)),
     }
-}
-
-fn length_of<F: OpenFile>(file: &F) -> io::Result<u64> {
-    Ok(file.metadata()?.len())
-}
-
-/// How many pages a file of this length holds.
-fn pages_in(bytes: u64) -> u64
-    ensures whole { bytes % 4096 ≡ 0 → result * 4096 ≡ bytes }
-    ensures torn { bytes % 4096 ≢ 0 → result ≡ 2 ^ 64 - 1 }
-{
-    if bytes % 4096 == 0 {
-        bytes / 4096
-    } else {
-        u64::MAX
-    }
-}
-
-/// Where a page begins. No file reaches past `i64::MAX`.
-fn offset(at: u64) -> io::Result<u64>
-    ensures value { IfOk result (λ n. n ≡ at * 4096) }
-    ensures fits { at < 2 ^ 51 → IsOk result }
-{
-    match at.checked_mul(4096) {
-        Some(bytes) if bytes <= i64::MAX as u64 => Ok(bytes),
-        _ => Err(io::Error::from(ErrorKind::InvalidInput)),
-    }
-}
-
-fn set_pages<F: OpenFile>(file: &F, pages: u64) -> io::Result<()> {
-    file.set_len(offset(pages)?)
-}
-
-fn read_page<F: Read + Seek>(file: &mut F, at: u64, into: &mut Page) -> io::Result<()> {
-    file.seek(SeekFrom::Start(offset(at)?))?;
-    file.read_exact(into)
-}
-
-fn write_page<F: Write + Seek>(file: &mut F, at: u64, from: &Page) -> io::Result<()> {
-    file.seek(SeekFrom::Start(offset(at)?))?;
-    file.write_all(from)
 }

@@ -4,7 +4,7 @@ ghost use Rattle.rss_device.specs.Memory.{Held, step, replay, at_first, IsImage}
 ghost use Rattle.rss_device.specs.Stop.{IsSettled, IsUnsynced, Allows, IsFilled, IsLeft};
 
 use crate::event::Event;
-use rss_base::Page;
+use rss_base::{PAGE_BYTES, Page};
 use std::alloc::{AllocError, Global};
 
 /// What a stop leaves of the pages that were written since the last sync. After a new size these
@@ -26,8 +26,10 @@ pub(crate) fn image_after(
     events: &[Event],
     unsynced: Unsynced,
 ) -> Result<Vec<Page>, AllocError>
-    ensures image { IfOk result (λ image. IsImage (replay (at_first first.now) events.now) image.items) }
-    ensures left { IfOk result (λ image. IsLeft unsynced (replay (at_first first.now) events.now) image.items) }
+    ensures image { IfOk result (λ image.
+        IsImage (replay (at_first first.now) events.now) image.items) }
+    ensures left { IfOk result (λ image.
+        IsLeft unsynced (replay (at_first first.now) events.now) image.items) }
 {
     let synced = synced_events(events);
     let mut pages = Vec::from_slice(alloc, first)?;
@@ -53,7 +55,9 @@ fn synced_events(events: &[Event]) -> usize
 
 /// Leaves of the pages what is left of them after more events.
 fn leave_all(pages: &mut Vec<Page>, events: &[Event], unsynced: Unsynced) -> Result<(), AllocError>
-    ensures { OnOk result ((held : Held) → All (Allows unsynced) events.now → IsLeft unsynced held pages.old.items → IsLeft unsynced (replay held events.now) pages.new.items) }
+    ensures { OnOk result ((held : Held) → All (Allows unsynced) events.now
+        → IsLeft unsynced held pages.old.items
+        → IsLeft unsynced (replay held events.now) pages.new.items) }
 {
     for event in events {
         leave(pages, event, unsynced)?;
@@ -62,7 +66,9 @@ fn leave_all(pages: &mut Vec<Page>, events: &[Event], unsynced: Unsynced) -> Res
 }
 
 fn leave(pages: &mut Vec<Page>, event: &Event, unsynced: Unsynced) -> Result<(), AllocError>
-    ensures { OnOk result ((held : Held) → Allows unsynced event.now → IsLeft unsynced held pages.old.items → IsLeft unsynced (step held event.now) pages.new.items) }
+    ensures { OnOk result ((held : Held) → Allows unsynced event.now
+        → IsLeft unsynced held pages.old.items
+        → IsLeft unsynced (step held event.now) pages.new.items) }
 {
     match unsynced {
         Unsynced::Old => leave_old(pages, event)?,
@@ -73,16 +79,18 @@ fn leave(pages: &mut Vec<Page>, event: &Event, unsynced: Unsynced) -> Result<(),
 }
 
 fn leave_old(pages: &mut Vec<Page>, event: &Event) -> Result<(), AllocError>
-    ensures { OnOk result ((held : Held) → IsUnsynced event.now → pages.old.items ≡ held.synced → pages.new.items ≡ (step held event.now).synced) }
+    ensures { OnOk result ((held : Held) → IsUnsynced event.now → pages.old.items ≡ held.synced
+        → pages.new.items ≡ (step held event.now).synced) }
 {
     if let Event::Sized(size) = event {
-        pages.resize(*size as usize, [0u8; 4096])?;
+        pages.resize(*size as usize, [0u8; PAGE_BYTES])?;
     }
     Ok(())
 }
 
 fn leave_new(pages: &mut Vec<Page>, event: &Event) -> Result<(), AllocError>
-    ensures { OnOk result ((held : Held) → pages.old.items ≡ held.pages → pages.new.items ≡ (step held event.now).pages) }
+    ensures { OnOk result ((held : Held) → pages.old.items ≡ held.pages
+        → pages.new.items ≡ (step held event.now).pages) }
 {
     match event {
         Event::Wrote(at, bytes) => {
@@ -92,28 +100,29 @@ fn leave_new(pages: &mut Vec<Page>, event: &Event) -> Result<(), AllocError>
         Event::Torn(_) => Ok(()),
         Event::Synced => Ok(()),
         Event::Sized(size) => {
-            pages.resize(*size as usize, [0u8; 4096])?;
+            pages.resize(*size as usize, [0u8; PAGE_BYTES])?;
             Ok(())
         }
     }
 }
 
 fn leave_filled(pages: &mut Vec<Page>, event: &Event, fill: u8) -> Result<(), AllocError>
-    ensures { OnOk result ((held : Held) → IsUnsynced event.now → IsFilled fill held pages.old.items → IsFilled fill (step held event.now) pages.new.items) }
+    ensures { OnOk result ((held : Held) → IsUnsynced event.now → IsFilled fill held pages.old.items
+        → IsFilled fill (step held event.now) pages.new.items) }
 {
     match event {
         Event::Wrote(at, _) => {
-            put(pages, *at, &[fill; 4096]);
+            put(pages, *at, &[fill; PAGE_BYTES]);
             Ok(())
         }
         Event::Torn(at) => {
-            put(pages, *at, &[fill; 4096]);
+            put(pages, *at, &[fill; PAGE_BYTES]);
             Ok(())
         }
         Event::Synced => Ok(()),
         Event::Sized(size) => {
             pages.clear();
-            pages.resize(*size as usize, [fill; 4096])?;
+            pages.resize(*size as usize, [fill; PAGE_BYTES])?;
             Ok(())
         }
     }

@@ -1,16 +1,19 @@
-//! Devices, sources and sinks: in memory, where they tell their contents, and over files, readers
-//! and writers, where they tell nothing. And pages in memory, with no device behind them.
+//! Devices, sources and sinks: in memory, where they tell their contents; over readers and writers,
+//! where they tell what those tell; and over files, where they tell nothing. And pages in memory,
+//! with no device behind them.
 #![tactic(auto)]
 
 mod event;
 mod failing;
 mod file;
 mod image;
+mod locked_file;
 mod mem_pages;
 mod memory;
 mod reader;
 mod sink;
 mod source;
+mod store_file;
 mod stored;
 mod writer;
 
@@ -21,4 +24,5 @@ pub use memory::MemDevice;
 pub use reader::ReaderSource;
 pub use sink::MemSink;
 pub use source::MemSource;
+pub use store_file::{StoreFile, StoreFiles};
 pub use writer::WriterSink;

@@ -7,7 +7,7 @@ ghost use Rattle.rss_base.specs.PageMap.{IsKey};
 ghost use Rattle.rss_base.specs.Paged.{with_page, page_key, IsLeastUnmapped};
 ghost use Rattle.rss_base.specs.declared.key.PageKey.{PageKey as Key};
 ghost use Rattle.rss_device.specs.MemPages.{ArePlaces, held_in, mapped_in, free_in, no_device, none_fixed, no_backing};
-ghost use Rattle.rss_device.specs.MemPagesLaws.{none_left, none_stays, some_mapped, allowed_in};
+ghost use Rattle.rss_device.specs.MemPagesLaws.{none_left, none_stays, some_mapped, allowed_in, counted_in, never};
 
 use crate::stored::{Stored, free_place, free_places, page_of, place_of};
 use rss_base::{Page, PageFault, PageKey, Pages, Space};
@@ -27,14 +27,14 @@ impl MemPages {
     pub fn new(alloc: Global, slots: u32) -> Result<Self, AllocError>
         requires least { 64 ≤ slots }
         requires most { slots ≤ 65536 }
-        ensures mapped { IfOk result (λ pages. (key : Key) → ⟦<MemPages as Pages>⟧.mapped pages key ≡ false) }
-        ensures spare { IfOk result (λ pages. ⟦<MemPages as Pages>⟧.spare_of pages ≡ slots) }
-        ensures slots { IfOk result (λ pages. ⟦<MemPages as Pages>⟧.slots_of pages ≡ slots) }
-        ensures asks { IfOk result (λ pages. ⟦<MemPages as Pages>⟧.asks pages ≡ 0) }
-        ensures writes { IfOk result (λ pages. ⟦<MemPages as Pages>⟧.writes pages ≡ 0) }
-        ensures faults { IfOk result (λ pages. ⟦<MemPages as Pages>⟧.faults pages ≡ 0) }
-        ensures told { IfOk result (λ pages. IsTold (⟦<MemPages as Pages>⟧.disk pages)) }
-        ensures settled { IfOk result (λ pages. ⟦<MemPages as Pages>⟧.is_settled pages ≡ true) }
+        ensures mapped { IfOk result (λ pages. (key : Key) → (⟦<MemPages as Pages>⟧.view pages).mapped key ≡ false) }
+        ensures spare { IfOk result (λ pages. (⟦<MemPages as Pages>⟧.view pages).spare ≡ slots) }
+        ensures slots { IfOk result (λ pages. (⟦<MemPages as Pages>⟧.view pages).slots ≡ slots) }
+        ensures asks { IfOk result (λ pages. (⟦<MemPages as Pages>⟧.view pages).asks ≡ 0) }
+        ensures writes { IfOk result (λ pages. (⟦<MemPages as Pages>⟧.view pages).writes ≡ 0) }
+        ensures faults { IfOk result (λ pages. (⟦<MemPages as Pages>⟧.view pages).faults ≡ 0) }
+        ensures told { IfOk result (λ pages. IsTold (⟦<MemPages as Pages>⟧.view pages).disk) }
+        ensures settled { IfOk result (λ pages. (⟦<MemPages as Pages>⟧.view pages).settled ≡ true) }
     {
         let places = vec![in alloc; None; slots as usize]?;
         Ok(MemPages { places, reads: 0 })
@@ -79,29 +79,20 @@ impl MemPages {
 }
 
 impl Pages for MemPages {
-    ghost disk = { λ _. no_device };
-
-    ghost slots_of = { λ m. length m.places.items };
-
-    ghost mapped = { λ m. mapped_in m.places.items };
-
-    ghost held = { λ m. held_in m.places.items };
-
-    ghost spare_of = { λ m. free_in m.places.items };
-
-    ghost asks = { λ m. m.reads };
-
-    ghost waiting = { λ _ _. false };
-
-    ghost writes = { λ _. 0 };
-
-    ghost faults = { λ _. 0 };
-
-    ghost fixed = { λ _. none_fixed };
-
-    ghost backing = { λ _. no_backing };
-
-    ghost is_settled = { λ _. true };
+    ghost view = { λ m. record {
+      disk = no_device;
+      slots = length m.places.items;
+      mapped = mapped_in m.places.items;
+      held = held_in m.places.items;
+      changed = λ _. false;
+      spare = free_in m.places.items;
+      asks = m.reads;
+      writes = 0;
+      faults = 0;
+      fixed = none_fixed;
+      settled = true;
+      backing = no_backing;
+    } };
 
     ghost reads_as_image = { λ m pages told. none_left pages told };
 
@@ -110,6 +101,10 @@ impl Pages for MemPages {
     ghost holds = { λ m told key. some_mapped m.places.items key };
 
     ghost allowed = { λ m key is. allowed_in m.placed key is };
+
+    ghost are_counted = { λ m. counted_in m.placed };
+
+    ghost changed_are = { λ m key is. never is };
 
     fn slots(&self) -> u32 {
         self.places.len() as u32

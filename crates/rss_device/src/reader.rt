@@ -1,12 +1,13 @@
 // A source over a reader.
-ghost use Rattle.std.specs.Prelude.{◌≡◌, ◌≤◌, length, None, IfOk};
+ghost use Rattle.std.specs.Prelude.{◌≡◌, ◌≤◌, length, IfOk};
+ghost use Rattle.std.specs.Io.KnownBytes.{ReadConsumes};
 
 use crate::failing::failed;
 use rss_base::{Failed, Source};
 use std::io;
 use std::io::{ErrorKind, Read};
 
-/// The bytes of a reader. It tells nothing of them.
+/// The bytes of a reader. It tells those that are left where the reader does.
 #[derive(Drop)]
 pub struct ReaderSource<R: Read + Drop> {
     reader: R,
@@ -15,14 +16,15 @@ pub struct ReaderSource<R: Read + Drop> {
 
 impl<R: Read + Drop> ReaderSource<R> {
     pub fn new(reader: R) -> Self
-        ensures { ⟦<ReaderSource<R> as Source>⟧.faults result ≡ 0 }
+        ensures left { ⟦<ReaderSource<R> as Source>⟧.left result ≡ R.remaining reader }
+        ensures faults { ⟦<ReaderSource<R> as Source>⟧.faults result ≡ 0 }
     {
         ReaderSource { reader, faults: 0 }
     }
 }
 
 impl<R: Read + Drop> Source for ReaderSource<R> {
-    ghost left = { λ s. None };
+    ghost left = { λ s. R.remaining s.reader };
 
     ghost faults = { λ s. s.faults };
 
@@ -36,7 +38,8 @@ impl<R: Read + Drop> Source for ReaderSource<R> {
 
 /// Reads, again where a signal interrupts, but not without end.
 fn read_some<R: Read>(reader: &mut R, into: &mut [u8]) -> io::Result<usize>
-    ensures { IfOk result (λ n. n ≤ length into.old) }
+    ensures within { IfOk result (λ n. n ≤ length into.old) }
+    ensures bytes { ReadConsumes (R.remaining reader.old) (R.remaining reader.new) result into.new }
 {
     for _ in 0..16 {
         match reader.read(into) {

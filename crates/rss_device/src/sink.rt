@@ -1,6 +1,9 @@
 // A sink in memory.
-ghost use Rattle.std.specs.Prelude.{◌≡◌, [], None, Some};
-ghost use Rattle.rss_device.specs.MemSink.{most_taken, failing_write};
+ghost use Rattle.std.specs.Prelude.{◌≡◌, ◌<◌, ◌≤◌, [], length, take, min, max, None, Some, IfOk, OnErr, IsErr};
+ghost use Rattle.rss_base.specs.Faults.{HasCause};
+ghost use Rattle.rss_base.specs.Streams.{Takes};
+ghost use Rattle.rss_device.specs.Failing.{after_call};
+ghost use Rattle.rss_device.specs.MemSink.{told_written, faults_of, most_taken, failing_write};
 
 use crate::failing::{failed, is_due};
 use rss_base::{Failed, Sink};
@@ -71,7 +74,21 @@ impl Sink for MemSink {
 
     ghost faults = { λ s. s.faults };
 
-    fn write(&mut self, from: &[u8]) -> Result<usize, Failed> {
+    // What every sink does.
+    fn write(&mut self, from: &[u8]) -> Result<usize, Failed>
+        ensures within { IfOk result (λ n. n ≤ length from.now) }
+        ensures some { IfOk result (λ n. 0 < length from.now → 0 < n) }
+        ensures takes { IfOk result (λ n.
+            Takes (told_written self.old) (take n from.now) (told_written self.new)) }
+        ensures failed { OnErr result (Takes (told_written self.old) [] (told_written self.new)) }
+        ensures cause { HasCause (faults_of self.old) (faults_of self.new) result }
+
+        // When this one fails, if memory is not what it lacks, and how much it takes.
+        ensures due { failing_write self.old ≡ Some 0 → IsErr result }
+        ensures next { failing_write self.new ≡ after_call (failing_write self.old) }
+        ensures taken { IfOk result (λ n. n ≡ min (max (most_taken self.old) 1) (length from.now)) }
+        ensures same_taken { most_taken self.new ≡ most_taken self.old }
+    {
         if is_due(&mut self.writes_before_fault) {
             return Err(failed(&mut self.faults));
         }

@@ -1,6 +1,9 @@
 // A source in memory.
-ghost use Rattle.std.specs.Prelude.{◌≡◌, None, Some};
-ghost use Rattle.rss_device.specs.MemSource.{piece_of, failing_read};
+ghost use Rattle.std.specs.Prelude.{◌≡◌, ◌↔◌, ◌<◌, ◌≤◌, ℕ, List, [], length, take, min, max, None, Some, Ok, IfOk, OnErr, IsErr};
+ghost use Rattle.rss_base.specs.Faults.{HasCause};
+ghost use Rattle.rss_base.specs.Streams.{Gives};
+ghost use Rattle.rss_device.specs.Failing.{after_call};
+ghost use Rattle.rss_device.specs.MemSource.{bytes_left, told_left, faults_of, piece_of, failing_read};
 
 use crate::failing::{failed, is_due};
 use rss_base::{Failed, Source};
@@ -31,8 +34,8 @@ impl<'a> MemSource<'a> {
 
     /// Gives at most `piece` bytes a read, but at least one.
     pub fn in_pieces(self, piece: usize) -> Self
-        ensures left { ⟦<MemSource<'a> as Source>⟧.left result ≡ ⟦<MemSource<'a> as Source>⟧.left self.entry }
-        ensures faults { ⟦<MemSource<'a> as Source>⟧.faults result ≡ ⟦<MemSource<'a> as Source>⟧.faults self.entry }
+        ensures left { told_left result ≡ told_left self.entry }
+        ensures faults { faults_of result ≡ faults_of self.entry }
         ensures piece { piece_of result ≡ piece }
         ensures failing { failing_read result ≡ failing_read self.entry }
     {
@@ -41,8 +44,8 @@ impl<'a> MemSource<'a> {
 
     /// Fails the read with this number, counted from 0 from here on, and no other.
     pub fn failing_at(self, call: u64) -> Self
-        ensures left { ⟦<MemSource<'a> as Source>⟧.left result ≡ ⟦<MemSource<'a> as Source>⟧.left self.entry }
-        ensures faults { ⟦<MemSource<'a> as Source>⟧.faults result ≡ ⟦<MemSource<'a> as Source>⟧.faults self.entry }
+        ensures left { told_left result ≡ told_left self.entry }
+        ensures faults { faults_of result ≡ faults_of self.entry }
         ensures piece { piece_of result ≡ piece_of self.entry }
         ensures failing { failing_read result ≡ Some call }
     {
@@ -58,7 +61,23 @@ impl Source for MemSource<'_> {
 
     ghost faults = { λ s. s.faults };
 
-    fn read(&mut self, into: &mut [u8]) -> Result<usize, Failed> {
+    // What every source does.
+    fn read(&mut self, into: &mut [u8]) -> Result<usize, Failed>
+        ensures within { IfOk result (λ n. n ≤ length into.old) }
+        ensures gives { IfOk result (λ n.
+            Gives (told_left self.old) (take n into.new) (told_left self.new)) }
+        ensures end { result ≡ Ok 0 → 0 < length into.old
+            → (all : List ℕ) → told_left self.old ≡ Some all → all ≡ [] }
+        ensures failed { OnErr result (Gives (told_left self.old) [] (told_left self.new)) }
+        ensures cause { HasCause (faults_of self.old) (faults_of self.new) result }
+
+        // When this one fails, and how much it gives.
+        ensures due { IsErr result ↔ (failing_read self.old ≡ Some 0) }
+        ensures next { failing_read self.new ≡ after_call (failing_read self.old) }
+        ensures piece { IfOk result (λ n. n ≡ min (max (piece_of self.old) 1)
+            (min (length into.old) (length (bytes_left self.old)))) }
+        ensures same_piece { piece_of self.new ≡ piece_of self.old }
+    {
         if is_due(&mut self.reads_before_fault) {
             return Err(failed(&mut self.faults));
         }

@@ -1,12 +1,14 @@
 // A sink over a writer.
-ghost use Rattle.std.specs.Prelude.{◌≡◌, ◌<◌, ◌≤◌, length, None, IfOk};
+ghost use Rattle.std.specs.Prelude.{◌≡◌, ◌<◌, ◌≤◌, length, IfOk};
+ghost use Rattle.std.specs.Io.KnownBytes.{WriteAppends};
 
 use crate::failing::failed;
 use rss_base::{Failed, Sink};
 use std::io;
 use std::io::{ErrorKind, Write};
 
-/// A writer, flushed at each write. It tells nothing of what was written.
+/// A writer that passes on at once what it takes, as standard output does: it is never flushed. The
+/// sink tells what was written where the writer does.
 #[derive(Drop)]
 pub struct WriterSink<W: Write + Drop> {
     writer: W,
@@ -15,14 +17,15 @@ pub struct WriterSink<W: Write + Drop> {
 
 impl<W: Write + Drop> WriterSink<W> {
     pub fn new(writer: W) -> Self
-        ensures { ⟦<WriterSink<W> as Sink>⟧.faults result ≡ 0 }
+        ensures written { ⟦<WriterSink<W> as Sink>⟧.written result ≡ W.contents writer }
+        ensures faults { ⟦<WriterSink<W> as Sink>⟧.faults result ≡ 0 }
     {
         WriterSink { writer, faults: 0 }
     }
 }
 
 impl<W: Write + Drop> Sink for WriterSink<W> {
-    ghost written = { λ s. None };
+    ghost written = { λ s. W.contents s.writer };
 
     ghost faults = { λ s. s.faults };
 
@@ -37,24 +40,18 @@ impl<W: Write + Drop> Sink for WriterSink<W> {
     }
 }
 
-/// Writes at least a byte and flushes. A write is tried again where a signal interrupts, but not
-/// without end.
-///
-/// Where the flush fails the writer may have taken bytes all the same. A sink that tells nothing of
-/// what was written may answer that with a failure.
+/// Writes at least a byte. A write is tried again where a signal interrupts, but not without end.
 fn write_some<W: Write>(writer: &mut W, from: &[u8]) -> io::Result<usize>
     ensures within { IfOk result (λ n. n ≤ length from.now) }
     ensures some { IfOk result (λ n. 0 < n) }
+    ensures bytes { WriteAppends (W.contents writer.old) (W.contents writer.new) result from.now }
 {
     for _ in 0..16 {
         match writer.write(from) {
             Err(error) if error.kind() == ErrorKind::Interrupted => {}
             Err(error) => return Err(error),
             Ok(0) => return Err(io::Error::from(ErrorKind::WriteZero)),
-            Ok(n) => {
-                writer.flush()?;
-                return Ok(n);
-            }
+            Ok(n) => return Ok(n),
         }
     }
     Err(io::Error::from(ErrorKind::Interrupted))

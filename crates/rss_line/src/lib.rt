@@ -10,5 +10,5 @@ mod word;
 
 pub use fault::LineFault;
 pub use number::read_number;
-pub use reading::{Line, read_line};
+pub use reading::{LINE_LIMIT, Line, read_line};
 pub use saying::{say, say_damaged, say_not_a_store};

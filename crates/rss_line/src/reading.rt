@@ -17,7 +17,8 @@ pub enum Line {
     Call(Call),
 }
 
-const LINE_LIMIT: usize = 8192;
+/// At most so many bytes of a line, without its end.
+pub const LINE_LIMIT: usize = 8192;
 
 const PAGE_LIMIT: u32 = 65536;
 

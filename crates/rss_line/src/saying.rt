@@ -1,6 +1,7 @@
 // Writing the line of an answer.
-ghost use Rattle.std.specs.Prelude.{◌≡◌, ◌+◌, ◌<◌, ◌≤◌, ◌++◌, length, codes, vec_len, vec_capacity, IsOk, OnOk, OnErr};
+ghost use Rattle.std.specs.Prelude.{◌≡◌, ◌++◌, codes};
 ghost use Rattle.rss_model.specs.ReplyText.{answer_line, not_a_store_line, damaged_line, reply_text, refusal_text, item_text, kind_text, limit_text, place_text, space_text};
+ghost use Rattle.rss_line.specs.Appends.{Appends};
 
 use crate::value_text::append_values;
 use crate::word::Word::{Name, Number, Text, Tid};
@@ -10,8 +11,7 @@ use std::alloc::AllocError;
 
 /// Appends the line of an answer, with its end. Where memory runs out, a front of it may be there.
 pub fn say(answer: &Result<Reply, Refusal>, into: &mut Vec<u8>) -> Result<(), AllocError>
-    ensures ok { OnOk result (into.new.items ≡ into.old.items ++ answer_line answer.now) }
-    ensures room { vec_len into.old + length (answer_line answer.now) ≤ vec_capacity into.old → IsOk result }
+    ensures { Appends (answer_line answer.now) into.old into.new result }
 {
     match answer {
         Ok(reply) => say_reply(reply, into)?,
@@ -22,9 +22,7 @@ pub fn say(answer: &Result<Reply, Refusal>, into: &mut Vec<u8>) -> Result<(), Al
 }
 
 fn say_reply(reply: &Reply, into: &mut Vec<u8>) -> Result<(), AllocError>
-    ensures ok { OnOk result (into.new.items ≡ into.old.items ++ reply_text reply.now) }
-    ensures full { OnErr result (vec_capacity into.old < vec_len into.old + length (reply_text reply.now)) }
-    ensures capacity { vec_capacity into.old ≤ vec_capacity into.new }
+    ensures { Appends (reply_text reply.now) into.old into.new result }
 {
     match reply {
         Reply::Ok => append("ok", &[], into),
@@ -44,9 +42,7 @@ fn say_reply(reply: &Reply, into: &mut Vec<u8>) -> Result<(), AllocError>
 }
 
 fn say_refusal(why: &Refusal, into: &mut Vec<u8>) -> Result<(), AllocError>
-    ensures ok { OnOk result (into.new.items ≡ into.old.items ++ refusal_text why.now) }
-    ensures full { OnErr result (vec_capacity into.old < vec_len into.old + length (refusal_text why.now)) }
-    ensures capacity { vec_capacity into.old ≤ vec_capacity into.new }
+    ensures { Appends (refusal_text why.now) into.old into.new result }
 {
     match why {
         Refusal::Words => append("refused 1 words", &[], into),
@@ -89,9 +85,7 @@ fn say_refusal(why: &Refusal, into: &mut Vec<u8>) -> Result<(), AllocError>
 }
 
 fn say_busy(item: &Item, holder: u32, into: &mut Vec<u8>) -> Result<(), AllocError>
-    ensures ok { OnOk result (into.new.items ≡ into.old.items ++ refusal_text (Refusal.Busy item.now holder)) }
-    ensures full { OnErr result (vec_capacity into.old < vec_len into.old + length (refusal_text (Refusal.Busy item.now holder))) }
-    ensures capacity { vec_capacity into.old ≤ vec_capacity into.new }
+    ensures { Appends (refusal_text (Refusal.Busy item.now holder)) into.old into.new result }
 {
     append("refused 14 busy ", &[], into)?;
     say_item(item, into)?;
@@ -100,9 +94,7 @@ fn say_busy(item: &Item, holder: u32, into: &mut Vec<u8>) -> Result<(), AllocErr
 }
 
 fn say_item(item: &Item, into: &mut Vec<u8>) -> Result<(), AllocError>
-    ensures ok { OnOk result (into.new.items ≡ into.old.items ++ item_text item.now) }
-    ensures full { OnErr result (vec_capacity into.old < vec_len into.old + length (item_text item.now)) }
-    ensures capacity { vec_capacity into.old ≤ vec_capacity into.new }
+    ensures { Appends (item_text item.now) into.old into.new result }
 {
     match item {
         Item::Segment(name) => append("segment", &[Name(*name)], into),
@@ -151,8 +143,7 @@ fn limit_word(limit: LimitKind) -> &'static str
 /// Appends the line of a device that is not a store, with its end. Where memory runs out, a front of
 /// it may be there.
 pub fn say_not_a_store(place: Place, into: &mut Vec<u8>) -> Result<(), AllocError>
-    ensures ok { OnOk result (into.new.items ≡ into.old.items ++ not_a_store_line place) }
-    ensures room { vec_len into.old + length (not_a_store_line place) ≤ vec_capacity into.old → IsOk result }
+    ensures { Appends (not_a_store_line place) into.old into.new result }
 {
     say_with_place("not a store ", place, into)
 }
@@ -160,16 +151,14 @@ pub fn say_not_a_store(place: Place, into: &mut Vec<u8>) -> Result<(), AllocErro
 /// Appends the line of a device whose layout is sound, and whose pages are no store, with its end.
 /// Where memory runs out, a front of it may be there.
 pub fn say_damaged(place: Place, into: &mut Vec<u8>) -> Result<(), AllocError>
-    ensures ok { OnOk result (into.new.items ≡ into.old.items ++ damaged_line place) }
-    ensures room { vec_len into.old + length (damaged_line place) ≤ vec_capacity into.old → IsOk result }
+    ensures { Appends (damaged_line place) into.old into.new result }
 {
     say_with_place("damaged ", place, into)
 }
 
 /// Appends a text and a place, and ends the line.
 fn say_with_place(text: &str, place: Place, into: &mut Vec<u8>) -> Result<(), AllocError>
-    ensures ok { OnOk result (into.new.items ≡ into.old.items ++ (text.now ++ place_text place ++ codes "\n")) }
-    ensures room { vec_len into.old + length (text.now ++ place_text place ++ codes "\n") ≤ vec_capacity into.old → IsOk result }
+    ensures { Appends (text.now ++ place_text place ++ codes "\n") into.old into.new result }
 {
     append(text, &[], into)?;
     say_place(place, into)?;
@@ -178,9 +167,7 @@ fn say_with_place(text: &str, place: Place, into: &mut Vec<u8>) -> Result<(), Al
 }
 
 fn say_place(place: Place, into: &mut Vec<u8>) -> Result<(), AllocError>
-    ensures ok { OnOk result (into.new.items ≡ into.old.items ++ place_text place) }
-    ensures full { OnErr result (vec_capacity into.old < vec_len into.old + length (place_text place)) }
-    ensures capacity { vec_capacity into.old ≤ vec_capacity into.new }
+    ensures { Appends (place_text place) into.old into.new result }
 {
     match place {
         Place::Size => append("size", &[], into),

@@ -1,7 +1,8 @@
 // The text of a tuple's values.
-ghost use Rattle.std.specs.Prelude.{◌≡◌, ◌+◌, ◌<◌, ◌≤◌, [], ◌∷◌, ◌++◌, length, decimal, vec_len, vec_capacity, OnOk, OnErr};
+ghost use Rattle.std.specs.Prelude.{[], ◌∷◌, ◌++◌};
 ghost use Rattle.std.specs.Fmt.{signed_decimal};
 ghost use Rattle.rss_model.specs.ReplyText.{doubled, values_text};
+ghost use Rattle.rss_line.specs.Appends.{Appends};
 
 use itoa::Buffer;
 use rss_base::Value;
@@ -9,9 +10,7 @@ use std::alloc::AllocError;
 
 /// Appends each value after a space.
 pub fn append_values(values: &[Value], into: &mut Vec<u8>) -> Result<(), AllocError>
-    ensures ok { OnOk result (into.new.items ≡ into.old.items ++ values_text values.now) }
-    ensures full { OnErr result (vec_capacity into.old < vec_len into.old + length (values_text values.now)) }
-    ensures capacity { vec_capacity into.old ≤ vec_capacity into.new }
+    ensures { Appends (values_text values.now) into.old into.new result }
 {
     for value in values {
         append_value(value, into)?;
@@ -20,9 +19,7 @@ pub fn append_values(values: &[Value], into: &mut Vec<u8>) -> Result<(), AllocEr
 }
 
 fn append_value(value: &Value, into: &mut Vec<u8>) -> Result<(), AllocError>
-    ensures ok { OnOk result (into.new.items ≡ into.old.items ++ values_text (value.now ∷ [])) }
-    ensures full { OnErr result (vec_capacity into.old < vec_len into.old + length (values_text (value.now ∷ []))) }
-    ensures capacity { vec_capacity into.old ≤ vec_capacity into.new }
+    ensures { Appends (values_text (value.now ∷ [])) into.old into.new result }
 {
     into.push(b' ')?;
     match value {
@@ -33,9 +30,7 @@ fn append_value(value: &Value, into: &mut Vec<u8>) -> Result<(), AllocError>
 }
 
 fn append_int(number: i64, into: &mut Vec<u8>) -> Result<(), AllocError>
-    ensures ok { OnOk result (into.new.items ≡ into.old.items ++ signed_decimal number) }
-    ensures full { OnErr result (vec_capacity into.old < vec_len into.old + length (signed_decimal number)) }
-    ensures capacity { vec_capacity into.old ≤ vec_capacity into.new }
+    ensures { Appends (signed_decimal number) into.old into.new result }
 {
     let mut buffer = Buffer::new();
     into.extend_from_slice(buffer.format(number).as_bytes())?;
@@ -43,9 +38,7 @@ fn append_int(number: i64, into: &mut Vec<u8>) -> Result<(), AllocError>
 }
 
 fn append_quoted(text: &[u8], into: &mut Vec<u8>) -> Result<(), AllocError>
-    ensures ok { OnOk result (into.new.items ≡ into.old.items ++ 34 ∷ (doubled text.now ++ 34 ∷ [])) }
-    ensures full { OnErr result (vec_capacity into.old < vec_len into.old + (length (doubled text.now) + 2)) }
-    ensures capacity { vec_capacity into.old ≤ vec_capacity into.new }
+    ensures { Appends (34 ∷ (doubled text.now ++ 34 ∷ [])) into.old into.new result }
 {
     into.push(b'"')?;
     append_doubled(text, into)?;
@@ -54,9 +47,7 @@ fn append_quoted(text: &[u8], into: &mut Vec<u8>) -> Result<(), AllocError>
 }
 
 fn append_doubled(text: &[u8], into: &mut Vec<u8>) -> Result<(), AllocError>
-    ensures ok { OnOk result (into.new.items ≡ into.old.items ++ doubled text.now) }
-    ensures full { OnErr result (vec_capacity into.old < vec_len into.old + length (doubled text.now)) }
-    ensures capacity { vec_capacity into.old ≤ vec_capacity into.new }
+    ensures { Appends (doubled text.now) into.old into.new result }
 {
     for byte in text {
         append_escaped(*byte, into)?;
@@ -65,9 +56,7 @@ fn append_doubled(text: &[u8], into: &mut Vec<u8>) -> Result<(), AllocError>
 }
 
 fn append_escaped(byte: u8, into: &mut Vec<u8>) -> Result<(), AllocError>
-    ensures ok { OnOk result (into.new.items ≡ into.old.items ++ doubled (byte ∷ [])) }
-    ensures full { OnErr result (vec_capacity into.old < vec_len into.old + length (doubled (byte ∷ []))) }
-    ensures capacity { vec_capacity into.old ≤ vec_capacity into.new }
+    ensures { Appends (doubled (byte ∷ [])) into.old into.new result }
 {
     if byte == b'"' {
         into.push(byte)?;

@@ -1,8 +1,9 @@
 // The words of a line that is written.
-ghost use Rattle.std.specs.Prelude.{◌≡◌, ◌+◌, ◌<◌, ◌≤◌, ◌==◌, not, [], ◌∷◌, ◌++◌, length, decimal, vec_len, vec_capacity, OnOk, OnErr};
+ghost use Rattle.std.specs.Prelude.{◌≡◌, ◌≤◌, ◌==◌, not, [], ◌∷◌, decimal};
 ghost use Rattle.std.specs.List.{prefix_len};
 ghost use Rattle.rss_model.specs.ReplyText.{name_text, tid_text};
-ghost use Rattle.rss_line.specs.Words.{word_text, with_words};
+ghost use Rattle.rss_line.specs.Appends.{Appends};
+ghost use Rattle.rss_line.specs.Words.{with_words};
 
 use itoa::Buffer;
 use rss_base::{Name, Tid};
@@ -18,9 +19,7 @@ pub enum Word {
 
 /// Appends a text, and then each word after a space.
 pub fn append(text: &str, words: &[Word], into: &mut Vec<u8>) -> Result<(), AllocError>
-    ensures ok { OnOk result (into.new.items ≡ into.old.items ++ with_words text.now words.now) }
-    ensures full { OnErr result (vec_capacity into.old < vec_len into.old + length (with_words text.now words.now)) }
-    ensures capacity { vec_capacity into.old ≤ vec_capacity into.new }
+    ensures { Appends (with_words text.now words.now) into.old into.new result }
 {
     append_bytes(text.as_bytes(), into)?;
     append_words(words, into)?;
@@ -28,9 +27,7 @@ pub fn append(text: &str, words: &[Word], into: &mut Vec<u8>) -> Result<(), Allo
 }
 
 fn append_words(words: &[Word], into: &mut Vec<u8>) -> Result<(), AllocError>
-    ensures ok { OnOk result (into.new.items ≡ into.old.items ++ with_words [] words.now) }
-    ensures full { OnErr result (vec_capacity into.old < vec_len into.old + length (with_words [] words.now)) }
-    ensures capacity { vec_capacity into.old ≤ vec_capacity into.new }
+    ensures { Appends (with_words [] words.now) into.old into.new result }
 {
     for word in words {
         append_word(word, into)?;
@@ -39,9 +36,7 @@ fn append_words(words: &[Word], into: &mut Vec<u8>) -> Result<(), AllocError>
 }
 
 fn append_word(word: &Word, into: &mut Vec<u8>) -> Result<(), AllocError>
-    ensures ok { OnOk result (into.new.items ≡ into.old.items ++ with_words [] (word.now ∷ [])) }
-    ensures full { OnErr result (vec_capacity into.old < vec_len into.old + length (with_words [] (word.now ∷ []))) }
-    ensures capacity { vec_capacity into.old ≤ vec_capacity into.new }
+    ensures { Appends (with_words [] (word.now ∷ [])) into.old into.new result }
 {
     into.push(b' ')?;
     match word {
@@ -54,18 +49,14 @@ fn append_word(word: &Word, into: &mut Vec<u8>) -> Result<(), AllocError>
 }
 
 fn append_bytes(bytes: &[u8], into: &mut Vec<u8>) -> Result<(), AllocError>
-    ensures ok { OnOk result (into.new.items ≡ into.old.items ++ bytes.now) }
-    ensures full { OnErr result (vec_capacity into.old < vec_len into.old + length bytes.now) }
-    ensures capacity { vec_capacity into.old ≤ vec_capacity into.new }
+    ensures { Appends bytes.now into.old into.new result }
 {
     into.extend_from_slice(bytes)?;
     Ok(())
 }
 
 fn append_number(number: u64, into: &mut Vec<u8>) -> Result<(), AllocError>
-    ensures ok { OnOk result (into.new.items ≡ into.old.items ++ decimal number) }
-    ensures full { OnErr result (vec_capacity into.old < vec_len into.old + length (decimal number)) }
-    ensures capacity { vec_capacity into.old ≤ vec_capacity into.new }
+    ensures { Appends (decimal number) into.old into.new result }
 {
     let mut buffer = Buffer::new();
     append_bytes(buffer.format(number).as_bytes(), into)?;
@@ -73,9 +64,7 @@ fn append_number(number: u64, into: &mut Vec<u8>) -> Result<(), AllocError>
 }
 
 fn append_tid(tid: Tid, into: &mut Vec<u8>) -> Result<(), AllocError>
-    ensures ok { OnOk result (into.new.items ≡ into.old.items ++ tid_text tid) }
-    ensures full { OnErr result (vec_capacity into.old < vec_len into.old + length (tid_text tid)) }
-    ensures capacity { vec_capacity into.old ≤ vec_capacity into.new }
+    ensures { Appends (tid_text tid) into.old into.new result }
 {
     append_number(u64::from(tid.page), into)?;
     append_bytes(b".", into)?;

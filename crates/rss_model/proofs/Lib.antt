@@ -2,3 +2,4 @@ pub mod Codes
 pub mod Contents
 pub mod Lengths
 pub mod Heap
+pub mod Endings

@@ -5,7 +5,7 @@ pub use Rattle.rss_base.specs.Layout
 pub use Rattle.rss_base.specs.PageMap
 pub use Rattle.rss_base.specs.Paged
 pub use Rattle.rss_base.specs.StoredPages
-pub mod TupleTypes
+pub use Rattle.rss_base.specs.TupleTypes
 pub mod Items
 pub mod Tables
 pub mod Changes
@@ -20,3 +20,4 @@ pub mod Plays
 pub mod Store
 pub mod Turns
 pub mod Costs
+pub mod Calls

@@ -8,14 +8,57 @@ use Rattle.rss_model.specs.Runs.{Turn}
 use Rattle.rss_model.specs.ReplyText.{answer_line}
 use Rattle.rss_model.specs.Script.{Spells, IsBlank, IsWords}
 
--- From old, a line may make these turns of the machine, get this text, and lead to new.
-pub data LineStep (old : State) : List ℕ → List Turn → List ℕ → State → Type 0 where
-  blank : {line : List ℕ} → IsBlank line → LineStep old line [] [] old
-  words : {line : List ℕ} → IsWords line → LineStep old line [] (answer_line (Err Words)) old
-  call : {line : List ℕ} {made : Call} {answer : Answer} {new : State} → Spells line made → Step old made answer new → LineStep old line (record { call = made; answer = answer } ∷ []) (answer_line answer) new
+-- a variable's name, and the text that it stands for
+pub record Variable : Type 0 where
+  pub name : List ℕ
+  pub text : List ℕ
 
--- From start, these lines may make these turns, get this text, and lead to a state.
-pub data Play (start : State) : List (List ℕ) → List Turn → List ℕ → State → Type 0 where
-  none : Play start [] [] [] start
-  more : {lines : List (List ℕ)} {made : List Turn} {text : List ℕ} {state : State} {line : List ℕ} {turns : List Turn} {said : List ℕ} {new : State} → Play start lines made text state → LineStep state line turns said new
-      → Play start (lines ++ line ∷ []) (made ++ turns) (text ++ said) new
+-- Where a script stands: the machine's state, and what its variables stand for. As yet no line
+-- sets one.
+pub record Scene : Type 0 where
+  pub state : State
+  pub names : List Variable
+
+-- no variable stands for anything
+abbrev pub plain : State → Scene
+plain state = record { state = state; names = [] }
+
+-- what lines make: the turns of the machine, and the text that they get
+pub record Made : Type 0 where
+  pub turns : List Turn
+  pub text : List ℕ
+
+abbrev pub nothing : Made
+nothing = record { turns = []; text = [] }
+
+abbrev pub only_text : List ℕ → Made
+only_text text = record { turns = []; text = text }
+
+abbrev pub one_turn : Call → Answer → Made
+one_turn call answer = record {
+  turns = record { call = call; answer = answer } ∷ [];
+  text = answer_line answer;
+}
+
+abbrev pub both_made : Made → Made → Made
+both_made first second = record {
+  turns = first.turns ++ second.turns;
+  text = first.text ++ second.text;
+}
+
+-- From old, a line may make this, and lead to new.
+pub data LineStep (old : Scene) : List ℕ → Made → Scene → Type 0 where
+  blank : {line : List ℕ} → IsBlank line → LineStep old line nothing old
+  words : {line : List ℕ} → IsWords line
+      → LineStep old line (only_text (answer_line (Err Words))) old
+  call : {line : List ℕ} {call : Call} {answer : Answer} {new : State}
+      → Spells line call → Step old.state call answer new
+      → LineStep old line (one_turn call answer) (record { state = new; names = old.names })
+
+-- From first, these lines may make this, and lead to a scene.
+pub data Play (first : Scene) : List (List ℕ) → Made → Scene → Type 0 where
+  none : Play first [] nothing first
+  more : {lines : List (List ℕ)} {made : Made} {scene : Scene}
+      {line : List ℕ} {said : Made} {new : Scene}
+      → Play first lines made scene → LineStep scene line said new
+      → Play first (lines ++ line ∷ []) (both_made made said) new

@@ -1,5 +1,5 @@
 -- A reply as text.
-use Rattle.std.specs.Prelude.{ℕ, not, ◌==◌, if◌then◌else◌, List, [], ◌∷◌, ◌++◌, Some, None, Ok, Err, codes, take_while, decimal}
+use Rattle.std.specs.Prelude.{ℕ, ◌≤◌, length, not, ◌==◌, if◌then◌else◌, List, [], ◌∷◌, ◌++◌, Some, None, Ok, Err, codes, take_while, decimal}
 use Rattle.std.specs.Fmt.{signed_decimal}
 use Rattle.rss_base.specs.declared.name.Name.{Name}
 use Rattle.rss_base.specs.declared.tid.Tid.{Tid}
@@ -20,6 +20,7 @@ use Rattle.rss_base.specs.declared.place.Place.TheVariants.{Size, Root, Slot, Ca
 use Rattle.rss_base.specs.declared.key.Space.{Space}
 use Rattle.rss_base.specs.declared.key.Space.TheVariants.{Home, Overflow, Image as ImageSpace, System}
 use Rattle.rss_model.specs.Steps.{Answer}
+use Rattle.rss_model.specs.Script.{line_limit}
 
 -- the bytes before a name's zeros
 abbrev pub name_text : Name → List ℕ
@@ -104,6 +105,10 @@ refusal_text NoSave = codes "refused 18 no save"
 abbrev pub answer_line : Answer → List ℕ
 answer_line (Ok reply) = reply_text reply ++ codes "\n"
 answer_line (Err why) = refusal_text why ++ codes "\n"
+
+-- the line is no longer than a line may be
+abbrev pub IsShort : Answer → Type 0
+IsShort answer = length (answer_line answer) ≤ line_limit
 
 abbrev pub space_text : Space → List ℕ
 space_text Home = codes "home"

@@ -13,7 +13,7 @@ use Rattle.rss_base.specs.declared.answer.Reply.TheVariants.{Ok as Done, Tid as 
 use Rattle.rss_base.specs.declared.refusal.Kind.TheVariants.{Relation as RelationKind}
 use Rattle.rss_base.specs.declared.refusal.Refusal.{Refusal}
 use Rattle.rss_base.specs.declared.refusal.Refusal.TheVariants.{NoTransaction, AlreadyOpen, TooMany, NoSuch, BadTuple, NoTuple, Full}
-use Rattle.rss_model.specs.TupleTypes.{misfit}
+use Rattle.rss_base.specs.TupleTypes.{misfit}
 use Rattle.rss_model.specs.Items.{Values}
 use Rattle.rss_model.specs.Tables.{content, fields_of}
 use Rattle.rss_model.specs.Changes.{Change, after, own, others}

@@ -1,5 +1,4 @@
 -- A call on an engine: a step of the machine, and what a stop at each moment of it leaves.
-use Rattle.std.specs.Prelude.{◌≡◌}
 use Rattle.rss_base.specs.DiskRule.{Disk, Passes}
 use Rattle.rss_base.specs.declared.call.Call.{Call}
 use Rattle.rss_model.specs.Machine.{State}
@@ -17,7 +16,6 @@ pub record IsStopped (earlier later : Disk) (old : State) (call : Call) : Type 0
   pub next : State
   pub answered : IsAnswered earlier later old call answer next
 
--- Memory ran out, and nothing has changed.
-pub record IsUnmade (earlier later : Disk) (old new : State) : Type 0 where
-  pub state : new ≡ old
-  pub moments : Passes earlier later (λ pages. OpensTo pages old.slots old.base)
+-- Memory ran out within the call: at each moment of it the pages open to the committed tables.
+abbrev pub IsUnmade : Disk → Disk → State → Type 0
+IsUnmade earlier later old = Passes earlier later (λ pages. OpensTo pages old.slots old.base)

@@ -1,4 +1,5 @@
-//! The map of a store's slots: a table of their owners, and the two map areas of a device that hold it.
+//! The map of a store's slots: a table of their owners, and the two map areas of a device that hold
+//! it.
 #![tactic(auto)]
 
 mod entry;

@@ -1,14 +1,15 @@
 // A table, read from a map area.
-ghost use Rattle.std.specs.Prelude.{◌≡◌, ◌⊎◌, ◌+◌, ◌*◌, ◌<◌, ◌≤◌, ℕ, List, [], Option, length, min, Err, IfOk, IfErr, OnOk, IsErrOf};
-ghost use Rattle.rss_base.specs.DiskRule.{Pages, page as page_at, Told, Leaves, Passes};
+ghost use Rattle.std.specs.Prelude.{◌≡◌, ◌⊎◌, ◌+◌, ◌≤◌, List, [], Option, length, min, Err, IfOk, IfErr, OnOk, IsErrOf};
+ghost use Rattle.rss_base.specs.DiskRule.{Told, OnlyReads};
 ghost use Rattle.rss_base.specs.Faults.{Rises};
-ghost use Rattle.rss_base.specs.Layout.{IsWellFormed, device_pages, map_at, IsLayoutFault};
-ghost use Rattle.rss_base.specs.PageMap.{IsTable, IsMap, IsMapFault};
+ghost use Rattle.rss_base.specs.Sizes.{map_entries, slots_least, slots_most};
+ghost use Rattle.rss_base.specs.Layout.{IsWellFormed, device_pages, IsLayoutFault};
+ghost use Rattle.rss_base.specs.PageMap.{IsTable, HasMap, HasMapFault};
 ghost use Rattle.rss_base.specs.declared.key.PageKey.{PageKey as Key};
 ghost use Rattle.rss_base.specs.declared.place.Place.{Place};
 ghost use Rattle.rss_base.specs.declared.fault.OpenFault.TheVariants.{Device as DeviceFailed, NoMemory as LacksMemory, NotAStore};
 ghost use Rattle.rss_pagemap.specs.Places.{IsSlotPlace};
-ghost use Rattle.rss_pagemap.specs.Taking.{IsReading, TakesEntry, RefusesEntry, BeginsArea, RefusesPage};
+ghost use Rattle.rss_pagemap.specs.Taking.{IsReading, TakesEntry, RefusesEntry, TakesPage, RefusesPage};
 
 use crate::SlotTable;
 use crate::entry::{ENTRY_BYTES, Entry, decode};
@@ -32,18 +33,22 @@ pub fn read_table<D: Device>(
     ensures layout { IfErr result IsLayoutFault }
 
     // It is what the bytes say, and else the place is named at which they are out of form.
-    ensures found { IfOk result (λ table. Told (D.disk device.old) (λ pages. IsMap root.now.slots pages (map_at root.now.slots root.now.area) table)) }
-    ensures only { (owners : List (Option Key)) → Told (D.disk device.old) (λ pages. IsMap root.now.slots pages (map_at root.now.slots root.now.area) owners → IfOk result (λ table. table ≡ owners)) }
-    ensures fault { (place : Place) → result ≡ Err (NotAStore place) → Told (D.disk device.old) (λ pages. IsMapFault root.now.slots pages (map_at root.now.slots root.now.area) place) }
-    ensures broken { (place : Place) → Told (D.disk device.old) (λ pages. IsMapFault root.now.slots pages (map_at root.now.slots root.now.area) place → (result ≡ Err (NotAStore place)) ⊎ (result ≡ Err DeviceFailed) ⊎ (result ≡ Err LacksMemory)) }
-    ensures place { (place : Place) → result ≡ Err (NotAStore place) → IsSlotPlace root.now.slots place }
-    ensures cause { IsErrOf result OpenFault.Device → Rises (D.faults device.old) (D.faults device.new) }
-
-    ensures contents { (D.disk device.new).contents ≡ (D.disk device.old).contents }
-    ensures moments { Told (D.disk device.old) (λ _. Passes (D.disk device.old) (D.disk device.new) (Leaves (D.disk device.old))) }
+    ensures found { IfOk result (λ table. Told (D.disk device.old) (HasMap root.now table)) }
+    ensures only { (owners : List (Option Key)) → Told (D.disk device.old) (λ pages.
+        HasMap root.now owners pages → IfOk result (λ table. table ≡ owners)) }
+    ensures fault { (place : Place) → result ≡ Err (NotAStore place)
+        → Told (D.disk device.old) (HasMapFault root.now place) }
+    ensures broken { (place : Place) → Told (D.disk device.old) (λ pages.
+        HasMapFault root.now place pages
+        → (result ≡ Err (NotAStore place)) ⊎ (result ≡ Err DeviceFailed)
+        ⊎ (result ≡ Err LacksMemory)) }
+    ensures place { (place : Place) → result ≡ Err (NotAStore place)
+        → IsSlotPlace root.now.slots place }
+    ensures cause { IsErrOf result OpenFault.Device
+        → Rises (D.faults device.old) (D.faults device.new) }
+    ensures reads { OnlyReads (D.disk device.old) (D.disk device.new) (D.writes device.old)
+        (D.writes device.new) (D.faults device.old) (D.faults device.new) }
     ensures size { D.size_of device.new ≡ D.size_of device.old }
-    ensures writes { D.writes device.new ≡ D.writes device.old }
-    ensures later { D.faults device.old ≤ D.faults device.new }
 {
     let first = map_at(root.slots, root.area);
     let mut reading = Reading::new(alloc, root.slots)?;
@@ -66,8 +71,8 @@ struct Reading {
 
 impl Reading {
     fn new(alloc: Global, slots: u32) -> Result<Self, OpenFault>
-        requires least { 64 ≤ slots }
-        requires most { slots ≤ 65536 }
+        requires least { slots_least ≤ slots }
+        requires most { slots ≤ slots_most }
         ensures reading { IfOk result IsReading }
         ensures slots { IfOk result (λ reading. reading.slots ≡ slots) }
         ensures none { IfOk result (λ reading. reading.owners.items ≡ []) }
@@ -89,8 +94,10 @@ impl Reading {
         requires { IsReading self.old }
         ensures reading { OnOk result (IsReading self.new) }
         ensures slots { OnOk result (self.new.slots ≡ self.old.slots) }
-        ensures long { OnOk result (length self.new.owners.items ≡ min (length self.old.owners.items + 512) self.old.slots) }
-        ensures taken { OnOk result ((pages : Pages) (first at : ℕ) → page.now ≡ page_at pages (first + at) → BeginsArea self.old.slots pages first (512 * at) self.old.owners.items → BeginsArea self.old.slots pages first (512 * at + 512) self.new.owners.items) }
+        ensures long { OnOk result (length self.new.owners.items
+            ≡ min (length self.old.owners.items + map_entries) self.old.slots) }
+        ensures taken { OnOk result (TakesPage self.old.slots page.now
+            self.old.owners.items self.new.owners.items) }
         ensures refused { IfErr result (RefusesPage self.old.slots page.now self.old.owners.items) }
     {
         for place in 0..ENTRIES_OF_PAGE as usize {
@@ -106,7 +113,8 @@ impl Reading {
         requires { IsReading self.old }
         ensures reading { OnOk result (IsReading self.new) }
         ensures slots { OnOk result (self.new.slots ≡ self.old.slots) }
-        ensures taken { OnOk result (TakesEntry self.old.slots entry.now self.old.owners.items self.new.owners.items) }
+        ensures taken { OnOk result (TakesEntry self.old.slots entry.now
+            self.old.owners.items self.new.owners.items) }
         ensures refused { IfErr result (RefusesEntry self.old.slots entry.now self.old.owners.items) }
     {
         let slot = self.owners.len() as u32;

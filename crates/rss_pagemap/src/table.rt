@@ -1,5 +1,6 @@
 // Which page each slot holds.
 ghost use Rattle.std.specs.Prelude.{◌≡◌, ◌<◌, ◌≤◌, ℕ, length, replicate, slice_set, Some, None, IfSome, IfOk};
+ghost use Rattle.rss_base.specs.Sizes.{slots_least, slots_most};
 ghost use Rattle.rss_base.specs.PageMap.{IsKey, IsTable, owner_of};
 
 use rss_base::PageKey;
@@ -28,8 +29,8 @@ impl Model for SlotTable {
 impl SlotTable {
     /// A table of so many slots, all free.
     pub fn new(alloc: Global, slots: u32) -> Result<Self, AllocError>
-        requires least { 64 ≤ slots }
-        requires most { slots ≤ 65536 }
+        requires least { slots_least ≤ slots }
+        requires most { slots ≤ slots_most }
         ensures { IfOk result (λ table. table ≡ replicate slots None) }
     {
         let owners = vec![in alloc; None; slots as usize]?;
@@ -72,7 +73,8 @@ impl SlotTable {
     pub fn set(&mut self, slot: u32, owner: Option<PageKey>)
         requires within { slot < length self.old }
         requires allowed { IfSome owner (IsKey (length self.old)) }
-        requires alone { IfSome owner (λ key. (other : ℕ) → owner_of self.old other ≡ Some key → other ≡ slot) }
+        requires alone { IfSome owner (λ key.
+            (other : ℕ) → owner_of self.old other ≡ Some key → other ≡ slot) }
         ensures { self.new ≡ slice_set self.old slot owner }
     {
         self.owners[slot as usize] = owner;

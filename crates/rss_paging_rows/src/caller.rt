@@ -1,7 +1,8 @@
 // A caller of pages, which is proved from what `Pages` says alone.
-ghost use Rattle.std.specs.Prelude.{◌≡◌, ◌+◌, ◌<◌, ◌≤◌, true, Some, IfOk, OnOk};
+ghost use Rattle.std.specs.Prelude.{◌≡◌, ◌<◌, ◌≤◌, Some, IfOk, OnOk};
 ghost use Rattle.rss_base.specs.DiskRule.{IsTold};
-ghost use Rattle.rss_base.specs.Paged.{with_page, page_key, LeavesFixed, HasPageCause};
+ghost use Rattle.rss_base.specs.Paged.{with_page, page_key};
+ghost use Rattle.rss_base.specs.Steps.{PagesCall, pages_in};
 ghost use Rattle.rss_base.specs.declared.key.Space.TheVariants.{Home};
 
 use rss_base::{Page, PageFault, PageKey, Pages, Space};
@@ -16,13 +17,11 @@ pub fn keep<P: Pages>(
 ) -> Result<u32, PageFault>
     requires low { 1 ≤ segment }
     requires high { segment ≤ 8 }
-    requires room { 0 < P.spare_of pages.old }
-    ensures kept { IfOk result (λ number. IsTold (P.disk pages.old) → P.held pages.new ≡ with_page (P.held pages.old) (page_key segment Home number) (Some from.now)) }
-    ensures read { OnOk result (IsTold (P.disk pages.old) → into.new ≡ from.now) }
-    ensures spare { OnOk result (P.spare_of pages.new + 1 ≡ P.spare_of pages.old) }
-    ensures backing { P.backing pages.new ≡ P.backing pages.old }
-    ensures leaves { LeavesFixed (P.is_settled pages.old ≡ true) (P.is_settled pages.new ≡ true) (P.disk pages.old) (P.disk pages.new) (P.fixed pages.old) (P.fixed pages.new) }
-    ensures cause { HasPageCause (P.disk pages.old) (P.faults pages.old) (P.faults pages.new) result }
+    requires room { 0 < (P.view pages.old).spare }
+    ensures kept { IfOk result (λ number. IsTold (P.view pages.old).disk
+        → (P.view pages.new).held ≡ with_page (P.view pages.old).held (page_key segment Home number) (Some from.now)) }
+    ensures read { OnOk result (IsTold (P.view pages.old).disk → into.new ≡ from.now) }
+    ensures did { PagesCall (pages_in segment Home) 1 3 (P.view pages.old) (P.view pages.new) result }
 {
     let number = pages.take(segment, Space::Home)?;
     let key = PageKey {

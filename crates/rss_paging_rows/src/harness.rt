@@ -1,6 +1,6 @@
 // Devices with roots, and calls that are made only where they may be.
 ghost use Rattle.std.specs.Prelude.{◌*◌, ◌≤◌, length, IsTrue};
-ghost use Rattle.rss_shadow.specs.Maps.{pages_of};
+ghost use Rattle.rss_base.specs.PageMap.{page_count};
 
 use rss_base::{Device, Failed, OpenFault, Page, PageKey, Root, Space, Tail, map_pages};
 use rss_device::{MemDevice, Unsynced};
@@ -130,7 +130,7 @@ pub(crate) fn no_pages(alloc: Global, slots: u32) -> Result<Shadow, Fail> {
 
 /// Whether half of the slots or fewer have pages.
 pub(crate) fn is_half_free(table: &SlotTable) -> bool
-    ensures { IsTrue result → 2 * pages_of table.now ≤ length table.now }
+    ensures { IsTrue result → 2 * page_count table.now ≤ length table.now }
 {
     let owned = table
         .as_slice()
@@ -162,6 +162,9 @@ pub(crate) trait Maps {
 
     fn slot_of(&self, key: PageKey) -> Option<u32>;
 
+    /// The first mapped page of a segment and a space, from a number on, and the first unmapped one.
+    fn try_firsts(&self, segment: u8, space: Space, from: u32) -> Result<Firsts, Fail>;
+
     /// Whether a slot has a page.
     fn is_owned(&self, slot: u32) -> Result<bool, Fail>;
 
@@ -186,6 +189,13 @@ pub(crate) struct Counts {
     pub(crate) heap: u32,
 }
 
+/// The first page that is mapped, and the first that isn't, where there is one.
+#[derive(Clone, Copy, Debug, PartialEq, Eq)]
+pub(crate) struct Firsts {
+    pub(crate) mapped: Option<u32>,
+    pub(crate) unmapped: Option<u32>,
+}
+
 impl Maps for Shadow {
     fn counts(&self) -> Counts {
         Counts {
@@ -197,6 +207,16 @@ impl Maps for Shadow {
 
     fn slot_of(&self, key: PageKey) -> Option<u32> {
         Shadow::slot_of(self, key)
+    }
+
+    fn try_firsts(&self, segment: u8, space: Space, from: u32) -> Result<Firsts, Fail> {
+        if segment < 1 || segment > 8 || space == Space::System {
+            return Err("no segment has such pages".into());
+        }
+        Ok(Firsts {
+            mapped: self.first_mapped(segment, space, from),
+            unmapped: self.first_unmapped(segment, space, from),
+        })
     }
 
     fn is_owned(&self, slot: u32) -> Result<bool, Fail> {

@@ -1,7 +1,8 @@
 // The current map and the shadow map, as they run.
 use crate::asserts::{assert_other, assert_same};
 use crate::harness::{
-    Counts, Maps, first_root, home, load_table, no_pages, pages_with_root, put_entry, shadow_of,
+    Counts, Firsts, Maps, first_root, home, load_table, no_pages, pages_with_root, put_entry,
+    shadow_of,
 };
 use rss_base::{Device, Page, PageKey, Space};
 use rss_device::MemDevice;
@@ -58,6 +59,28 @@ const SLOTS_OF_FOUR: [(u8, Space, u32, Option<u32>); 7] = [
     (1, Space::Home, 1, None),
     (2, Space::Home, 7, None),
     (1, Space::Home, 64, None),
+];
+
+/// By segment, space and number: the first page from there on that is mapped of the four, and the
+/// first that isn't.
+const FIRSTS_OF_FOUR: [(u8, Space, u32, Option<u32>, Option<u32>); 8] = [
+    (1, Space::Home, 0, Some(0), Some(1)),
+    (1, Space::Home, 1, None, Some(1)),
+    (1, Space::Overflow, 0, None, Some(0)),
+    (2, Space::Overflow, 0, Some(7), Some(0)),
+    (2, Space::Overflow, 7, Some(7), Some(8)),
+    (8, Space::Image, 0, Some(63), Some(0)),
+    (8, Space::Image, 63, Some(63), None),
+    (8, Space::Image, 64, None, None),
+];
+
+/// The same of 30,000 home pages of one segment.
+const FIRSTS_OF_MANY: [(u8, Space, u32, Option<u32>, Option<u32>); 5] = [
+    (1, Space::Home, 0, Some(0), Some(30_000)),
+    (1, Space::Home, 29_999, Some(29_999), Some(30_000)),
+    (1, Space::Home, 30_000, None, Some(30_000)),
+    (1, Space::Home, 65_535, None, Some(65_535)),
+    (2, Space::Home, 0, None, Some(0)),
 ];
 
 /// Takes home pages of segment 1. Answers the first turn whose number isn't its own.
@@ -192,6 +215,21 @@ fn assert_four_pages<M: Maps>(rt: &impl Abort, maps: &M) {
     }
 }
 
+fn assert_firsts<M: Maps>(
+    rt: &impl Abort,
+    maps: &M,
+    rows: &[(u8, Space, u32, Option<u32>, Option<u32>)],
+) -> Result<(), Fail> {
+    for (segment, space, from, mapped, unmapped) in rows {
+        let want = Firsts {
+            mapped: *mapped,
+            unmapped: *unmapped,
+        };
+        assert_same(rt, &maps.try_firsts(*segment, *space, *from)?, &want, *from);
+    }
+    Ok(())
+}
+
 /// Takes many pages of maps that have none.
 fn assert_many_taken<M: Maps>(rt: &impl Abort, maps: &mut M) -> Result<(), Fail> {
     assert_same(rt, &take_pages(maps, MANY)?, &None, "a turn");
@@ -306,6 +344,14 @@ fn the_maps_of_a_table_have_its_pages(rt: HostRuntime) -> Result<(), Fail> {
     let maps = four_pages(rt.alloc())?;
     assert_four_pages(&rt, &maps);
     Ok(())
+}
+
+#[test]
+fn the_first_page_of_either_kind_is_found_from_each_number_on(rt: HostRuntime) -> Result<(), Fail> {
+    assert_firsts(&rt, &four_pages(rt.alloc())?, &FIRSTS_OF_FOUR)?;
+    let mut maps = no_pages(rt.alloc(), MOST)?;
+    assert_many_taken(&rt, &mut maps)?;
+    assert_firsts(&rt, &maps, &FIRSTS_OF_MANY)
 }
 
 #[test]

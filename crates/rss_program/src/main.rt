@@ -3,7 +3,7 @@
 #![tactic(auto)]
 
 use rss_device::{FileDevice, ReaderSource, WriterSink};
-use rss_top::{Status, run};
+use rss_top::{Status, device_word, exit_code, run};
 use std::process::ExitCode;
 use std::{env, io};
 
@@ -18,13 +18,9 @@ fn words(rt: &HostRuntime) -> Result<Vec<String>, Status> {
 }
 
 fn run_words(rt: &HostRuntime, words: &[String]) -> Status {
-    let path = match words {
-        [_, _, path, ..] => path.as_str(),
-        _ => "",
-    };
     let mut source = ReaderSource::new(rt.reader());
     let mut sink = WriterSink::new(io::writer(rt));
-    let device = FileDevice::new(rt, path);
+    let device = FileDevice::new(rt, device_word(words).unwrap_or(""));
     let (status, _) = run(rt.alloc(), words, &mut source, &mut sink, device);
     status
 }
@@ -37,5 +33,5 @@ fn main(rt: HostRuntime) -> ExitCode {
     if status == Status::Words {
         let _ = eprintln!(rt; "usage: rss format FILE N G | run FILE");
     }
-    ExitCode::from(status.number())
+    exit_code(status)
 }

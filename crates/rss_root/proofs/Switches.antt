@@ -1,19 +1,19 @@
 -- What a stop leaves while one root takes the place of the other.
 use Rattle.std.proofs.Common.{◌≡◌, ◌≢◌, inl, inr, ℕ, ◌-◌, ◌<◌, List, [], length, set, sym, ◌∙◌, ap, subst, arith, length-set, get_or-set_other, get_or-set_same}
 use Rattle.std.proofs.lemmas.Bool.{cases_eq}
-use Rattle.rss_base.specs.DiskRule.{Disk, Pages, page, Leaves, LeavesOnly, SameBut, TornAt, Passes}
+use Rattle.rss_base.specs.DiskRule.{Disk, Pages, page, Leaves, LeavesOnly, IsAt, SameOff, TornIn, Passes}
 use Rattle.rss_base.specs.Layout.{selected_by, selected, root_of}
 use Rattle.rss_base.proofs.Moments.{then, widened}
 use Rattle.rss_root.specs.Roots.{Selects, SelectsEither, IsPhase}
 
 -- where a page other than the selector and the selected root is torn, that root stays
-beside : {disk : Disk} (valid at : ℕ) (bytes : List ℕ) → Selects disk valid bytes → at ≢ 0 → at ≢ valid → (image : Pages) → TornAt at (Leaves disk) image → root_of image ≡ bytes
+beside : {disk : Disk} (valid at : ℕ) (bytes : List ℕ) → Selects disk valid bytes → at ≢ 0 → at ≢ valid → (image : Pages) → TornIn (IsAt at) (Leaves disk) image → root_of image ≡ bytes
 beside valid at bytes selects not_selector not_root image torn =
     let number : selected image ≡ valid = ap selected_by (torn.same.others 0 (λ e. not_selector (sym e))) ∙ selects.selected_one torn.before torn.was in
     ap (page image) number ∙ torn.same.others valid (λ e. not_root (sym e)) ∙ selects.there torn.before torn.was
 
 -- where the selector is torn, one of the two roots is selected
-gate : (pages : Pages) (valid other : ℕ) (before after : List ℕ) → 0 < valid → valid < 3 → other ≡ 3 - valid → other < length pages → page pages valid ≡ before → (image : Pages) → SameBut 0 (set pages other after) image → SelectsEither before after image
+gate : (pages : Pages) (valid other : ℕ) (before after : List ℕ) → 0 < valid → valid < 3 → other ≡ 3 - valid → other < length pages → page pages valid ≡ before → (image : Pages) → SameOff (IsAt 0) (set pages other after) image → SelectsEither before after image
 gate pages valid other before after low high is room was image torn = elim (cases_eq (selected image) valid) [
   | inl same ↦ inl (ap (page image) same ∙ torn.others valid (omega arith) ∙ get_or-set_other pages other valid after [] (omega arith) ∙ was)
   | inr not ↦
@@ -22,15 +22,15 @@ gate pages valid other before after low high is room was image torn = elim (case
 ]
 
 -- what may be left while the selector is written
-second_phase : (disk : Disk) (pages : Pages) → LeavesOnly disk pages → (image : Pages) → TornAt 0 (Leaves disk) image → SameBut 0 pages image
-second_phase disk pages only image torn = subst (λ (p : Pages). SameBut 0 p image) (only torn.before torn.was) torn.same
+second_phase : (disk : Disk) (pages : Pages) → LeavesOnly disk pages → (image : Pages) → TornIn (IsAt 0) (Leaves disk) image → SameOff (IsAt 0) pages image
+second_phase disk pages only image torn = subst (λ (p : Pages). SameOff (IsAt 0) p image) (only torn.before torn.was) torn.same
 
 -- the two steps together
-pub in_phases : {old mid new : Disk} (pages : Pages) (other : ℕ) (after : List ℕ) → Passes old mid (TornAt other (Leaves old)) → LeavesOnly mid (set pages other after) → Passes mid new (TornAt 0 (Leaves mid)) → Passes old new (IsPhase old pages other after)
+pub in_phases : {old mid new : Disk} (pages : Pages) (other : ℕ) (after : List ℕ) → Passes old mid (TornIn (IsAt other) (Leaves old)) → LeavesOnly mid (set pages other after) → Passes mid new (TornIn (IsAt 0) (Leaves mid)) → Passes old new (IsPhase old pages other after)
 in_phases {mid = mid} pages other after first only second = then (widened first (λ image torn. inl torn)) second (λ image torn. inr (second_phase mid (set pages other after) only image torn))
 
 pub either_selected : {old mid new : Disk} (pages : Pages) (valid other : ℕ) (before after : List ℕ) → 0 < valid → valid < 3 → other ≡ 3 - valid → other < length pages → Leaves old pages → Selects old valid before
-    → Passes old mid (TornAt other (Leaves old)) → LeavesOnly mid (set pages other after) → Passes mid new (TornAt 0 (Leaves mid)) → Passes old new (SelectsEither before after)
+    → Passes old mid (TornIn (IsAt other) (Leaves old)) → LeavesOnly mid (set pages other after) → Passes mid new (TornIn (IsAt 0) (Leaves mid)) → Passes old new (SelectsEither before after)
 either_selected {mid = mid} pages valid other before after low high is room reads selects first only second =
     then
     (widened first (λ image torn. inl (beside valid other before selects (omega arith) (omega arith) image torn)))

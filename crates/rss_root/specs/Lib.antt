@@ -1,4 +1,5 @@
 pub use Rattle.rss_base.specs.DiskRule
 pub use Rattle.rss_base.specs.Faults
+pub use Rattle.rss_base.specs.Sizes
 pub use Rattle.rss_base.specs.Layout
 pub mod Roots

@@ -1,6 +1,6 @@
 -- The selector and the two roots while one takes the place of the other.
 use Rattle.std.specs.Prelude.{◌≡◌, ◌⊎◌, ℕ, List, slice_set, Some}
-use Rattle.rss_base.specs.DiskRule.{Disk, Pages, page, Leaves, LeavesOnly, TornAt, SameBut}
+use Rattle.rss_base.specs.DiskRule.{Disk, Pages, page, Told, Leaves, LeavesOnly, IsAt, SameOff, TornIn, Passes}
 use Rattle.rss_base.specs.Layout.{selected_by, selected, root_of}
 use Rattle.rss_base.specs.declared.place.Place.{Place}
 use Rattle.rss_base.specs.declared.place.Place.TheVariants.{Size, Root}
@@ -14,11 +14,18 @@ pub record Selects (disk : Disk) (number : ℕ) (bytes : List ℕ) : Type 0 wher
 abbrev pub SelectsEither : List ℕ → List ℕ → Pages → Type 0
 SelectsEither before after pages = (root_of pages ≡ before) ⊎ (root_of pages ≡ after)
 
--- Within a switch: the other root may hold any bytes, or the other root is whole and the selector may hold any bytes.
+-- Within a switch: the other root may hold any bytes, or the other root is whole and the selector may
+-- hold any bytes.
 abbrev pub IsPhase : Disk → Pages → ℕ → List ℕ → Pages → Type 0
-IsPhase disk pages other root image = TornAt other (Leaves disk) image ⊎ SameBut 0 (slice_set pages other root) image
+IsPhase disk pages other root image =
+    TornIn (IsAt other) (Leaves disk) image ⊎ SameOff (IsAt 0) (slice_set pages other root) image
 
--- after a switch a stop leaves the pages as they were but for the other root and a selector that names it
+-- a call that passes through these phases only
+abbrev pub IsSwitching : ℕ → List ℕ → Disk → Disk → Type 0
+IsSwitching other root old new = Told old (λ pages. Passes old new (IsPhase old pages other root))
+
+-- after a switch a stop leaves the pages as they were but for the other root and a selector that
+-- names it
 pub record IsSwitched (before : Pages) (other : ℕ) (root : List ℕ) (disk : Disk) : Type 0 where
   pub selector : List ℕ
   pub names_it : selected_by selector ≡ other

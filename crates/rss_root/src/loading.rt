@@ -1,6 +1,6 @@
 // The selected root of a device.
 ghost use Rattle.std.specs.Prelude.{◌≡◌, ◌⊎◌, ◌≤◌, Err, IfOk, IfErr, OnOk, IsErrOf};
-ghost use Rattle.rss_base.specs.DiskRule.{Told, Leaves, LeavesOnly, Passes};
+ghost use Rattle.rss_base.specs.DiskRule.{Told, LeavesOnly, OnlyReads};
 ghost use Rattle.rss_base.specs.Faults.{Rises};
 ghost use Rattle.rss_base.specs.Layout.{device_pages, IsWellFormed, HasRoot, IsRootFault, IsLayoutFault};
 ghost use Rattle.rss_base.specs.declared.place.Place.{Place};
@@ -8,10 +8,7 @@ ghost use Rattle.rss_base.specs.declared.fault.OpenFault.TheVariants.{Device as 
 ghost use Rattle.rss_root.specs.Roots.{IsRootPlace};
 
 use crate::root_page::decode;
-use rss_base::{Device, OpenFault, PAGE_BYTES, Place, Root, device_pages};
-
-/// The pages of the selector and of the two roots.
-const ROOT_PAGES: u64 = 3;
+use rss_base::{Device, HEAD_PAGES, OpenFault, PAGE_BYTES, Place, Root, device_pages};
 
 /// Syncs a device, and reads its selected root. Answers the root and its number, 1 or 2. It writes
 /// nothing, and takes no memory.
@@ -22,23 +19,24 @@ pub fn load<D: Device>(device: &mut D) -> Result<(Root, u8), OpenFault>
 
     // It is what the bytes say, and else the place is named at which they are out of form.
     ensures found { IfOk result (λ r. Told (D.disk device.old) (λ pages. HasRoot pages r.1 r.0)) }
-    ensures fault { (place : Place) → result ≡ Err (NotAStore place) → Told (D.disk device.old) (λ pages. IsRootFault pages place) }
-    ensures broken { (place : Place) → Told (D.disk device.old) (λ pages. IsRootFault pages place → (result ≡ Err (NotAStore place)) ⊎ (result ≡ Err DeviceFailed)) }
+    ensures fault { (place : Place) → result ≡ Err (NotAStore place)
+        → Told (D.disk device.old) (λ pages. IsRootFault pages place) }
+    ensures broken { (place : Place) → Told (D.disk device.old) (λ pages. IsRootFault pages place
+        → (result ≡ Err (NotAStore place)) ⊎ (result ≡ Err DeviceFailed)) }
     ensures place { (place : Place) → result ≡ Err (NotAStore place) → IsRootPlace place }
     ensures layout { IfErr result IsLayoutFault }
     ensures memory { IsErrOf result OpenFault.NoMemory → ⊥ }
-    ensures cause { IsErrOf result OpenFault.Device → Rises (D.faults device.old) (D.faults device.new) }
+    ensures cause { IsErrOf result OpenFault.Device
+        → Rises (D.faults device.old) (D.faults device.new) }
 
     // A stop afterwards leaves what a read gives.
     ensures synced { OnOk result (Told (D.disk device.old) (LeavesOnly (D.disk device.new))) }
-    ensures contents { (D.disk device.new).contents ≡ (D.disk device.old).contents }
-    ensures moments { Told (D.disk device.old) (λ _. Passes (D.disk device.old) (D.disk device.new) (Leaves (D.disk device.old))) }
-    ensures writes { D.writes device.new ≡ D.writes device.old }
-    ensures later { D.faults device.old ≤ D.faults device.new }
+    ensures reads { OnlyReads (D.disk device.old) (D.disk device.new) (D.writes device.old)
+        (D.writes device.new) (D.faults device.old) (D.faults device.new) }
 {
     device.sync()?;
     let size = device.size()?;
-    if size < ROOT_PAGES {
+    if size < HEAD_PAGES {
         return Err(OpenFault::NotAStore(Place::Size));
     }
     let mut page = [0u8; PAGE_BYTES];

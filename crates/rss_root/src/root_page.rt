@@ -1,6 +1,7 @@
 // The page of a root.
-ghost use Rattle.std.specs.Prelude.{◌≡◌, ◌↔◌, ◌+◌, ◌*◌, ◌^◌, ◌<◌, ◌≤◌, ◌++◌, length, take, drop, IsTrue, IfSome, IfNone};
+ghost use Rattle.std.specs.Prelude.{◌≡◌, ◌↔◌, ◌+◌, ◌*◌, ◌<◌, ◌≤◌, ◌++◌, length, take, drop, IsTrue, IfSome, IfNone};
 ghost use Rattle.std.specs.Int.{w32, w64, from_be_bytes};
+ghost use Rattle.rss_base.specs.Sizes.{position_limit, log_pages_most};
 ghost use Rattle.rss_base.specs.Layout.{root_page, log_free, IsWellFormed, IsRootPage};
 ghost use Rattle.rss_base.specs.declared.root.Root.{Root as SomeRoot};
 
@@ -74,8 +75,8 @@ pub fn decode(page: &Page) -> Option<Root>
 
 /// How many bytes the log has room for.
 fn log_free(root: &Root) -> u64
-    requires head { root.now.head < 2 ^ 63 }
-    requires pages { root.now.log_pages ≤ 4096 }
+    requires head { root.now.head < position_limit }
+    requires pages { root.now.log_pages ≤ log_pages_most }
     ensures { result ≡ log_free root.now }
 {
     let kept_until = (root.head / PIECE_LENGTH + u64::from(root.log_pages) + 1) * PIECE_LENGTH - 1;

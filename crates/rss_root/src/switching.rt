@@ -1,9 +1,10 @@
 // The change from one root to the other.
-ghost use Rattle.std.specs.Prelude.{◌≡◌, ◌↔◌, ◌+◌, ◌-◌, ◌<◌, ◌≤◌, ℕ, List, IfOk, OnOk};
-ghost use Rattle.rss_base.specs.DiskRule.{Told, IsTold, IsRewrittenIn, Passes};
+ghost use Rattle.std.specs.Prelude.{◌≡◌, ◌+◌, ◌-◌, ◌<◌, ◌≤◌, List, ℕ, IfOk, OnOk};
+ghost use Rattle.rss_base.specs.DiskRule.{Told, IsTold, Passes, WritesIn};
 ghost use Rattle.rss_base.specs.Faults.{HasCause};
-ghost use Rattle.rss_base.specs.Layout.{root_page, selected_by};
-ghost use Rattle.rss_root.specs.Roots.{Selects, SelectsEither, IsPhase, IsSwitched};
+ghost use Rattle.rss_base.specs.Sizes.{head_pages};
+ghost use Rattle.rss_base.specs.Layout.{IsHeadPage, root_page, selected_by};
+ghost use Rattle.rss_root.specs.Roots.{Selects, SelectsEither, IsSwitching, IsSwitched};
 
 use crate::root_page::encode;
 use rss_base::{Device, Failed, PAGE_BYTES, Page, Root, put};
@@ -15,18 +16,23 @@ use rss_base::{Device, Failed, PAGE_BYTES, Page, Root, put};
 pub fn switch<D: Device>(device: &mut D, valid: u8, root: &Root) -> Result<u8, Failed>
     requires low { 0 < valid }
     requires high { valid < 3 }
-    requires size { 3 ≤ D.size_of device.old }
+    requires size { head_pages ≤ D.size_of device.old }
 
     // At each moment a stop leaves the root that was selected or the new one, and every other page
     // as it was.
-    ensures phases { Told (D.disk device.old) (λ pages. Passes (D.disk device.old) (D.disk device.new) (IsPhase (D.disk device.old) pages (3 - valid) (root_page root.now))) }
-    ensures switched { OnOk result (Told (D.disk device.old) (λ pages. IsSwitched pages (3 - valid) (root_page root.now) (D.disk device.new))) }
-    ensures either { IsTold (D.disk device.old) → (before : List ℕ) → Selects (D.disk device.old) valid before → Passes (D.disk device.old) (D.disk device.new) (SelectsEither before (root_page root.now)) }
-    ensures selects { IfOk result (λ now. IsTold (D.disk device.old) → (before : List ℕ) → Selects (D.disk device.old) valid before → Selects (D.disk device.new) now (root_page root.now)) }
+    ensures phases { IsSwitching (3 - valid) (root_page root.now)
+        (D.disk device.old) (D.disk device.new) }
+    ensures switched { OnOk result (Told (D.disk device.old) (λ pages.
+        IsSwitched pages (3 - valid) (root_page root.now) (D.disk device.new))) }
+    ensures either { IsTold (D.disk device.old) → (before : List ℕ)
+        → Selects (D.disk device.old) valid before
+        → Passes (D.disk device.old) (D.disk device.new) (SelectsEither before (root_page root.now)) }
+    ensures selects { IfOk result (λ now. IsTold (D.disk device.old) → (before : List ℕ)
+        → Selects (D.disk device.old) valid before
+        → Selects (D.disk device.new) now (root_page root.now)) }
 
     ensures number { IfOk result (λ now. now ≡ 3 - valid) }
-    ensures kept { Told (D.disk device.old) (λ pages. IsRewrittenIn (λ q. q < 3) pages (D.disk device.new).contents) }
-    ensures told { IsTold (D.disk device.old) ↔ IsTold (D.disk device.new) }
+    ensures only { WritesIn IsHeadPage (D.disk device.old) (D.disk device.new) }
     ensures size { D.size_of device.new ≡ D.size_of device.old }
     ensures writes { D.writes device.new ≤ D.writes device.old + 2 }
     ensures cause { HasCause (D.faults device.old) (D.faults device.new) result }

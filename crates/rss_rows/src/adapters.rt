@@ -4,7 +4,9 @@ ghost use Rattle.std.specs.Prelude.{◌≡◌, ◌<◌};
 use crate::asserts::{assert_same, assert_same_slices};
 use crate::harness::image_at;
 use rss_base::{Device, Failed, Page, Sink, Source, Text, Tuple, Value, write_all};
-use rss_device::{FileDevice, MemDevice, MemSink, MemSource, ReaderSource, Unsynced, WriterSink};
+use rss_device::{
+    FileDevice, MemDevice, MemSink, MemSource, ReaderSource, StoreFiles, Unsynced, WriterSink,
+};
 use std::alloc::Global;
 use std::process::Abort;
 use std::rt::Files;
@@ -75,19 +77,17 @@ fn is_full_of<D: Device>(device: &mut D, at: u64, byte: u8) -> Result<bool, Fail
 }
 
 /// Makes a device three pages, and writes the last two.
-fn write_two<D: Device>(device: &mut D) -> Result<(), Fail> {
+pub(crate) fn write_two<D: Device>(device: &mut D) -> Result<(), Failed> {
     device.set_size(3)?;
     device.write(1, &page_full_of(7))?;
     device.write(2, &page_full_of(9))?;
-    device.sync()?;
-    Ok(())
+    device.sync()
 }
 
 /// A device has these three pages.
-fn assert_three<D: Device>(rt: &impl Abort, device: &mut D) -> Result<(), Fail> {
-    if device.size()? != 3 {
-        return Err("another size".into());
-    }
+pub(crate) fn assert_three<D: Device>(rt: &impl Abort, device: &mut D) -> Result<(), Failed> {
+    let size = device.size()?;
+    assert!(rt; size == 3, "another size");
     assert_same(rt, &is_full_of(device, 0, 0)?, &true, "page 0");
     assert_same(rt, &is_full_of(device, 1, 7)?, &true, "page 1");
     assert_same(rt, &is_full_of(device, 2, 9)?, &true, "page 2");
@@ -95,25 +95,40 @@ fn assert_three<D: Device>(rt: &impl Abort, device: &mut D) -> Result<(), Fail> 
 }
 
 /// A path where no file is.
-fn new_path(rt: &HostRuntime) -> Result<String, Fail> {
+pub(crate) fn new_path(rt: &HostRuntime, name: &str) -> Result<String, Fail> {
     let directory = env::temp_dir(rt)?;
     let id = process::id(rt.process());
-    Ok(format!(in rt.alloc(); "{}/rss_file_device_{id}", directory.display())?)
+    Ok(format!(in rt.alloc(); "{}/rss_file_{name}_{id}", directory.display())?)
 }
 
 /// Makes a file of three pages.
-fn make_file<R: Files + Abort>(rt: &R, path: &str) -> Result<(), Fail> {
+fn make_file<S: StoreFiles + Abort>(rt: &S, path: &str) -> Result<(), Fail> {
     let mut device = FileDevice::new(rt, path);
     assert_same(rt, &device.size(), &Err(Failed), "no file");
-    write_two(&mut device)
+    write_two(&mut device)?;
+    Ok(())
 }
 
-/// Opens it, and again once it has another length.
-fn assert_file<R: Files + Abort>(rt: &R, path: &str) -> Result<(), Fail> {
+/// How many pages a file has by its length.
+static SIZES: [(usize, u64); 7] = [
+    (0, 0),
+    (5, 0),
+    (4096, 1),
+    (12_287, 2),
+    (12_288, 3),
+    (12_289, u64::MAX),
+    (16_384, 4),
+];
+
+/// Opens it, and finds its size as its length changes.
+fn assert_file<S: StoreFiles + Files + Abort>(rt: &S, path: &str) -> Result<(), Fail> {
     let mut device = FileDevice::new(rt, path);
     assert_three(rt, &mut device)?;
-    fs::write(rt, path, "short")?;
-    assert_same(rt, &device.size(), &Ok(u64::MAX), "a short file");
+    let bytes = [0u8; 16_384];
+    for (length, pages) in &SIZES {
+        fs::write(rt, path, &bytes[..(*length).min(bytes.len())])?;
+        assert_same(rt, &device.size(), &Ok(*pages), *length);
+    }
     Ok(())
 }
 
@@ -234,7 +249,7 @@ fn is_of_seven(tuple: &Tuple, text: &[u8]) -> bool {
 
 #[test]
 fn file_device_keeps_its_pages(rt: HostRuntime) -> Result<(), Fail> {
-    let path = new_path(&rt)?;
+    let path = new_path(&rt, "pages")?;
     make_file(&rt, path.as_str())?;
     assert_file(&rt, path.as_str())?;
     fs::remove_file(&rt, path.as_str())?;

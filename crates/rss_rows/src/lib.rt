@@ -6,6 +6,8 @@ mod adapters;
 #[cfg(test)]
 mod asserts;
 #[cfg(test)]
+mod file_faults;
+#[cfg(test)]
 mod formats;
 #[cfg(test)]
 mod harness;

@@ -1,11 +1,12 @@
 -- Lemmas on numbers in use, as bits in words.
-use Rattle.std.proofs.Common.{◌≡◌, ◌≢◌, ℕ, ◌+◌, ◌-◌, ◌*◌, ◌/◌, ◌%◌, ◌^◌, ◌<◌, ◌≤◌, inl, inr, Bool, true, false, ◌==◌, List, [], ◌∷◌, length, slice_index, get_or, set, replicate, w64, refl, sym, ◌∙◌, ap, subst, arith, length-set, get_or-set_same, get_or-set_other}
-use Rattle.std.specs.Int.{bit_at, trailing_ones}
-use Rattle.std.proofs.lemmas.Bool.{cases_eq, cases_lt, eq-eqb, ne_eqb, eqb-true, eqb-false, true≢false}
-use Rattle.std.proofs.lemmas.List.{length-replicate, get_or-replicate, get_or_read, same_lists}
+use Rattle.std.proofs.Common.{◌≡◌, ◌≢◌, ℕ, ◌+◌, ◌-◌, ◌*◌, ◌/◌, ◌%◌, ◌^◌, ◌<◌, ◌≤◌, inl, inr, Bool, true, false, ◌==◌, max, bit_or, List, [], ◌∷◌, length, slice_index, get_or, set, replicate, w64, refl, sym, ◌∙◌, ap, subst, arith, length-set, get_or-set_same, get_or-set_other}
+use Rattle.std.specs.Int.{bit_at, bit_not, trailing_ones}
+use Rattle.std.proofs.lemmas.Bool.{cases_eq, eq-eqb, ne_eqb, true≢false}
+use Rattle.std.proofs.lemmas.List.{length-replicate, get_or-replicate, same_lists}
 use Rattle.std.proofs.lemmas.List.FromFn.{length-map-range_with_len, get_or-map-range_with_len}
-use Rattle.std.proofs.lemmas.Nat.{div-mul-add, mod-mul-add, trailing_le}
-use Rattle.std.proofs.lemmas.Nat.Bits.{bit_at-zero, bit_at_ones, bit_at-trailing_ones}
+use Rattle.std.proofs.lemmas.Nat.{div-mul-add, mod-mul-add, pow_pos}
+use Rattle.std.proofs.lemmas.Nat.Bits.{bit_at-zero, bit_at_ones, bit_at_or, bit_at_not, bit_at_mask_below, bit_at_mask_inside, bit_at-lt}
+use Rattle.std.proofs.Math.Pow.{pow-sub-lt}
 use Rattle.rss_shadow.specs.Numbers.{is_set, in_use, AreBits, AreClear, TellFull, AreNumbers, IsPut, IsSetFrom}
 
 -- ---- the list of what is in use
@@ -61,103 +62,19 @@ AreNumbers-put {bound} {number} {numbers} {numbers'} {words} {words'} {groups} {
       groups_full = TellFull-put put_word all.groups_full group put_group;
     }
 
--- ---- full words
-full_word : (words : List ℕ) (number : ℕ) → slice_index words (number / 64) ≡ 2 ^ 64 - 1 → is_set words number ≡ true
+-- ---- bits of a word
+pub full_word : (words : List ℕ) (number : ℕ) → slice_index words (number / 64) ≡ 2 ^ 64 - 1 → is_set words number ≡ true
 full_word words number full = eq-eqb _ _ (ap (λ w. bit_at w (number % 64)) full ∙ bit_at_ones 64 (number % 64) (omega arith))
 
-set_in_full : {words full : List ℕ} → TellFull words full → (number : ℕ) → number / 64 < length words → is_set full (number / 64) ≡ true → is_set words number ≡ true
-set_in_full {words} tells number within full_bit = full_word words number (eqb-true _ _ (sym (tells.tell (number / 64) within) ∙ full_bit))
-
-all_set : {bound : ℕ} {words full : List ℕ} → AreBits bound words → TellFull words full → ((word : ℕ) → word < length words → is_set full word ≡ true) → (number : ℕ) → number < bound → is_set words number ≡ true
-all_set bits tells upper number within =
-    let count = bits.count in
-    set_in_full tells number (omega arith) (upper (number / 64) (omega arith))
-
--- ---- the least number whose bit is clear
-pub record IsLeast (bound : ℕ) (words : List ℕ) (number : ℕ) : Type 0 where
-  pub within : number < bound
-  pub absent : is_set words number ≡ false
-  pub lesser : (other : ℕ) → other < number → is_set words other ≡ true
-
-is_set_at : (words : List ℕ) (word bit : ℕ) → bit < 64 → is_set words (word * 64 + bit) ≡ (bit_at (slice_index words word) bit == 1)
+pub is_set_at : (words : List ℕ) (word bit : ℕ) → bit < 64 → is_set words (word * 64 + bit) ≡ (bit_at (slice_index words word) bit == 1)
 is_set_at words word bit within = rw (div-mul-add word 64 bit within, mod-mul-add word 64 bit within)
 
-is_set_first : (words : List ℕ) (bit : ℕ) → bit < 64 → is_set words bit ≡ (bit_at (slice_index words 0) bit == 1)
-is_set_first words bit within =
-    let word : bit / 64 ≡ 0 = omega arith in
-    let same : bit % 64 ≡ bit = omega arith in
-    rw (word, same)
-
-ones_of_full : trailing_ones w64 (2 ^ 64 - 1) ≡ 64
+pub ones_of_full : trailing_ones w64 (2 ^ 64 - 1) ≡ 64
 unfolding lib.Count.count_trailing_zeros
 ones_of_full = refl
 
 pub clear_bit : (word bit : ℕ) → bit_at word bit ≡ 0 → (bit_at word bit == 1) ≡ false
 clear_bit word bit zero = ap (λ b. b == 1) zero
-
-ones_below : (word : ℕ) → word < 2 ^ 64 → (bit : ℕ) → bit < trailing_ones w64 word → bit_at word bit ≡ 1
-ones_below word fits bit below = elim (cases_eq word (2 ^ 64 - 1)) [
-  | inl full ↦ ap (λ w. bit_at w bit) full ∙ bit_at_ones 64 bit (omega (arith, trailing_le 64 (2 ^ 64 - 1 - word)))
-  | inr some_clear ↦ (bit_at-trailing_ones w64 word (omega arith)).2 bit below
-]
-
-IsLeast-in_word : (words : List ℕ) (bound : ℕ) → bound ≤ 64 → slice_index words 0 < 2 ^ 64 → trailing_ones w64 (slice_index words 0) < bound → IsLeast bound words (trailing_ones w64 (slice_index words 0))
-IsLeast-in_word words bound few fits within =
-    let is_open = cases_eq (slice_index words 0) (2 ^ 64 - 1) in
-    let ones = bit_at-trailing_ones w64 (slice_index words 0) (elim is_open [
-      | inl full ↦ absurd (omega (arith, ap (trailing_ones w64) full, ones_of_full))
-      | inr some_clear ↦ omega arith
-    ]) in
-    record {
-      within = within;
-      absent = is_set_first words _ ones.0 ∙ clear_bit _ _ ones.1;
-      lesser = λ other below. is_set_first words other (omega arith) ∙ eq-eqb _ _ (ones.2 other below);
-    }
-
-IsLeast-below : {bound : ℕ} {words full : List ℕ} {word : ℕ} → AreBits bound words → TellFull words full → IsLeast (length words) full word → slice_index words word < 2 ^ 64 → IsLeast bound words (word * 64 + trailing_ones w64 (slice_index words word))
-IsLeast-below {bound} {words} {full} {word} bits tells least fits =
-    let is_open = eqb-false _ _ (sym (tells.tell word least.within) ∙ least.absent) in
-    let ones = bit_at-trailing_ones w64 (slice_index words word) (omega arith) in
-    let bit = trailing_ones w64 (slice_index words word) in
-    let clear = is_set_at words word bit ones.0 ∙ clear_bit (slice_index words word) bit ones.1 in
-    record {
-      within = elim (cases_lt (word * 64 + bit) bound) [
-        | inl below ↦ below
-        | inr past ↦ absurd (true≢false (sym (bits.past (word * 64 + bit) past (omega arith)) ∙ clear))
-      ];
-      absent = clear;
-      lesser = λ other below. elim (cases_lt (other / 64) word) [
-        | inl before ↦ set_in_full tells other (omega arith) (least.lesser (other / 64) before)
-        | inr there ↦
-            let same : other / 64 ≡ word = omega arith in
-            eq-eqb _ _ (ap (λ w. bit_at (slice_index words w) (other % 64)) same ∙ ones.2 (other % 64) (omega arith))
-      ];
-    }
-
-IsLeast-read : {bound : ℕ} {words full : List ℕ} (word read bit : ℕ) → AreBits bound words → TellFull words full → IsLeast (length words) full word → read ≡ get_or words word read → read < 2 ^ 64 → bit ≡ trailing_ones w64 read → IsLeast bound words (word * 64 + bit)
-IsLeast-read {bound} {words} word read bit bits tells least read_is fits bit_is =
-    let value = get_or_read words word read least.within read_is 0 in
-    subst (λ b. IsLeast bound words (word * 64 + b)) (sym (bit_is ∙ ap (trailing_ones w64) value)) (IsLeast-below bits tells least (omega (arith, value)))
-
--- where the least number is found, from what the code read
-module _ {bound : ℕ} {numbers words groups : List ℕ} (all : AreNumbers bound numbers words groups) (fits : get_or groups 0 0 < 2 ^ 64) where
-  pub all_used : length words ≤ trailing_ones w64 (get_or groups 0 0) → (number : ℕ) → number < bound → is_set numbers number ≡ true
-  all_used full =
-      let few = all.few in
-      let count = all.numbers_hold.count in
-      let count_words = all.words_hold.count in
-      all_set all.numbers_hold all.words_full (all_set all.words_hold all.groups_full (λ group below. is_set_first groups group (omega arith) ∙ eq-eqb _ _ (ones_below (get_or groups 0 0) fits group (omega arith))))
-
-  pub least_word : (group read bit : ℕ) → group ≡ trailing_ones w64 (get_or groups 0 0) → group < length words → read ≡ get_or words group read → read < 2 ^ 64 → bit ≡ trailing_ones w64 read → IsLeast (length numbers) words (group * 64 + bit)
-  least_word group read bit group_is within read_is read_fits bit_is =
-      let few = all.few in
-      let count = all.numbers_hold.count in
-      let count_words = all.words_hold.count in
-      let top = subst (λ g. IsLeast (length words) groups g) (sym group_is) (IsLeast-in_word groups (length words) (omega arith) fits (omega arith)) in
-      IsLeast-read group read bit all.words_hold all.groups_full top read_is read_fits bit_is
-
-  pub least_number : (word read bit : ℕ) → IsLeast (length numbers) words word → read ≡ get_or numbers word read → read < 2 ^ 64 → bit ≡ trailing_ones w64 read → IsLeast bound numbers (word * 64 + bit)
-  least_number word read bit = IsLeast-read word read bit all.numbers_hold all.words_full
 
 -- ---- words of which no bit below the bound is set
 TellFull-clear : {bound : ℕ} {words full : List ℕ} → AreClear bound words → AreClear (length words) full → TellFull words full
@@ -235,3 +152,56 @@ in_use-clear {bound} {words} bits =
     same_lists _ _ (long ∙ sym (length-replicate bound false)) (λ k d h.
     let below : k < bound = omega arith in
     at_in_use bound words k d below ∙ bits.clear k below ∙ sym (get_or-replicate bound k false d below))
+
+-- the bits from one on are cleared in the mask, and set below it
+module _ (word bit : ℕ) where
+  bit_at-masked : (other : ℕ) → other < 64 → bit_at (bit_or word (bit_not w64 (2 ^ 64 - 2 ^ bit))) other ≡ max (bit_at word other) (1 - bit_at (2 ^ 64 - 2 ^ bit) other)
+  bit_at-masked other few = bit_at_or word (bit_not w64 (2 ^ 64 - 2 ^ bit)) other ∙ ap (λ n. max (bit_at word other) n) (bit_at_not w64 (2 ^ 64 - 2 ^ bit) other (pow-sub-lt 64 (pow_pos bit)) few)
+
+  pub masked_below : bit < 64 → (other : ℕ) → other < bit → bit_at (bit_or word (bit_not w64 (2 ^ 64 - 2 ^ bit))) other ≡ 1
+  masked_below within other before = omega (arith, bit_at-masked other (omega arith), bit_at_mask_below bit 64 other before, bit_at-lt word other)
+
+  pub masked_others : (other : ℕ) → bit ≤ other → other < 64 → bit_at (bit_or word (bit_not w64 (2 ^ 64 - 2 ^ bit))) other ≡ bit_at word other
+  masked_others other from few = omega (arith, bit_at-masked other few, bit_at_mask_inside bit 64 other from few)
+
+-- ---- words of which all bits are set
+set_in_ones : (n number : ℕ) → number < 64 * n → is_set (replicate n (2 ^ 64 - 1)) number ≡ true
+set_in_ones n number within = full_word (replicate n (2 ^ 64 - 1)) number (get_or-replicate n (number / 64) (2 ^ 64 - 1) 0 (omega arith))
+
+long_ones : (n : ℕ) → length (replicate n (2 ^ 64 - 1)) ≡ n
+long_ones n = length-replicate {A = ℕ} n (2 ^ 64 - 1)
+
+AreBits-ones : (bound n : ℕ) → n ≡ (bound + 63) / 64 → AreBits bound (replicate n (2 ^ 64 - 1))
+AreBits-ones bound n counts = record {
+  count = long_ones n ∙ counts;
+  past = λ number above below. set_in_ones n number (omega (arith, long_ones n));
+}
+
+TellFull-ones : (n m : ℕ) → m ≡ (n + 63) / 64 → TellFull (replicate n (2 ^ 64 - 1)) (replicate m (2 ^ 64 - 1))
+TellFull-ones n m counts = record {
+  tell = λ word within.
+      let few : word < n = omega (arith, long_ones n) in
+      set_in_ones m word (omega arith) ∙ sym (eq-eqb _ _ (get_or-replicate n word (2 ^ 64 - 1) 0 few));
+}
+
+pub AreNumbers-ones : (bound n m : ℕ) → 0 < bound → bound ≤ 65536 → n ≡ (bound + 63) / 64 → m ≡ (n + 63) / 64 → AreNumbers bound (replicate n (2 ^ 64 - 1)) (replicate m (2 ^ 64 - 1)) ((2 ^ 64 - 1) ∷ [])
+AreNumbers-ones bound n m some few counts counts_words =
+    let one : replicate 1 (2 ^ 64 - 1) ≡ (2 ^ 64 - 1) ∷ [] = refl in
+    let single : 1 ≡ (m + 63) / 64 = omega arith in
+    record {
+      some = some;
+      few = few;
+      numbers_hold = AreBits-ones bound n counts;
+      words_hold = rw (long_ones n) (AreBits-ones n m counts_words);
+      groups_hold = rw (long_ones m, ← one) (AreBits-ones m 1 single);
+      words_full = TellFull-ones n m counts_words;
+      groups_full = rw (← one) (TellFull-ones m 1 single);
+    }
+
+pub in_use-ones : (bound n : ℕ) → n ≡ (bound + 63) / 64 → in_use bound (replicate n (2 ^ 64 - 1)) ≡ replicate bound true
+in_use-ones bound n counts =
+    let words = replicate n (2 ^ 64 - 1) in
+    let long = length_in_use bound words in
+    same_lists _ _ (long ∙ sym (length-replicate bound true)) (λ k d h.
+    let below : k < bound = omega arith in
+    at_in_use bound words k d below ∙ set_in_ones n k (omega arith) ∙ sym (get_or-replicate bound k true d below))

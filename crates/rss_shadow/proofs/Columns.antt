@@ -1,16 +1,19 @@
 -- The columns of an index, of which one is changed at one number.
 use Rattle.std.proofs.Common.{◌≡◌, ◌≢◌, inl, inr, ℕ, ◌+◌, ◌<◌, ◌≤◌, List, [], ◌∷◌, ◌++◌, length, set, replicate, refl, sym, ◌∙◌, ap, subst, arith, cond, zero, suc, ◌-◌, length-set, get_or-set_same, get_or-set_other}
-use Rattle.std.specs.Prelude.{Option, Some, None, is_some, IsSome, count_by, slice_index_or}
+use Rattle.std.specs.Prelude.{Option, Some, None, is_some, IsSome, IfSome, IfNone, count_by, slice_index_or}
 use Rattle.std.specs.List.{All, sum_by}
-use Rattle.std.proofs.lemmas.Bool.{cases_eq, cases_lt, false≢true}
+use Rattle.std.proofs.lemmas.Bool.{cases_eq, cases_lt, false≢true, true_from_ne_false}
 use Rattle.std.proofs.lemmas.List.{get_or_read, get_or-replicate, get_or_past, length-replicate, replicate_more}
 use Rattle.std.proofs.lemmas.List.Sums.{sum_by-set, sum_by-cons, get_or-le-sum_by}
-use Rattle.std.proofs.lemmas.List.Elements.{All-head, All-tail}
+use Rattle.std.proofs.lemmas.List.Elements.{All-head, All-tail, All-from_get_or}
 use Rattle.rss_base.specs.PageMap.{IsKey, IsSegmentOf, number_limit}
 use Rattle.rss_base.specs.declared.key.Space.{Space}
 use Rattle.rss_base.specs.declared.key.Space.TheVariants.{Home, Overflow, Image, System}
 use Rattle.rss_base.specs.declared.key.PageKey.{PageKey}
-use Rattle.rss_shadow.specs.Index.{Columns, column_at, slot_in, numbers_of, pages_in, AreColumns, PutsSlot}
+use Rattle.rss_base.specs.Paged.{page_key, IsFirstFrom, NoneFrom}
+use Rattle.rss_shadow.specs.Index.{Columns, column_at, slot_in, numbers_of, pages_in, AreColumns, PutsSlot, HasSlot, LacksSlot, IsIndexed, IsUnindexed}
+use Rattle.rss_shadow.proofs.Firsts.{first_told, none_told}
+use Rattle.rss_shadow.proofs.Mapped.{HasSlot-within, none_at}
 
 -- a column belongs to one space of one segment
 pub column_at-injective : (s t : Space) (a b : ℕ) → IsSegmentOf s a → IsSegmentOf t b → column_at s a ≡ column_at t b → (s ≡ t) × (a ≡ b)
@@ -105,20 +108,88 @@ count_by_all (Some slot ∷ xs) all = omega (arith, count_by_all xs (All-tail Is
 pub full_column : (columns : Columns) (c : ℕ) → c < length columns → All IsSome (slice_index_or columns c []) → length (slice_index_or columns c []) ≤ pages_in columns
 full_column columns c within all = omega (arith, count_by_all _ all, get_or-le-sum_by (λ (column : List (Option ℕ)). count_by is_some column) columns c [] within)
 
--- the same, as the code does it
-pub full_place : (old columns : Columns) (space : Space) (segment c : ℕ) (was : List (Option ℕ)) → columns ≡ old → AreColumns columns → 1 ≤ segment → segment ≤ 8 → space ≢ System → c ≡ column_at space segment → was ≡ slice_index_or columns c was → All IsSome was → numbers_of old ≤ pages_in old
-full_place old columns space segment c was view are low high apart place read all =
-    let there : (0 < column_at space segment) × (column_at space segment < 25) = other_column space segment low high apart in
-    let c_in : c < length columns = omega (arith, are.count) in
-    let same : was ≡ slice_index_or columns c [] = get_or_read columns c was c_in read [] in
-    let full = full_column columns c c_in (subst (λ (column : List (Option ℕ)). All IsSome column) same all) in
-    subst (λ (o : Columns). numbers_of o ≤ pages_in o) view (omega (arith, full, are.others c (omega arith) (omega arith)))
-  where
-    other_column : (space : Space) (segment : ℕ) → 1 ≤ segment → segment ≤ 8 → space ≢ System → (0 < column_at space segment) × (column_at space segment < 25)
-    other_column Home segment low high apart = (omega arith, omega arith)
-    other_column Overflow segment low high apart = (omega arith, omega arith)
-    other_column Image segment low high apart = (omega arith, omega arith)
-    other_column System segment low high apart = absurd (apart refl)
+-- ---- the column of a space in a segment, as it was read
+abbrev slot_at : List (Option ℕ) → ℕ → Option ℕ
+slot_at column number = slice_index_or column number None
+
+column_place : (space : Space) (segment : ℕ) → 1 ≤ segment → segment ≤ 8 → space ≢ System → (0 < column_at space segment) × (column_at space segment < 25)
+column_place Home segment low high apart = (omega arith, omega arith)
+column_place Overflow segment low high apart = (omega arith, omega arith)
+column_place Image segment low high apart = (omega arith, omega arith)
+column_place System segment low high apart = absurd (apart refl)
+
+module _ {columns : Columns} {space : Space} {segment c : ℕ} {was : List (Option ℕ)} (are : AreColumns columns) (low : 1 ≤ segment) (high : segment ≤ 8) (apart : space ≢ System) (place : c ≡ column_at space segment) (read : was ≡ slice_index_or columns c was) where
+  column_read : was ≡ slice_index_or columns (column_at space segment) []
+  column_read =
+      let there = column_place space segment low high apart in
+      let within : c < length columns = omega (arith, are.count) in
+      get_or_read columns c was within read [] ∙ ap (λ (d : ℕ). slice_index_or columns d []) place
+
+  column_long : length was ≡ numbers_of columns
+  column_long = let there = column_place space segment low high apart in ap length column_read ∙ are.others (column_at space segment) there.0 there.1
+
+  slot_read : (number : ℕ) → slot_at was number ≡ slot_in columns (page_key segment space number)
+  slot_read number = ap (λ (column : List (Option ℕ)). slot_at column number) column_read
+
+  has_indexed : (number : ℕ) → HasSlot was number → IsIndexed columns segment space number
+  has_indexed number is = record {
+    within = omega (arith, HasSlot-within was number is, column_long);
+    has = sym (ap is_some (slot_read number)) ∙ is;
+  }
+
+  indexed_has : (number : ℕ) → IsIndexed columns segment space number → HasSlot was number
+  indexed_has number is = ap is_some (slot_read number) ∙ is.has
+
+  lacks_unindexed : (number : ℕ) → LacksSlot was number → IsUnindexed columns segment space number
+  lacks_unindexed number is = record {
+    within = omega (arith, is.within, column_long);
+    lacks = sym (slot_read number) ∙ is.lacks;
+  }
+
+  unindexed_lacks : (number : ℕ) → IsUnindexed columns segment space number → LacksSlot was number
+  unindexed_lacks number is = record {
+    within = omega (arith, is.within, column_long);
+    lacks = slot_read number ∙ is.lacks;
+  }
+
+  pub first_indexed_told : (from : ℕ) (result : Option ℕ) → IfSome result (IsFirstFrom (HasSlot was) from) → IfSome result (IsFirstFrom (IsIndexed columns segment space) from)
+  first_indexed_told from result = first_told from result has_indexed indexed_has
+
+  pub none_indexed_told : (from : ℕ) (result : Option ℕ) → IfNone result (NoneFrom (HasSlot was) from) → IfNone result (NoneFrom (IsIndexed columns segment space) from)
+  none_indexed_told from result = none_told (HasSlot was) (IsIndexed columns segment space) from result indexed_has
+
+  pub first_unindexed_told : (from : ℕ) (result : Option ℕ) → IfSome result (IsFirstFrom (LacksSlot was) from) → IfSome result (IsFirstFrom (IsUnindexed columns segment space) from)
+  first_unindexed_told from result = first_told from result lacks_unindexed unindexed_lacks
+
+  pub none_unindexed_told : (from : ℕ) (result : Option ℕ) → IfNone result (NoneFrom (LacksSlot was) from) → IfNone result (NoneFrom (IsUnindexed columns segment space) from)
+  none_unindexed_told from result = none_told (LacksSlot was) (IsUnindexed columns segment space) from result unindexed_lacks
+
+-- ---- what the first page without a slot tells
+module _ (columns : Columns) (space : Space) (segment : ℕ) where
+  pub free_within : (result : Option ℕ) → IfSome result (IsFirstFrom (IsUnindexed columns segment space) 0) → IfSome result (λ number. number < numbers_of columns)
+  free_within None first = tt
+  free_within (Some number) first = first.has.within
+
+  pub free_lacks : (result : Option ℕ) → IfSome result (IsFirstFrom (IsUnindexed columns segment space) 0) → IfSome result (λ number. slot_in columns (page_key segment space number) ≡ None)
+  free_lacks None first = tt
+  free_lacks (Some number) first = first.has.lacks
+
+  indexed_before : (k : ℕ) → k < numbers_of columns → (IsUnindexed columns segment space k → ⊥) → IsSome (slot_in columns (page_key segment space k))
+  indexed_before k within not = true_from_ne_false _ (λ is. not (record { within = within; lacks = none_at _ is }))
+
+  pub lesser_indexed : (result : Option ℕ) → IfSome result (IsFirstFrom (IsUnindexed columns segment space) 0) → IfSome result (λ number. (k : ℕ) → k < number → IsSome (slot_in columns (page_key segment space k)))
+  lesser_indexed None first = tt
+  lesser_indexed (Some number) first = λ k before. indexed_before k (omega (arith, first.has.within)) (first.none_before k (omega arith) before)
+
+  -- where there is none, there are as many pages as numbers
+  pub none_full : AreColumns columns → 1 ≤ segment → segment ≤ 8 → space ≢ System → (result : Option ℕ) → IfNone result (NoneFrom (IsUnindexed columns segment space) 0) → IfNone result (numbers_of columns ≤ pages_in columns)
+  none_full are low high apart (Some number) none = tt
+  none_full are low high apart None none =
+      let c : ℕ = column_at space segment in
+      let there = column_place space segment low high apart in
+      let long = are.others c there.0 there.1 in
+      let all = All-from_get_or IsSome (slice_index_or columns c []) None (λ k below. indexed_before k (omega (arith, long)) (none k (omega arith))) in
+      omega (arith, long, full_column columns c (omega (arith, are.count)) all)
 
 -- ---- an index of no page
 

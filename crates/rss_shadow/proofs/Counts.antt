@@ -4,9 +4,9 @@ use Rattle.std.specs.Prelude.{Option, Some, None, is_some}
 use Rattle.std.proofs.lemmas.Bool.{cases_eq, cases_lt, cond_both}
 use Rattle.std.proofs.lemmas.List.{get_or_past}
 use Rattle.std.proofs.lemmas.List.Sums.{sum_by-set, sum_by-cons, sum_by_more}
-use Rattle.rss_base.specs.PageMap.{owner_of}
+use Rattle.rss_base.specs.PageMap.{owner_of, page_count}
 use Rattle.rss_base.specs.declared.key.PageKey.{PageKey}
-use Rattle.rss_shadow.specs.Maps.{pages_of, heap_pages_of, is_heap}
+use Rattle.rss_shadow.specs.Maps.{heap_pages_of, is_heap}
 
 abbrev pub Owners : Type 0
 Owners = List (Option PageKey)
@@ -28,7 +28,7 @@ one_heap_page-le owner = cond_both (is_heap owner) 1 0 (λ (n : ℕ). n ≤ 1) (
 pub record Assigns (old new : Owners) (slot : ℕ) (owner : Option PageKey) : Type 0 where
   pub here : owner_of new slot ≡ owner
   pub others : (s : ℕ) → s ≢ slot → owner_of new s ≡ owner_of old s
-  pub pages : pages_of new + one_page (owner_of old slot) ≡ pages_of old + one_page owner
+  pub pages : page_count new + one_page (owner_of old slot) ≡ page_count old + one_page owner
   pub heap : heap_pages_of new + one_heap_page (owner_of old slot) ≡ heap_pages_of old + one_heap_page owner
 
 pub Assigns-set : (owners : Owners) (slot : ℕ) (owner : Option PageKey) → slot < length owners → Assigns owners (set owners slot owner) slot owner
@@ -67,7 +67,7 @@ abbrev pub Cover : Owners → Owners → Type 0
 Cover xs ys = (s : ℕ) → s < length xs → (is_some (owner_of xs s) || is_some (owner_of ys s)) ≡ true
 
 -- then the slots are no more than the pages of both
-pub pages-cover : (xs ys : Owners) → length xs ≡ length ys → Cover xs ys → length xs ≤ pages_of xs + pages_of ys
+pub pages-cover : (xs ys : Owners) → length xs ≡ length ys → Cover xs ys → length xs ≤ page_count xs + page_count ys
 pages-cover [] ys long all = omega arith
 pages-cover (x ∷ xs) [] long all = absurd (omega arith)
 pages-cover (x ∷ xs) (y ∷ ys) long all =
@@ -81,7 +81,7 @@ pages-cover (x ∷ xs) (y ∷ ys) long all =
     one_of (Some key) (Some other) is = omega arith
 
 -- and fewer, where both maps use some slot
-pub pages-cover_twice : (xs ys : Owners) (slot : ℕ) (key other : PageKey) → length xs ≡ length ys → Cover xs ys → owner_of xs slot ≡ Some key → owner_of ys slot ≡ Some other → length xs + 1 ≤ pages_of xs + pages_of ys
+pub pages-cover_twice : (xs ys : Owners) (slot : ℕ) (key other : PageKey) → length xs ≡ length ys → Cover xs ys → owner_of xs slot ≡ Some key → owner_of ys slot ≡ Some other → length xs + 1 ≤ page_count xs + page_count ys
 pages-cover_twice xs ys slot key other long all first second =
     let one = Assigns-set xs slot None (owned_within xs slot key first) in
     let still : Cover (set xs slot None) ys = λ s within. elim (cases_eq s slot) [

@@ -4,9 +4,9 @@ use Rattle.std.specs.Prelude.{Option, Some, None, is_some, slice_index_or}
 use Rattle.std.proofs.lemmas.Bool.{cases_eq, cases_lt}
 use Rattle.std.proofs.lemmas.List.{take_all, get_or-replicate, length-replicate}
 use Rattle.std.proofs.lemmas.List.Sums.{count_by-le-length}
-use Rattle.rss_base.specs.PageMap.{IsKey, IsTable, owner_of}
+use Rattle.rss_base.specs.PageMap.{IsKey, IsTable, owner_of, page_count}
 use Rattle.rss_base.specs.declared.key.PageKey.{PageKey}
-use Rattle.rss_shadow.specs.Maps.{Maps, AreMaps, pages_of, heap_pages_of, is_heap, LacksPage}
+use Rattle.rss_shadow.specs.Maps.{Maps, AreMaps, heap_pages_of, is_heap, LacksPage}
 use Rattle.rss_shadow.specs.Index.{Columns, slot_in, numbers_of, pages_in, PutsSlot}
 use Rattle.rss_shadow.specs.Shadow.{IsIndexOf, AreUsedBy, IsShadow}
 use Rattle.rss_shadow.proofs.Counts.{Owners, one_page, one_heap_page, Assigns, Assigns-take, take-past}
@@ -16,7 +16,7 @@ use Rattle.rss_shadow.proofs.Slots.{Changes-gains, IsIndexOf-puts, unindexed, on
 pub record AreFilled (slots : ℕ) (owners : Owners) (done : ℕ) (index : Columns) (used : List Bool) (pages heap : ℕ) : Type 0 where
   pub index_holds : IsIndexOf slots (take done owners) index
   pub used_hold : AreUsedBy slots (take done owners) [] used
-  pub counted : pages ≡ pages_of (take done owners)
+  pub counted : pages ≡ page_count (take done owners)
   pub heap_counted : heap ≡ heap_pages_of (take done owners)
 
 pub AreFilled-none : (slots : ℕ) (owners : Owners) (index : Columns) (used : List Bool) → numbers_of index ≡ slots → ((key : PageKey) → slot_in index key ≡ None) → pages_in index ≡ 0 → used ≡ replicate slots false → AreFilled slots owners 0 index used 0 0
@@ -84,7 +84,7 @@ AreFilled-few slots owners done index used pages heap filled = (
 
 -- ---- both maps are one
 
-pub AreMaps-both : (owners : Owners) → IsTable owners → 2 * pages_of owners ≤ length owners → AreMaps (record { current = owners; shadow = owners })
+pub AreMaps-both : (owners : Owners) → IsTable owners → 2 * page_count owners ≤ length owners → AreMaps (record { current = owners; shadow = owners })
 AreMaps-both owners table room = record {
   current = table;
   shadow = table;
@@ -103,20 +103,20 @@ AreUsedBy-both slots owners used holds = record {
     twice None = refl
     twice (Some key) = refl
 
-pub IsShadow-filled : (slots : ℕ) (owners shadow : Owners) (done : ℕ) (index : Columns) (used : List Bool) (pages heap : ℕ) → IsTable owners → slots ≡ length owners → length owners ≤ done → shadow ≡ owners → 2 * pages_of owners ≤ length owners → AreFilled slots owners done index used pages heap → IsShadow (record { current = owners; shadow = shadow }) index used pages heap pages
+pub IsShadow-filled : (slots : ℕ) (owners shadow : Owners) (done : ℕ) (index : Columns) (used : List Bool) (pages heap : ℕ) → IsTable owners → slots ≡ length owners → length owners ≤ done → shadow ≡ owners → 2 * page_count owners ≤ length owners → AreFilled slots owners done index used pages heap → IsShadow (record { current = owners; shadow = shadow }) index used pages heap pages
 IsShadow-filled slots owners shadow done index used pages heap table long all same room filled =
     let whole : take done owners ≡ owners = take_all done owners all in
     subst (λ (s : Owners). IsShadow (record { current = owners; shadow = s }) index used pages heap pages) (sym same) (record {
       maps_hold = AreMaps-both owners table room;
       index_holds = subst (λ (n : ℕ). IsIndexOf n owners index) long (subst (λ (o : Owners). IsIndexOf slots o index) whole filled.index_holds);
       used_hold = subst (λ (n : ℕ). AreUsedBy n owners owners used) long (AreUsedBy-both slots owners used (subst (λ (o : Owners). AreUsedBy slots o [] used) whole filled.used_hold));
-      counted = filled.counted ∙ ap pages_of whole;
+      counted = filled.counted ∙ ap page_count whole;
       heap_counted = filled.heap_counted ∙ ap heap_pages_of whole;
-      shadow_counted = filled.counted ∙ ap pages_of whole;
+      shadow_counted = filled.counted ∙ ap page_count whole;
     })
 
 -- the current map becomes the shadow map
-pub IsShadow-adopts : (maps : Maps) (index : Columns) (used left : List Bool) (pages heap shadow_pages : ℕ) (shadow : Owners) → IsShadow maps index used pages heap shadow_pages → 2 * pages_of maps.current ≤ length maps.current → shadow ≡ maps.current → length left ≡ length used → ((slot : ℕ) → slot < length maps.current → slice_index_or left slot true ≡ (is_some (owner_of maps.current slot) && slice_index_or used slot true)) → IsShadow (record { current = maps.current; shadow = shadow }) index left pages heap pages
+pub IsShadow-adopts : (maps : Maps) (index : Columns) (used left : List Bool) (pages heap shadow_pages : ℕ) (shadow : Owners) → IsShadow maps index used pages heap shadow_pages → 2 * page_count maps.current ≤ length maps.current → shadow ≡ maps.current → length left ≡ length used → ((slot : ℕ) → slot < length maps.current → slice_index_or left slot true ≡ (is_some (owner_of maps.current slot) && slice_index_or used slot true)) → IsShadow (record { current = maps.current; shadow = shadow }) index left pages heap pages
 IsShadow-adopts maps index used left pages heap shadow_pages shadow holds room same count removed =
     subst (λ (s : Owners). IsShadow (record { current = maps.current; shadow = s }) index left pages heap pages) (sym same) (record {
       maps_hold = AreMaps-both maps.current holds.maps_hold.current room;

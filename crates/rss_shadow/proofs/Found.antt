@@ -1,17 +1,22 @@
 -- What the index and the slots in use tell of the maps.
-use Rattle.std.proofs.Common.{◌≡◌, ◌≢◌, ℕ, ◌<◌, ◌≤◌, Bool, true, false, List, length, refl, sym, ◌∙◌, ap, subst, arith}
-use Rattle.std.specs.Prelude.{Option, Some, None, is_some, IsSome, slice_index_or}
+use Rattle.std.proofs.Common.{◌≡◌, ◌≢◌, inl, inr, ℕ, ◌<◌, ◌≤◌, Bool, true, false, List, length, refl, sym, ◌∙◌, ap, subst, arith}
+use Rattle.std.specs.Prelude.{Option, Some, None, is_some, IsSome, IfSome, IfNone, slice_index_or}
 use Rattle.std.specs.List.{All}
+use Rattle.std.proofs.lemmas.Bool.{cases_Bool, true_from_ne_false}
 use Rattle.std.proofs.lemmas.List.{get_or_read}
+use Rattle.std.proofs.lemmas.List.Elements.{All-from_get_or}
 use Rattle.rss_base.specs.PageMap.{IsKey, IsSegmentOf, number_limit, owner_of}
 use Rattle.rss_base.specs.declared.key.Space.{Space}
 use Rattle.rss_base.specs.declared.key.Space.TheVariants.{Home, Overflow, Image, System}
 use Rattle.rss_base.specs.declared.key.PageKey.{PageKey}
-use Rattle.rss_base.specs.Paged.{page_key}
-use Rattle.rss_shadow.specs.Maps.{Maps, IsFree, spare, HasPage, IsLeastLacking}
-use Rattle.rss_shadow.specs.Index.{Columns, slot_in, numbers_of}
+use Rattle.rss_base.specs.Paged.{page_key, IsFirstFrom, NoneFrom}
+use Rattle.rss_shadow.specs.Maps.{Maps, IsFree, spare, HasPage, IsMapped, IsUnmapped, IsLeastLacking}
+use Rattle.rss_shadow.specs.Index.{Columns, slot_in, numbers_of, IsIndexed, IsUnindexed}
+use Rattle.rss_shadow.specs.Numbers.{IsAbsent}
 use Rattle.rss_shadow.specs.Shadow.{IsShadow}
 use Rattle.rss_shadow.proofs.Counts.{owned_within, pages-cover, pages-cover_twice}
+use Rattle.rss_shadow.proofs.Firsts.{first_told, none_told}
+use Rattle.rss_shadow.proofs.Mapped.{none_at}
 use Rattle.rss_shadow.proofs.Slots.{lacks_unindexed, unused, Cover-used}
 
 -- a page has this slot
@@ -25,17 +30,13 @@ some_from : {T : Type 0} (o : Option T) → is_some o ≡ true → (x : T) × (o
 some_from None is = absurd (cc)
 some_from (Some x) is = (x, refl)
 
-none_from : (owner : Option PageKey) → is_some owner ≡ false → owner ≡ None
-none_from None is = refl
-none_from (Some key) is = absurd (cc)
-
 -- what was read of the shadow map at a page's slot
 module _ {maps : Maps} {used : List Bool} {key : PageKey} {slot : ℕ} (there : IsThere maps used key slot) where
   shadow_read : (n : ℕ) (was : Option PageKey) → n ≡ slot → was ≡ slice_index_or maps.shadow n was → owner_of maps.shadow slot ≡ was
   shadow_read n was same read = sym (get_or_read maps.shadow slot was there.in_shadow (read ∙ ap (λ (m : ℕ). slice_index_or maps.shadow m was) same) None)
 
   pub shadow_lacks : {n : ℕ} {was : Option PageKey} → n ≡ slot → was ≡ slice_index_or maps.shadow n was → is_some was ≡ false → owner_of maps.shadow slot ≡ None
-  shadow_lacks {n = n} {was = was} same read is = shadow_read n was same read ∙ none_from was is
+  shadow_lacks {n = n} {was = was} same read is = shadow_read n was same read ∙ none_at was is
 
   pub shadow_uses : {n : ℕ} {was : Option PageKey} → n ≡ slot → was ≡ slice_index_or maps.shadow n was → is_some was ≡ true → (other : PageKey) × (owner_of maps.shadow slot ≡ Some other)
   shadow_uses {n = n} {was = was} same read is = let some = some_from was is in (some.0, shadow_read n was same read ∙ some.1)
@@ -60,36 +61,88 @@ module _ {maps : Maps} {index : Columns} {used : List Bool} {pages heap shadow_p
       let neither = unused (length maps.current) maps.current maps.shadow used slot holds.used_hold inside is in
       record { within = inside; current = neither.0; shadow = neither.1 }
 
+  all_used : NoneFrom (IsAbsent used) 0 → All (λ (u : Bool). u ≡ true) used
+  all_used none = All-from_get_or (λ (u : Bool). u ≡ true) used true (λ slot within. true_from_ne_false _ (none slot (omega arith)))
+
   -- a slot isn't in use while a page can be taken, and while both maps use some slot
-  pub some_unused : All (λ (u : Bool). u ≡ true) used → 0 < spare maps → ⊥
-  some_unused all room =
+  pub some_unused : NoneFrom (IsAbsent used) 0 → 0 < spare maps → ⊥
+  some_unused none room =
+      let all = all_used none in
       omega (arith, pages-cover maps.current maps.shadow (sym holds.maps_hold.count) (Cover-used maps.current maps.shadow used holds.used_hold all))
 
-  pub some_unused_twice : (slot : ℕ) {key other : PageKey} → All (λ (u : Bool). u ≡ true) used → owner_of maps.current slot ≡ Some key → owner_of maps.shadow slot ≡ Some other → ⊥
-  some_unused_twice slot {key = key} {other = other} all owned shadowed =
+  pub some_unused_twice : (slot : ℕ) {key other : PageKey} → NoneFrom (IsAbsent used) 0 → owner_of maps.current slot ≡ Some key → owner_of maps.shadow slot ≡ Some other → ⊥
+  some_unused_twice slot {key = key} {other = other} none owned shadowed =
+      let all = all_used none in
       omega (arith, pages-cover_twice maps.current maps.shadow slot key other (sym holds.maps_hold.count) (Cover-used maps.current maps.shadow used holds.used_hold all) owned shadowed, holds.maps_hold.room)
 
-  pub IsLeastLacking-free : {now : Maps} (segment : ℕ) (space : Space) (number : ℕ) → maps ≡ now → 1 ≤ segment → segment ≤ 8 → space ≢ System → number < numbers_of index → slot_in index (page_key segment space number) ≡ None → ((k : ℕ) → k < number → IsSome (slot_in index (page_key segment space k))) → IsLeastLacking now.current segment space number
-  IsLeastLacking-free segment space number view low high other within free lesser =
-      let slots = length maps.current in
-      let few : number < slots = omega (arith, holds.index_holds.numbers) in
-      let is : (k : ℕ) → k < slots → IsKey slots (page_key segment space k) = λ k below. record { segment = in_segment space other; number = in_limit space other k below } in
-      subst (λ (m : Maps). IsLeastLacking m.current segment space number) view (record {
-        within = few;
-        lacking = lacks_unindexed slots maps.current index (page_key segment space number) holds.index_holds (is number few) free;
-        lesser = λ k below.
-            let some = some_from _ (lesser k below) in
-            record { slot = some.0; owned = (holds.index_holds.indexed (page_key segment space k) some.0 (is k (omega arith))).0 some.1 };
-      })
-    where
-      in_segment : (space : Space) → space ≢ System → IsSegmentOf space segment
-      in_segment Home other = (low, high)
-      in_segment Overflow other = (low, high)
-      in_segment Image other = (low, high)
-      in_segment System other = absurd (other refl)
+  -- ---- the pages of a segment and a space
+  module _ {segment : ℕ} {space : Space} (low : 1 ≤ segment) (high : segment ≤ 8) (apart : space ≢ System) where
+    in_segment : (space : Space) → space ≢ System → IsSegmentOf space segment
+    in_segment Home apart = (low, high)
+    in_segment Overflow apart = (low, high)
+    in_segment Image apart = (low, high)
+    in_segment System apart = absurd (apart refl)
 
-      in_limit : (space : Space) → space ≢ System → (k : ℕ) → k < length maps.current → k < number_limit (length maps.current) space
-      in_limit Home other k below = below
-      in_limit Overflow other k below = below
-      in_limit Image other k below = below
-      in_limit System other k below = absurd (other refl)
+    all_slots : (slots : ℕ) (space : Space) → space ≢ System → number_limit slots space ≡ slots
+    all_slots slots Home apart = refl
+    all_slots slots Overflow apart = refl
+    all_slots slots Image apart = refl
+    all_slots slots System apart = absurd (apart refl)
+
+    IsKey-number : (k : ℕ) → k < length maps.current → IsKey (length maps.current) (page_key segment space k)
+    IsKey-number k below = record { segment = in_segment space apart; number = omega (arith, all_slots (length maps.current) space apart) }
+
+    indexed_mapped : (k : ℕ) → IsIndexed index segment space k → IsMapped maps.current segment space k
+    indexed_mapped k is =
+        let below : k < length maps.current = omega (arith, is.within, holds.index_holds.numbers) in
+        let some = some_from _ is.has in
+        record { slot = some.0; owned = (holds.index_holds.indexed (page_key segment space k) some.0 (IsKey-number k below)).0 some.1 }
+
+    mapped_indexed : (k : ℕ) → IsMapped maps.current segment space k → IsIndexed index segment space k
+    mapped_indexed k is =
+        let key : PageKey = page_key segment space k in
+        let allowed : IsKey (length maps.current) key = holds.maps_hold.current.allowed is.slot key is.owned in
+        record {
+          within = omega (arith, allowed.number, all_slots (length maps.current) space apart, holds.index_holds.numbers);
+          has = ap is_some ((holds.index_holds.indexed key is.slot allowed).1 is.owned);
+        }
+
+    unindexed_unmapped : (k : ℕ) → IsUnindexed index segment space k → IsUnmapped maps.current segment space k
+    unindexed_unmapped k is =
+        let below : k < length maps.current = omega (arith, is.within, holds.index_holds.numbers) in
+        record {
+          within = below;
+          lacking = lacks_unindexed (length maps.current) maps.current index (page_key segment space k) holds.index_holds (IsKey-number k below) is.lacks;
+        }
+
+    unmapped_unindexed : (k : ℕ) → IsUnmapped maps.current segment space k → IsUnindexed index segment space k
+    unmapped_unindexed k is = record {
+      within = omega (arith, is.within, holds.index_holds.numbers);
+      lacks = elim (cases_Bool (is_some (slot_in index (page_key segment space k)))) [
+        | inl some ↦
+            let found = some_from _ some in
+            absurd (is.lacking found.0 ((holds.index_holds.indexed (page_key segment space k) found.0 (IsKey-number k is.within)).0 found.1))
+        | inr none ↦ none_at _ none
+      ];
+    }
+
+    pub first_mapped_told : (from : ℕ) (result : Option ℕ) → IfSome result (IsFirstFrom (IsIndexed index segment space) from) → IfSome result (IsFirstFrom (IsMapped maps.current segment space) from)
+    first_mapped_told from result = first_told from result indexed_mapped mapped_indexed
+
+    pub none_mapped_told : (from : ℕ) (result : Option ℕ) → IfNone result (NoneFrom (IsIndexed index segment space) from) → IfNone result (NoneFrom (IsMapped maps.current segment space) from)
+    none_mapped_told from result = none_told (IsIndexed index segment space) (IsMapped maps.current segment space) from result mapped_indexed
+
+    pub first_unmapped_told : (from : ℕ) (result : Option ℕ) → IfSome result (IsFirstFrom (IsUnindexed index segment space) from) → IfSome result (IsFirstFrom (IsUnmapped maps.current segment space) from)
+    first_unmapped_told from result = first_told from result unindexed_unmapped unmapped_unindexed
+
+    pub none_unmapped_told : (from : ℕ) (result : Option ℕ) → IfNone result (NoneFrom (IsUnindexed index segment space) from) → IfNone result (NoneFrom (IsUnmapped maps.current segment space) from)
+    none_unmapped_told from result = none_told (IsUnindexed index segment space) (IsUnmapped maps.current segment space) from result unmapped_unindexed
+
+    pub IsLeastLacking-free : {now : Maps} (number : ℕ) → maps ≡ now → number < numbers_of index → slot_in index (page_key segment space number) ≡ None → ((k : ℕ) → k < number → IsSome (slot_in index (page_key segment space k))) → IsLeastLacking now.current segment space number
+    IsLeastLacking-free number view within free lesser =
+        let unmapped = unindexed_unmapped number (record { within = within; lacks = free }) in
+        subst (λ (m : Maps). IsLeastLacking m.current segment space number) view (record {
+          within = unmapped.within;
+          lacking = unmapped.lacking;
+          lesser = λ k below. indexed_mapped k (record { within = omega arith; has = lesser k below });
+        })

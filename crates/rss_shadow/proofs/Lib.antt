@@ -6,3 +6,4 @@ pub mod Filled
 pub mod Found
 pub mod Bits
 pub mod Mapped
+pub mod Firsts

@@ -3,9 +3,9 @@ use Rattle.std.proofs.Common.{◌≡◌, ◌≢◌, ◌⊎◌, inl, inr, ◌↔�
 use Rattle.std.specs.Prelude.{Option, Some, None, is_some, count_by, slice_index_or}
 use Rattle.std.specs.List.{All}
 use Rattle.std.proofs.lemmas.Bool.{cases_eq}
-use Rattle.rss_base.specs.PageMap.{IsKey, owner_of, AreDistinct}
+use Rattle.rss_base.specs.PageMap.{IsKey, owner_of, AreDistinct, page_count}
 use Rattle.rss_base.specs.declared.key.PageKey.{PageKey}
-use Rattle.rss_shadow.specs.Maps.{pages_of, LacksPage}
+use Rattle.rss_shadow.specs.Maps.{LacksPage}
 use Rattle.rss_shadow.specs.Index.{Columns, column_at, slot_in, PutsSlot}
 use Rattle.rss_shadow.specs.Shadow.{IsIndexOf, AreUsedBy}
 use Rattle.rss_shadow.proofs.Columns.{column_at-injective, same_key}
@@ -72,7 +72,7 @@ Changes-loses old new key slot one owned distinct = record {
 abbrev pub one_slot : Option ℕ → ℕ
 one_slot slot = count_by is_some (slot ∷ [])
 
-pub IsIndexOf-puts : (slots : ℕ) (old new : Owners) (index after : Columns) (key : PageKey) (slot : Option ℕ) → IsKey slots key → IsIndexOf slots old index → PutsSlot index after key slot → Changes old new key slot → pages_of new + count_by is_some (slot_in index key ∷ []) ≡ pages_of old + count_by is_some (slot ∷ []) → IsIndexOf slots new after
+pub IsIndexOf-puts : (slots : ℕ) (old new : Owners) (index after : Columns) (key : PageKey) (slot : Option ℕ) → IsKey slots key → IsIndexOf slots old index → PutsSlot index after key slot → Changes old new key slot → page_count new + count_by is_some (slot_in index key ∷ []) ≡ page_count old + count_by is_some (slot ∷ []) → IsIndexOf slots new after
 IsIndexOf-puts slots old new index after key slot is holds puts changes count = record {
   numbers = puts.numbers ∙ holds.numbers;
   indexed = λ other s also. elim (cases_key slots other key also is) [

@@ -1,7 +1,8 @@
 -- The index of a map by its pages: for each segment and space a column with the slot of each page, by the page's number.
-use Rattle.std.specs.Prelude.{◌≡◌, ◌≢◌, ℕ, ◌+◌, ◌<◌, List, [], ◌∷◌, length, slice_index_or, Option, None, is_some, count_by}
+use Rattle.std.specs.Prelude.{◌≡◌, ◌≢◌, ℕ, ◌+◌, ◌<◌, Bool, List, [], ◌∷◌, length, map, slice_index_or, Option, None, IsSome, is_some, is_none, count_by}
 use Rattle.std.specs.List.{sum_by}
 use Rattle.rss_base.specs.PageMap.{IsKey}
+use Rattle.rss_base.specs.Paged.{page_key}
 use Rattle.rss_base.specs.declared.key.Space.{Space}
 use Rattle.rss_base.specs.declared.key.Space.TheVariants.{Home, Overflow, Image, System}
 use Rattle.rss_base.specs.declared.key.PageKey.{PageKey}
@@ -40,3 +41,28 @@ pub record PutsSlot (old new : Columns) (key : PageKey) (slot : Option ℕ) : Ty
   pub here : slot_in new key ≡ slot
   pub others : (other : PageKey) → IsKey (numbers_of old) other → other ≢ key → slot_in new other ≡ slot_in old other
   pub pages : pages_in new + count_by is_some (slot_in old key ∷ []) ≡ pages_in old + count_by is_some (slot ∷ [])
+
+-- ---- which numbers have a slot
+
+-- the sets tell which numbers of a column have a slot, and which have none
+pub record AreTold (column : List (Option ℕ)) (slotted free : List Bool) : Type 0 where
+  pub slotted_told : slotted ≡ map is_some column
+  pub free_told : free ≡ map is_none column
+
+-- a number of a column has a slot
+abbrev pub HasSlot : List (Option ℕ) → ℕ → Type 0
+HasSlot column number = IsSome (slice_index_or column number None)
+
+-- or it has none
+pub record LacksSlot (column : List (Option ℕ)) (number : ℕ) : Type 0 where
+  pub within : number < length column
+  pub lacks : slice_index_or column number None ≡ None
+
+-- the same of the page of a number, of a segment and a space
+pub record IsIndexed (columns : Columns) (segment : ℕ) (space : Space) (number : ℕ) : Type 0 where
+  pub within : number < numbers_of columns
+  pub has : IsSome (slot_in columns (page_key segment space number))
+
+pub record IsUnindexed (columns : Columns) (segment : ℕ) (space : Space) (number : ℕ) : Type 0 where
+  pub within : number < numbers_of columns
+  pub lacks : slot_in columns (page_key segment space number) ≡ None

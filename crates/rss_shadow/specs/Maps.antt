@@ -1,6 +1,6 @@
 -- The two maps of a store: which page each slot holds now, and which it held when the map was last saved.
-use Rattle.std.specs.Prelude.{◌≡◌, ◌⊎◌, ℕ, ◌+◌, ◌-◌, ◌<◌, ◌≤◌, Bool, true, false, List, length, slice_set, Option, Some, None, is_some, count_by}
-use Rattle.rss_base.specs.PageMap.{IsTable, owner_of}
+use Rattle.std.specs.Prelude.{◌≡◌, ◌⊎◌, ℕ, ◌+◌, ◌-◌, ◌<◌, ◌≤◌, Bool, true, false, List, length, slice_set, Option, Some, None, count_by}
+use Rattle.rss_base.specs.PageMap.{IsTable, owner_of, page_count}
 use Rattle.rss_base.specs.Paged.{page_key}
 use Rattle.rss_base.specs.declared.key.Space.{Space}
 use Rattle.rss_base.specs.declared.key.Space.TheVariants.{Home, Overflow, Image, System}
@@ -9,10 +9,6 @@ use Rattle.rss_base.specs.declared.key.PageKey.{PageKey}
 pub record Maps : Type 0 where
   pub current : List (Option PageKey)
   pub shadow : List (Option PageKey)
-
--- how many pages a map has
-abbrev pub pages_of : List (Option PageKey) → ℕ
-pages_of owners = count_by is_some owners
 
 -- how many of them are home and overflow pages
 abbrev pub is_heap_space : Space → Bool
@@ -30,7 +26,7 @@ heap_pages_of owners = count_by is_heap owners
 
 -- the slots that are left where each page of either map has one of its own
 abbrev pub spare : Maps → ℕ
-spare maps = length maps.current - pages_of maps.shadow - pages_of maps.current
+spare maps = length maps.current - page_count maps.shadow - page_count maps.current
 
 -- What holds of the maps between any two calls. A slot that the shadow map uses holds that page now, or none.
 pub record AreMaps (maps : Maps) : Type 0 where
@@ -38,7 +34,7 @@ pub record AreMaps (maps : Maps) : Type 0 where
   pub shadow : IsTable maps.shadow
   pub count : length maps.shadow ≡ length maps.current
   pub apart : (s : ℕ) (key : PageKey) → owner_of maps.shadow s ≡ Some key → (owner_of maps.current s ≡ None) ⊎ (owner_of maps.current s ≡ Some key)
-  pub room : pages_of maps.shadow + pages_of maps.current ≤ length maps.current
+  pub room : page_count maps.shadow + page_count maps.current ≤ length maps.current
 
 -- neither map uses the slot
 pub record IsFree (maps : Maps) (slot : ℕ) : Type 0 where
@@ -82,3 +78,14 @@ pub record IsLeastLacking (owners : List (Option PageKey)) (segment : ℕ) (spac
   pub within : number < length owners
   pub lacking : LacksPage owners (page_key segment space number)
   pub lesser : (k : ℕ) → k < number → HasPage owners (page_key segment space k)
+
+-- ---- the numbers of the pages of a segment and a space
+
+-- the map has the page of this number
+abbrev pub IsMapped : List (Option PageKey) → ℕ → Space → ℕ → Type 0
+IsMapped owners segment space number = HasPage owners (page_key segment space number)
+
+-- the number is below the number of slots, and no page of the map has it
+pub record IsUnmapped (owners : List (Option PageKey)) (segment : ℕ) (space : Space) (number : ℕ) : Type 0 where
+  pub within : number < length owners
+  pub lacking : LacksPage owners (page_key segment space number)

@@ -1,5 +1,5 @@
 -- Numbers in use, as bits in words.
-use Rattle.std.specs.Prelude.{◌≡◌, ◌≢◌, ℕ, ◌+◌, ◌-◌, ◌*◌, ◌/◌, ◌%◌, ◌^◌, ◌<◌, ◌≤◌, Bool, true, false, ◌==◌, List, length, slice_index, map}
+use Rattle.std.specs.Prelude.{◌≡◌, ◌≢◌, ℕ, ◌+◌, ◌-◌, ◌*◌, ◌/◌, ◌%◌, ◌^◌, ◌<◌, ◌≤◌, Bool, true, false, ◌==◌, List, length, slice_index, slice_index_or, map}
 use Rattle.std.specs.List.{range_with_len}
 use Rattle.std.specs.Int.{bit_at}
 
@@ -10,6 +10,10 @@ is_set words number = bit_at (slice_index words (number / 64)) (number % 64) == 
 -- which of the numbers below a bound are in use
 abbrev pub in_use : ℕ → List ℕ → List Bool
 in_use bound words = map (λ number. is_set words number) (range_with_len 0 bound)
+
+-- the number is below the bound, and isn't in use
+abbrev pub IsAbsent : List Bool → ℕ → Type 0
+IsAbsent used number = slice_index_or used number true ≡ false
 
 -- so many words as hold the bits of the numbers below a bound, and the bits from it on are set
 pub record AreBits (bound : ℕ) (words : List ℕ) : Type 0 where
@@ -47,3 +51,20 @@ pub record IsSetFrom (bit word : ℕ) : Type 0 where
   pub zero_at_none : bit ≡ 0 → word ≡ 0
   pub below : (other : ℕ) → other < bit → bit_at word other ≡ 0
   pub above : (other : ℕ) → 0 < bit → bit ≤ other → other < 64 → bit_at word other ≡ 1
+
+-- ---- bits that are clear
+
+-- the bit of a number is clear
+pub record IsClear (words : List ℕ) (number : ℕ) : Type 0 where
+  pub within : number < 64 * length words
+  pub clear : is_set words number ≡ false
+
+-- a word isn't full
+pub record IsOpen (words : List ℕ) (word : ℕ) : Type 0 where
+  pub within : word < length words
+  pub lacks : slice_index words word ≢ 2 ^ 64 - 1
+
+-- the bits of a number's word are set from that of the number on
+abbrev pub IsSetOn : List ℕ → ℕ → Type 0
+IsSetOn words from = (number : ℕ) → from ≤ number → number / 64 ≡ from / 64 → number < 64 * length words
+    → is_set words number ≡ true

@@ -1,15 +1,15 @@
 -- How the maps of a store are kept.
 use Rattle.std.specs.Prelude.{◌≡◌, ◌↔◌, ℕ, ◌<◌, Bool, true, ◌||◌, List, length, slice_index_or, Option, Some, is_some}
-use Rattle.rss_base.specs.PageMap.{IsKey, owner_of}
+use Rattle.rss_base.specs.PageMap.{IsKey, owner_of, page_count}
 use Rattle.rss_base.specs.declared.key.PageKey.{PageKey}
-use Rattle.rss_shadow.specs.Maps.{Maps, AreMaps, pages_of, heap_pages_of}
+use Rattle.rss_shadow.specs.Maps.{Maps, AreMaps, heap_pages_of}
 use Rattle.rss_shadow.specs.Index.{Columns, slot_in, numbers_of, pages_in}
 
 -- the index, for a store of so many slots, has the slots of these owners and no others
 pub record IsIndexOf (slots : ℕ) (owners : List (Option PageKey)) (index : Columns) : Type 0 where
   pub numbers : numbers_of index ≡ slots
   pub indexed : (key : PageKey) (slot : ℕ) → IsKey slots key → (slot_in index key ≡ Some slot) ↔ (owner_of owners slot ≡ Some key)
-  pub counted : pages_in index ≡ pages_of owners
+  pub counted : pages_in index ≡ page_count owners
 
 -- of so many slots those are in use that either map uses
 pub record AreUsedBy (slots : ℕ) (current shadow : List (Option PageKey)) (used : List Bool) : Type 0 where
@@ -23,6 +23,6 @@ pub record IsShadow (maps : Maps) (index : Columns) (used : List Bool) (pages he
   pub maps_hold : AreMaps maps
   pub index_holds : IsIndexOf (length maps.current) maps.current index
   pub used_hold : AreUsedBy (length maps.current) maps.current maps.shadow used
-  pub counted : pages ≡ pages_of maps.current
+  pub counted : pages ≡ page_count maps.current
   pub heap_counted : heap ≡ heap_pages_of maps.current
-  pub shadow_counted : shadow_pages ≡ pages_of maps.shadow
+  pub shadow_counted : shadow_pages ≡ page_count maps.shadow

@@ -1,25 +1,30 @@
 // The slots of the pages of one space in one segment.
-ghost use Rattle.std.specs.Prelude.{◌≡◌, ◌<◌, ◌≤◌, ℕ, length, replicate, slice_index_or, slice_set, Some, None, All, IsSome, IfOk, IfSome, IfNone};
+ghost use Rattle.std.specs.Prelude.{◌≡◌, ◌<◌, ◌≤◌, length, replicate, slice_index_or, slice_set, Some, None, IfOk, IfSome, IfNone};
+ghost use Rattle.rss_base.specs.Paged.{IsFirstFrom, NoneFrom};
+ghost use Rattle.rss_shadow.specs.Index.{HasSlot, LacksSlot};
 
 use crate::numbers::NumberSet;
 use std::alloc::{AllocError, Global};
 use std::marker::Model;
 
-/// The slot of each page, by its number, and the numbers of the pages that have one.
+/// The slot of each page, by its number, and the numbers of the pages that have one and of those that
+/// have none, so that the next of either kind is found at once.
 #[derive(Drop)]
 pub(crate) struct Column {
     slots: Vec<Option<u16>>,
     mapped: NumberSet,
+    unmapped: NumberSet,
 }
 
 impl Model for Column {
-    ghost use Rattle.std.specs.Prelude.{◌≡◌, ℕ, List, Option, is_some, map};
+    ghost use Rattle.std.specs.Prelude.{ℕ, List, Option};
+    ghost use Rattle.rss_shadow.specs.Index.{AreTold};
 
     ghost Value = { List (Option ℕ) };
 
     ghost view = { λ c. c.slots.items };
 
-    ghost invariant = { λ c. c.mapped ≡ map is_some c.slots.items };
+    ghost invariant = { λ c. AreTold c.slots.items c.mapped c.unmapped };
 }
 
 impl Column {
@@ -32,6 +37,7 @@ impl Column {
         Ok(Column {
             slots: vec![in alloc; None; pages as usize]?,
             mapped: NumberSet::new(alloc, pages)?,
+            unmapped: NumberSet::all(alloc, pages)?,
         })
     }
 
@@ -48,6 +54,7 @@ impl Column {
     {
         self.slots[number as usize] = Some(slot);
         self.mapped.insert(number);
+        self.unmapped.remove(number);
     }
 
     pub(crate) fn clear(&mut self, number: u32)
@@ -56,15 +63,22 @@ impl Column {
     {
         self.slots[number as usize] = None;
         self.mapped.remove(number);
+        self.unmapped.insert(number);
     }
 
-    /// The least number whose page has no slot.
-    pub(crate) fn least_free(&self) -> Option<u32>
-        ensures within { IfSome result (λ number. number < length self.now) }
-        ensures free { IfSome result (λ number. slice_index_or self.now number None ≡ None) }
-        ensures lesser { IfSome result (λ number. (k : ℕ) → k < number → IsSome (slice_index_or self.now k None)) }
-        ensures none { IfNone result (All IsSome self.now) }
+    /// The first number from this one on whose page has a slot.
+    pub(crate) fn first_slotted(&self, from: u32) -> Option<u32>
+        ensures some { IfSome result (IsFirstFrom (HasSlot self.now) from) }
+        ensures none { IfNone result (NoneFrom (HasSlot self.now) from) }
     {
-        self.mapped.least_absent()
+        self.unmapped.first_absent(from)
+    }
+
+    /// The first number from this one on whose page has none.
+    pub(crate) fn first_free(&self, from: u32) -> Option<u32>
+        ensures some { IfSome result (IsFirstFrom (LacksSlot self.now) from) }
+        ensures none { IfNone result (NoneFrom (LacksSlot self.now) from) }
+    {
+        self.mapped.first_absent(from)
     }
 }

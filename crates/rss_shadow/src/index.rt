@@ -3,8 +3,8 @@ ghost use Rattle.std.specs.Prelude.{◌≡◌, ◌≢◌, ◌<◌, ◌≤◌, �
 ghost use Rattle.rss_base.specs.PageMap.{IsKey};
 ghost use Rattle.rss_base.specs.declared.key.PageKey.{PageKey as Key};
 ghost use Rattle.rss_base.specs.declared.key.Space.TheVariants.{System};
-ghost use Rattle.rss_shadow.specs.Index.{column_at, slot_in, numbers_of, pages_in, PutsSlot};
-ghost use Rattle.rss_base.specs.Paged.{page_key};
+ghost use Rattle.rss_shadow.specs.Index.{column_at, slot_in, numbers_of, pages_in, PutsSlot, IsIndexed, IsUnindexed};
+ghost use Rattle.rss_base.specs.Paged.{page_key, IsFirstFrom, NoneFrom};
 
 use crate::column::Column;
 use rss_base::{PageKey, SYSTEM_PAGES, Space};
@@ -85,7 +85,29 @@ impl PageIndex {
         ensures lesser { IfSome result (λ number. (k : ℕ) → k < number → IsSome (slot_in self.now (page_key segment space k))) }
         ensures none { IfNone result (numbers_of self.now ≤ pages_in self.now) }
     {
-        self.columns[column_at(space, segment)].least_free()
+        self.columns[column_at(space, segment)].first_free(0)
+    }
+
+    /// The first number from this one on, of a segment and a space, whose page has a slot.
+    pub(crate) fn first_mapped(&self, segment: u8, space: Space, from: u32) -> Option<u32>
+        requires low { 1 ≤ segment }
+        requires high { segment ≤ 8 }
+        requires space { space ≢ System }
+        ensures some { IfSome result (IsFirstFrom (IsIndexed self.now segment space) from) }
+        ensures none { IfNone result (NoneFrom (IsIndexed self.now segment space) from) }
+    {
+        self.columns[column_at(space, segment)].first_slotted(from)
+    }
+
+    /// The first number from this one on, of a segment and a space, whose page has none.
+    pub(crate) fn first_unmapped(&self, segment: u8, space: Space, from: u32) -> Option<u32>
+        requires low { 1 ≤ segment }
+        requires high { segment ≤ 8 }
+        requires space { space ≢ System }
+        ensures some { IfSome result (IsFirstFrom (IsUnindexed self.now segment space) from) }
+        ensures none { IfNone result (NoneFrom (IsUnindexed self.now segment space) from) }
+    {
+        self.columns[column_at(space, segment)].first_free(from)
     }
 }
 

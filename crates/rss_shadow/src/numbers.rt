@@ -1,7 +1,8 @@
 // Numbers in use.
-ghost use Rattle.std.specs.Prelude.{◌≡◌, ◌≢◌, ◌-◌, ◌/◌, ◌^◌, ◌<◌, ◌≤◌, ◌==◌, ℕ, true, false, length, replicate, slice_index, slice_index_or, slice_set, All, IfOk, IfSome, IfNone};
+ghost use Rattle.std.specs.Prelude.{◌≡◌, ◌≢◌, ◌-◌, ◌/◌, ◌^◌, ◌<◌, ◌≤◌, ◌==◌, ◌+◌, ℕ, true, false, length, replicate, slice_index, slice_set, IfOk, IfSome, IfNone};
 ghost use Rattle.std.specs.Int.{bit_at};
-ghost use Rattle.rss_shadow.specs.Numbers.{AreClear, IsPut, IsSetFrom};
+ghost use Rattle.rss_base.specs.Paged.{IsFirstFrom, NoneFrom};
+ghost use Rattle.rss_shadow.specs.Numbers.{AreClear, IsPut, IsSetFrom, IsAbsent, IsClear, IsOpen, IsSetOn};
 
 use std::alloc::{AllocError, Global};
 use std::marker::Model;
@@ -12,8 +13,8 @@ const WORD_BITS: u32 = 64;
 /// The numbers below a bound, of which some are in use.
 ///
 /// A bit for each number tells whether it is in use. Over these stands a bit for each word, which
-/// tells whether all its bits are set, and over those the same once more: so the least number that
-/// isn't in use is found by looking at three words.
+/// tells whether all its bits are set, and over those the same once more: so the first number from
+/// one on that isn't in use is found by looking at five words at most.
 #[derive(Drop)]
 pub(crate) struct NumberSet {
     len: u32,
@@ -50,6 +51,22 @@ impl NumberSet {
         })
     }
 
+    /// Each number below this bound is in use.
+    pub(crate) fn all(alloc: Global, len: u32) -> Result<Self, AllocError>
+        requires some { 0 < len }
+        requires few { len ≤ 65536 }
+        ensures { IfOk result (λ set. set ≡ replicate len true) }
+    {
+        let words = len.div_ceil(WORD_BITS);
+        let groups = words.div_ceil(WORD_BITS);
+        Ok(NumberSet {
+            len,
+            numbers: vec![in alloc; u64::MAX; words as usize]?,
+            full_words: vec![in alloc; u64::MAX; groups as usize]?,
+            full_groups: [u64::MAX],
+        })
+    }
+
     pub(crate) fn insert(&mut self, number: u32)
         requires { number < length self.old }
         ensures { self.new ≡ slice_set self.old number true }
@@ -75,20 +92,59 @@ impl NumberSet {
         put_bit(&mut self.full_groups, word / WORD_BITS, group_full);
     }
 
-    /// The least number that isn't in use.
-    pub(crate) fn least_absent(&self) -> Option<u32>
+    /// The first number from this one on that isn't in use.
+    pub(crate) fn first_absent(&self, from: u32) -> Option<u32>
         ensures within { IfSome result (λ number. number < length self.now) }
-        ensures absent { IfSome result (λ number. slice_index_or self.now number true ≡ false) }
-        ensures lesser { IfSome result (λ number. (k : ℕ) → k < number → slice_index_or self.now k true ≡ true) }
-        ensures none { IfNone result (All (λ used. used ≡ true) self.now) }
+        ensures some { IfSome result (IsFirstFrom (IsAbsent self.now) from) }
+        ensures none { IfNone result (NoneFrom (IsAbsent self.now) from) }
     {
-        let group = self.full_groups[0].trailing_ones();
-        if group as usize >= self.full_words.len() {
-            return None;
-        }
-        let word = group * WORD_BITS + self.full_words[group as usize].trailing_ones();
-        Some(word * WORD_BITS + self.numbers[word as usize].trailing_ones())
+        let word = from / WORD_BITS + 1;
+        let group = word / WORD_BITS + 1;
+        let open_group = first_clear(&self.full_groups, group, None);
+        let open_word = first_clear(&self.full_words, word, open_group);
+        first_clear(&self.numbers, from, open_word)
     }
+}
+
+/// The first bit from this one on that is clear. It is in this bit's word, or in the next one that
+/// isn't full.
+fn first_clear(words: &[u64], from: u32, next: Option<u32>) -> Option<u32>
+    requires few { length words.now ≤ 1024 }
+    requires some { IfSome next (IsFirstFrom (IsOpen words.now) (from / 64 + 1)) }
+    requires none { IfNone next (NoneFrom (IsOpen words.now) (from / 64 + 1)) }
+    ensures some { IfSome result (IsFirstFrom (IsClear words.now) from) }
+    ensures none { IfNone result (NoneFrom (IsClear words.now) from) }
+{
+    let here = clear_in_word(words, from);
+    if here.is_some() {
+        return here;
+    }
+    clear_in_word(words, next? * WORD_BITS)
+}
+
+/// The first bit from this one on that is clear, where this bit's word has one.
+fn clear_in_word(words: &[u64], from: u32) -> Option<u32>
+    ensures some { IfSome result (IsFirstFrom (IsClear words.now) from) }
+    ensures none { IfNone result (IsSetOn words.now from) }
+{
+    let at = (from / WORD_BITS) as usize;
+    if at >= words.len() {
+        return None;
+    }
+    let bit = with_bits_below(words[at], from % WORD_BITS).trailing_ones();
+    if bit >= WORD_BITS {
+        return None;
+    }
+    Some(from / WORD_BITS * WORD_BITS + bit)
+}
+
+/// The word with all bits below this one set.
+fn with_bits_below(word: u64, bit: u32) -> u64
+    requires { bit < 64 }
+    ensures below { (other : ℕ) → other < bit → bit_at result other ≡ 1 }
+    ensures others { (other : ℕ) → bit ≤ other → other < 64 → bit_at result other ≡ bit_at word other }
+{
+    word | !(u64::MAX << bit)
 }
 
 /// Sets or clears the bit of a number in words, and tells whether its word is full then.

@@ -1,9 +1,9 @@
 // The current map and the shadow map.
 ghost use Rattle.std.specs.Prelude.{◌≡◌, ◌≢◌, ◌+◌, ◌*◌, ◌<◌, ◌≤◌, ℕ, ◌&&◌, if◌then◌else◌, length, slice_index_or, true, None, Some, is_some, IfOk, IfSome, IfNone};
-ghost use Rattle.rss_base.specs.PageMap.{IsKey, owner_of};
+ghost use Rattle.rss_base.specs.PageMap.{IsKey, owner_of, page_count};
 ghost use Rattle.rss_base.specs.declared.key.Space.TheVariants.{System};
-ghost use Rattle.rss_base.specs.Paged.{page_key};
-ghost use Rattle.rss_shadow.specs.Maps.{AreMaps, is_heap_space, pages_of, heap_pages_of, spare, HasPage, LacksPage, GainsPage, LosesPage, MovesPage, IsLeastLacking};
+ghost use Rattle.rss_base.specs.Paged.{page_key, IsFirstFrom, NoneFrom};
+ghost use Rattle.rss_shadow.specs.Maps.{AreMaps, is_heap_space, heap_pages_of, spare, HasPage, LacksPage, GainsPage, LosesPage, MovesPage, IsMapped, IsUnmapped, IsLeastLacking};
 
 use crate::index::PageIndex;
 use crate::numbers::NumberSet;
@@ -50,7 +50,7 @@ impl Model for Shadow {
 impl Shadow {
     /// Both maps are this one, as after it was saved.
     pub fn new(alloc: Global, table: SlotTable) -> Result<Self, AllocError>
-        requires { 2 * pages_of table ≤ length table }
+        requires { 2 * page_count table ≤ length table }
         ensures { IfOk result (λ maps. maps ≡ record { current = table; shadow = table }) }
     {
         let slots = table.slots();
@@ -104,7 +104,7 @@ impl Shadow {
         if self.shadow[usize::from(from)].is_none() {
             return u32::from(from);
         }
-        let Some(to) = self.used.least_absent() else {
+        let Some(to) = self.used.first_absent(0) else {
             unreachable!()
         };
         self.current.set(u32::from(from), None);
@@ -112,6 +112,28 @@ impl Shadow {
         self.index.put(key, to as u16);
         self.used.insert(to);
         to
+    }
+
+    /// The first number from this one on, of a segment and a space, whose page is mapped.
+    pub fn first_mapped(&self, segment: u8, space: Space, from: u32) -> Option<u32>
+        requires low { 1 ≤ segment }
+        requires high { segment ≤ 8 }
+        requires space { space ≢ System }
+        ensures some { IfSome result (IsFirstFrom (IsMapped self.now.current segment space) from) }
+        ensures none { IfNone result (NoneFrom (IsMapped self.now.current segment space) from) }
+    {
+        self.index.first_mapped(segment, space, from)
+    }
+
+    /// The first number from this one on, below the number of slots, whose page isn't mapped.
+    pub fn first_unmapped(&self, segment: u8, space: Space, from: u32) -> Option<u32>
+        requires low { 1 ≤ segment }
+        requires high { segment ≤ 8 }
+        requires space { space ≢ System }
+        ensures some { IfSome result (IsFirstFrom (IsUnmapped self.now.current segment space) from) }
+        ensures none { IfNone result (NoneFrom (IsUnmapped self.now.current segment space) from) }
+    {
+        self.index.first_unmapped(segment, space, from)
     }
 
     /// Maps the least page of a segment and a space that isn't mapped, and answers its number.
@@ -143,7 +165,7 @@ impl Shadow {
         ensures gains { GainsPage self.old self.new key }
         ensures spare { spare self.new + 1 ≡ spare self.old }
     {
-        let Some(slot) = self.used.least_absent() else {
+        let Some(slot) = self.used.first_absent(0) else {
             unreachable!()
         };
         self.current.set(slot, Some(key));
@@ -174,7 +196,7 @@ impl Shadow {
     /// Makes the current map the shadow map, once it is saved. The slots that only the old shadow
     /// map used are free from now on.
     pub fn adopt(&mut self)
-        requires { 2 * pages_of self.old.current ≤ length self.old.current }
+        requires { 2 * page_count self.old.current ≤ length self.old.current }
         ensures { self.new ≡ record { current = self.old.current; shadow = self.old.current } }
     {
         let owners = self.current.as_slice();
@@ -202,7 +224,7 @@ impl Shadow {
 
     /// How many pages the current map has.
     pub fn mapped(&self) -> u32
-        ensures { result ≡ pages_of self.now.current }
+        ensures { result ≡ page_count self.now.current }
     {
         self.pages
     }

@@ -2,16 +2,15 @@
 use Rattle.std.proofs.Common.{◌≡◌, ◌≢◌, ◌⊎◌, inl, inr, ℕ, ◌+◌, ◌-◌, ◌*◌, ◌<◌, true, min, List, Option, Some, None, refl, sym, ◌∙◌, ap, subst, arith}
 use Rattle.std.proofs.lemmas.Bool.{cases_eq, and_parts, or_cases, eqb-true, ltb-true}
 use Rattle.std.proofs.lemmas.Option.{same_Some}
-use Rattle.rss_base.specs.DiskRule.{Disk, Pages, page}
+use Rattle.rss_base.specs.DiskRule.{Pages, page}
 use Rattle.rss_base.specs.PageMap.{IsSegmentOf, number_limit, space_code, IsKey, owner_of, AreDistinct}
 use Rattle.rss_base.specs.Paged.{page_key}
 use Rattle.rss_base.specs.declared.key.Space.{Space}
 use Rattle.rss_base.specs.declared.key.Space.TheVariants.{Home, Overflow, Image, System}
 use Rattle.rss_base.specs.declared.key.PageKey.{PageKey}
-use Rattle.rss_base.proofs.Moments.{no_more_then}
 use Rattle.rss_model.specs.Store.{home_pages, store_pages}
 use Rattle.rss_store.specs.HomePages.{IsHomePage}
-use Rattle.rss_store.specs.Opening.{OnlyReads, MayHave, HasTuplesOn, AreStoreKeys, HoldStorePages}
+use Rattle.rss_store.specs.Opening.{MayHave, HasTuplesOn, AreStoreKeys, HoldStorePages}
 
 -- ---- which pages a store has
 
@@ -75,6 +74,10 @@ owners_more P owners slot before last s key lt owned = elim (cases_eq s slot) [
   | inr other ↦ before s key (omega (arith, other)) owned
 ]
 
+-- the next slot has a page of a store too
+pub keys_more : (home slot : ℕ) (owners : List (Option PageKey)) (key : PageKey) → owner_of owners slot ≡ Some key → store_pages home key ≡ true → AreStoreKeys home owners slot → AreStoreKeys home owners (slot + 1)
+keys_more home slot owners key owned mapped keys = owners_more (λ s k. store_pages home k ≡ true) owners slot keys (λ k is. subst (λ (q : PageKey). store_pages home q ≡ true) (same_Some _ _ (sym owned ∙ is)) mapped)
+
 -- a page with as many tuples
 retold : {bytes : List ℕ} {key : PageKey} {m n : ℕ} → (key.space ≡ Home → m ≡ n) → HasTuplesOn bytes key m → HasTuplesOn bytes key n
 retold {bytes = bytes} {key = key} same has = record { system = has.system; home = λ space. subst (IsHomePage bytes key.number) (same space) (has.home space) }
@@ -103,12 +106,3 @@ module _ (home first count slot : ℕ) (pages : Pages) (owners : List (Option Pa
       omega (arith, distinct s slot key (there ∙ ap Some both) owned) in
       omega (arith, one.below, not, may.some space)) (hold s k lt there))
       (λ k is. subst (λ (q : PageKey). HasTuplesOn (page pages (first + slot)) q (min 128 (128 * key.number + tuples - 128 * q.number))) (same_Some _ _ (sym owned ∙ is)) (retold (λ home_space. omega (arith, may.few home_space)) has))
-
--- a call that reads, after others
-pub reads_then : {old mid new : Disk} {w v u f h k : ℕ} → OnlyReads old mid w v f h → OnlyReads mid new v u h k → OnlyReads old new w u f k
-reads_then first second = record {
-  contents = second.contents ∙ first.contents;
-  moments = λ pages told. no_more_then (first.moments pages told) (second.moments pages (first.contents ∙ told));
-  same_writes = second.same_writes ∙ first.same_writes;
-  later = omega (arith, first.later, second.later);
-}

@@ -1,10 +1,11 @@
 -- What a checkpoint leaves at each of its moments.
-use Rattle.std.proofs.Common.{◌≡◌, ◌≢◌, ◌⊎◌, inl, inr, ⊎_elim, ℕ, ◌+◌, ◌-◌, ◌*◌, ◌<◌, ◌≤◌, ℤ, Bool, true, List, length, Option, Some, None, refl, sym, ◌∙◌, ap, subst, arith}
+use Rattle.std.proofs.Common.{◌≡◌, ◌≢◌, ◌⊎◌, inl, inr, ⊎_elim, ℕ, ◌+◌, ◌-◌, ◌*◌, ◌<◌, ◌≤◌, ℤ, true, List, length, Option, Some, None, refl, sym, ◌∙◌, ap, subst, arith}
 use Rattle.std.specs.Prelude.{All, FitsSigned}
 use Rattle.std.specs.Int.{w64}
 use Rattle.rss_base.specs.DiskRule.{Disk, Pages, Told, IsTold, Leaves, SameOff, TornIn, Passes}
 use Rattle.rss_base.specs.Layout.{slots_at, root_page, IsWellFormed}
-use Rattle.rss_base.specs.Paged.{Mapped, Held, Fixed, Backing, HasFixed}
+use Rattle.rss_base.specs.Paged.{Mapped, Held, Fixed, HasFixed}
+use Rattle.rss_base.specs.Steps.{PagesView}
 use Rattle.rss_base.specs.StoredPages.{mapped_by, SavesPages, HoldsPages}
 use Rattle.rss_base.specs.declared.root.Root.{Root}
 use Rattle.rss_base.specs.declared.key.PageKey.{PageKey}
@@ -13,7 +14,8 @@ use Rattle.rss_root.specs.Roots.{IsPhase}
 use Rattle.rss_buffer.specs.Saved.{IsSaveable}
 use Rattle.rss_buffer.specs.Slots.{fixed_by}
 use Rattle.rss_buffer.proofs.Stops.{fixed_holds, saving_holds, switching_holds, other_root}
-use Rattle.rss_shadow.specs.Maps.{Maps}
+use Rattle.rss_buffer.specs.Saving.{SavingView, first_slot, AreSaveable, SavingStep, IsRootOf, LeavesSaved}
+use Rattle.rss_buffer.specs.declared.stage.Stage.TheVariants.{Saved}
 use Rattle.rss_store.specs.Ready.{CanCommit, other_area}
 use Rattle.rss_store.proofs.Holding.{store_holds, holds_store, same_store}
 use Rattle.rss_model.specs.Store.{home_pages, store_pages, HoldsTuples, HasFirstLog, IsStore}
@@ -65,64 +67,69 @@ other_formed root formed = record {
 pub first_log : (root : Root) → HasFirstLog root → HasFirstLog (other_area root)
 first_log root log = record { head = log.head; checkpoint = log.checkpoint; end = log.end; tail = log.tail }
 
-module _ {slots number log_pages area : ℕ} {mapped : Mapped} {held : Held} {backing : Backing} {fixed : Fixed} {settled : Bool} {root : Root} {before after : List ℤ} (commit : CanCommit slots mapped held backing fixed settled number root before after) (formed : IsWellFormed root) (maps : Maps)
-    (backed : backing ≡ record { log_pages = log_pages; area = area; shadow = maps.shadow }) where
-  same_log : log_pages ≡ root.log_pages
-  same_log = sym (ap (λ (b : Backing). b.log_pages) backed) ∙ commit.log_pages
+-- ---- what each call of one leaves
 
-  -- what a switch says of the pages that were saved
-  pub holds_by : (new : Disk) {slots_mid log_mid : ℕ} {maps_mid : Maps} {held_mid : Held} → maps_mid ≡ maps → held_mid ≡ held → slots ≡ length maps.current → slots_mid ≡ length maps_mid.current → log_mid ≡ log_pages
-      → (IsWellFormed (other_area root) → root.slots ≡ slots_mid → root.log_pages ≡ log_mid → (image : Pages) → Leaves new image → HoldsPages image (3 - number) (other_area root) maps_mid.current held_mid)
-      → (image : Pages) → Leaves new image → HoldsPages image (3 - number) (other_area root) maps.current held
-  holds_by new {slots_mid = slots_mid} {maps_mid = maps_mid} same_maps same_held count count_mid log_now holds image leaves =
-      let slots_now : root.slots ≡ slots_mid = sym commit.size ∙ count ∙ ap (λ (m : Maps). length m.current) (sym same_maps) ∙ sym count_mid in
-      subst (λ (m : Maps). HoldsPages image (3 - number) (other_area root) m.current held) same_maps (subst (λ (h : Held). HoldsPages image (3 - number) (other_area root) maps_mid.current h) same_held (holds (other_formed root formed) slots_now (sym (log_now ∙ same_log)) image leaves))
+module _ {pages : PagesView} {saving : SavingView} (saveable : AreSaveable pages saving) where
+  module _ {now : PagesView} {saving_now : SavingView} (step : SavingStep pages now saving saving_now) (saveable_now : AreSaveable now saving_now) where
+    pub slots_now : now.slots ≡ pages.slots
+    slots_now = saveable_now.slots ∙ ap (λ (owners : List (Option PageKey)). length owners) step.current ∙ sym saveable.slots
+
+    pub mapped_now : now.mapped ≡ pages.mapped
+    mapped_now = saveable_now.mapped ∙ ap mapped_by step.current ∙ sym saveable.mapped
+
+    -- what was saved holds the pages of before
+    pub held_saved : IsTold pages.disk → (disk : Disk) {number : ℕ} {root : Root} → LeavesSaved disk number root now saving_now → (image : Pages) → Leaves disk image → HoldsPages image number root saving.current pages.held
+    held_saved told disk {number = number} {root = root} holds image leaves =
+        subst (λ (owners : List (Option PageKey)). HoldsPages image number root owners pages.held) step.current
+        (subst (λ (held : Held). HoldsPages image number root saving_now.current held) (step.held told) (holds image leaves))
+
+module _ {pages : PagesView} {saving : SavingView} {number : ℕ} {root : Root} {before after : List ℤ} (commit : CanCommit pages number root before after) (formed : IsWellFormed root) (saveable : AreSaveable pages saving) where
+  -- the pages that were saved are those of the new root
+  pub is_root_of : {mid : PagesView} {saving_mid : SavingView} → SavingStep pages mid saving saving_mid → AreSaveable mid saving_mid → saving_mid.stage ≡ Saved (1 - root.area) → IsRootOf mid saving_mid (other_area root)
+  is_root_of step saveable_mid stage = record {
+    saved = stage;
+    formed = other_formed root formed;
+    slots = sym (slots_now saveable step saveable_mid ∙ commit.size);
+    log_pages = sym (step.log_pages ∙ commit.log_pages);
+  }
 
   -- what is fixed once the map is adopted
-  pub fixed_then : {slots_now log_now : ℕ} {maps_now : Maps} {fixed_now : Fixed} {contents : Option Pages} (pages : Pages) → maps_now ≡ record { current = maps.current; shadow = maps.current } → slots ≡ length maps.current → slots_now ≡ length maps_now.current → log_now ≡ log_pages → contents ≡ Some pages
-      → fixed_now ≡ fixed_by (slots_at slots_now log_now) maps_now.shadow contents → fixed_now ≡ fixed_by (slots_at root.slots root.log_pages) maps.current (Some pages)
-  fixed_then {slots_now = slots_now} {log_now = log_now} pages same_maps count count_now same told is =
-      let slots_are : slots_now ≡ root.slots = count_now ∙ ap (λ (m : Maps). length m.current) same_maps ∙ sym count ∙ commit.size in
-      let log_is : log_now ≡ root.log_pages = same ∙ same_log in
-      is ∙ (λ i. fixed_by (slots_at (slots_are i) (log_is i)) (same_maps i).shadow (told i))
+  pub fixed_last : {last : PagesView} {saving_last : SavingView} → SavingStep pages last saving saving_last → AreSaveable last saving_last → last.backing.shadow ≡ saving.current → (image : Pages) → last.disk.contents ≡ Some image → last.fixed ≡ fixed_by (slots_at root.slots root.log_pages) saving.current (Some image)
+  fixed_last step saveable_last shadow image told =
+      let slots = slots_now saveable step saveable_last ∙ commit.size in
+      let log_pages = step.log_pages ∙ commit.log_pages in
+      saveable_last.fixed ∙ (λ i. fixed_by (slots_at (slots i) (log_pages i)) (shadow i) (told i))
 
-  same_shadow : maps.shadow ≡ backing.shadow
-  same_shadow = sym (ap (λ (b : Backing). b.shadow) backed)
-
-  module _ {old mid : Disk} (stays : settled ≡ true → (image : Pages) → Leaves old image → HasFixed fixed image) (saves : Passes old mid (TornIn (IsSaveable (slots_at slots log_pages) (1 - root.area) maps.shadow) (Leaves old))) where
-    left_before : (image : Pages) → Leaves old image → IsStore image number root backing.shadow before
+  module _ {mid : Disk} (stays : pages.settled ≡ true → (image : Pages) → Leaves pages.disk image → HasFixed pages.fixed image) (saves : Passes pages.disk mid (TornIn (IsSaveable (first_slot pages) (1 - root.area) pages.backing.shadow) (Leaves pages.disk))) where
+    left_before : (image : Pages) → Leaves pages.disk image → IsStore image number root pages.backing.shadow before
     left_before image leaves = commit.fixes image (stays commit.settled_now image leaves)
 
-    saves_shadow : Passes old mid (TornIn (IsSaveable (slots_at slots log_pages) (1 - root.area) backing.shadow) (Leaves old))
-    saves_shadow = subst (λ (shadow : List (Option PageKey)). Passes old mid (TornIn (IsSaveable (slots_at slots log_pages) (1 - root.area) shadow) (Leaves old))) same_shadow saves
+    pub saved : Passes pages.disk mid (λ image. IsStore image number root pages.backing.shadow before)
+    saved = save_moments commit.size commit.log_pages (omega arith) (omega (arith, formed.area)) left_before saves
 
-    pub saved : Passes old mid (λ image. IsStore image number root backing.shadow before)
-    saved = save_moments commit.size same_log (omega arith) (omega (arith, formed.area)) left_before saves_shadow
+    pub left_saved : (image : Pages) → Leaves mid image → IsStore image number root pages.backing.shadow before
+    left_saved = save_left commit.size commit.log_pages (omega arith) (omega (arith, formed.area)) left_before saves
 
-    pub left_saved : (image : Pages) → Leaves mid image → IsStore image number root backing.shadow before
-    left_saved = save_left commit.size same_log (omega arith) (omega (arith, formed.area)) left_before saves_shadow
+    module _ {new : Disk} (told : IsTold mid) (reads : Told mid (Leaves mid)) (held_mid : Told mid (λ image. SavesPages pages.backing.log_pages (1 - root.area) image saving.current pages.held)) (phases : Told mid (λ image. Passes mid new (IsPhase mid image (3 - number) (root_page (other_area root))))) where
+      mapped_are : (key : PageKey) → mapped_by saving.current key ≡ store_pages (home_pages (length after)) key
+      mapped_are key = ap (λ (m : Mapped). m key) (sym saveable.mapped) ∙ commit.mapped_are key
 
-    module _ {new : Disk} (told : IsTold mid) (reads : Told mid (Leaves mid)) (mapped_is : mapped ≡ mapped_by maps.current) (count : slots ≡ length maps.current) (held_saved : Told mid (λ pages. SavesPages log_pages (1 - root.area) pages maps.current held))
-        (phases : Told mid (λ pages. Passes mid new (IsPhase mid pages (3 - number) (root_page (other_area root))))) where
-      mapped_now : (key : PageKey) → mapped_by maps.current key ≡ store_pages (home_pages (length after)) key
-      mapped_now key = ap (λ (m : Mapped). m key) (sym mapped_is) ∙ commit.mapped_are key
-
-      phase : (image : Pages) → IsPhase mid told.pages (3 - number) (root_page (other_area root)) image → IsStore image number root backing.shadow before ⊎ IsStore image (3 - number) (other_area root) maps.current after
+      phase : (image : Pages) → IsPhase mid told.pages (3 - number) (root_page (other_area root)) image → IsStore image number root pages.backing.shadow before ⊎ IsStore image (3 - number) (other_area root) saving.current after
       phase image is =
-          switch_phase mid held after left_saved (left_saved told.pages (reads told.pages told.is)) (subst (λ (n : ℕ). SavesPages n (1 - root.area) told.pages maps.current held) same_log (held_saved told.pages told.is)) (sym count ∙ commit.size) refl refl (other_formed root formed) (first_log root commit.log) mapped_now commit.room
-          commit.tuples commit.fit is
+          switch_phase mid pages.held after left_saved (left_saved told.pages (reads told.pages told.is)) (subst (λ (n : ℕ). SavesPages n (1 - root.area) told.pages saving.current pages.held) commit.log_pages (held_mid told.pages told.is)) (sym saveable.slots ∙ commit.size) refl refl (other_formed root formed)
+          (first_log root commit.log) mapped_are commit.room commit.tuples commit.fit is
 
-      pub switched : Passes old new (λ image. IsStore image number root backing.shadow before ⊎ IsStore image (3 - number) (other_area root) maps.current after)
+      pub switched : Passes pages.disk new (λ image. IsStore image number root pages.backing.shadow before ⊎ IsStore image (3 - number) (other_area root) saving.current after)
       switched = then (widened saved (λ image store. inl store)) (phases told.pages told.is) phase
 
       -- the pages are there under the new root
-      module _ (holds : (image : Pages) → Leaves new image → HoldsPages image (3 - number) (other_area root) maps.current held) where
-        pub left_switched : (image : Pages) → Leaves new image → IsStore image (3 - number) (other_area root) maps.current after
-        left_switched image leaves = holds_store held after (holds image leaves) (first_log root commit.log) mapped_now commit.room commit.tuples commit.fit
+      module _ (holds : (image : Pages) → Leaves new image → HoldsPages image (3 - number) (other_area root) saving.current pages.held) where
+        pub left_switched : (image : Pages) → Leaves new image → IsStore image (3 - number) (other_area root) saving.current after
+        left_switched image leaves = holds_store pages.held after (holds image leaves) (first_log root commit.log) mapped_are commit.room commit.tuples commit.fit
 
-        pub adopted : {last : Disk} → Passes new last (Leaves new) → Passes old last (λ image. IsStore image number root backing.shadow before ⊎ IsStore image (3 - number) (other_area root) maps.current after)
+        pub adopted : {last : Disk} → Passes new last (Leaves new) → Passes pages.disk last (λ image. IsStore image number root pages.backing.shadow before ⊎ IsStore image (3 - number) (other_area root) saving.current after)
         adopted rests = then switched rests (λ image leaves. inr (left_switched image leaves))
 
-        pub fixes_after : (pages : Pages) → Leaves new pages → (fixed_now : Fixed) → fixed_now ≡ fixed_by (slots_at root.slots root.log_pages) maps.current (Some pages) → (image : Pages) → HasFixed fixed_now image → IsStore image (3 - number) (other_area root) maps.current after
-        fixes_after pages leaves fixed_now is image has =
-            holds_store held after (fixed_holds (holds pages leaves) (subst (λ (f : Fixed). HasFixed f image) is has)) (first_log root commit.log) mapped_now commit.room commit.tuples commit.fit
+        pub fixes_after : (found : Pages) → Leaves new found → (fixed_now : Fixed) → fixed_now ≡ fixed_by (slots_at root.slots root.log_pages) saving.current (Some found) → (image : Pages) → HasFixed fixed_now image → IsStore image (3 - number) (other_area root) saving.current after
+        fixes_after found leaves fixed_now is image has =
+            holds_store pages.held after (fixed_holds (holds found leaves) (subst (λ (f : Fixed). HasFixed f image) is has)) (first_log root commit.log) mapped_are commit.room commit.tuples commit.fit

@@ -1,44 +1,45 @@
--- Which pages wait to be written while a transaction is open, and how many writes its end makes.
-use Rattle.std.proofs.Common.{◌≡◌, inl, inr, ℕ, zero, suc, ◌+◌, ◌-◌, ◌*◌, ◌/◌, ◌<◌, ◌≤◌, ℤ, true, false, List, [], ◌∷◌, ◌++◌, length, map, drop, Option, Some, None, refl, sym, ◌∙◌, ap, subst, arith, length-drop, add-zero}
-use Rattle.std.proofs.lemmas.Bool.{cases_Bool, cases_lt, cond-false}
+-- Which pages were changed while a transaction is open, and how many writes its end makes.
+use Rattle.std.proofs.Common.{◌≡◌, ◌⊎◌, ⊎_elim, inl, inr, ℕ, zero, suc, ◌+◌, ◌-◌, ◌*◌, ◌/◌, ◌<◌, ◌≤◌, ℤ, true, false, List, [], ◌∷◌, ◌++◌, length, map, drop, Option, Some, None, refl, sym, ◌∙◌, ap, subst, arith, length-drop, add-zero}
+use Rattle.std.proofs.lemmas.Bool.{cases_lt}
 use Rattle.std.proofs.lemmas.List.{length-map, get_or-map}
 use Rattle.std.proofs.lemmas.List.Elements.{Contains-push, Contains-append_left}
 use Rattle.std.specs.List.{Contains}
-use Rattle.rss_base.specs.Paged.{Mapped, is_same, page_key, with_mapped, AreAmong, HasEach, WritesWaiting}
+use Rattle.rss_base.specs.Paged.{Mapped, page_key, AreAmong, HasEach, WritesWaiting}
 use Rattle.rss_base.specs.Layout.{map_pages}
 use Rattle.rss_base.specs.declared.key.Space.TheVariants.{Home}
 use Rattle.rss_base.specs.declared.key.PageKey.{PageKey}
 use Rattle.rss_base.specs.declared.call.Call.TheVariants.{End}
+use Rattle.rss_base.specs.Steps.{PagesView}
+use Rattle.rss_buffer.specs.Saving.{SavingView, AreSaveable, SavingStep}
 use Rattle.rss_base.proofs.Keys.{is_same-true, is_same-itself}
 use Rattle.rss_model.specs.Changes.{Change}
-use Rattle.rss_model.specs.Costs.{HasChanged, commit_writes, most_writes}
+use Rattle.rss_model.specs.Machine.{State}
+use Rattle.rss_model.specs.Costs.{HasChanged, commit_writes}
+use Rattle.rss_model.specs.Calls.{GoesOn}
 use Rattle.rss_model.specs.Store.{relation_r, tid_at, item_at}
-use Rattle.rss_store.specs.Costs.{IsChangedPage, WaitsOnly}
+use Rattle.rss_store.specs.Parts.{engine_view}
+use Rattle.rss_store.specs.Costs.{IsChangedPage, ChangesOnly}
 use Rattle.rss_store.specs.Held.{insertion, inserts, state_of}
 
--- ---- which pages wait
+-- ---- which pages were changed
 
-pub waits_none : {waiting : Mapped} {committed count : ℕ} → ((key : PageKey) → waiting key ≡ false) → WaitsOnly waiting committed count
-waits_none none = λ key is. absurd (let not = none key in cc)
+pub changes_none : {waiting : Mapped} {committed count : ℕ} → ((key : PageKey) → waiting key ≡ false) → ChangesOnly waiting committed count
+changes_none none = λ key is. absurd (let not = none key in cc)
 
-pub waits_among : {before after : Mapped} {committed count : ℕ} → AreAmong after before → WaitsOnly before committed count → WaitsOnly after committed count
-waits_among among waits = λ key is. waits key (among key is)
+pub changes_among : {before after : Mapped} {committed count : ℕ} → AreAmong after before → ChangesOnly before committed count → ChangesOnly after committed count
+changes_among among waits = λ key is. waits key (among key is)
 
-pub waits_inserted : {before after : Mapped} {committed count : ℕ} → committed ≤ count → AreAmong after (with_mapped before (page_key 1 Home (count / 128)) true) → WaitsOnly before committed count → WaitsOnly after committed (count + 1)
-waits_inserted {before = before} {committed = committed} {count = count} within among waits = λ key is.
+pub changes_inserted : {before after : Mapped} {committed count : ℕ} → committed ≤ count → ((key : PageKey) → after key ≡ true → (before key ≡ true) ⊎ (key ≡ page_key 1 Home (count / 128))) → ChangesOnly before committed count → ChangesOnly after committed (count + 1)
+changes_inserted {committed = committed} {count = count} within among waits = λ key is.
     let last = page_key 1 Home (count / 128) in
-    let there = among key is in
-    elim (cases_Bool (is_same key last)) [
-      | inl here ↦ subst (λ (k : PageKey). IsChangedPage committed (count + 1) k) (sym (is_same-true key last here)) (record {
-        home = is_same-itself last;
-        some = omega (arith, within);
-        first = omega (arith, within);
-        last = omega arith;
-      })
-      | inr off ↦
-          let was = waits key (sym (cond-false (is_same key last) true (before key) off) ∙ there) in
-          record { home = was.home; some = omega (arith, was.some); first = was.first; last = omega (arith, was.last) }
-    ]
+    ⊎_elim
+    (λ there. let was = waits key there in record { home = was.home; some = omega (arith, was.some); first = was.first; last = omega (arith, was.last) })
+    (λ here. subst (λ (k : PageKey). IsChangedPage committed (count + 1) k) (sym here) (record {
+      home = is_same-itself last;
+      some = omega (arith, within);
+      first = omega (arith, within);
+      last = omega arith;
+    })) (among key is)
 
 -- ---- the pages that a transaction changed
 
@@ -54,7 +55,7 @@ inserted_there transaction place (v ∷ values) (suc k) lt =
 contains-map : (pages : List ℕ) (f : ℕ → PageKey) (number : ℕ) → Contains pages number → Contains (map f pages) (f number)
 contains-map pages f number there = (there.0, omega (arith, there.1, length-map pages f), get_or-map f pages there.0 number (f number) there.1 ∙ ap f there.2)
 
-changed_keys : (slots : ℕ) (transaction : Option ℕ) (committed : ℕ) (values : List ℤ) (waiting : Mapped) (pages : List ℕ) → (transaction ≡ None → committed ≡ length values) → HasChanged pages (state_of slots transaction committed values).changes → WaitsOnly waiting committed (length values) → HasEach (map (page_key 1 Home) pages) waiting
+changed_keys : (slots : ℕ) (transaction : Option ℕ) (committed : ℕ) (values : List ℤ) (waiting : Mapped) (pages : List ℕ) → (transaction ≡ None → committed ≡ length values) → HasChanged pages (state_of slots transaction committed values).changes → ChangesOnly waiting committed (length values) → HasEach (map (page_key 1 Home) pages) waiting
 changed_keys slots None committed values waiting pages rest has waits = λ key is. absurd (let page = waits key is in omega (arith, page.some, rest refl))
 changed_keys slots (Some transaction) committed values waiting pages rest has waits = λ key is.
     let page = waits key is in
@@ -77,16 +78,26 @@ some_changed : (slots : ℕ) (changed : ℕ) (changes : List Change) (change : C
 some_changed slots changed [] change there = absurd (omega (arith, there.1))
 some_changed slots changed (c ∷ changes) change there = refl
 
-one_end : (slots transaction committed : ℕ) (values : List ℤ) (waiting : Mapped) (writes writes_now : ℕ) (pages : List ℕ) → committed < length values → HasChanged pages (state_of slots (Some transaction) committed values).changes → WaitsOnly waiting committed (length values) → WritesWaiting waiting (map_pages slots + 2) writes writes_now
-    → writes_now ≤ writes + most_writes (length pages) (state_of slots (Some transaction) committed values) (End transaction)
+one_end : (slots transaction committed : ℕ) (values : List ℤ) (waiting : Mapped) (writes writes_now : ℕ) (pages : List ℕ) → committed < length values → HasChanged pages (state_of slots (Some transaction) committed values).changes → ChangesOnly waiting committed (length values) → WritesWaiting waiting (map_pages slots + 2) writes writes_now
+    → writes_now ≤ writes + commit_writes (length pages) slots (state_of slots (Some transaction) committed values).changes
 one_end slots transaction committed values waiting writes writes_now pages some has waits few =
     let inserted = inserted_there transaction committed (drop committed values) 0 (omega (arith, some, length-drop committed values)) in
     let all = some_changed slots (length pages) (inserts transaction committed (drop committed values)) _ inserted.1 in
     let keys = changed_keys slots (Some transaction) committed values waiting pages (λ none. absurd (cc)) has waits in
     omega (arith, few (map (page_key 1 Home) pages) keys, length-map pages (page_key 1 Home), all)
 
-pub end_writes : {slots slots_of committed count : ℕ} {current : Option ℕ} {waiting : Mapped} (values : List ℤ) (writes writes_now transaction : ℕ) → current ≡ Some transaction → length values ≡ count → slots_of ≡ slots → committed < count → WaitsOnly waiting committed count → WritesWaiting waiting (map_pages slots_of + 2) writes writes_now
-    → (pages : List ℕ) → HasChanged pages (state_of slots current committed values).changes → writes_now ≤ writes + most_writes (length pages) (state_of slots current committed values) (End transaction)
+end_writes : {slots slots_of committed count : ℕ} {current : Option ℕ} {waiting : Mapped} (values : List ℤ) (writes writes_now transaction : ℕ) → current ≡ Some transaction → length values ≡ count → slots_of ≡ slots → committed < count → ChangesOnly waiting committed count → WritesWaiting waiting (map_pages slots_of + 2) writes writes_now
+    → (pages : List ℕ) → HasChanged pages (state_of slots current committed values).changes → writes_now ≤ writes + commit_writes (length pages) slots (state_of slots current committed values).changes
 end_writes {slots = slots} {committed = committed} {waiting = waiting} values writes writes_now transaction is long same some waits few pages =
-    subst (λ (o : Option ℕ). HasChanged pages (state_of slots o committed values).changes → writes_now ≤ writes + most_writes (length pages) (state_of slots o committed values) (End transaction)) (sym is)
-    (λ has. one_end slots transaction committed values waiting writes writes_now pages (omega (arith, some, long)) has (subst (λ (n : ℕ). WaitsOnly waiting committed n) (sym long) waits) (subst (λ (n : ℕ). WritesWaiting waiting (map_pages n + 2) writes writes_now) same few))
+    subst (λ (o : Option ℕ). HasChanged pages (state_of slots o committed values).changes → writes_now ≤ writes + commit_writes (length pages) slots (state_of slots o committed values).changes) (sym is)
+    (λ has. one_end slots transaction committed values waiting writes writes_now pages (omega (arith, some, long)) has (subst (λ (n : ℕ). ChangesOnly waiting committed n) (sym long) waits) (subst (λ (n : ℕ). WritesWaiting waiting (map_pages n + 2) writes writes_now) same few))
+
+-- what an end passes on
+pub end_goes : {pages now : PagesView} {saving saving_now : SavingView} {slots committed count transaction : ℕ} {current : Option ℕ} {next : State} {up up_now : Type 0} (values : List ℤ) → current ≡ Some transaction → length values ≡ count → pages.slots ≡ slots → committed < count → AreSaveable pages saving → ChangesOnly pages.changed committed count
+    → WritesWaiting saving.waiting (map_pages pages.slots + 2) pages.writes now.writes → SavingStep pages now saving saving_now → GoesOn (engine_view pages (state_of slots current committed values) up) (engine_view now next up_now) (End transaction)
+end_goes {pages = pages} {now = now} {transaction = transaction} values is long same some saveable changes few step = record {
+  asks = omega (arith, step.asks);
+  writes = end_writes values pages.writes now.writes transaction is long same some (changes_among saveable.waiting changes) few;
+  told = step.told.0;
+  later = step.later;
+}

@@ -1,21 +1,24 @@
 -- A store, by what its pages hold.
 use Rattle.std.proofs.Common.{◌≡◌, inl, inr, ℕ, ◌+◌, ◌-◌, ◌*◌, ◌<◌, ◌≤◌, ℤ, Bool, true, false, ◌||◌, min, List, length, take, Option, Some, refl, sym, ◌∙◌, ap, subst, arith}
-use Rattle.std.specs.Prelude.{is_some, option_map, All, FitsSigned}
+use Rattle.std.specs.Prelude.{option_map, All, FitsSigned}
 use Rattle.std.specs.Int.{w64}
 use Rattle.std.proofs.lemmas.Bool.{cases_Bool, or_left, or_right, or_cases, lt-ltb, false_from_ne_true}
 use Rattle.std.proofs.lemmas.List.{take_all}
-use Rattle.rss_base.specs.DiskRule.{Disk, Pages, page, Told}
+use Rattle.rss_base.specs.DiskRule.{Pages, page, Told}
 use Rattle.rss_base.specs.Layout.{map_at, slots_at}
-use Rattle.rss_base.specs.PageMap.{IsMap}
-use Rattle.rss_base.specs.Paged.{Held, Fixed, HasFixed, page_key}
+use Rattle.rss_base.specs.PageMap.{IsMap, page_count}
+use Rattle.rss_base.specs.Paged.{Mapped, Held, Fixed, Backing, HasFixed, page_key}
+use Rattle.rss_base.specs.Steps.{PagesView}
 use Rattle.rss_base.specs.StoredPages.{mapped_by, held_at, StandInSlots, HoldsPages}
 use Rattle.rss_base.specs.declared.key.Space.TheVariants.{Home, System}
 use Rattle.rss_base.specs.declared.key.PageKey.{PageKey}
 use Rattle.rss_base.specs.declared.root.Root.{Root}
-use Rattle.rss_shadow.specs.Maps.{Maps, spare, HasPage}
-use Rattle.rss_buffer.specs.Slots.{held_by, fixed_by}
-use Rattle.rss_buffer.specs.Frames.{FrameOf}
-use Rattle.rss_buffer.specs.BufferLaws.{owner_of-slot_of, the_slot, holds_by}
+use Rattle.rss_shadow.specs.Maps.{HasPage}
+use Rattle.rss_buffer.specs.Slots.{fixed_by}
+use Rattle.rss_buffer.specs.Buffered.{HoldsMapAt}
+use Rattle.rss_buffer.specs.Saving.{SavingView, AreSaveable, IsFresh}
+use Rattle.rss_base.proofs.Keys.{owner_of-slot_of, the_slot}
+use Rattle.rss_buffer.proofs.SavingSteps.{none_changed}
 use Rattle.rss_buffer.proofs.Found.{HasPage-mapped, slot_of-owned}
 use Rattle.rss_buffer.proofs.Stops.{fixed_holds}
 use Rattle.rss_pagemap.proofs.Owners.{owned_within}
@@ -88,7 +91,7 @@ store_mapped owners home keys systems homes key = elim (cases_Bool (mapped_by ow
   ]))
 ]
 
-module _ {root : Root} {number : ℕ} {owners : List (Option PageKey)} {home count : ℕ} (held : Held) (sound : IsSound root number owners home count) (told : (key : PageKey) → is_some (held key) ≡ mapped_by owners key) (mapped : (key : PageKey) → mapped_by owners key ≡ store_pages home key) where
+module _ {root : Root} {number : ℕ} {owners : List (Option PageKey)} {home count : ℕ} (held : Held) (sound : IsSound root number owners home count) (mapped : (key : PageKey) → mapped_by owners key ≡ store_pages home key) where
   module _ {pages : Pages} (holds : HoldsSound pages root number owners count) (stand : StandInSlots (slots_at root.slots root.log_pages) pages owners held) where
     sound_pages : HoldsPages pages number root owners held
     sound_pages = record {
@@ -128,53 +131,60 @@ module _ {root : Root} {number : ℕ} {owners : List (Option PageKey)} {home cou
   pub sound_store : {pages : Pages} → HoldsSound pages root number owners count → StandInSlots (slots_at root.slots root.log_pages) pages owners held → IsStore pages number root owners (values_in held count)
   sound_store holds stand = store_of (sound_pages holds stand) (sound_tuples holds stand)
 
-  -- and whatever is done with them, a stop leaves it
-  pub sound_ready : (disk : Disk) (maps : Maps) (log_pages area : ℕ) (fixed : Fixed) (settled : Bool) → maps ≡ record { current = owners; shadow = owners } → log_pages ≡ root.log_pages → area ≡ root.area → settled ≡ true → ((pages : Pages) → disk.contents ≡ Some pages → HoldsSound pages root number owners count)
-      → ((pages : Pages) → disk.contents ≡ Some pages → StandInSlots (slots_at root.slots root.log_pages) pages owners held) → ((pages : Pages) → disk.contents ≡ Some pages → fixed ≡ fixed_by (slots_at root.slots root.log_pages) owners (Some pages))
-      → IsReady disk (length maps.current) (spare maps) (mapped_by maps.current) held (record { log_pages = log_pages; area = area; shadow = maps.shadow }) fixed settled number root count count
-  sound_ready disk maps log_pages area fixed settled same same_log same_area is_settled holds stand is_fixed =
-      let currents = ap (λ (m : Maps). m.current) same in
-      let shadows = ap (λ (m : Maps). m.shadow) same in
-      record {
-        number_low = omega (arith, sound.number_low);
-        number_high = omega (arith, sound.number_high);
-        formed = sound.formed;
-        log = sound.log;
-        size = ap (λ (o : List (Option PageKey)). length o) currents ∙ sound.slots;
-        log_pages = same_log;
-        area = same_area;
-        within = omega arith;
-        mapped_are = λ key. ap (λ (o : List (Option PageKey)). mapped_by o key) currents ∙ mapped key ∙ ap (λ (n : ℕ). store_pages n key) (sym sound.home_needed);
-        spare_is = omega (arith, ap spare same, pages_counted owners home sound.table.distinct mapped, sound.home_needed, sound.half, sound.slots);
-        room = omega (arith, sound_room, sound.home_needed);
-        settled_now = is_settled;
-        tuples = λ is. sound_tuples (holds is.pages is.is) (stand is.pages is.is);
-        fixes = λ is image has.
-            let pages = sound_pages (holds is.pages is.is) (stand is.pages is.is) in
-            let left = fixed_holds pages (subst (λ (f : Fixed). HasFixed f image) (is_fixed is.pages is.is) has) in
-            let store = store_of left (sound_tuples (holds is.pages is.is) (stand is.pages is.is)) in
-            subst (λ (o : List (Option PageKey)). IsStore image number root o (take count (values_in held count))) (sym shadows)
-            (subst (λ (values : List ℤ). IsStore image number root owners values) (sym (take_all count (values_in held count) (omega (arith, length_values held count)))) store);
-      }
+  -- and so are those that have the same fixed
+  pub sound_fixes : {pages image : Pages} → HoldsSound pages root number owners count → StandInSlots (slots_at root.slots root.log_pages) pages owners held → HasFixed (fixed_by (slots_at root.slots root.log_pages) owners (Some pages)) image → IsStore image number root owners (values_in held count)
+  sound_fixes holds stand has = store_of (fixed_holds (sound_pages holds stand) has) (sound_tuples holds stand)
 
--- ---- pages in a buffer
+-- the map of a root stands in its area
+pub held_map : {pages : Pages} {root : Root} {number home count : ℕ} {owners : List (Option PageKey)} → IsSound root number owners home count → HoldsSound pages root number owners count → HoldsMapAt owners root.area pages
+held_map {pages = pages} {root = root} {owners = owners} sound holds = subst (λ (n : ℕ). IsMap n pages (map_at n root.area) owners) (sym sound.slots) holds.map
 
-module _ {root : Root} {number : ℕ} {owners : List (Option PageKey)} {home count : ℕ} (sound : IsSound root number owners home count) (disk : Disk) (maps : Maps) (first : ℕ) (frames : FrameOf) (same : maps ≡ record { current = owners; shadow = owners }) (systems : (key : PageKey) → is_page_of 0 System 10 key ≡ true → mapped_by maps.current key ≡ true) (homes : (key : PageKey) → is_page_of 1 Home home key ≡ true → mapped_by maps.current key ≡ true)
-    (holds : Told disk (λ pages. HoldsSound pages root number owners count)) (stand : Told disk (λ pages. StandInSlots (slots_at root.slots root.log_pages) pages owners (held_by first maps.current frames disk.contents))) where
-  in_owners : (key : PageKey) → mapped_by maps.current key ≡ mapped_by owners key
-  in_owners key = ap (λ (m : Maps). mapped_by m.current key) same
+-- ---- pages that were put together from it
 
-  held_mapped : (key : PageKey) → is_some (held_by first maps.current frames disk.contents key) ≡ mapped_by owners key
-  held_mapped key = holds_by first maps.current frames disk.contents key ∙ in_owners key
+module _ {root : Root} {owners : List (Option PageKey)} {writes : ℕ} {pages : PagesView} {saving : SavingView} (saveable : AreSaveable pages saving) (fresh : IsFresh root owners writes pages saving) where
+  pub fresh_mapped : (key : PageKey) → mapped_by owners key ≡ pages.mapped key
+  fresh_mapped key = ap (λ (o : List (Option PageKey)). mapped_by o key) (sym fresh.current) ∙ ap (λ (m : Mapped). m key) (sym saveable.mapped)
 
-  all_mapped : (key : PageKey) → mapped_by owners key ≡ store_pages home key
-  all_mapped = store_mapped owners home sound.keys (λ key is. sym (in_owners key) ∙ systems key is) (λ key is. sym (in_owners key) ∙ homes key is)
+  shadow_is : pages.backing.shadow ≡ owners
+  shadow_is = ap (λ (b : Backing). b.shadow) fresh.backing
 
-  pub buffer_store : (pages : Pages) → disk.contents ≡ Some pages → IsStore pages number root maps.shadow (values_in (held_by first maps.current frames disk.contents) count)
-  buffer_store pages told = subst (λ (o : List (Option PageKey)). IsStore pages number root o (values_in (held_by first maps.current frames disk.contents) count)) (sym (ap (λ (m : Maps). m.shadow) same)) (sound_store (held_by first maps.current frames disk.contents) sound held_mapped all_mapped (holds pages told) (stand pages told))
+  pub fresh_unchanged : (key : PageKey) → pages.changed key ≡ false
+  fresh_unchanged = none_changed saveable (shadow_is ∙ sym fresh.current)
 
-  pub buffer_ready : (log_pages area : ℕ) (settled : Bool) → log_pages ≡ root.log_pages → area ≡ root.area → settled ≡ true → first ≡ slots_at (length maps.current) log_pages
-      → IsReady disk (length maps.current) (spare maps) (mapped_by maps.current) (held_by first maps.current frames disk.contents) (record { log_pages = log_pages; area = area; shadow = maps.shadow }) (fixed_by first maps.shadow disk.contents) settled number root count count
-  buffer_ready log_pages area settled same_log same_area is_settled place =
-      let at : first ≡ slots_at root.slots root.log_pages = place ∙ (λ i. slots_at ((ap (λ (m : Maps). length m.current) same ∙ sound.slots) i) (same_log i)) in
-      sound_ready (held_by first maps.current frames disk.contents) sound held_mapped all_mapped disk maps log_pages area (fixed_by first maps.shadow disk.contents) settled same same_log same_area is_settled holds stand (λ pages told i. fixed_by (at i) (same i).shadow (told i))
+  module _ {number home count : ℕ} (sound : IsSound root number owners home count) (systems : (key : PageKey) → is_page_of 0 System 10 key ≡ true → pages.mapped key ≡ true) (homes : (key : PageKey) → is_page_of 1 Home home key ≡ true → pages.mapped key ≡ true)
+      (holds : Told pages.disk (λ p. HoldsSound p root number owners count)) (stand : Told pages.disk (λ p. StandInSlots (slots_at root.slots root.log_pages) p owners pages.held)) where
+    all_mapped : (key : PageKey) → mapped_by owners key ≡ store_pages home key
+    all_mapped = store_mapped owners home sound.keys (λ key is. fresh_mapped key ∙ systems key is) (λ key is. fresh_mapped key ∙ homes key is)
+
+    size_is : pages.slots ≡ root.slots
+    size_is = saveable.slots ∙ ap (λ (o : List (Option PageKey)). length o) fresh.current ∙ sound.slots
+
+    log_is : pages.backing.log_pages ≡ root.log_pages
+    log_is = ap (λ (b : Backing). b.log_pages) fresh.backing
+
+    fixed_is : (p : Pages) → pages.disk.contents ≡ Some p → pages.fixed ≡ fixed_by (slots_at root.slots root.log_pages) owners (Some p)
+    fixed_is p told = saveable.fixed ∙ (λ i. fixed_by (slots_at (size_is i) (log_is i)) (shadow_is i) (told i))
+
+    pub fresh_store : Told pages.disk (λ p. IsStore p number root pages.backing.shadow (values_in pages.held count))
+    fresh_store p told = subst (λ (o : List (Option PageKey)). IsStore p number root o (values_in pages.held count)) (sym shadow_is) (sound_store pages.held sound all_mapped (holds p told) (stand p told))
+
+    pub fresh_ready : IsReady pages number root count count
+    fresh_ready = record {
+      number_low = omega (arith, sound.number_low);
+      number_high = omega (arith, sound.number_high);
+      formed = sound.formed;
+      log = sound.log;
+      size = size_is;
+      log_pages = log_is;
+      area = ap (λ (b : Backing). b.area) fresh.backing;
+      within = omega arith;
+      mapped_are = λ key. sym (fresh_mapped key) ∙ all_mapped key ∙ ap (λ (n : ℕ). store_pages n key) (sym sound.home_needed);
+      saved_are = ap page_count shadow_is ∙ pages_counted owners home sound.table.distinct all_mapped ∙ ap (λ (n : ℕ). n + 10) (sym sound.home_needed);
+      room = omega (arith, sound_room pages.held sound all_mapped, sound.home_needed);
+      settled_now = fresh.settled;
+      tuples = λ is. sound_tuples pages.held sound all_mapped (holds is.pages is.is) (stand is.pages is.is);
+      fixes = λ is image has.
+          let store = sound_fixes pages.held sound all_mapped (holds is.pages is.is) (stand is.pages is.is) (subst (λ (f : Fixed). HasFixed f image) (fixed_is is.pages is.is) has) in
+          subst (λ (o : List (Option PageKey)). IsStore image number root o (take count (values_in pages.held count))) (sym shadow_is)
+          (subst (λ (values : List ℤ). IsStore image number root owners values) (sym (take_all count (values_in pages.held count) (omega (arith, length_values pages.held count)))) store);
+    }

@@ -8,8 +8,8 @@ pub mod Checkpoints
 pub mod Engines
 pub mod Calls
 pub mod Costs
-pub mod Going
 pub mod FirstOwners
 pub mod Formats
 pub mod Checked
 pub mod Refusals
+pub mod Ways

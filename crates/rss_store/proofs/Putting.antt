@@ -1,12 +1,9 @@
 -- One tuple more in the pages of a store.
-use Rattle.std.proofs.Common.{◌≡◌, ◌≢◌, ℕ, ◌/◌, ◌%◌, ◌<◌, ℤ, false, List, [], ◌∷◌, ◌++◌, length, Option, Some, sym, ◌∙◌, ap, subst, arith}
-use Rattle.std.specs.Prelude.{unwrap_or, ◌==◌}
-use Rattle.std.proofs.lemmas.Bool.{cond-false, false_from_ne_true, eqb-true}
-use Rattle.rss_base.specs.Paged.{Held, is_same, page_key, with_page}
+use Rattle.std.proofs.Common.{◌≡◌, ℕ, ◌/◌, ◌%◌, ◌<◌, ℤ, List, [], ◌∷◌, ◌++◌, length, Option, Some, sym, ◌∙◌, ap, subst, arith}
+use Rattle.rss_base.specs.Paged.{Held, page_key, with_page}
 use Rattle.rss_base.specs.declared.key.PageKey.{PageKey}
 use Rattle.rss_base.specs.declared.key.Space.TheVariants.{Home}
 use Rattle.rss_model.specs.Store.{home_page, values_on, HoldsTuples}
-use Rattle.rss_store.specs.HomePages.{value_in, value_at}
 use Rattle.rss_store.proofs.HomePages.{tuple_put, tuple_put_taken, last_page, last_long}
 
 -- on a page of its own, which was taken just before
@@ -33,12 +30,3 @@ put_on_last held mid now key was bytes values z count number slot holds long at 
     let put : bytes ≡ home_page n (values_on n values ++ z ∷ []) = made n (values_on n values) (last_long values ∙ part) page in
     let after : now ≡ with_page held (page_key 1 Home n) (Some (home_page n (values_on n values ++ z ∷ []))) = is ∙ (λ i. with_page (same i) (key_at i) (Some (put i))) in
     subst (λ (h : Held). HoldsTuples h (values ++ z ∷ [])) (sym after) (tuple_put held values z holds)
-
-apart_at : (a b : ℕ) → a ≢ b → is_same (page_key 1 Home a) (page_key 1 Home b) ≡ false
-apart_at a b other = false_from_ne_true (a == b) (λ same. other (eqb-true a b same))
-
--- a page that was taken behind the full ones leaves their tuples
-pub kept_taken : (held mid now : Held) (key : PageKey) (taken : Option (List ℕ)) (place count number : ℕ) → count % 128 ≡ 0 → number ≡ count / 128 → place < count → key ≡ page_key 1 Home number → mid ≡ with_page held key taken → now ≡ mid → value_at now place ≡ value_at held place
-kept_taken held mid now key taken place count number full at within one was is =
-    let apart : is_same (page_key 1 Home (place / 128)) (page_key 1 Home number) ≡ false = apart_at (place / 128) number (omega (arith, full, at, within)) in
-    ap (λ (h : Held). value_at h place) (is ∙ was ∙ ap (λ (k : PageKey). with_page held k taken) one) ∙ ap (λ (o : Option (List ℕ)). value_in (unwrap_or o []) (place % 128)) (cond-false _ taken (held (page_key 1 Home (place / 128))) apart)

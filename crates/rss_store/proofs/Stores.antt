@@ -4,7 +4,7 @@ use Rattle.std.specs.Prelude.{All, FitsSigned, count_by, is_some}
 use Rattle.std.specs.Int.{w64}
 use Rattle.std.proofs.lemmas.Bool.{cases_eq}
 use Rattle.std.proofs.lemmas.Option.{same_Some}
-use Rattle.rss_base.specs.DiskRule.{Pages}
+use Rattle.rss_base.specs.DiskRule.{Disk, Pages}
 use Rattle.rss_base.specs.Layout.{map_at, slots_at, IsWellFormed, HasRoot, root_of}
 use Rattle.rss_base.specs.PageMap.{IsMap, IsMapFault}
 use Rattle.rss_base.specs.Paged.{Held}
@@ -15,10 +15,12 @@ use Rattle.rss_base.specs.declared.root.Root.{Root}
 use Rattle.rss_root.proofs.Reading.{same_root}
 use Rattle.rss_root.proofs.Faults.{fault_once, root_no_fault}
 use Rattle.rss_pagemap.proofs.Maps.{same_map, no_fault, one_fault}
+use Rattle.rss_model.specs.Calls.{EngineView}
 use Rattle.rss_model.specs.Tables.{Tables}
 use Rattle.rss_model.specs.Store.{tables_of, home_pages, home_page, values_on, HoldsTuples, IsStore, OpensTo, IsBrokenAt, IsOverfull, at_root, at_map}
 use Rattle.rss_store.proofs.Counting.{pages_counted}
 use Rattle.rss_store.specs.HomePages.{values_in}
+use Rattle.rss_store.specs.Opening.{IsOpened}
 use Rattle.rss_store.proofs.PageBytes.{count_read}
 use Rattle.rss_store.proofs.HomePages.{on_long, values_held}
 
@@ -82,6 +84,17 @@ broken_once {pages = pages} {q = q} (at_map {number = number} {root = root} has 
 broken_once {pages = pages} {q = q} (at_map {root = root} has first) (at_map {root = other} there second) =
     let roots : root ≡ other = (one_root has there).1 in
     one_fault has.there.formed.slots_most first (subst (λ (r : Root). IsMapFault r.slots pages (map_at r.slots r.area) q) (sym roots) second)
+
+-- what was opened, seen from an earlier moment
+pub opened_before : {old mid : Disk} {new : EngineView} → mid.contents ≡ old.contents → IsOpened mid new → IsOpened old new
+opened_before same is = record {
+  reads = λ pages told. is.reads pages (same ∙ told);
+  rest = is.rest;
+  opens = is.opens;
+  up = is.up;
+  unbroken = λ place pages told. is.unbroken place pages (same ∙ told);
+  not_overfull = λ pages told. is.not_overfull pages (same ∙ told);
+}
 
 -- a store has room
 pub not_overfull : {pages : Pages} {number : ℕ} {root : Root} {owners : List (Option PageKey)} {values : List ℤ} → IsStore pages number root owners values → IsOverfull pages → ⊥

@@ -1,4 +1,4 @@
--- Which pages wait to be written while a transaction is open.
+-- Which pages were changed while a transaction is open.
 use Rattle.std.specs.Prelude.{◌≡◌, ℕ, ◌*◌, ◌/◌, ◌<◌, ◌≤◌, true}
 use Rattle.rss_base.specs.Paged.{Mapped, is_same, page_key}
 use Rattle.rss_base.specs.declared.key.Space.TheVariants.{Home}
@@ -11,6 +11,6 @@ pub record IsChangedPage (committed count : ℕ) (key : PageKey) : Type 0 where
   pub first : committed / 128 ≤ key.number
   pub last : 128 * key.number < count
 
--- no other pages wait
-abbrev pub WaitsOnly : Mapped → ℕ → ℕ → Type 0
-WaitsOnly waiting committed count = (key : PageKey) → waiting key ≡ true → IsChangedPage committed count key
+-- no other pages were changed
+abbrev pub ChangesOnly : Mapped → ℕ → ℕ → Type 0
+ChangesOnly changed committed count = (key : PageKey) → changed key ≡ true → IsChangedPage committed count key

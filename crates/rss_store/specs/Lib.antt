@@ -14,3 +14,4 @@ pub mod Costs
 pub mod StoreLaws
 pub mod Opening
 pub mod Parts
+pub mod TupleSteps

@@ -1,5 +1,5 @@
 -- What an opening finds in the pages of a device.
-use Rattle.std.specs.Prelude.{◌≡◌, ◌⊎◌, ℕ, ℤ, ◌+◌, ◌-◌, ◌*◌, ◌<◌, ◌≤◌, min, Bool, true, false, ◌&&◌, ◌==◌, List, length, replicate, count_by, Option, Some, None, is_some, All, FitsSigned}
+use Rattle.std.specs.Prelude.{◌≡◌, ◌⊎◌, ℕ, ℤ, ◌+◌, ◌-◌, ◌*◌, ◌<◌, ◌≤◌, min, Bool, true, false, ◌&&◌, ◌==◌, List, length, count_by, Option, Some, None, is_some, All, FitsSigned}
 use Rattle.std.specs.Int.{w64}
 use Rattle.rss_base.specs.declared.fault.OpenFault.{OpenFault}
 use Rattle.rss_base.specs.declared.fault.OpenFault.TheVariants.{Device as DeviceFailed, NotAStore, Damaged, NoMemory as LacksMemory}
@@ -8,20 +8,14 @@ use Rattle.rss_base.specs.declared.key.Space.TheVariants.{Home, System}
 use Rattle.rss_base.specs.declared.key.PageKey.{PageKey}
 use Rattle.rss_base.specs.declared.place.Place.{Place}
 use Rattle.rss_base.specs.declared.place.Place.TheVariants.{Room}
-use Rattle.rss_base.specs.DiskRule.{Disk, Pages, page, Told, Leaves, Passes}
+use Rattle.rss_base.specs.DiskRule.{Disk, Pages, page, Told, IsTold}
+use Rattle.rss_base.specs.Sizes.{zero_page}
 use Rattle.rss_base.specs.Layout.{map_at, slots_at, IsWellFormed, HasRoot}
 use Rattle.rss_base.specs.PageMap.{space_code, owner_of, IsTable, IsMap}
-use Rattle.rss_model.specs.Store.{home_pages, values_on, home_page, store_pages, HasFirstLog, IsStore, IsBrokenAt, IsOverfull, IsNoStore}
+use Rattle.rss_model.specs.Calls.{EngineView}
+use Rattle.rss_model.specs.Machine.{at_rest}
+use Rattle.rss_model.specs.Store.{home_pages, values_on, home_page, store_pages, HasFirstLog, IsStore, OpensTo, Opens, IsBrokenAt, IsOverfull, IsNoStore}
 use Rattle.rss_store.specs.HomePages.{IsHomePage}
-
--- ---- calls that only read
-
--- what a device tells stays, and the count of its writes; the count of its faults never falls
-pub record OnlyReads (old new : Disk) (writes writes_now faults faults_now : ℕ) : Type 0 where
-  pub contents : new.contents ≡ old.contents
-  pub moments : Told old (λ _. Passes old new (Leaves old))
-  pub same_writes : writes_now ≡ writes
-  pub later : faults ≤ faults_now
 
 -- ---- the pages of slots
 
@@ -30,7 +24,8 @@ abbrev pub is_home : Option PageKey → Bool
 is_home None = false
 is_home (Some key) = (key.segment == 1) && (space_code key.space == space_code Home)
 
--- a page of a store with so many home pages, and how many tuples it may have: each home page but the last is full
+-- a page of a store with so many home pages, and how many tuples it may have: each home page but the
+-- last is full
 pub record MayHave (home : ℕ) (key : PageKey) (tuples : ℕ) : Type 0 where
   pub mapped : store_pages home key ≡ true
   pub full : key.space ≡ Home → key.number + 1 < home → tuples ≡ 128
@@ -39,26 +34,32 @@ pub record MayHave (home : ℕ) (key : PageKey) (tuples : ℕ) : Type 0 where
 
 -- the bytes are those of a page with so many tuples
 pub record HasTuplesOn (bytes : List ℕ) (key : PageKey) (tuples : ℕ) : Type 0 where
-  pub system : key.space ≡ System → bytes ≡ replicate 4096 0
+  pub system : key.space ≡ System → bytes ≡ zero_page
   pub home : key.space ≡ Home → IsHomePage bytes key.number tuples
 
 -- the bytes are those of a page of these tuples
 pub record IsPageOf (values : List ℤ) (key : PageKey) (bytes : List ℕ) : Type 0 where
   pub mapped : store_pages (home_pages (length values)) key ≡ true
-  pub system : key.space ≡ System → bytes ≡ replicate 4096 0
+  pub system : key.space ≡ System → bytes ≡ zero_page
   pub home : key.space ≡ Home → bytes ≡ home_page key.number (values_on key.number values)
 
 -- the bytes are those of no page of a store with so many home pages
 abbrev pub IsNoPageOf : ℕ → PageKey → List ℕ → Type 0
-IsNoPageOf home key bytes = (values : List ℤ) → home ≡ home_pages (length values) → All (FitsSigned w64) values → IsPageOf values key bytes → ⊥
+IsNoPageOf home key bytes =
+    (values : List ℤ) → home ≡ home_pages (length values) → All (FitsSigned w64) values
+    → IsPageOf values key bytes → ⊥
 
 -- the first slots have pages of a store with so many home pages
 abbrev pub AreStoreKeys : ℕ → List (Option PageKey) → ℕ → Type 0
-AreStoreKeys home owners done = (slot : ℕ) (key : PageKey) → slot < done → owner_of owners slot ≡ Some key → store_pages home key ≡ true
+AreStoreKeys home owners done =
+    (slot : ℕ) (key : PageKey) → slot < done → owner_of owners slot ≡ Some key
+    → store_pages home key ≡ true
 
 -- the first slots hold pages of a store with so many tuples
 abbrev pub HoldStorePages : ℕ → ℕ → Pages → List (Option PageKey) → ℕ → Type 0
-HoldStorePages count first pages owners done = (slot : ℕ) (key : PageKey) → slot < done → owner_of owners slot ≡ Some key → HasTuplesOn (page pages (first + slot)) key (min 128 (count - 128 * key.number))
+HoldStorePages count first pages owners done =
+    (slot : ℕ) (key : PageKey) → slot < done → owner_of owners slot ≡ Some key
+    → HasTuplesOn (page pages (first + slot)) key (min 128 (count - 128 * key.number))
 
 -- some slot holds no page of a store with so many home pages
 pub record HoldsNoPage (home first : ℕ) (pages : Pages) (owners : List (Option PageKey)) : Type 0 where
@@ -71,14 +72,17 @@ pub record HoldsNoPage (home first : ℕ) (pages : Pages) (owners : List (Option
 
 -- the map with its root is that of no store
 abbrev pub LacksStore : Pages → Root → List (Option PageKey) → Type 0
-LacksStore pages root owners = (number : ℕ) (values : List ℤ) → IsStore pages number root owners values → ⊥
+LacksStore pages root owners =
+    (number : ℕ) (values : List ℤ) → IsStore pages number root owners values → ⊥
 
 -- why the pages don't open
 pub record IsRefused (pages : Pages) (fault : OpenFault) : Type 0 where
   pub broken : (place : Place) → fault ≡ NotAStore place → IsBrokenAt place pages
-  pub names : (place : Place) → IsBrokenAt place pages → (fault ≡ NotAStore place) ⊎ (fault ≡ DeviceFailed) ⊎ (fault ≡ LacksMemory)
+  pub names : (place : Place) → IsBrokenAt place pages
+      → (fault ≡ NotAStore place) ⊎ (fault ≡ DeviceFailed) ⊎ (fault ≡ LacksMemory)
   pub no_store : (place : Place) → fault ≡ Damaged place → IsNoStore pages
-  pub overfull : IsOverfull pages → (fault ≡ Damaged Room) ⊎ (fault ≡ DeviceFailed) ⊎ (fault ≡ LacksMemory)
+  pub overfull : IsOverfull pages
+      → (fault ≡ Damaged Room) ⊎ (fault ≡ DeviceFailed) ⊎ (fault ≡ LacksMemory)
 
 -- ---- pages that open
 
@@ -100,3 +104,13 @@ pub record HoldsSound (pages : Pages) (root : Root) (number : ℕ) (owners : Lis
   pub root_there : HasRoot pages number root
   pub map : IsMap root.slots pages (map_at root.slots root.area) owners
   pub hold : HoldStorePages count (slots_at root.slots root.log_pages) pages owners (length owners)
+
+-- The engine over the pages that were opened: at rest with the tables that they hold, which a stop
+-- leaves. They are out of form nowhere.
+pub record IsOpened (old : Disk) (new : EngineView) : Type 0 where
+  pub reads : Told old (λ pages. OpensTo pages new.state.slots new.state.base)
+  pub rest : new.state ≡ at_rest new.state.slots new.state.base
+  pub opens : IsTold new.disk → Opens new.disk new.state.slots new.state.base
+  pub up : new.is_up
+  pub unbroken : (place : Place) → Told old (λ pages. IsBrokenAt place pages → ⊥)
+  pub not_overfull : Told old (λ pages. IsOverfull pages → ⊥)

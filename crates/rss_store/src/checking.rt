@@ -1,30 +1,30 @@
 // The pages that the map of a store names.
 ghost use Rattle.std.specs.Prelude.{◌≡◌, ◌≢◌, ◌↔◌, ◌+◌, ◌^◌, ◌<◌, ◌≤◌, ℤ, List, length, count_by, true, false, Err, All, FitsSigned, IsTrue, IfSome, IfNone, IfOk, IsErrOf};
 ghost use Rattle.std.specs.Int.{w64};
-ghost use Rattle.rss_base.specs.DiskRule.{page as page_at, Told};
+ghost use Rattle.rss_base.specs.DiskRule.{page as page_at, Told, OnlyReads};
 ghost use Rattle.rss_base.specs.Faults.{Rises};
+ghost use Rattle.rss_base.specs.Sizes.{slots_most, system_pages};
 ghost use Rattle.rss_base.specs.Layout.{device_pages, slots_at, IsWellFormed};
-ghost use Rattle.rss_base.specs.PageMap.{IsTable};
+ghost use Rattle.rss_base.specs.PageMap.{IsTable, page_count};
 ghost use Rattle.rss_base.specs.declared.fault.OpenFault.TheVariants.{NotAStore as Unsound, Damaged as IsDamaged};
 ghost use Rattle.rss_base.specs.declared.key.PageKey.{PageKey as Key};
 ghost use Rattle.rss_base.specs.declared.key.Space.TheVariants.{Home, System};
 ghost use Rattle.rss_base.specs.declared.place.Place.{Place as AnyPlace};
 ghost use Rattle.rss_base.specs.declared.place.Place.TheVariants.{Catalog as CatalogPlace, Page as PagePlace};
-ghost use Rattle.rss_shadow.specs.Maps.{pages_of};
 ghost use Rattle.rss_model.specs.Store.{home_pages, values_on, home_page, is_page_of};
 ghost use Rattle.rss_store.specs.HomePages.{IsHomePage};
-ghost use Rattle.rss_store.specs.Opening.{OnlyReads, is_home, MayHave, HasTuplesOn, IsNoPageOf, AreStoreKeys, HoldStorePages, HoldsNoPage};
+ghost use Rattle.rss_store.specs.Opening.{is_home, MayHave, HasTuplesOn, IsNoPageOf, AreStoreKeys, HoldStorePages, HoldsNoPage};
 
-use crate::home_page::{PAGE_TUPLES, tuples_of};
+use crate::home_page::{PAGE_ENTRIES, tuples_of};
 use rss_base::{Device, OpenFault, PAGE_BYTES, Page, PageKey, Pages, Place, Root, Space, slots_at};
 use rss_pagemap::SlotTable;
 
 /// How many tuples a full home page has.
-const FULL: u32 = PAGE_TUPLES as u32;
+const FULL: u32 = PAGE_ENTRIES as u32;
 
 /// How many pages a map has.
 pub(crate) fn pages_in(table: &SlotTable) -> u32
-    ensures pages { result ≡ pages_of table.now }
+    ensures pages { result ≡ page_count table.now }
     ensures table { IsTable table.now }
 {
     table
@@ -37,7 +37,7 @@ pub(crate) fn pages_in(table: &SlotTable) -> u32
 /// How many home pages of segment 1 a map has.
 pub(crate) fn home_pages_in(table: &SlotTable) -> u32
     ensures pages { result ≡ count_by is_home table.now }
-    ensures few { result ≤ 65536 }
+    ensures few { result ≤ slots_most }
 {
     table
         .as_slice()
@@ -57,7 +57,7 @@ fn is_home(owner: &Option<PageKey>) -> bool
 
 /// Where a page of a map is found to be damaged.
 pub(crate) fn place_of(key: PageKey) -> Place
-    requires { key.space ≡ System → key.number < 10 }
+    requires { key.space ≡ System → key.number < system_pages }
     ensures catalog { key.space ≡ System → result ≡ CatalogPlace key.number }
     ensures page { key.space ≢ System → result ≡ PagePlace key }
 {
@@ -78,15 +78,21 @@ pub(crate) fn check_pages<D: Device>(
     requires formed { IsWellFormed root.now }
     requires size { D.size_of device.old ≡ device_pages root.now }
     requires count { length table.now ≡ root.now.slots }
-    requires few { home ≤ 65536 }
+    requires few { home ≤ slots_most }
     ensures home { IfOk result (λ count. home_pages count ≡ home) }
     ensures keys { IfOk result (λ _. AreStoreKeys home table.now (length table.now)) }
-    ensures pages { IfOk result (λ count. Told (D.disk device.old) (λ pages. HoldStorePages count (slots_at root.now.slots root.now.log_pages) pages table.now (length table.now))) }
-    ensures damaged { (place : AnyPlace) → result ≡ Err (IsDamaged place) → Told (D.disk device.old) (λ pages. HoldsNoPage home (slots_at root.now.slots root.now.log_pages) pages table.now) }
+    ensures pages { IfOk result (λ count. Told (D.disk device.old) (λ pages.
+        HoldStorePages count (slots_at root.now.slots root.now.log_pages) pages table.now
+        (length table.now))) }
+    ensures damaged { (place : AnyPlace) → result ≡ Err (IsDamaged place)
+        → Told (D.disk device.old) (λ pages.
+        HoldsNoPage home (slots_at root.now.slots root.now.log_pages) pages table.now) }
     ensures sound { (place : AnyPlace) → result ≡ Err (Unsound place) → ⊥ }
     ensures wrong_size { IsErrOf result OpenFault.WrongSize → ⊥ }
-    ensures cause { IsErrOf result OpenFault.Device → Rises (D.faults device.old) (D.faults device.new) }
-    ensures reads { OnlyReads (D.disk device.old) (D.disk device.new) (D.writes device.old) (D.writes device.new) (D.faults device.old) (D.faults device.new) }
+    ensures cause { IsErrOf result OpenFault.Device
+        → Rises (D.faults device.old) (D.faults device.new) }
+    ensures reads { OnlyReads (D.disk device.old) (D.disk device.new) (D.writes device.old)
+        (D.writes device.new) (D.faults device.old) (D.faults device.new) }
     ensures size { D.size_of device.new ≡ D.size_of device.old }
 {
     let first = slots_at(root.slots, root.log_pages);
@@ -111,16 +117,23 @@ fn check_slot<D: Device>(
     requires within { slot < length table.now }
     requires low { first < 2 ^ 32 }
     requires room { first + length table.now ≤ D.size_of device.old }
-    requires few { home ≤ 65536 }
+    requires few { home ≤ slots_most }
     requires home { home_pages count ≡ home }
     ensures home { IfOk result (λ now. home_pages now ≡ home) }
-    ensures keys { IfOk result (λ _. AreStoreKeys home table.now slot → AreStoreKeys home table.now (slot + 1)) }
-    ensures pages { IfOk result (λ now. Told (D.disk device.old) (λ pages. AreStoreKeys home table.now slot → HoldStorePages count first pages table.now slot → HoldStorePages now first pages table.now (slot + 1))) }
-    ensures damaged { (place : AnyPlace) → result ≡ Err (IsDamaged place) → Told (D.disk device.old) (λ pages. HoldsNoPage home first pages table.now) }
+    ensures keys { IfOk result (λ _.
+        AreStoreKeys home table.now slot → AreStoreKeys home table.now (slot + 1)) }
+    ensures pages { IfOk result (λ now. Told (D.disk device.old) (λ pages.
+        AreStoreKeys home table.now slot
+        → HoldStorePages count first pages table.now slot
+        → HoldStorePages now first pages table.now (slot + 1))) }
+    ensures damaged { (place : AnyPlace) → result ≡ Err (IsDamaged place)
+        → Told (D.disk device.old) (λ pages. HoldsNoPage home first pages table.now) }
     ensures sound { (place : AnyPlace) → result ≡ Err (Unsound place) → ⊥ }
     ensures wrong_size { IsErrOf result OpenFault.WrongSize → ⊥ }
-    ensures cause { IsErrOf result OpenFault.Device → Rises (D.faults device.old) (D.faults device.new) }
-    ensures reads { OnlyReads (D.disk device.old) (D.disk device.new) (D.writes device.old) (D.writes device.new) (D.faults device.old) (D.faults device.new) }
+    ensures cause { IsErrOf result OpenFault.Device
+        → Rises (D.faults device.old) (D.faults device.new) }
+    ensures reads { OnlyReads (D.disk device.old) (D.disk device.new) (D.writes device.old)
+        (D.writes device.new) (D.faults device.old) (D.faults device.new) }
     ensures size { D.size_of device.new ≡ D.size_of device.old }
 {
     let Some(key) = table.owner(slot) else {
@@ -144,14 +157,18 @@ fn is_last(key: PageKey, home: u32) -> bool
 fn check_page<D: Device>(device: &mut D, at: u64, key: PageKey, home: u32) -> Result<u32, OpenFault>
     requires within { at < D.size_of device.old }
     requires segment { key.space ≡ System → key.segment ≡ 0 }
-    requires number { key.space ≡ System → key.number < 10 }
+    requires number { key.space ≡ System → key.number < system_pages }
     ensures may { IfOk result (MayHave home key) }
-    ensures page { IfOk result (λ tuples. Told (D.disk device.old) (λ pages. HasTuplesOn (page_at pages at) key tuples)) }
-    ensures damaged { (place : AnyPlace) → result ≡ Err (IsDamaged place) → Told (D.disk device.old) (λ pages. IsNoPageOf home key (page_at pages at)) }
+    ensures page { IfOk result (λ tuples. Told (D.disk device.old) (λ pages.
+        HasTuplesOn (page_at pages at) key tuples)) }
+    ensures damaged { (place : AnyPlace) → result ≡ Err (IsDamaged place)
+        → Told (D.disk device.old) (λ pages. IsNoPageOf home key (page_at pages at)) }
     ensures sound { (place : AnyPlace) → result ≡ Err (Unsound place) → ⊥ }
     ensures wrong_size { IsErrOf result OpenFault.WrongSize → ⊥ }
-    ensures cause { IsErrOf result OpenFault.Device → Rises (D.faults device.old) (D.faults device.new) }
-    ensures reads { OnlyReads (D.disk device.old) (D.disk device.new) (D.writes device.old) (D.writes device.new) (D.faults device.old) (D.faults device.new) }
+    ensures cause { IsErrOf result OpenFault.Device
+        → Rises (D.faults device.old) (D.faults device.new) }
+    ensures reads { OnlyReads (D.disk device.old) (D.disk device.new) (D.writes device.old)
+        (D.writes device.new) (D.faults device.old) (D.faults device.new) }
     ensures size { D.size_of device.new ≡ D.size_of device.old }
 {
     let mut page = [0u8; PAGE_BYTES];
@@ -165,7 +182,7 @@ fn check_page<D: Device>(device: &mut D, at: u64, key: PageKey, home: u32) -> Re
 /// How many tuples a page has, where it is one of a store with so many home pages.
 fn tuples_on(page: &Page, key: PageKey, home: u32) -> Option<u32>
     requires segment { key.space ≡ System → key.segment ≡ 0 }
-    requires number { key.space ≡ System → key.number < 10 }
+    requires number { key.space ≡ System → key.number < system_pages }
     ensures may { IfSome result (MayHave home key) }
     ensures page { IfSome result (HasTuplesOn page.now key) }
     ensures none { IfNone result (IsNoPageOf home key page.now) }
@@ -186,7 +203,9 @@ fn tuples_of_home(page: &Page, number: u32, home: u32) -> Option<u32>
     ensures full { IfSome result (λ tuples. number + 1 < home → tuples ≡ 128) }
     ensures some { IfSome result (λ tuples. 1 ≤ tuples) }
     ensures page { IfSome result (IsHomePage page.now number) }
-    ensures none { IfNone result ((values : List ℤ) → home ≡ home_pages (length values) → All (FitsSigned w64) values → page.now ≡ home_page number (values_on number values) → ⊥) }
+    ensures none { IfNone result ((values : List ℤ) → home ≡ home_pages (length values)
+        → All (FitsSigned w64) values
+        → page.now ≡ home_page number (values_on number values) → ⊥) }
 {
     let Some(tuples) = tuples_of(page, number) else {
         return None;
@@ -214,8 +233,9 @@ pub(crate) fn first_unmapped<P: Pages>(
     limit: u32,
 ) -> Option<PageKey>
     ensures some { IfSome result (λ key. is_page_of segment space limit key ≡ true) }
-    ensures unmapped { IfSome result (λ key. P.mapped pages.now key ≡ false) }
-    ensures none { IfNone result ((key : Key) → is_page_of segment space limit key ≡ true → P.mapped pages.now key ≡ true) }
+    ensures unmapped { IfSome result (λ key. (P.view pages.now).mapped key ≡ false) }
+    ensures none { IfNone result ((key : Key) → is_page_of segment space limit key ≡ true
+        → (P.view pages.now).mapped key ≡ true) }
 {
     for number in 0..limit {
         let key = PageKey {

@@ -1,11 +1,12 @@
 // An empty store, made on a device.
 ghost use Rattle.std.specs.Prelude.{◌≡◌, ◌↔◌, ◌+◌, ◌^◌, ◌<◌, ◌≤◌, [], IsTrue, Err, IfOk, OnOk, IsErrOf};
-ghost use Rattle.rss_base.specs.DiskRule.{Told, IsTold, LeavesOnly, Continues};
+ghost use Rattle.rss_base.specs.DiskRule.{Told, LeavesOnly, GoesOn};
 ghost use Rattle.rss_base.specs.Faults.{HasCause, Rises};
+ghost use Rattle.rss_base.specs.Sizes.{slots_least, slots_most};
 ghost use Rattle.rss_base.specs.declared.place.Place.{Place};
 ghost use Rattle.rss_base.specs.declared.fault.OpenFault.TheVariants.{NotAStore, Damaged, WrongSize};
 ghost use Rattle.rss_model.specs.Store.{tables_of, OpensTo};
-ghost use Rattle.rss_store.specs.Formatted.{AreSizes, first_root, first_owners, IsFormatted, GoesOn, HoldsZeros};
+ghost use Rattle.rss_store.specs.Formatted.{AreSizes, first_root, first_owners, IsFormatted, HoldsZeros};
 
 use rss_base::{
     Device, Failed, LOG_PAGES_LEAST, LOG_PAGES_MOST, OpenFault, PAGE_BYTES, PageKey, Root,
@@ -30,7 +31,8 @@ pub fn format<D: Device>(
     log_pages: u32,
 ) -> Result<(), OpenFault>
     ensures made { OnOk result (Told (D.disk device.new) (IsFormatted slots log_pages)) }
-    ensures opens { OnOk result (Told (D.disk device.new) (λ pages. OpensTo pages slots (tables_of []))) }
+    ensures opens { OnOk result (Told (D.disk device.new) (λ pages.
+        OpensTo pages slots (tables_of []))) }
     ensures synced { OnOk result (Told (D.disk device.new) (LeavesOnly (D.disk device.new))) }
 
     // The sizes are tested before anything is done.
@@ -40,12 +42,12 @@ pub fn format<D: Device>(
     ensures untouched { result ≡ Err WrongSize → device.new ≡ device.old }
     ensures memory { IsErrOf result OpenFault.NoMemory → device.new ≡ device.old }
 
-    ensures told { IsTold (D.disk device.old) ↔ IsTold (D.disk device.new) }
-    ensures history { IsTold (D.disk device.old) → Continues (D.disk device.old) (D.disk device.new) }
+    ensures goes_on { GoesOn (D.disk device.old) (D.disk device.new) }
     ensures not_broken { (place : Place) → result ≡ Err (NotAStore place) → ⊥ }
     ensures not_damaged { (place : Place) → result ≡ Err (Damaged place) → ⊥ }
     ensures later { D.faults device.old ≤ D.faults device.new }
-    ensures cause { IsErrOf result OpenFault.Device → Rises (D.faults device.old) (D.faults device.new) }
+    ensures cause { IsErrOf result OpenFault.Device
+        → Rises (D.faults device.old) (D.faults device.new) }
 {
     if !are_sizes(slots, log_pages) {
         return Err(OpenFault::WrongSize);
@@ -84,8 +86,8 @@ fn first_root(slots: u32, log_pages: u32) -> Root
 
 /// The slots of an empty store: the first ones have the pages of the system space.
 fn first_table(alloc: Global, slots: u32) -> Result<SlotTable, AllocError>
-    requires least { 64 ≤ slots }
-    requires most { slots ≤ 65536 }
+    requires least { slots_least ≤ slots }
+    requires most { slots ≤ slots_most }
     ensures { IfOk result (λ table. table ≡ first_owners slots) }
 {
     let mut table = SlotTable::new(alloc, slots)?;
@@ -127,7 +129,8 @@ fn write_store<D: Device>(
 fn write_zeros<D: Device>(device: &mut D, first: u64, count: u64) -> Result<(), Failed>
     requires size { first + count ≤ D.size_of device.old }
     requires fits { first + count < 2 ^ 64 }
-    ensures zeros { OnOk result (Told (D.disk device.old) (λ pages. HoldsZeros pages first count (D.disk device.new).contents)) }
+    ensures zeros { OnOk result (Told (D.disk device.old) (λ pages.
+        HoldsZeros pages first count (D.disk device.new).contents)) }
     ensures goes_on { GoesOn (D.disk device.old) (D.disk device.new) }
     ensures size { D.size_of device.new ≡ D.size_of device.old }
     ensures cause { HasCause (D.faults device.old) (D.faults device.new) result }

@@ -7,7 +7,7 @@ ghost use Rattle.rss_store.specs.HomePages.{value_in, IsHomePage};
 use rss_base::{PAGE_BYTES, Page, put_bytes};
 
 /// How many tuples a home page holds at most.
-pub(crate) const PAGE_TUPLES: usize = 128;
+pub(crate) const PAGE_ENTRIES: usize = 128;
 
 /// Where the page's number stands.
 const NUMBER_AT: usize = 4;
@@ -34,7 +34,8 @@ pub(crate) fn blank(number: u32) -> Page
 /// Puts one more tuple into a home page that has so many.
 pub(crate) fn put_value(page: &mut Page, count: usize, value: i64)
     requires { count < 128 }
-    ensures { (number : ℕ) (values : List ℤ) → length values ≡ count → page.old ≡ home_page number values → page.new ≡ home_page number (values ++ value ∷ []) }
+    ensures { (number : ℕ) (values : List ℤ) → length values ≡ count
+        → page.old ≡ home_page number values → page.new ≡ home_page number (values ++ value ∷ []) }
 {
     put_bytes(page, COUNT_AT, &(count as u16 + 1).to_be_bytes());
     put_bytes(page, VALUES_AT + VALUE_BYTES * count, &value.to_be_bytes());
@@ -54,12 +55,15 @@ pub(crate) fn value_at(page: &Page, slot: usize) -> i64
 /// How many tuples a home page of this number has, where the page is one.
 pub(crate) fn tuples_of(page: &Page, number: u32) -> Option<u32>
     ensures some { IfSome result (IsHomePage page.now number) }
-    ensures none { IfNone result ((values : List ℤ) → length values ≤ 128 → All (FitsSigned w64) values → page.now ≡ home_page number values → ⊥) }
-    ensures exact { (values : List ℤ) → length values ≤ 128 → All (FitsSigned w64) values → page.now ≡ home_page number values → IfSome result (λ count. count ≡ length values) }
+    ensures none { IfNone result
+        ((values : List ℤ) → length values ≤ 128 → All (FitsSigned w64) values
+        → page.now ≡ home_page number values → ⊥) }
+    ensures exact { (values : List ℤ) → length values ≤ 128 → All (FitsSigned w64) values
+        → page.now ≡ home_page number values → IfSome result (λ count. count ≡ length values) }
 {
     let count = u16::from_be_bytes([page[COUNT_AT], page[COUNT_AT + 1]]);
     let tuples = usize::from(count);
-    if tuples > PAGE_TUPLES {
+    if tuples > PAGE_ENTRIES {
         return None;
     }
     let mut expected = blank(number);

@@ -9,11 +9,11 @@ ghost use Rattle.rss_base.specs.declared.refusal.Refusal.TheVariants.{NoTuple};
 ghost use Rattle.rss_base.specs.declared.tid.Tid.{Tid as AnyTid};
 ghost use Rattle.rss_base.specs.declared.name.Name.{Name as AnyName};
 ghost use Rattle.rss_model.specs.Steps.{Step, misfit_of, refusal};
-ghost use Rattle.rss_model.specs.ReplyText.{answer_line};
+ghost use Rattle.rss_model.specs.ReplyText.{IsShort};
 ghost use Rattle.rss_model.specs.Store.{relation_r, tid_at, home_pages};
 ghost use Rattle.rss_store.specs.Held.{needed};
 
-use crate::home_page::PAGE_TUPLES;
+use crate::home_page::PAGE_ENTRIES;
 use rss_base::{Kind, Name, RELATION_R, Refusal, Reply, Tid, Tuple, Value};
 
 /// How many pages the catalog has.
@@ -35,7 +35,7 @@ pub(crate) struct Session {
 }
 
 impl Session {
-    ghost use Rattle.rss_store.specs.Sessions.{state};
+    ghost use Rattle.rss_store.specs.Sessions.{state, Answers, Refuses, KeepsCounts};
 
     /// A store of so many tuples, with no transaction.
     pub(crate) fn new(slots: u32, count: u32) -> Self
@@ -56,11 +56,8 @@ impl Session {
 
     /// Opens a transaction.
     pub(crate) fn begin(&mut self, transaction: u32) -> Result<Reply, Refusal>
-        ensures step { (values : List ℤ) → length values ≡ self.old.count → Step (state self.old values) (Begin transaction) result (state self.new values) }
-        ensures short { length (answer_line result) ≤ 8192 }
-        ensures slots { self.new.slots ≡ self.old.slots }
-        ensures count { self.new.count ≡ self.old.count }
-        ensures committed { self.new.committed ≡ self.old.committed }
+        ensures answers { Answers self.old self.new (Begin transaction) result }
+        ensures keeps { KeepsCounts self.old self.new }
     {
         match self.transaction {
             Some(open) if open == transaction => Err(Refusal::AlreadyOpen),
@@ -76,8 +73,9 @@ impl Session {
     pub(crate) fn admit(&self, transaction: u32, relation: &Name) -> Result<(), Refusal>
         ensures open { OnOk result (self.now.transaction ≡ Some transaction) }
         ensures known { OnOk result (relation.now ≡ relation_r) }
-        ensures refused { IfErr result (λ why. (values : List ℤ) (tid : AnyTid) → refusal (state self.now values) (Fetch transaction relation.now tid) ≡ Some why) }
-        ensures short { IfErr result (λ why. length (answer_line (Err why)) ≤ 8192) }
+        ensures refused { IfErr result (λ why. (values : List ℤ) (tid : AnyTid)
+            → refusal (state self.now values) (Fetch transaction relation.now tid) ≡ Some why) }
+        ensures short { IfErr result (λ why. IsShort (Err why)) }
     {
         if self.transaction != Some(transaction) {
             return Err(Refusal::NoTransaction);
@@ -99,8 +97,8 @@ impl Session {
         ensures known { OnOk result (relation.now ≡ relation_r) }
         ensures one { IfOk result (λ z. tuple.now ≡ Int z ∷ []) }
         ensures room { OnOk result (needed self.now.committed self.now.count ≤ self.now.slots) }
-        ensures refused { IfErr result (λ why. (values : List ℤ) → length values ≡ self.now.count → Step (state self.now values) (Insert transaction relation.now tuple.now) (Err why) (state self.now values)) }
-        ensures short { IfErr result (λ why. length (answer_line (Err why)) ≤ 8192) }
+        ensures refused { IfErr result
+            (Refuses self.now (Insert transaction relation.now tuple.now)) }
     {
         self.admit(transaction, relation)?;
         let value = only_int(tuple)?;
@@ -118,7 +116,7 @@ impl Session {
     fn needed(&self) -> u64
         ensures { result ≡ needed self.now.committed self.now.count }
     {
-        let heap = u64::from(self.committed).div_ceil(PAGE_TUPLES as u64);
+        let heap = u64::from(self.committed).div_ceil(PAGE_ENTRIES as u64);
         let changes = u64::from(self.count - self.committed) + 1;
         2 * (heap + 4 * changes + CATALOG_PAGES)
     }
@@ -127,9 +125,13 @@ impl Session {
     pub(crate) fn inserted(&mut self) -> Tid
         requires open { self.old.transaction ≢ None }
         requires room { needed self.old.committed self.old.count ≤ self.old.slots }
-        ensures step { (transaction : ℕ) (relation : AnyName) (z : ℤ) (values : List ℤ) → self.old.transaction ≡ Some transaction → relation ≡ relation_r → length values ≡ self.old.count
-            → Step (state self.old values) (Insert transaction relation (Int z ∷ [])) (Ok (Identifier result)) (state self.new (values ++ z ∷ [])) }
-        ensures short { length (answer_line (Ok (Identifier result))) ≤ 8192 }
+        ensures step { (transaction : ℕ) (relation : AnyName) (z : ℤ) (values : List ℤ)
+            → self.old.transaction ≡ Some transaction → relation ≡ relation_r
+            → length values ≡ self.old.count
+            → Step (state self.old values) (Insert transaction relation (Int z ∷ []))
+            (Ok (Identifier result))
+            (state self.new (values ++ z ∷ [])) }
+        ensures short { IsShort (Ok (Identifier result)) }
         ensures slots { self.new.slots ≡ self.old.slots }
         ensures count { self.new.count ≡ self.old.count + 1 }
         ensures committed { self.new.committed ≡ self.old.committed }
@@ -142,26 +144,30 @@ impl Session {
     /// The place of the tuple that a transaction may fetch.
     pub(crate) fn place(&self, transaction: u32, relation: &Name, tid: Tid) -> Result<u32, Refusal>
         ensures within { IfOk result (λ place. place < self.now.count) }
-        ensures step { IfOk result (λ place. (values : List ℤ) (z : ℤ) → length values ≡ self.now.count → z ≡ slice_index_or values place z → Step (state self.now values) (Fetch transaction relation.now tid) (Ok (TupleReply (Int z ∷ []))) (state self.now values)) }
-        ensures refused { IfErr result (λ why. (values : List ℤ) → length values ≡ self.now.count → Step (state self.now values) (Fetch transaction relation.now tid) (Err why) (state self.now values)) }
-        ensures short { IfErr result (λ why. length (answer_line (Err why)) ≤ 8192) }
+        ensures step { IfOk result (λ place. (values : List ℤ) (z : ℤ)
+            → length values ≡ self.now.count → z ≡ slice_index_or values place z
+            → Step (state self.now values) (Fetch transaction relation.now tid)
+            (Ok (TupleReply (Int z ∷ [])))
+            (state self.now values)) }
+        ensures refused { IfErr result (Refuses self.now (Fetch transaction relation.now tid)) }
     {
         self.admit(transaction, relation)?;
-        match self.place_of(tid) {
+        match self.place_at(tid) {
             Some(place) => Ok(place),
             None => Err(Refusal::NoTuple(*relation, tid)),
         }
     }
 
     /// The place of a tuple, where there is one of this identifier.
-    fn place_of(&self, tid: Tid) -> Option<u32>
+    fn place_at(&self, tid: Tid) -> Option<u32>
         ensures some { IfSome result (λ place. (place < self.now.count) × (tid_at place ≡ tid)) }
-        ensures none { IfNone result ((place : ℕ) → place < self.now.count → tid_at place ≡ tid → ⊥) }
+        ensures none { IfNone result
+            ((place : ℕ) → place < self.now.count → tid_at place ≡ tid → ⊥) }
     {
-        if usize::from(tid.slot) >= PAGE_TUPLES || tid.page >= self.slots {
+        if usize::from(tid.slot) >= PAGE_ENTRIES || tid.page >= self.slots {
             return None;
         }
-        let place = tid.page * PAGE_TUPLES as u32 + u32::from(tid.slot);
+        let place = tid.page * PAGE_ENTRIES as u32 + u32::from(tid.slot);
         if place < self.count {
             Some(place)
         } else {
@@ -172,7 +178,7 @@ impl Session {
     /// Commits what the open transaction inserted, and closes it.
     pub(crate) fn end(&mut self, transaction: u32)
         requires { self.old.transaction ≡ Some transaction }
-        ensures step { (values : List ℤ) → length values ≡ self.old.count → Step (state self.old values) (End transaction) (Ok Done) (state self.new values) }
+        ensures answers { Answers self.old self.new (End transaction) (Ok Done) }
         ensures slots { self.new.slots ≡ self.old.slots }
         ensures count { self.new.count ≡ self.old.count }
         ensures committed { self.new.committed ≡ self.old.count }
@@ -187,8 +193,8 @@ fn tid_of(place: u32) -> Tid
     ensures { result ≡ tid_at place }
 {
     Tid {
-        page: place / PAGE_TUPLES as u32,
-        slot: (place % PAGE_TUPLES as u32) as u16,
+        page: place / PAGE_ENTRIES as u32,
+        slot: (place % PAGE_ENTRIES as u32) as u16,
     }
 }
 
@@ -196,7 +202,7 @@ fn tid_of(place: u32) -> Tid
 fn only_int(tuple: &Tuple) -> Result<i64, Refusal>
     ensures ok { IfOk result (λ z. tuple.now ≡ Int z ∷ []) }
     ensures refused { IfErr result (λ why. misfit_of (Some (IntField ∷ [])) tuple.now ≡ Some why) }
-    ensures short { IfErr result (λ why. length (answer_line (Err why)) ≤ 8192) }
+    ensures short { IfErr result (λ why. IsShort (Err why)) }
 {
     match tuple.as_slice() {
         [Value::Int(value)] => Ok(*value),

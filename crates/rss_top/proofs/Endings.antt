@@ -1,16 +1,15 @@
 -- How a run ends.
-use Rattle.std.proofs.Common.{◌≡◌, inl, inr, ℕ, suc, ◌<◌, ◌≤◌, List, [], ◌∷◌, ◌++◌, take, length, Option, Some, refl, sym, ◌∙◌, ap, subst, arith, length-append}
+use Rattle.std.proofs.Common.{◌≡◌, inl, inr, ℕ, ◌<◌, ◌≤◌, List, [], ◌++◌, length, Option, Some, refl, ◌∙◌, ap, arith, length-append}
 use Rattle.std.proofs.lemmas.List.{append-nil}
 use Rattle.rss_base.specs.DiskRule.{Disk}
-use Rattle.rss_base.specs.Faults.{Rises}
 use Rattle.rss_base.specs.Streams.{Gives}
-use Rattle.rss_base.proofs.Flows.{gives_then}
-use Rattle.rss_model.specs.Machine.{State}
-use Rattle.rss_top.specs.Run.{Kept, Reading, Stopped, Whole, Ended, IsHalt, IsStop, IsAllOf, IsReadThrough, LineRan, kept_limit, script_limit}
+use Rattle.rss_model.specs.Plays.{Scene}
+use Rattle.rss_top.specs.Run.{Stream, World, Point, Beginning, Story, Stopped, Whole, Ended, IsStoppedBy, IsHalt, IsStop, IsAllOf, IsReadThrough, script_limit}
+use Rattle.rss_top.specs.Lines.{IsLineEnd, IsScriptEnd}
 use Rattle.rss_top.specs.declared.status.Status.{Status}
-use Rattle.rss_top.specs.declared.status.Status.TheVariants.{Ok, TooLong}
-use Rattle.rss_top.proofs.Stories.{whole_line, whole_ended}
-use Rattle.rss_top.proofs.Fronts.{ran_whole}
+use Rattle.rss_top.specs.declared.status.Status.TheVariants.{Ok, Words, ReadFault, WriteFault, DeviceFault, NotAStore, Damaged, NoMemory, TooLong, WrongSize}
+
+-- ---- statuses
 
 not_halt : {s : Status} → IsHalt s → s ≡ Ok → ⊥
 not_halt (inl a) b = cc
@@ -46,69 +45,83 @@ pub not_through : IsReadThrough TooLong → ⊥
 not_through (inl a) = cc
 not_through (inr a) = cc
 
+-- a run that stopped within a line has such a status
+is_stop : (disk : Disk) (from : Point) (line said : List ℕ) (status : Status) → IsStoppedBy status disk from line said → IsStop status
+is_stop disk from line said WriteFault stopped = inl refl
+is_stop disk from line said DeviceFault stopped = inr (inl refl)
+is_stop disk from line said NoMemory stopped = inr (inr refl)
+is_stop disk from line said Ok stopped = absurd stopped
+is_stop disk from line said Words stopped = absurd stopped
+is_stop disk from line said ReadFault stopped = absurd stopped
+is_stop disk from line said (NotAStore place) stopped = absurd stopped
+is_stop disk from line said (Damaged place) stopped = absurd stopped
+is_stop disk from line said TooLong stopped = absurd stopped
+is_stop disk from line said WrongSize stopped = absurd stopped
+
+-- and its cause is that of the line
+pub script_end : (old new : World) (source_old source_new : Stream) (status : Status) → IsLineEnd old new status → IsScriptEnd old new source_old source_new status
+script_end old new source_old source_new WriteFault cause = cause
+script_end old new source_old source_new DeviceFault cause = cause
+script_end old new source_old source_new NoMemory cause = cause
+script_end old new source_old source_new Ok cause = absurd cause
+script_end old new source_old source_new Words cause = cause
+script_end old new source_old source_new ReadFault cause = absurd cause
+script_end old new source_old source_new (NotAStore place) cause = cause
+script_end old new source_old source_new (Damaged place) cause = cause
+script_end old new source_old source_new TooLong cause = absurd cause
+script_end old new source_old source_new WrongSize cause = cause
+
+-- ---- the end
+
 -- a source that has no more has given all
 pub all_of : {before mid : Option (List ℕ)} (given : List ℕ) → Gives before given mid → IsAllOf mid [] → IsAllOf before given
 all_of given gives no_more all is = let moved = gives.moves all is in moved.2 ∙ ap (λ (l : List ℕ). given ++ l) (no_more moved.0 moved.1) ∙ append-nil given
 
-module _ {start : ℕ} {first : State} {source_before source_after sink_before sink_after : Option (List ℕ)} where
-  pub ended_halted : {disk : Disk} {state : State} {taken : ℕ} {front : List ℕ} (status : Status) → IsHalt status → (status ≡ TooLong → taken ≡ script_limit) → (IsReadThrough status → taken < script_limit)
-      → Reading start disk first state taken front source_before source_after sink_before sink_after → Ended status start disk first source_before source_after sink_before sink_after
-  ended_halted {state = state} {taken = taken} status is long short reading = record {
-    given = reading.given;
-    gives = reading.gives;
+module _ {begin : Beginning} {now : World} {left : Option (List ℕ)} (given : List ℕ) (gives : Gives begin.left given left) where
+  pub ended_halted : {scene : Scene} {front : List ℕ} (status : Status) → IsHalt status → length given ≤ script_limit → (IsReadThrough status → length given < script_limit) → (status ≡ TooLong → length given ≡ script_limit)
+      → Story begin now scene given front → Ended status begin now left
+  ended_halted {scene = scene} {front = front} status is most short long story = record {
+    given = given;
+    gives = gives;
+    most = most;
+    short = short;
+    too_long = long;
     all_given = λ ok. absurd (not_halt is ok);
-    too_long = λ e. reading.long ∙ long e;
-    short = λ through. subst (λ (n : ℕ). n < script_limit) (sym reading.long) (short through);
     whole = λ ok. absurd (not_halt is ok);
-    halted = λ halt. record { state = state; left = reading.kept.left; story = reading.kept.story };
+    halted = λ halt. record { scene = scene; left = front; story = story };
     stopped = λ stop. absurd (not_both is stop);
   }
 
-  pub ended_stopped : {disk : Disk} (status : Status) (given : List ℕ) → IsStop status → Gives source_before given source_after → Stopped status start disk first given (IsAllOf source_before given) sink_before sink_after
-      → Ended status start disk first source_before source_after sink_before sink_after
-  ended_stopped status given is gives stop = record {
+  pub ended_stopped : (status : Status) → length given ≤ script_limit → Stopped status begin now given (IsAllOf begin.left given) → Ended status begin now left
+  ended_stopped status most stop =
+      let is = is_stop now.disk stop.from stop.line stop.said status stop.stopped in
+      record {
+        given = given;
+        gives = gives;
+        most = most;
+        short = λ through. absurd (stop_not_through is through);
+        too_long = λ e. absurd (stop_not_long is e);
+        all_given = λ ok. absurd (not_stop is ok);
+        whole = λ ok. absurd (not_stop is ok);
+        halted = λ halt. absurd (not_both halt is);
+        stopped = λ _. stop;
+      }
+
+  pub ended_whole : length given < script_limit → IsAllOf begin.left given → Whole begin now given → Ended Ok begin now left
+  ended_whole short all whole = record {
     given = given;
     gives = gives;
-    all_given = λ ok. absurd (not_stop is ok);
-    too_long = λ e. absurd (stop_not_long is e);
-    short = λ through. absurd (stop_not_through is through);
-    whole = λ ok. absurd (not_stop is ok);
-    halted = λ halt. absurd (not_both halt is);
-    stopped = λ _. stop;
-  }
-
-  pub ended_whole : {disk : Disk} (mid : Option (List ℕ)) (given : List ℕ) → length given < script_limit → Gives source_before given mid → Gives mid [] source_after → IsAllOf mid [] → Whole start disk first given sink_before sink_after
-      → Ended Ok start disk first source_before source_after sink_before sink_after
-  ended_whole mid given short gives last no_more whole = record {
-    given = given;
-    gives = subst (λ (l : List ℕ). Gives source_before l source_after) (append-nil given) (gives_then _ _ _ given [] gives last);
-    all_given = λ _. all_of given gives no_more;
-    too_long = λ e. absurd (cc);
+    most = omega arith;
     short = λ through. short;
+    too_long = λ e. absurd (cc);
+    all_given = λ _. all;
     whole = λ _. whole;
     halted = λ halt. absurd (not_halt halt refl);
     stopped = λ stop. absurd (not_stop stop refl);
   }
 
--- the run ends with its last line
-none_left : (n : ℕ) (left : List ℕ) → take (suc n) left ≡ [] → left ≡ []
-none_left n [] e = refl
-none_left n (b ∷ left) e = absurd (cc (e))
-
-module _ {start : ℕ} {disk : Disk} {first state : State} {given front : List ℕ} {before mid : Option (List ℕ)} (kept : Kept start disk first state given front before mid) where
-  pub whole_kept_ended : front ≡ [] → Whole start disk first given before mid
-  whole_kept_ended empty = whole_ended kept.story (none_left 8192 kept.left (sym kept.kept ∙ empty))
-
-  pub whole_kept_line : {later : Disk} {new : State} {after : Option (List ℕ)} → (front ≡ [] → ⊥) → LineRan disk later state front new mid after → Whole start later first given before after
-  whole_kept_line {later = later} {new = new} {after = after} some ran =
-      whole_line kept.story (λ empty. some (kept.kept ∙ ap (λ (l : List ℕ). take kept_limit l) empty)) (ran_whole kept.left (subst (λ (l : List ℕ). LineRan disk later state l new mid after) kept.kept ran))
-
 -- a source with fewer bytes than a script may have isn't too long
-pub not_too_long : {status : Status} {start : ℕ} {disk : Disk} {first : State} {source_before source_after sink_before sink_after : Option (List ℕ)} (all : List ℕ) → source_before ≡ Some all → length all < script_limit → Ended status start disk first source_before source_after sink_before sink_after → status ≡ TooLong → ⊥
+pub not_too_long : {status : Status} {begin : Beginning} {now : World} {left : Option (List ℕ)} (all : List ℕ) → begin.left ≡ Some all → length all < script_limit → Ended status begin now left → status ≡ TooLong → ⊥
 not_too_long all told short ended is =
     let moved = ended.gives.moves all told in
     absurd (omega (arith, short, ended.too_long is, ap (λ (l : List ℕ). length l) moved.2, length-append ended.given moved.0))
-
--- a count that has risen since later has risen since before
-pub rises_since : {before mid now : ℕ} → before ≤ mid → Rises mid now → Rises before now
-rises_since later rises = omega (arith, later, rises)

@@ -1,18 +1,21 @@
 -- The front of a line, of which so much is kept that a line too long to be a call stays one.
-use Rattle.std.proofs.Common.{◌≡◌, ◌⊎◌, inl, inr, ℕ, zero, suc, ◌≤◌, List, [], ◌∷◌, ◌++◌, length, take, Option, refl, ◌∙◌, ap, subst, arith, length-take, append_assoc}
+use Rattle.std.proofs.Common.{◌≡◌, ◌⊎◌, inl, inr, ℕ, zero, suc, ◌≤◌, List, [], ◌∷◌, ◌++◌, length, take, refl, sym, ◌∙◌, ap, subst, arith, length-take, append_assoc}
 use Rattle.std.specs.Prelude.{⊤}
 use Rattle.std.proofs.lemmas.List.{take_all, append-nil}
 use Rattle.std.proofs.lemmas.Bool.{cases_lt}
-use Rattle.rss_base.specs.DiskRule.{Disk}
-use Rattle.rss_model.specs.Machine.{State}
-use Rattle.rss_model.specs.Runs.{Turn}
 use Rattle.rss_model.specs.Script.{IsWords, IsUnbroken}
-use Rattle.rss_model.specs.Plays.{LineStep}
+use Rattle.rss_model.specs.Plays.{Scene, Made, plain, LineStep}
 use Rattle.rss_model.specs.Plays.LineStep.{blank, words, call}
-use Rattle.rss_top.specs.Run.{LineRan, DeviceStopped, SinkStopped, MemoryStopped, Story, Stopped, EndsLine, Kept, kept_limit}
+use Rattle.rss_top.specs.Run.{Beginning, Story, Stopped, Whole}
+use Rattle.rss_top.specs.Lines.{View, LineRan, LineStopped, Kept, kept_limit}
 use Rattle.rss_top.specs.declared.status.Status.{Status}
-use Rattle.rss_top.specs.declared.status.Status.TheVariants.{WriteFault, DeviceFault, NoMemory}
-use Rattle.rss_top.proofs.Stories.{story_bytes, story_line, stopped_by_line, stopped_unread}
+use Rattle.rss_top.specs.declared.status.Status.TheVariants.{NoMemory}
+use Rattle.rss_top.proofs.Ways.{by_stop}
+use Rattle.rss_top.proofs.Stories.{story_bytes, story_line, whole_line, whole_ended, stopped_by_line, stopped_unread}
+
+-- a line as it is run: whole, or the front that is kept of it
+abbrev pub IsRunAs : List ℕ → List ℕ → Type 0
+IsRunAs left line = (line ≡ left) ⊎ (line ≡ take kept_limit left)
 
 -- the whole front is kept, or the line is too long
 long_or_kept : (left : List ℕ) → (take kept_limit left ≡ left) ⊎ (kept_limit ≤ length left)
@@ -31,27 +34,29 @@ too_long {left = left} long = record {
 kept_long : (left : List ℕ) → kept_limit ≤ length left → kept_limit ≤ length (take kept_limit left)
 kept_long left long = omega (arith, length-take kept_limit left)
 
-as_words : {old new : State} {turns : List Turn} {text left line : List ℕ} → kept_limit ≤ length left → kept_limit ≤ length line → LineStep old line turns text new → LineStep old left turns text new
+as_words : {old new : Scene} {made : Made} {left line : List ℕ} → kept_limit ≤ length left → kept_limit ≤ length line → LineStep old line made new → LineStep old left made new
 as_words {line = line} long kept (blank empty) = absurd (let zero : length line ≡ 0 = ap length empty in omega (arith, zero, kept))
 as_words long kept (words is) = words (too_long long)
 as_words long kept (call spells step) = absurd (omega (arith, spells.short, kept))
 
 -- what the kept front of a line does is what the line does
-step_whole : {old new : State} {turns : List Turn} {text : List ℕ} (left : List ℕ) → LineStep old (take kept_limit left) turns text new → LineStep old left turns text new
-step_whole {old = old} {new = new} {turns = turns} {text = text} left step = elim (long_or_kept left) [
-  | inl same ↦ subst (λ (l : List ℕ). LineStep old l turns text new) same step
-  | inr long ↦ as_words long (kept_long left long) step
+step_whole : {old new : Scene} {made : Made} (left line : List ℕ) → IsRunAs left line → LineStep old line made new → LineStep old left made new
+step_whole {old = old} {new = new} {made = made} left line (inl is) step = subst (λ (l : List ℕ). LineStep old l made new) is step
+step_whole {old = old} {new = new} {made = made} left line (inr is) step = elim (long_or_kept left) [
+  | inl same ↦ subst (λ (l : List ℕ). LineStep old l made new) (is ∙ same) step
+  | inr long ↦ as_words long (subst (λ (l : List ℕ). kept_limit ≤ length l) (sym is) (kept_long left long)) step
 ]
 
-module _ {earlier later : Disk} {old new : State} {before after : Option (List ℕ)} (left : List ℕ) where
-  pub ran_whole : LineRan earlier later old (take kept_limit left) new before after → LineRan earlier later old left new before after
-  ran_whole ran = record { turns = ran.turns; text = ran.text; done = record { step = step_whole left ran.done.step; moments = ran.done.moments }; opens = ran.opens; takes = ran.takes }
+module _ (old new : View) {left line : List ℕ} (run_as : IsRunAs left line) where
+  pub ran_whole : LineRan old new line → LineRan old new left
+  ran_whole ran = record { made = ran.made; done = record { step = step_whole left line run_as ran.done.step; moments = ran.done.moments }; opens = ran.opens; takes = ran.takes }
 
-  pub sink_whole : SinkStopped earlier later old (take kept_limit left) new before after → SinkStopped earlier later old left new before after
-  sink_whole stop = record { turns = stop.turns; text = stop.text; done = record { step = step_whole left stop.done.step; moments = stop.done.moments }; opens = stop.opens; takes = stop.takes }
-
-pub device_whole : {earlier later : Disk} {old : State} {before after : Option (List ℕ)} (left : List ℕ) → DeviceStopped earlier later old (take kept_limit left) before after → DeviceStopped earlier later old left before after
-device_whole left stop = record { turns = stop.turns; text = stop.text; next = stop.next; done = record { step = step_whole left stop.done.step; moments = stop.done.moments }; same = stop.same }
+  pub stopped_whole : (status : Status) → LineStopped old new line status → LineStopped old new left status
+  stopped_whole status stop = by_stop (LineStopped old new left) status
+      (λ stop. record { made = stop.made; next = stop.next; done = record { step = step_whole left line run_as stop.done.step; moments = stop.done.moments }; same = stop.same })
+      (λ stop. record { made = stop.made; done = record { step = step_whole left line run_as stop.done.step; moments = stop.done.moments }; opens = stop.opens; takes = stop.takes })
+      (λ stop. stop)
+      stop
 
 -- what is kept of a front with more bytes is known from what was kept of it
 pub take-take_append : (n : ℕ) (left bytes : List ℕ) → take n (take n left ++ bytes) ≡ take n (left ++ bytes)
@@ -59,39 +64,58 @@ take-take_append zero left bytes = refl
 take-take_append (suc n) [] bytes = refl
 take-take_append (suc n) (b ∷ left) bytes = ap (λ (l : List ℕ). b ∷ l) (take-take_append n left bytes)
 
-module _ {start : ℕ} {disk : Disk} {first state : State} {given front : List ℕ} {before mid : Option (List ℕ)} (kept : Kept start disk first state given front before mid) (bytes : List ℕ) (unbroken : IsUnbroken bytes) where
-  same_front : take kept_limit (front ++ bytes) ≡ take kept_limit (kept.left ++ bytes)
-  same_front = ap (λ (l : List ℕ). take kept_limit (l ++ bytes)) kept.kept ∙ take-take_append kept_limit kept.left bytes
+none_left : (n : ℕ) (left : List ℕ) → take (suc n) left ≡ [] → left ≡ []
+none_left n [] e = refl
+none_left n (b ∷ left) e = absurd (cc (e))
 
-  pub kept_bytes : Kept start disk first state (given ++ bytes) (take kept_limit (front ++ bytes)) before mid
-  kept_bytes = record { left = kept.left ++ bytes; kept = same_front; story = story_bytes bytes unbroken kept.story }
+module _ {begin : Beginning} {old : View} {given front : List ℕ} (kept : Kept begin old given front) where
+  pub front_short : length front ≤ kept_limit
+  front_short = omega (arith, ap length kept.kept, length-take kept_limit kept.left)
 
-  pub kept_line : {later : Disk} {new : State} {after : Option (List ℕ)} → LineRan disk later state (take kept_limit (front ++ bytes)) new mid after → Kept start later first new (given ++ (bytes ++ 10 ∷ [])) [] before after
-  kept_line {later = later} {new = new} {after = after} ran =
-      let whole : LineRan disk later state (kept.left ++ bytes) new mid after = ran_whole (kept.left ++ bytes) (subst (λ (l : List ℕ). LineRan disk later state l new mid after) same_front ran) in
-      let on : Story start later first new ((given ++ bytes) ++ 10 ∷ []) [] before after = story_line (story_bytes bytes unbroken kept.story) whole in
-      record { left = []; kept = refl; story = subst (λ (l : List ℕ). Story start later first new l [] before after) (append_assoc given bytes (10 ∷ [])) on }
+  pub none_kept : front ≡ [] → kept.left ≡ []
+  none_kept empty = none_left 8192 kept.left (sym kept.kept ∙ empty)
 
-  pub kept_stopped : {later : Disk} {after : Option (List ℕ)} (over : Type 0) (rest : List ℕ) → EndsLine over rest → (status : Status) (new : State) → (status ≡ WriteFault) ⊎ (status ≡ DeviceFault) ⊎ (status ≡ NoMemory) → (status ≡ DeviceFault → DeviceStopped disk later state (take kept_limit (front ++ bytes)) mid after)
-      → (status ≡ WriteFault → SinkStopped disk later state (take kept_limit (front ++ bytes)) new mid after) → (status ≡ NoMemory → MemoryStopped disk later state new mid after) → Stopped status start later first (given ++ (bytes ++ rest)) over before after
-  kept_stopped {later = later} {after = after} over rest ends status new is device sink memory =
-      subst (λ (l : List ℕ). Stopped status start later first l over before after) (append_assoc given bytes rest)
-      (stopped_by_line over rest (story_bytes bytes unbroken kept.story) ends status new is
-      (λ e. device_whole (kept.left ++ bytes) (subst (λ (l : List ℕ). DeviceStopped disk later state l mid after) same_front (device e)))
-      (λ e. sink_whole (kept.left ++ bytes) (subst (λ (l : List ℕ). SinkStopped disk later state l new mid after) same_front (sink e)))
-      memory)
+  -- how the line is run of which these bytes are the back: they are the line, or they went to the front that was kept
+  pub run_whole : (bytes : List ℕ) → front ≡ [] → IsRunAs (kept.left ++ bytes) bytes
+  run_whole bytes empty = inl (ap (λ (l : List ℕ). l ++ bytes) (sym (none_kept empty)))
 
--- memory ran out before the line was run
-pub kept_unread : {start : ℕ} {disk : Disk} {first state : State} {given front : List ℕ} {before after : Option (List ℕ)} (over : Type 0) (rest : List ℕ) → Kept start disk first state given front before after → Stopped NoMemory start disk first (given ++ rest) over before after
-kept_unread over rest kept = stopped_unread over rest kept.story
+  pub run_front : (bytes line : List ℕ) → line ≡ take kept_limit (front ++ bytes) → IsRunAs (kept.left ++ bytes) line
+  run_front bytes line is = inr (is ∙ ap (λ (l : List ℕ). take kept_limit (l ++ bytes)) kept.kept ∙ take-take_append kept_limit kept.left bytes)
 
--- the last line, which has no end
-pub kept_last : {start : ℕ} {disk later : Disk} {first state : State} {given front : List ℕ} {before mid after : Option (List ℕ)} (kept : Kept start disk first state given front before mid) (status : Status) (new : State)
-    → (status ≡ WriteFault) ⊎ (status ≡ DeviceFault) ⊎ (status ≡ NoMemory) → (status ≡ DeviceFault → DeviceStopped disk later state front mid after) → (status ≡ WriteFault → SinkStopped disk later state front new mid after)
-    → (status ≡ NoMemory → MemoryStopped disk later state new mid after) → Stopped status start later first given ⊤ before after
-kept_last {start = start} {disk = disk} {later = later} {first = first} {state = state} {given = given} {before = before} {mid = mid} {after = after} kept status new is device sink memory =
-    subst (λ (l : List ℕ). Stopped status start later first l ⊤ before after) (append-nil given)
-    (stopped_by_line ⊤ [] kept.story tt status new is
-    (λ e. device_whole kept.left (subst (λ (l : List ℕ). DeviceStopped disk later state l mid after) kept.kept (device e)))
-    (λ e. sink_whole kept.left (subst (λ (l : List ℕ). SinkStopped disk later state l new mid after) kept.kept (sink e)))
-    memory)
+  module _ (bytes : List ℕ) (unbroken : IsUnbroken bytes) where
+    pub kept_bytes : (next : List ℕ) → next ≡ take kept_limit (front ++ bytes) → Kept begin old (given ++ bytes) next
+    kept_bytes next is = record {
+      left = kept.left ++ bytes;
+      kept = is ∙ ap (λ (l : List ℕ). take kept_limit (l ++ bytes)) kept.kept ∙ take-take_append kept_limit kept.left bytes;
+      story = story_bytes bytes unbroken kept.story;
+    }
+
+    pub kept_line : {new : View} {line : List ℕ} (next : List ℕ) → next ≡ [] → IsRunAs (kept.left ++ bytes) line → LineRan old new line → Kept begin new (given ++ (bytes ++ 10 ∷ [])) next
+    kept_line {new = new} next empty run_as ran =
+        let on : Story begin new.world (plain new.state) ((given ++ bytes) ++ 10 ∷ []) [] = story_line {old = old} {new = new} (story_bytes bytes unbroken kept.story) (ran_whole old new run_as ran) in
+        record { left = []; kept = empty; story = subst (λ (l : List ℕ). Story begin new.world (plain new.state) l []) (append_assoc given bytes (10 ∷ [])) on }
+
+    pub kept_stopped : (new : View) {line : List ℕ} → IsRunAs (kept.left ++ bytes) line → (status : Status) → LineStopped old new line status → Stopped status begin new.world (given ++ (bytes ++ 10 ∷ [])) ⊥
+    kept_stopped new run_as status stop =
+        subst (λ (l : List ℕ). Stopped status begin new.world l ⊥) (append_assoc given bytes (10 ∷ []))
+        (stopped_by_line old ⊥ (10 ∷ []) (story_bytes bytes unbroken kept.story) new refl status (stopped_whole old new run_as status stop))
+
+  -- memory ran out before the line was run
+  pub kept_unread : (over : Type 0) (rest : List ℕ) → Stopped NoMemory begin old.world (given ++ rest) over
+  kept_unread over rest = stopped_unread old over rest kept.story
+
+  -- the last line, which has no end
+  pub kept_ended : front ≡ [] → Whole begin old.world given
+  kept_ended empty = whole_ended kept.story (none_kept empty)
+
+  pub kept_last : {new : View} → (front ≡ [] → ⊥) → LineRan old new front → Whole begin new.world given
+  kept_last {new = new} some ran = whole_line {old = old} {new = new} kept.story (λ empty. some (kept.kept ∙ ap (λ (l : List ℕ). take kept_limit l) empty)) (ran_whole old new (inr kept.kept) ran)
+
+  pub last_stopped : (new : View) (status : Status) → LineStopped old new front status → Stopped status begin new.world given ⊤
+  last_stopped new status stop =
+      subst (λ (l : List ℕ). Stopped status begin new.world l ⊤) (append-nil given)
+      (stopped_by_line old ⊤ [] kept.story new tt status (stopped_whole old new (inr kept.kept) status stop))
+
+pub empty_is : (xs : List ℕ) → length xs ≡ 0 → xs ≡ []
+empty_is [] none = refl
+empty_is (x ∷ xs) none = absurd (omega arith)

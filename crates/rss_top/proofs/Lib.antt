@@ -1,8 +1,12 @@
+pub mod Plays
+pub mod Ways
+pub mod Asked
+pub mod Unasked
 pub mod Stories
 pub mod Fronts
 pub mod Pieces
+pub mod Bytes
 pub mod Endings
-pub mod LineEnds
+pub mod Scripts
 pub mod Openings
-pub mod Plays
 pub mod Commands

@@ -1,5 +1,5 @@
 -- The parts of a piece of a script.
-use Rattle.std.proofs.Common.{◌≡◌, ℕ, ◌+◌, ◌-◌, ◌<◌, ◌≤◌, List, [], ◌∷◌, ◌++◌, length, take, drop, get_or, min, sym, ◌∙◌, ap, subst, arith, append_assoc, take-append-drop, length-drop}
+use Rattle.std.proofs.Common.{◌≡◌, ℕ, ◌+◌, ◌-◌, ◌<◌, ◌≤◌, List, [], ◌∷◌, ◌++◌, length, take, drop, get_or, min, sym, ◌∙◌, ap, subst, arith, length-drop}
 use Rattle.std.proofs.lemmas.List.{take_rest, take_more, take_min}
 use Rattle.std.proofs.Math.Seq.{take-add, take-append-add}
 use Rattle.rss_model.specs.Script.{IsUnbroken}
@@ -10,10 +10,6 @@ fill-take n xs ys le =
     let whole : min (length ys) (n - length xs) ≡ min (n - length xs) (length ys) = omega arith in
     let more : length xs + (n - length xs) ≡ n = omega arith in
     ap (λ (k : ℕ). xs ++ take k ys) whole ∙ ap (λ (l : List ℕ). xs ++ l) (take_min (n - length xs) ys) ∙ sym (take-append-add xs ys (n - length xs)) ∙ ap (λ (k : ℕ). take k (xs ++ ys)) more
-
--- what is left of a piece, behind what was done of it
-pub rest_then : (piece : List ℕ) (done : ℕ) (given : List ℕ) → given ++ take done piece ++ drop done piece ≡ given ++ piece
-rest_then piece done given = append_assoc given (take done piece) (drop done piece) ∙ ap (λ (l : List ℕ). given ++ l) (take-append-drop done piece)
 
 -- the line that ends at a place of what is left after a place of the piece
 module _ (piece : List ℕ) (done at : ℕ) where
@@ -30,20 +26,11 @@ module _ (piece : List ℕ) (done at : ℕ) where
   line_within le lt = let rest : length (take (length piece - done) (drop done piece)) ≡ length piece - done = ap length (take_rest piece done) ∙ length-drop done piece in omega (arith, rest, lt)
 
   -- the line and its end
-  pub line_ended : (given : List ℕ) → at < length (take (length piece - done) (drop done piece)) → get_or (take (length piece - done) (drop done piece)) at 0 ≡ 10 → given ++ take done piece ++ (line_part ++ 10 ∷ []) ≡ given ++ take (done + at + 1) piece
-  line_ended given lt end =
+  pub line_ended : at < length (take (length piece - done) (drop done piece)) → get_or (take (length piece - done) (drop done piece)) at 0 ≡ 10 → take done piece ++ (line_part ++ 10 ∷ []) ≡ take (done + at + 1) piece
+  line_ended lt end =
       let rest = take_rest piece done in
       let inside : at < length (drop done piece) = subst (λ (l : List ℕ). at < length l) rest lt in
       let byte : get_or (drop done piece) at 0 ≡ 10 = sym (ap (λ (l : List ℕ). get_or l at 0) rest) ∙ end in
       let count : done + at + 1 ≡ done + (at + 1) = omega arith in
-      append_assoc given (take done piece) (line_part ++ 10 ∷ [])
-      ∙ ap (λ (l : List ℕ). given ++ (take done piece ++ l)) (ap (λ (l : List ℕ). l ++ 10 ∷ []) line_is ∙ ap (λ (b : ℕ). take at (drop done piece) ++ b ∷ []) (sym byte) ∙ sym (take_more (drop done piece) at 0 inside))
-      ∙ ap (λ (l : List ℕ). given ++ l) (sym (take-add done (at + 1) piece) ∙ ap (λ (k : ℕ). take k piece) (sym count))
-
-  -- the line, its end, and what comes behind it
-  pub line_then : (given : List ℕ) → at < length (take (length piece - done) (drop done piece)) → get_or (take (length piece - done) (drop done piece)) at 0 ≡ 10 → given ++ take done piece ++ (line_part ++ 10 ∷ drop (done + at + 1) piece) ≡ given ++ piece
-  line_then given lt end =
-      ap (λ (l : List ℕ). given ++ take done piece ++ l) (sym (append_assoc line_part (10 ∷ []) (drop (done + at + 1) piece)))
-      ∙ sym (append_assoc (given ++ take done piece) (line_part ++ 10 ∷ []) (drop (done + at + 1) piece))
-      ∙ ap (λ (l : List ℕ). l ++ drop (done + at + 1) piece) (line_ended given lt end)
-      ∙ rest_then piece (done + at + 1) given
+      ap (λ (l : List ℕ). take done piece ++ l) (ap (λ (l : List ℕ). l ++ 10 ∷ []) line_is ∙ ap (λ (b : ℕ). take at (drop done piece) ++ b ∷ []) (sym byte) ∙ sym (take_more (drop done piece) at 0 inside))
+      ∙ sym (take-add done (at + 1) piece) ∙ ap (λ (k : ℕ). take k piece) (sym count)

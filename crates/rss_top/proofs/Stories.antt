@@ -1,35 +1,35 @@
 -- How a run over lines goes on.
-use Rattle.std.proofs.Common.{◌≡◌, ◌≢◌, ◌⊎◌, inl, inr, ⊎_elim, ℕ, ◌≤◌, List, [], ◌∷◌, ◌++◌, Option, refl, sym, ◌∙◌, ap, subst, arith, append_assoc}
+use Rattle.std.proofs.Common.{◌≡◌, ◌≢◌, inl, inr, ⊎_elim, ℕ, ◌≤◌, List, [], ◌∷◌, ◌++◌, Option, refl, sym, ◌∙◌, ap, subst, arith, append_assoc}
 use Rattle.std.proofs.lemmas.List.{append-nil}
 use Rattle.std.proofs.lemmas.List.Elements.{All-push, All-append}
 use Rattle.std.specs.Prelude.{All}
-use Rattle.rss_base.specs.DiskRule.{Disk, Pages, Leaves, Passes}
-use Rattle.rss_base.specs.Streams.{Takes, TakesFront}
+use Rattle.rss_base.specs.DiskRule.{Disk, Pages, Passes}
+use Rattle.rss_base.specs.Streams.{Takes}
 use Rattle.rss_base.proofs.Flows.{takes_none, takes_then}
 use Rattle.rss_base.proofs.Moments.{started, now}
-use Rattle.rss_model.specs.Tables.{Tables}
-use Rattle.rss_model.specs.Machine.{State, at_rest}
-use Rattle.rss_model.specs.Runs.{Turn}
+use Rattle.rss_model.specs.Machine.{State}
 use Rattle.rss_model.specs.Script.{joined, IsUnbroken, last_line}
-use Rattle.rss_model.specs.Store.{OpensTo, Opens}
+use Rattle.rss_model.specs.Plays.{Scene, Made, plain}
 use Rattle.rss_top.proofs.Plays.{played_is_play, play_is_run}
-use Rattle.rss_top.specs.Run.{LineDone, LineRan, DeviceStopped, SinkStopped, MemoryStopped, LineTurn, Played, Story, Stopped, Whole, IsLineFault, EndsLine}
+use Rattle.rss_top.proofs.Ways.{by_stop}
+use Rattle.rss_top.specs.Run.{Stream, World, Point, point_now, Beginning, OpensAt, ImagesNow, LineTurn, Played, Story, Stopped, IsStoppedBy, Whole, IsLineFault, EndsLine}
 use Rattle.rss_top.specs.Run.Played.{none, more}
+use Rattle.rss_top.specs.Lines.{View, LineDone, LineRan, LineStopped, MemoryStopped, beginning}
 use Rattle.rss_top.specs.declared.status.Status.{Status}
 use Rattle.rss_top.specs.declared.status.Status.TheVariants.{WriteFault, DeviceFault, NoMemory}
 
 -- later calls leave the run as it was
-pub played_later : {old new : Disk} {P : Pages → Type 0} {first : State} {start : ℕ} {state : State} {at : ℕ} {lines : List (List ℕ)} {turns : List Turn} {text : List ℕ} → Passes old new P → at ≤ old.moment → Played old first start lines turns text state at
-    → Played new first start lines turns text state at
+pub played_later : {old new : Disk} {P : Pages → Type 0} {first : Point} {lines : List (List ℕ)} {made : Made} {until : Point} → Passes old new P → until.moment ≤ old.moment → Played old first lines made until
+    → Played new first lines made until
 played_later passes le none = none
-played_later {old = old} {new = new} {P = P} {at = at} passes le (more {at = before} run turn) = more (played_later {P = P} passes (omega (arith, turn.moments.later)) run) (record {
+played_later {old = old} {new = new} {P = P} {until = until} passes le (more run turn) = more (played_later {P = P} passes (omega (arith, turn.moments.later)) run) (record {
   step = turn.step;
-  moments = record { later = turn.moments.later; each = λ t image lt until left. turn.moments.each t image lt until ((passes.past t image (omega arith)).0 left) };
-  after = λ image left. turn.after image ((passes.past at image le).0 left);
+  moments = record { later = turn.moments.later; each = λ t image lt within left. turn.moments.each t image lt within ((passes.past t image (omega arith)).0 left) };
+  after = λ image left. turn.after image ((passes.past until.moment image le).0 left);
 })
 
 -- the moments of a line, seen from a later device
-turn_of : {earlier later : Disk} {old new : State} {line text : List ℕ} {turns : List Turn} → LineDone earlier later old line turns text new → ((image : Pages) → Leaves later image → OpensTo image new.slots new.base) → LineTurn later old line turns text new earlier.moment later.moment
+turn_of : {earlier later : Disk} {old new : Scene} {line : List ℕ} {made : Made} → LineDone earlier later old line made new → ImagesNow later (OpensAt new) → LineTurn later (point_now old earlier) line made (point_now new later)
 turn_of done after = record {
   step = done.step;
   moments = record { later = done.moments.later; each = done.moments.each };
@@ -46,25 +46,23 @@ no_lines P k d lt = absurd (omega arith)
 pub no_bytes : IsUnbroken []
 no_bytes k d lt = absurd (omega arith)
 
-pub story_start : {disk : Disk} (slots : ℕ) (tables : Tables) (told : Option (List ℕ)) → Opens disk slots tables → Story disk.moment disk (at_rest slots tables) (at_rest slots tables) [] [] told told
-story_start slots tables told opens = record {
+pub story_start : (state : State) (world : World) (source : Stream) → ImagesNow world.disk (OpensAt (plain state)) → Story (beginning state world source) world (plain state) [] []
+story_start state world source opens = record {
   lines = [];
-  turns = [];
-  text = [];
+  made = record { turns = []; text = [] };
   played = none;
   begun = omega arith;
   splits = record { parts = refl; whole = no_lines IsUnbroken; front = no_bytes };
-  takes = takes_none told;
+  takes = takes_none _;
   opens = opens;
 }
 
 -- more bytes of a line
-pub story_bytes : {start : ℕ} {disk : Disk} {first state : State} {given left : List ℕ} {before after : Option (List ℕ)} (bytes : List ℕ) → IsUnbroken bytes → Story start disk first state given left before after
-    → Story start disk first state (given ++ bytes) (left ++ bytes) before after
+pub story_bytes : {begin : Beginning} {world : World} {scene : Scene} {given left : List ℕ} (bytes : List ℕ) → IsUnbroken bytes → Story begin world scene given left
+    → Story begin world scene (given ++ bytes) (left ++ bytes)
 story_bytes {left = left} bytes unbroken story = record {
   lines = story.lines;
-  turns = story.turns;
-  text = story.text;
+  made = story.made;
   played = story.played;
   begun = story.begun;
   splits = record {
@@ -76,172 +74,51 @@ story_bytes {left = left} bytes unbroken story = record {
   opens = story.opens;
 }
 
-front_then : {before mid after : Option (List ℕ)} {text said : List ℕ} → Takes before text mid → TakesFront mid said after → TakesFront before (text ++ said) after
-front_then {text = text} first second = record {
-  front = text ++ second.front;
-  back = second.back;
-  parts = ap (λ (l : List ℕ). text ++ l) second.parts ∙ sym (append_assoc text second.front second.back);
-  takes = takes_then _ _ _ text second.front first second.takes;
-}
+-- ---- one line more
 
--- one line more
-played_line : {start : ℕ} {disk : Disk} {first state : State} {given left : List ℕ} {before mid : Option (List ℕ)} {later : Disk} {new : State} {after : Option (List ℕ)} (story : Story start disk first state given left before mid) (ran : LineRan disk later state left new mid after)
-    → Played later first start (story.lines ++ left ∷ []) (story.turns ++ ran.turns) (story.text ++ ran.text) new later.moment
-played_line story ran = more (played_later ran.done.moments (omega arith) story.played) (turn_of ran.done ran.opens)
+module _ {begin : Beginning} {old new : View} {given left : List ℕ} (story : Story begin old.world (plain old.state) given left) where
+  played_line : (ran : LineRan old new left) → Played new.world.disk begin.point (story.lines ++ left ∷ []) (record { turns = story.made.turns ++ ran.made.turns; text = story.made.text ++ ran.made.text }) (point_now (plain new.state) new.world.disk)
+  played_line ran = more (played_later ran.done.moments (omega arith) story.played) (turn_of ran.done ran.opens)
 
-pub story_line : {start : ℕ} {disk : Disk} {first state : State} {given left : List ℕ} {before mid : Option (List ℕ)} {later : Disk} {new : State} {after : Option (List ℕ)} → Story start disk first state given left before mid
-    → LineRan disk later state left new mid after → Story start later first new (given ++ 10 ∷ []) [] before after
-story_line {left = left} story ran = record {
-  lines = story.lines ++ left ∷ [];
-  turns = story.turns ++ ran.turns;
-  text = story.text ++ ran.text;
-  played = played_line story ran;
-  begun = omega (arith, story.begun, ran.done.moments.later);
-  splits = record {
-    parts = ap (λ (l : List ℕ). l ++ 10 ∷ []) story.splits.parts ∙ append_assoc (joined story.lines) left (10 ∷ []) ∙ sym (joined-push story.lines left) ∙ sym (append-nil (joined (story.lines ++ left ∷ [])));
-    whole = All-push IsUnbroken story.lines left story.splits.whole story.splits.front;
-    front = no_bytes;
-  };
-  takes = takes_then _ _ _ story.text ran.text story.takes ran.takes;
-  opens = ran.opens;
-}
-
-no_line_fault : IsLineFault NoMemory → ⊥
-no_line_fault (inl is) = cc
-no_line_fault (inr is) = cc
-
--- the run ends within a line
-module _ {start : ℕ} {disk : Disk} {first state : State} {given left : List ℕ} {before mid : Option (List ℕ)} {later : Disk} {after : Option (List ℕ)} (over : Type 0) (rest : List ℕ) (story : Story start disk first state given left before mid) where
-  stopped_by_device : EndsLine over rest → DeviceStopped disk later state left mid after → Stopped DeviceFault start later first (given ++ rest) over before after
-  stopped_by_device ends stop = record {
-    lines = story.lines;
-    turns = story.turns;
-    text = story.text;
-    state = state;
-    at = disk.moment;
-    line = left;
-    rest = rest;
-    played = played_later stop.done.moments (omega arith) story.played;
-    parts = ap (λ (l : List ℕ). l ++ rest) story.splits.parts ∙ append_assoc (joined story.lines) left rest;
-    whole = story.splits.whole;
-    front = story.splits.front;
-    ends = λ _. ends;
-    device = λ is. record {
-      turns = stop.turns;
-      said = stop.text;
-      next = stop.next;
-      step = stop.done.step;
-      moments = record { later = stop.done.moments.later; each = stop.done.moments.each };
-      opens = λ image left. ⊎_elim (λ earlier. inl (story.opens image earlier)) (λ within. within) (now stop.done.moments image left);
-      takes = subst (λ (o : Option (List ℕ)). Takes before story.text o) (sym stop.same) story.takes;
+  pub story_line : LineRan old new left → Story begin new.world (plain new.state) (given ++ 10 ∷ []) []
+  story_line ran = record {
+    lines = story.lines ++ left ∷ [];
+    made = record { turns = story.made.turns ++ ran.made.turns; text = story.made.text ++ ran.made.text };
+    played = played_line ran;
+    begun = omega (arith, story.begun, ran.done.moments.later);
+    splits = record {
+      parts = ap (λ (l : List ℕ). l ++ 10 ∷ []) story.splits.parts ∙ append_assoc (joined story.lines) left (10 ∷ []) ∙ sym (joined-push story.lines left) ∙ sym (append-nil (joined (story.lines ++ left ∷ [])));
+      whole = All-push IsUnbroken story.lines left story.splits.whole story.splits.front;
+      front = no_bytes;
     };
-    sink = λ is. absurd (cc);
-    memory = λ is. absurd (cc);
+    takes = takes_then _ _ _ story.made.text ran.made.text story.takes ran.takes;
+    opens = ran.opens;
   }
 
-  stopped_by_sink : {new : State} → EndsLine over rest → SinkStopped disk later state left new mid after → Stopped WriteFault start later first (given ++ rest) over before after
-  stopped_by_sink ends stop = record {
-    lines = story.lines;
-    turns = story.turns;
-    text = story.text;
-    state = state;
-    at = disk.moment;
-    line = left;
-    rest = rest;
-    played = played_later stop.done.moments (omega arith) story.played;
-    parts = ap (λ (l : List ℕ). l ++ rest) story.splits.parts ∙ append_assoc (joined story.lines) left rest;
-    whole = story.splits.whole;
-    front = story.splits.front;
-    ends = λ _. ends;
-    device = λ is. absurd (cc);
-    sink = λ is. record { turns = stop.turns; said = stop.text; next = _; turn = turn_of stop.done stop.opens; takes = front_then story.takes stop.takes };
-    memory = λ is. absurd (cc);
+  -- the last line, which has no end
+  pub whole_line : (left ≡ [] → ⊥) → LineRan old new left → Whole begin new.world given
+  whole_line some ran = record {
+    lines = story.lines ++ left ∷ [];
+    made = record { turns = story.made.turns ++ ran.made.turns; text = story.made.text ++ ran.made.text };
+    last = plain new.state;
+    run = play_is_run (played_is_play (played_line ran));
+    play = played_is_play (played_line ran);
+    played = played_line ran;
+    are_lines = record { ended = story.lines; left = left; splits = story.splits; all = ap (λ (l : List (List ℕ)). story.lines ++ l) (sym (one_line left some)) };
+    takes = takes_then _ _ _ story.made.text ran.made.text story.takes ran.takes;
+    opens = ran.opens;
   }
-
-  pub stopped_by_memory : {new : State} → MemoryStopped disk later state new mid after → Stopped NoMemory start later first (given ++ rest) over before after
-  stopped_by_memory stop = record {
-    lines = story.lines;
-    turns = story.turns;
-    text = story.text;
-    state = state;
-    at = disk.moment;
-    line = left;
-    rest = rest;
-    played = played_later stop.moments (omega arith) story.played;
-    parts = ap (λ (l : List ℕ). l ++ rest) story.splits.parts ∙ append_assoc (joined story.lines) left rest;
-    whole = story.splits.whole;
-    front = story.splits.front;
-    ends = λ is. absurd (no_line_fault is);
-    device = λ is. absurd (cc);
-    sink = λ is. absurd (cc);
-    memory = λ is. record {
-      moments = record { later = stop.moments.later; each = stop.moments.each };
-      opens = λ image left. ⊎_elim (λ earlier. story.opens image earlier) (λ within. within) (now stop.moments image left);
-      takes = subst (λ (o : Option (List ℕ)). Takes before story.text o) (sym stop.same) story.takes;
-    };
-  }
-
-  pub stopped_by_line : EndsLine over rest → (status : Status) (new : State) → (status ≡ WriteFault) ⊎ (status ≡ DeviceFault) ⊎ (status ≡ NoMemory) → (status ≡ DeviceFault → DeviceStopped disk later state left mid after) → (status ≡ WriteFault → SinkStopped disk later state left new mid after)
-      → (status ≡ NoMemory → MemoryStopped disk later state new mid after) → Stopped status start later first (given ++ rest) over before after
-  stopped_by_line ends status new (inl is) device sink memory = subst (λ (s : Status). Stopped s start later first (given ++ rest) over before after) (sym is) (stopped_by_sink ends (sink is))
-  stopped_by_line ends status new (inr (inl is)) device sink memory = subst (λ (s : Status). Stopped s start later first (given ++ rest) over before after) (sym is) (stopped_by_device ends (device is))
-  stopped_by_line ends status new (inr (inr is)) device sink memory = subst (λ (s : Status). Stopped s start later first (given ++ rest) over before after) (sym is) (stopped_by_memory (memory is))
-
--- memory ran out before the line was run
-pub stopped_unread : {start : ℕ} {disk : Disk} {first state : State} {given left : List ℕ} {before after : Option (List ℕ)} (over : Type 0) (rest : List ℕ) → Story start disk first state given left before after → Stopped NoMemory start disk first (given ++ rest) over before after
-stopped_unread over rest story = stopped_by_memory over rest story (record { state = refl; moments = started _ _; same = refl })
-
--- that all of the script was given may be known from less
-pub stopped_over : {status : Status} {start : ℕ} {now : Disk} {first : State} {given : List ℕ} {P Q : Type 0} {before after : Option (List ℕ)} → (P → Q) → Stopped status start now first given P before after → Stopped status start now first given Q before after
-stopped_over {P = P} {Q = Q} over stop = record {
-  lines = stop.lines;
-  turns = stop.turns;
-  text = stop.text;
-  state = stop.state;
-  at = stop.at;
-  line = stop.line;
-  rest = stop.rest;
-  played = stop.played;
-  parts = stop.parts;
-  whole = stop.whole;
-  front = stop.front;
-  ends = λ is. ends_over stop.rest (stop.ends is);
-  device = stop.device;
-  sink = stop.sink;
-  memory = stop.memory;
-}
-  where
-    ends_over : (rest : List ℕ) → EndsLine P rest → EndsLine Q rest
-    ends_over [] ends = over ends
-    ends_over (b ∷ rest) ends = ends
-
-one_line : (left : List ℕ) → (left ≡ [] → ⊥) → last_line left ≡ left ∷ []
-one_line [] some = absurd (some refl)
-one_line (b ∷ bs) some = refl
-
--- the last line, which has no end
-pub whole_line : {start : ℕ} {disk : Disk} {first state : State} {given left : List ℕ} {before mid : Option (List ℕ)} {later : Disk} {new : State} {after : Option (List ℕ)} → Story start disk first state given left before mid → (left ≡ [] → ⊥)
-    → LineRan disk later state left new mid after → Whole start later first given before after
-whole_line {left = left} {new = new} story some ran = record {
-  lines = story.lines ++ left ∷ [];
-  turns = story.turns ++ ran.turns;
-  text = story.text ++ ran.text;
-  last = new;
-  run = play_is_run (played_is_play (played_line story ran));
-  play = played_is_play (played_line story ran);
-  played = played_line story ran;
-  are_lines = record { ended = story.lines; left = left; splits = story.splits; all = ap (λ (l : List (List ℕ)). story.lines ++ l) (sym (one_line left some)) };
-  takes = takes_then _ _ _ story.text ran.text story.takes ran.takes;
-  opens = ran.opens;
-}
+    where
+      one_line : (left : List ℕ) → (left ≡ [] → ⊥) → last_line left ≡ left ∷ []
+      one_line [] some = absurd (some refl)
+      one_line (b ∷ bs) some = refl
 
 -- no last line
-pub whole_ended : {start : ℕ} {disk : Disk} {first state : State} {given left : List ℕ} {before after : Option (List ℕ)} → Story start disk first state given left before after → left ≡ [] → Whole start disk first given before after
-whole_ended {state = state} {left = left} story over = record {
+pub whole_ended : {begin : Beginning} {world : World} {scene : Scene} {given left : List ℕ} → Story begin world scene given left → left ≡ [] → Whole begin world given
+whole_ended {scene = scene} {left = left} story over = record {
   lines = story.lines;
-  turns = story.turns;
-  text = story.text;
-  last = state;
+  made = story.made;
+  last = scene;
   run = play_is_run (played_is_play story.played);
   play = played_is_play story.played;
   played = story.played;
@@ -249,3 +126,91 @@ whole_ended {state = state} {left = left} story over = record {
   takes = story.takes;
   opens = story.opens;
 }
+
+-- ---- the run ends within a line
+
+no_line_fault : IsLineFault NoMemory → ⊥
+no_line_fault (inl is) = cc
+no_line_fault (inr is) = cc
+
+module _ (old : View) {begin : Beginning} {given left : List ℕ} (over : Type 0) (rest : List ℕ) (story : Story begin old.world (plain old.state) given left) where
+  -- with what was written of its reply
+  stopped_in : (new : View) {P : Pages → Type 0} (status : Status) (said : List ℕ) → Passes old.world.disk new.world.disk P → (IsLineFault status → EndsLine over rest)
+      → Takes begin.written (story.made.text ++ said) new.world.sink.bytes → IsStoppedBy status new.world.disk (point_now (plain old.state) old.world.disk) left said
+      → Stopped status begin new.world (given ++ rest) over
+  stopped_in new {P = P} status said passes ends takes stopped = record {
+    lines = story.lines;
+    made = story.made;
+    from = point_now (plain old.state) old.world.disk;
+    line = left;
+    rest = rest;
+    said = said;
+    played = played_later {P = P} passes (omega arith) story.played;
+    parts = ap (λ (l : List ℕ). l ++ rest) story.splits.parts ∙ append_assoc (joined story.lines) left rest;
+    whole = story.splits.whole;
+    front = story.splits.front;
+    ends = ends;
+    takes = takes;
+    stopped = stopped;
+  }
+
+  -- nothing was written of it
+  silent : {after : Option (List ℕ)} → after ≡ old.world.sink.bytes → Takes begin.written (story.made.text ++ []) after
+  silent same = subst (λ (o : Option (List ℕ)). Takes begin.written (story.made.text ++ []) o) (sym same) (subst (λ (l : List ℕ). Takes begin.written l old.world.sink.bytes) (sym (append-nil story.made.text)) story.takes)
+
+  pub stopped_by_memory : {new : View} → MemoryStopped old new → Stopped NoMemory begin new.world (given ++ rest) over
+  stopped_by_memory {new = new} stop = stopped_in new NoMemory [] stop.moments (λ is. absurd (no_line_fault is)) (silent stop.same) (record {
+    moments = record { later = stop.moments.later; each = stop.moments.each };
+    opens = λ image left. ⊎_elim (λ earlier. story.opens image earlier) (λ within. within) (now stop.moments image left);
+    silent = refl;
+  })
+
+  pub stopped_by_line : (new : View) → EndsLine over rest → (status : Status) → LineStopped old new left status → Stopped status begin new.world (given ++ rest) over
+  stopped_by_line new ends status stop = by_stop (λ s. Stopped s begin new.world (given ++ rest) over) status
+      (λ stop. stopped_in new DeviceFault [] stop.done.moments (λ _. ends) (silent stop.same) (record {
+        made = stop.made;
+        next = stop.next;
+        step = stop.done.step;
+        moments = record { later = stop.done.moments.later; each = stop.done.moments.each };
+        opens = λ image left. ⊎_elim (λ earlier. inl (story.opens image earlier)) (λ within. within) (now stop.done.moments image left);
+        silent = refl;
+      }))
+      (λ stop. stopped_in new WriteFault stop.takes.front stop.done.moments (λ _. ends) (takes_then _ _ _ story.made.text stop.takes.front story.takes stop.takes.takes) (record {
+        made = stop.made;
+        next = plain new.state;
+        turn = turn_of stop.done stop.opens;
+        unsaid = stop.takes.back;
+        reply = stop.takes.parts;
+      }))
+      (λ stop. stopped_by_memory stop)
+      stop
+
+-- memory ran out before the line was run
+pub stopped_unread : (view : View) {begin : Beginning} {given left : List ℕ} (over : Type 0) (rest : List ℕ) → Story begin view.world (plain view.state) given left → Stopped NoMemory begin view.world (given ++ rest) over
+stopped_unread view over rest story = stopped_by_memory view over rest story {new = view} (record { moments = started _ _; same = refl })
+
+-- that all of the script was given may be known from less, and more may have been given behind a line's end
+pub stopped_over : {status : Status} {begin : Beginning} {now : World} {given : List ℕ} {P Q : Type 0} (behind : List ℕ) → ((rest : List ℕ) → EndsLine P rest → EndsLine Q (rest ++ behind)) → Stopped status begin now given P → Stopped status begin now (given ++ behind) Q
+stopped_over behind over stop = record {
+  lines = stop.lines;
+  made = stop.made;
+  from = stop.from;
+  line = stop.line;
+  rest = stop.rest ++ behind;
+  said = stop.said;
+  played = stop.played;
+  parts = ap (λ (l : List ℕ). l ++ behind) stop.parts ∙ append_assoc (joined stop.lines) (stop.line ++ stop.rest) behind ∙ ap (λ (l : List ℕ). joined stop.lines ++ l) (append_assoc stop.line stop.rest behind);
+  whole = stop.whole;
+  front = stop.front;
+  ends = λ is. over stop.rest (stop.ends is);
+  takes = stop.takes;
+  stopped = stop.stopped;
+}
+
+pub ends_within : (Q : Type 0) (behind rest : List ℕ) → EndsLine ⊥ rest → EndsLine Q (rest ++ behind)
+ends_within Q behind [] ends = absurd ends
+ends_within Q behind (b ∷ rest) ends = ends
+
+pub ends_all : {P Q : Type 0} (rest : List ℕ) → (P → Q) → EndsLine P rest → EndsLine Q (rest ++ [])
+ends_all [] over ends = over ends
+ends_all (b ∷ rest) over ends = ends

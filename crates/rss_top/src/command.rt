@@ -16,7 +16,9 @@ pub enum Command {
 /// The command of these words, the program's own name first.
 pub fn read_command(words: &[String]) -> Option<Command>
     ensures run { result ≡ Some Command.Run ↔ AreRun (map string_bytes words.now) }
-    ensures format { (slots log_pages : ℕ) → result ≡ Some (Command.Format slots log_pages) ↔ AreFormat (map string_bytes words.now) slots log_pages }
+    ensures format { (slots log_pages : ℕ)
+        → result ≡ Some (Command.Format slots log_pages)
+        ↔ AreFormat (map string_bytes words.now) slots log_pages }
 {
     match words {
         [_, name, _] => {

@@ -1,14 +1,10 @@
 // One line of a script.
-ghost use Rattle.std.specs.Prelude.{◌≡◌, ◌⊎◌, ◌≤◌, ℕ, List, [], length, vec_capacity, IfOk, IfErr, OnOk, OnErr, IsErrOf};
-ghost use Rattle.rss_base.specs.Faults.{Rises};
-ghost use Rattle.rss_base.specs.DiskRule.{IsTold, Continues};
-ghost use Rattle.rss_model.specs.ReplyText.{answer_line};
-ghost use Rattle.rss_model.specs.Script.{Spells};
-ghost use Rattle.rss_model.specs.Turns.{IsAnswered, IsStopped, IsUnmade};
-ghost use Rattle.rss_top.specs.Run.{IsDamage, IsLineEnd, LineRan, DeviceStopped, SinkStopped, MemoryStopped};
+ghost use Rattle.std.specs.Prelude.{◌≡◌, ◌≤◌, [], vec_capacity};
+ghost use Rattle.rss_model.specs.Script.{line_limit};
+ghost use Rattle.rss_top.specs.Lines.{stream, seen, IsAsked, RunsCall, RunsLine};
 
 use crate::Status;
-use crate::writing::{REPLY_BYTES, make_room, write_answer};
+use crate::writing::{make_room, write_answer};
 use rss_base::{Call, CallError, Refusal, Reply, Sink};
 use rss_line::{Line, LineFault, read_line};
 use rss_model::Engine;
@@ -16,18 +12,8 @@ use std::alloc::Global;
 
 /// Makes a call. Its answer is a reply or a refusal.
 fn ask<E: Engine>(engine: &mut E, call: &Call) -> Result<Result<Reply, Refusal>, Status>
-    requires up { E.is_up engine.old }
-    ensures answered { IfOk result (λ answer. IsTold (E.disk engine.old) → IsAnswered (E.disk engine.old) (E.disk engine.new) (E.state engine.old) call.now answer (E.state engine.new)) }
-    ensures short { IfOk result (λ answer. length (answer_line answer) ≤ REPLY_BYTES) }
-    ensures stopped { IsErrOf result Status.DeviceFault → IsTold (E.disk engine.old) → IsStopped (E.disk engine.old) (E.disk engine.new) (E.state engine.old) call.now }
-    ensures unmade { IsErrOf result Status.NoMemory → IsTold (E.disk engine.old) → IsUnmade (E.disk engine.old) (E.disk engine.new) (E.state engine.old) (E.state engine.new) }
-    ensures errors { IfErr result (λ status. (status ≡ Status.DeviceFault) ⊎ (status ≡ Status.NoMemory) ⊎ IsDamage status) }
-    ensures sound { IfErr result (λ status. IsDamage status → IsTold (E.disk engine.old) → ⊥) }
-    ensures up { OnOk result (E.is_up engine.new) }
-    ensures told { IsTold (E.disk engine.old) → IsTold (E.disk engine.new) }
-    ensures history { IsTold (E.disk engine.old) → Continues (E.disk engine.old) (E.disk engine.new) }
-    ensures cause { IsErrOf result Status.DeviceFault → Rises (E.faults engine.old) (E.faults engine.new) }
-    ensures later { E.faults engine.old ≤ E.faults engine.new }
+    requires { (E.view engine.old).is_up }
+    ensures { IsAsked (E.view engine.old) (E.view engine.new) call.now result }
 {
     match engine.call(call) {
         Ok(reply) => Ok(Ok(reply)),
@@ -46,22 +32,13 @@ fn make_call<E: Engine, K: Sink>(
     reply: &mut Vec<u8>,
     sink: &mut K,
 ) -> Result<(), Status>
-    requires up { E.is_up engine.old }
+    requires up { (E.view engine.old).is_up }
     requires empty { reply.old.items ≡ [] }
-    requires room { REPLY_BYTES ≤ vec_capacity reply.old }
-    ensures ok { OnOk result ((line : List ℕ) → Spells line call.now → IsTold (E.disk engine.old) → LineRan (E.disk engine.old) (E.disk engine.new) (E.state engine.old) line (E.state engine.new) (K.written sink.old) (K.written sink.new)) }
-    ensures up { OnOk result (E.is_up engine.new) }
-    ensures fault_up { IsErrOf result Status.WriteFault → E.is_up engine.new }
-    ensures told { IsTold (E.disk engine.old) → IsTold (E.disk engine.new) }
-    ensures history { IsTold (E.disk engine.old) → Continues (E.disk engine.old) (E.disk engine.new) }
-    ensures device { IsErrOf result Status.DeviceFault → (line : List ℕ) → Spells line call.now → IsTold (E.disk engine.old) → DeviceStopped (E.disk engine.old) (E.disk engine.new) (E.state engine.old) line (K.written sink.old) (K.written sink.new) }
-    ensures sink { IsErrOf result Status.WriteFault → (line : List ℕ) → Spells line call.now → IsTold (E.disk engine.old) → SinkStopped (E.disk engine.old) (E.disk engine.new) (E.state engine.old) line (E.state engine.new) (K.written sink.old) (K.written sink.new) }
-    ensures memory { IsErrOf result Status.NoMemory → IsTold (E.disk engine.old) → MemoryStopped (E.disk engine.old) (E.disk engine.new) (E.state engine.old) (E.state engine.new) (K.written sink.old) (K.written sink.new) }
-    ensures errors { IfErr result (IsLineEnd (IsTold (E.disk engine.old))) }
-    ensures sink_cause { IsErrOf result Status.WriteFault → Rises (K.faults sink.old) (K.faults sink.new) }
-    ensures device_cause { IsErrOf result Status.DeviceFault → Rises (E.faults engine.old) (E.faults engine.new) }
-    ensures sink_later { K.faults sink.old ≤ K.faults sink.new }
-    ensures device_later { E.faults engine.old ≤ E.faults engine.new }
+    requires room { line_limit ≤ vec_capacity reply.old }
+    ensures { RunsCall
+        (seen (E.view engine.old) (stream (K.written sink.old) (K.faults sink.old)))
+        (seen (E.view engine.new) (stream (K.written sink.new) (K.faults sink.new)))
+        call.now result }
 {
     let answer = ask(engine, call)?;
     write_answer(&answer, reply, sink)?;
@@ -77,20 +54,11 @@ pub fn line<E: Engine, K: Sink>(
     reply: &mut Vec<u8>,
     sink: &mut K,
 ) -> Result<(), Status>
-    requires { E.is_up engine.old }
-    ensures ok { OnOk result (IsTold (E.disk engine.old) → LineRan (E.disk engine.old) (E.disk engine.new) (E.state engine.old) bytes.now (E.state engine.new) (K.written sink.old) (K.written sink.new)) }
-    ensures up { OnOk result (E.is_up engine.new) }
-    ensures fault_up { IsErrOf result Status.WriteFault → E.is_up engine.new }
-    ensures told { IsTold (E.disk engine.old) → IsTold (E.disk engine.new) }
-    ensures history { IsTold (E.disk engine.old) → Continues (E.disk engine.old) (E.disk engine.new) }
-    ensures device { IsErrOf result Status.DeviceFault → IsTold (E.disk engine.old) → DeviceStopped (E.disk engine.old) (E.disk engine.new) (E.state engine.old) bytes.now (K.written sink.old) (K.written sink.new) }
-    ensures sink { IsErrOf result Status.WriteFault → IsTold (E.disk engine.old) → SinkStopped (E.disk engine.old) (E.disk engine.new) (E.state engine.old) bytes.now (E.state engine.new) (K.written sink.old) (K.written sink.new) }
-    ensures memory { IsErrOf result Status.NoMemory → IsTold (E.disk engine.old) → MemoryStopped (E.disk engine.old) (E.disk engine.new) (E.state engine.old) (E.state engine.new) (K.written sink.old) (K.written sink.new) }
-    ensures errors { IfErr result (IsLineEnd (IsTold (E.disk engine.old))) }
-    ensures sink_cause { IsErrOf result Status.WriteFault → Rises (K.faults sink.old) (K.faults sink.new) }
-    ensures device_cause { IsErrOf result Status.DeviceFault → Rises (E.faults engine.old) (E.faults engine.new) }
-    ensures sink_later { K.faults sink.old ≤ K.faults sink.new }
-    ensures device_later { E.faults engine.old ≤ E.faults engine.new }
+    requires { (E.view engine.old).is_up }
+    ensures { RunsLine
+        (seen (E.view engine.old) (stream (K.written sink.old) (K.faults sink.old)))
+        (seen (E.view engine.new) (stream (K.written sink.new) (K.faults sink.new)))
+        bytes.now result }
 {
     if make_room(reply).is_err() {
         return Err(Status::NoMemory);

@@ -1,11 +1,8 @@
 // A script, read and run.
-ghost use Rattle.std.specs.Prelude.{◌≡◌, ◌≢◌, ◌<◌, ◌≤◌, ◌^◌, [], ℕ, List, Option, Some, Ok, ⊤, length, take, vec_len, IfOk, IfErr, IsErrOf, OnOk, OnErr};
-ghost use Rattle.rss_base.specs.Faults.{HasCause, Rises};
+ghost use Rattle.std.specs.Prelude.{◌≡◌, ◌<◌, ◌≤◌, [], List, ℕ, Some, Ok, length, take, vec_len, IfOk, OnErr};
+ghost use Rattle.rss_base.specs.Faults.{HasCause};
 ghost use Rattle.rss_base.specs.Streams.{Gives};
-ghost use Rattle.rss_base.specs.DiskRule.{IsTold, Continues};
-ghost use Rattle.rss_base.specs.declared.place.Place.{Place};
-ghost use Rattle.rss_model.specs.Machine.{State};
-ghost use Rattle.rss_top.specs.Run.{IsDamage, IsLineEnd, Story, Kept, Stopped, Whole, Ended, kept_limit};
+ghost use Rattle.rss_top.specs.Lines.{stream, seen, world, RunsLast, RunsScript};
 
 use crate::Status;
 use crate::feed::feed;
@@ -31,9 +28,11 @@ fn new_piece(alloc: Global) -> Result<Vec<u8>, AllocError>
 fn read_piece<O: Source>(source: &mut O, piece: &mut [u8], most: usize) -> Result<usize, Failed>
     requires { most ≤ length piece.old }
     ensures within { IfOk result (λ n. n ≤ most) }
-    ensures gives { IfOk result (λ n. Gives (O.left source.old) (take n piece.new) (O.left source.new)) }
-    ensures end { result ≡ Ok 0 → 0 < most → (all : List ℕ) → O.left source.old ≡ Some all → all ≡ [] }
-    ensures failed { OnErr result (O.left source.new ≡ O.left source.old) }
+    ensures gives { IfOk result (λ n.
+        Gives (O.left source.old) (take n piece.new) (O.left source.new)) }
+    ensures end { result ≡ Ok 0 → 0 < most
+        → (all : List ℕ) → O.left source.old ≡ Some all → all ≡ [] }
+    ensures failed { OnErr result (Gives (O.left source.old) [] (O.left source.new)) }
     ensures cause { HasCause (O.faults source.old) (O.faults source.new) result }
 {
     match source.read(&mut piece[..most]) {
@@ -50,28 +49,17 @@ fn finish<E: Engine, K: Sink>(
     reply: &mut Vec<u8>,
     sink: &mut K,
 ) -> Result<(), Status>
-    requires { E.is_up engine.old }
-    ensures ok { OnOk result ((start : ℕ) (first : State) (given : List ℕ) (before : Option (List ℕ)) → IsTold (E.disk engine.old)
-        → Kept start (E.disk engine.old) first (E.state engine.old) given front.now before (K.written sink.old)
-        → Whole start (E.disk engine.new) first given before (K.written sink.new)) }
-    ensures stopped { IfErr result (λ status. (start : ℕ) (first : State) (given : List ℕ) (before : Option (List ℕ)) → IsTold (E.disk engine.old)
-        → Kept start (E.disk engine.old) first (E.state engine.old) given front.now before (K.written sink.old)
-        → Stopped status start (E.disk engine.new) first given ⊤ before (K.written sink.new)) }
-    ensures told { IsTold (E.disk engine.old) → IsTold (E.disk engine.new) }
-    ensures history { IsTold (E.disk engine.old) → Continues (E.disk engine.old) (E.disk engine.new) }
-    ensures errors { IfErr result (IsLineEnd (IsTold (E.disk engine.old))) }
-    ensures sink_cause { IsErrOf result Status.WriteFault → Rises (K.faults sink.old) (K.faults sink.new) }
-    ensures device_cause { IsErrOf result Status.DeviceFault → Rises (E.faults engine.old) (E.faults engine.new) }
-    ensures sink_later { K.faults sink.old ≤ K.faults sink.new }
-    ensures device_later { E.faults engine.old ≤ E.faults engine.new }
+    requires { (E.view engine.old).is_up }
+    ensures { RunsLast
+        (seen (E.view engine.old) (stream (K.written sink.old) (K.faults sink.old)))
+        (seen (E.view engine.new) (stream (K.written sink.new) (K.faults sink.new)))
+        front.now result }
 {
     if front.is_empty() {
         return Ok(());
     }
-    match line(engine, alloc, front, reply, sink) {
-        Ok(()) => Ok(()),
-        Err(status) => Err(status),
-    }
+    line(engine, alloc, front, reply, sink)?;
+    Ok(())
 }
 
 /// Reads a script and runs its lines, each as soon as its end is read.
@@ -81,20 +69,13 @@ pub fn run_lines<O: Source, K: Sink, E: Engine>(
     source: &mut O,
     sink: &mut K,
 ) -> Status
-    requires { E.is_up engine.old }
-    ensures ended { (start : ℕ) (first : State) (before : Option (List ℕ)) → IsTold (E.disk engine.old)
-        → Story start (E.disk engine.old) first (E.state engine.old) [] [] before (K.written sink.old)
-        → Ended result start (E.disk engine.new) first (O.left source.old) (O.left source.new) before (K.written sink.new) }
-    ensures history { IsTold (E.disk engine.old) → Continues (E.disk engine.old) (E.disk engine.new) }
-    ensures source_cause { result ≡ Status.ReadFault → Rises (O.faults source.old) (O.faults source.new) }
-    ensures sink_cause { result ≡ Status.WriteFault → Rises (K.faults sink.old) (K.faults sink.new) }
-    ensures device_cause { result ≡ Status.DeviceFault → Rises (E.faults engine.old) (E.faults engine.new) }
-    ensures sink_later { K.faults sink.old ≤ K.faults sink.new }
-    ensures device_later { E.faults engine.old ≤ E.faults engine.new }
-    ensures not_words { result ≢ Status.Words }
-    ensures not_store { (place : Place) → result ≢ Status.NotAStore place }
-    ensures not_size { result ≢ Status.WrongSize }
-    ensures sound { IsDamage result → IsTold (E.disk engine.old) → ⊥ }
+    requires { (E.view engine.old).is_up }
+    ensures { RunsScript (E.view engine.old).state
+        (world (E.view engine.old) (stream (K.written sink.old) (K.faults sink.old)))
+        (world (E.view engine.new) (stream (K.written sink.new) (K.faults sink.new)))
+        (stream (O.left source.old) (O.faults source.old))
+        (stream (O.left source.new) (O.faults source.new))
+        result }
 {
     let mut front = Vec::new(alloc);
     let mut reply = Vec::new(alloc);

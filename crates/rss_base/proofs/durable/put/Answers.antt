@@ -1,8 +1,8 @@
-use Rattle.rss_base.proofs.Moments.{written_then}
+use Rattle.rss_base.proofs.Moments.{writes_nothing, writes_then}
 use Rattle.rss_base.proofs.durable.put.Goals as goal
 
-pub returns-in_err-sync-clause-moments : goal.returns-in_err-sync-clause-moments
-returns-in_err-sync-clause-moments g c = λ pages told. written_then (c.write.ensures.moments pages told) (c.sync.ensures.moments _ (c.in_ok-write.ensures.written pages told))
+pub returns-in_err-sync-clause-only : goal.returns-in_err-sync-clause-only
+returns-in_err-sync-clause-only g c = writes_then c.write.ensures.only (writes_nothing c.sync.ensures.reads)
 
-pub returns-clause-moments : goal.returns-clause-moments
-returns-clause-moments g c = λ pages told. written_then (c.write.ensures.moments pages told) (c.sync.ensures.moments _ (c.in_ok-write.ensures.written pages told))
+pub returns-clause-only : goal.returns-clause-only
+returns-clause-only g c = writes_then c.write.ensures.only (writes_nothing c.sync.ensures.reads)

@@ -1,5 +1,5 @@
-use Rattle.std.proofs.Common.{take, drop, sym, ◌∙◌, rules, take-append-drop}
-use Rattle.rss_base.proofs.Flows.{takes_more}
+use Rattle.std.proofs.Common.{take, drop, sym, rules, take-append-drop}
+use Rattle.rss_base.proofs.Flows.{takes_kept, takes_more}
 use Rattle.rss_base.proofs.sink.write_all.Goals as goal
 
 pub returns-in_err-done-clause-front : goal.returns-in_err-done-clause-front
@@ -7,7 +7,7 @@ returns-in_err-done-clause-front g c = record {
   front = take c.loop-done.done c.args.bytes.now;
   back = drop c.loop-done.done c.args.bytes.now;
   parts = sym (take-append-drop c.loop-done.done c.args.bytes.now);
-  takes = record { appends = λ all is. c.in_err-done.ensures.failed ∙ c.loop-done.invariant.takes.appends all is };
+  takes = takes_kept _ _ _ _ c.loop-done.invariant.takes c.in_err-done.ensures.failed;
 }
 
 pub loop-done-preserved : goal.loop-done-preserved

@@ -2,29 +2,29 @@ use Rattle.std.proofs.Common.{inl, inr, ℕ, ◌+◌, Err, ap, ◌∙◌, subst,
 use Rattle.std.proofs.lemmas.Result.{err_from_is_err_and}
 use Rattle.rss_base.specs.DiskRule.{page}
 use Rattle.rss_base.specs.Layout.{map_at}
-use Rattle.rss_base.proofs.Moments.{then, no_more}
+use Rattle.rss_base.proofs.Moments.{reads_then}
 use Rattle.rss_pagemap.specs.Taking.{BeginsArea}
 use Rattle.rss_pagemap.proofs.Maps.{same_map, no_fault}
 use Rattle.rss_pagemap.proofs.Areas.{area_all, one_answer, refused_fault, refused_place, refused_device, refused_layout, refused_one}
 use Rattle.rss_pagemap.proofs.reading.read_table.Goals as goal
 
-pub returns-in_err-read-clause-moments : goal.returns-in_err-read-clause-moments
-returns-in_err-read-clause-moments g c = λ pages told. then (c.loop-at.invariant.moments pages told) (c.read.ensures.moments pages (c.loop-at.invariant.contents ∙ told)) (no_more (c.loop-at.invariant.moments pages told))
+pub returns-in_err-read-clause-reads : goal.returns-in_err-read-clause-reads
+returns-in_err-read-clause-reads g c = reads_then c.loop-at.invariant.reads c.read.ensures.reads
 
-pub returns-in_err-take_page-clause-moments : goal.returns-in_err-take_page-clause-moments
-returns-in_err-take_page-clause-moments g c = λ pages told. then (c.loop-at.invariant.moments pages told) (c.read.ensures.moments pages (c.loop-at.invariant.contents ∙ told)) (no_more (c.loop-at.invariant.moments pages told))
+pub returns-in_err-take_page-clause-reads : goal.returns-in_err-take_page-clause-reads
+returns-in_err-take_page-clause-reads g c = reads_then c.loop-at.invariant.reads c.read.ensures.reads
 
 pub returns-in_err-take_page-clause-fault : goal.returns-in_err-take_page-clause-fault
 returns-in_err-take_page-clause-fault g c = λ place is pages told.
     let p = err_from_is_err_and c.from_residual-in_err-take_page.result c.from_residual-in_err-take_page.ensures.1 in
     refused_fault (rw c.loop-at.invariant.slots at c.in_err-take_page.ensures.refused) (one_answer p.1 p.2 is) pages _ c.loop-at.at (omega arith)
-    (c.in_ok-read.ensures.page pages (c.loop-at.invariant.contents ∙ told) ∙ ap (λ (n : ℕ). page pages (n + c.loop-at.at)) c.loop-at.invariant.first) (c.loop-at.invariant.begins pages told)
+    (c.in_ok-read.ensures.page pages (c.loop-at.invariant.reads.contents ∙ told) ∙ ap (λ (n : ℕ). page pages (n + c.loop-at.at)) c.loop-at.invariant.first) (c.loop-at.invariant.begins pages told)
 
 pub returns-in_err-take_page-clause-broken : goal.returns-in_err-take_page-clause-broken
 returns-in_err-take_page-clause-broken g c = λ place pages told broken.
     let p = err_from_is_err_and c.from_residual-in_err-take_page.result c.from_residual-in_err-take_page.ensures.1 in
     elim (refused_one c.requires.formed.slots_most (rw c.loop-at.invariant.slots at c.in_err-take_page.ensures.refused) pages _ c.loop-at.at (omega arith)
-    (c.in_ok-read.ensures.page pages (c.loop-at.invariant.contents ∙ told) ∙ ap (λ (n : ℕ). page pages (n + c.loop-at.at)) c.loop-at.invariant.first) (c.loop-at.invariant.begins pages told) broken) [
+    (c.in_ok-read.ensures.page pages (c.loop-at.invariant.reads.contents ∙ told) ∙ ap (λ (n : ℕ). page pages (n + c.loop-at.at)) c.loop-at.invariant.first) (c.loop-at.invariant.begins pages told) broken) [
       | inl same ↦ inl (p.1 ∙ ap Err (p.2 ∙ same))
       | inr lacks ↦ inr (inr (p.1 ∙ ap Err (p.2 ∙ lacks)))
     ]
@@ -47,13 +47,10 @@ loop-at-preserved g c = record {
   long = omega (arith, c.in_ok-take_page.ensures.long);
   begins = λ pages told.
       let taken = rw c.loop-at.invariant.slots at c.in_ok-take_page.ensures.taken in
-      let here = c.in_ok-read.ensures.page pages (c.loop-at.invariant.contents ∙ told) ∙ ap (λ (n : ℕ). page pages (n + c.loop-at.at)) c.loop-at.invariant.first in
+      let here = c.in_ok-read.ensures.page pages (c.loop-at.invariant.reads.contents ∙ told) ∙ ap (λ (n : ℕ). page pages (n + c.loop-at.at)) c.loop-at.invariant.first in
       subst (λ (n : ℕ). BeginsArea c.args.root.now.slots pages (map_at c.args.root.now.slots c.args.root.now.area) n c.take_page.new.self.owners.items) (omega arith) (taken pages _ c.loop-at.at here (c.loop-at.invariant.begins pages told));
-  contents = search rules;
-  moments = λ pages told. then (c.loop-at.invariant.moments pages told) (c.read.ensures.moments pages (c.loop-at.invariant.contents ∙ told)) (no_more (c.loop-at.invariant.moments pages told));
+  reads = reads_then c.loop-at.invariant.reads c.read.ensures.reads;
   size = search rules;
-  writes = search rules;
-  later = search rules;
 }
 
 pub returns-clause-found : goal.returns-clause-found

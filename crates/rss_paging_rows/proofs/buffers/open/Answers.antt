@@ -1,11 +1,15 @@
-use Rattle.std.proofs.Common.{sym, ◌∙◌}
+use Rattle.std.proofs.Common.{ℕ, sym, ◌∙◌, subst}
+use Rattle.rss_base.specs.Layout.{map_at}
+use Rattle.rss_base.specs.PageMap.{IsMap}
 use Rattle.rss_base.proofs.Moments.{only_stays}
 use Rattle.rss_paging_rows.proofs.buffers.open.Goals as goal
 
 pub new-requires-clause-map : goal.new-requires-clause-map
-new-requires-clause-map c = λ pages told. c.in_ok-table.ensures.found pages (sym c.read_table.ensures.contents ∙ told)
+new-requires-clause-map c = λ pages told.
+    subst (λ (n : ℕ). IsMap n pages (map_at n c.in_ok-root.root.area) c.in_ok-table.table) (sym c.in_ok-table.ensures.count)
+    (c.in_ok-table.ensures.found pages (sym c.read_table.ensures.reads.contents ∙ told))
 
 pub new-requires-clause-synced : goal.new-requires-clause-synced
 new-requires-clause-synced c = λ pages told.
-    let read = sym c.read_table.ensures.contents ∙ told in
-    only_stays pages (c.in_ok-root.ensures.synced pages (sym c.load.ensures.contents ∙ read)) (c.read_table.ensures.moments pages read)
+    let read = sym c.read_table.ensures.reads.contents ∙ told in
+    only_stays pages (c.in_ok-root.ensures.synced pages (sym c.load.ensures.reads.contents ∙ read)) (c.read_table.ensures.reads.moments (record { pages = pages; is = read }))

@@ -1,10 +1,28 @@
-use Rattle.rss_base.proofs.Calls.{leaves_then}
+use Rattle.std.proofs.Common.{◌∙◌, refl, ap, arith, Some}
+use Rattle.rss_base.specs.Paged.{Held, with_page, page_key}
+use Rattle.rss_base.specs.declared.key.Space.TheVariants.{Home}
+use Rattle.rss_base.proofs.Steps.{among, then, then_call, untouched, untouched_call, all_held, fails, done, is_in}
+use Rattle.rss_paging_rows.proofs.Held.{with_page-twice}
 use Rattle.rss_paging_rows.proofs.caller.keep.Goals as goal
 
--- src/caller.rt:32:5
-pub returns-in_err-read-clause-leaves : goal.returns-in_err-read-clause-leaves
-returns-in_err-read-clause-leaves g c = leaves_then (leaves_then c.take.ensures.leaves c.write.ensures.leaves) c.read.ensures.leaves
+pub returns-clause-kept : goal.returns-clause-kept
+returns-clause-kept g c = λ told.
+    let then_told = c.in_ok-number.ensures.did.step.leaves.told.0 told in
+    let key = page_key c.args.segment Home c.in_ok-number.number in
+    let written = c.in_ok-write.ensures.written.held then_told ∙ ap (λ (h : Held). with_page h key (Some c.args.from.now)) (c.in_ok-number.ensures.taken.held told) in
+    all_held c.in_ok-read.ensures.did.step (c.in_ok-write.ensures.did.step.leaves.told.0 then_told) ∙ written ∙ with_page-twice (g.P.Pages.view c.args.pages.now).held key _ (Some c.args.from.now)
 
--- src/caller.rt:10:1
-pub returns-clause-leaves : goal.returns-clause-leaves
-returns-clause-leaves g c = leaves_then (leaves_then c.take.ensures.leaves c.write.ensures.leaves) c.read.ensures.leaves
+pub returns-in_err-write-clause-did : goal.returns-in_err-write-clause-did
+returns-in_err-write-clause-did g c =
+    let put = is_in (page_key c.args.segment Home c.in_ok-number.number) refl in
+    fails _ c.from_residual-in_err-write.ensures.1 put (omega arith) (omega arith) (then_call c.in_ok-number.ensures.did.step (untouched_call c.in_err-write.ensures.did))
+
+pub returns-in_err-read-clause-did : goal.returns-in_err-read-clause-did
+returns-in_err-read-clause-did g c =
+    let put = is_in (page_key c.args.segment Home c.in_ok-number.number) refl in
+    fails _ c.from_residual-in_err-read.ensures.1 (λ key none. none) (omega arith) (omega arith) (then_call (among put (then c.in_ok-number.ensures.did.step c.in_ok-write.ensures.did.step)) (untouched_call c.in_err-read.ensures.did))
+
+pub returns-clause-did : goal.returns-clause-did
+returns-clause-did g c =
+    let put = is_in (page_key c.args.segment Home c.in_ok-number.number) refl in
+    done _ (among put (then (then c.in_ok-number.ensures.did.step c.in_ok-write.ensures.did.step) (untouched c.in_ok-read.ensures.did.step)))

@@ -1,8 +1,8 @@
 use Rattle.std.proofs.Common.{ℕ, Err, ◌∙◌, ap, subst, rules}
 use Rattle.std.proofs.lemmas.Result.{err_from_is_err_and}
+use Rattle.rss_base.proofs.Moments.{reads_then}
 use Rattle.rss_store.specs.Opening.{HoldsNoPage}
 use Rattle.rss_pagemap.proofs.Areas.{one_answer}
-use Rattle.rss_store.proofs.Checked.{reads_then}
 use Rattle.rss_store.proofs.checking.check_pages.Goals as goal
 
 pub returns-in_err-count-clause-damaged : goal.returns-in_err-count-clause-damaged

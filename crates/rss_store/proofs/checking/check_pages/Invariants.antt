@@ -1,8 +1,8 @@
 use Rattle.std.proofs.Common.{◌≡◌}
-use Rattle.rss_base.specs.DiskRule.{Told}
+use Rattle.rss_base.specs.DiskRule.{Told, OnlyReads}
 use Rattle.rss_base.specs.Layout.{slots_at}
 use Rattle.rss_model.specs.Store.{home_pages}
-use Rattle.rss_store.specs.Opening.{OnlyReads, AreStoreKeys, HoldStorePages}
+use Rattle.rss_store.specs.Opening.{AreStoreKeys, HoldStorePages}
 use Rattle.rss_store.proofs.checking.check_pages.Given as goal
 
 abbrev pub invariant-loop-slot : goal.invariant-loop-slot

@@ -2,7 +2,7 @@ use Rattle.std.proofs.Common.{ℕ, ◌+◌, sym, ◌∙◌, subst}
 use Rattle.std.proofs.lemmas.Bool.{iff_false}
 use Rattle.rss_base.specs.DiskRule.{page}
 use Rattle.rss_store.specs.Opening.{HasTuplesOn}
-use Rattle.rss_store.proofs.Checked.{system_key, hold_free, hold_more, hold_last}
+use Rattle.rss_store.proofs.Checked.{system_key, keys_more, hold_free, hold_more, hold_last}
 use Rattle.rss_store.proofs.checking.check_slot.Goals as goal
 
 pub returns-in_default-clause-pages : goal.returns-in_default-clause-pages
@@ -22,3 +22,9 @@ returns-then-is_last-clause-pages g c = λ pages told keys hold.
 pub returns-clause-pages : goal.returns-clause-pages
 returns-clause-pages g c = λ pages told keys hold.
     hold_more c.args.home c.args.first c.args.count c.args.slot pages c.args.table.now c.requires.home c.in-Some.key c.in_ok-tuples.tuples (sym c.owner.ensures ∙ c.in-Some.is) (iff_false c.is_last.ensures c.if-is_last.false) c.in_ok-tuples.ensures.may (subst (λ (n : ℕ). HasTuplesOn (page pages (c.args.first + n)) c.in-Some.key c.in_ok-tuples.tuples) c.from.ensures (c.in_ok-tuples.ensures.page pages told)) hold
+
+pub returns-then-is_last-clause-keys : goal.returns-then-is_last-clause-keys
+returns-then-is_last-clause-keys g c = keys_more c.args.home c.args.slot c.args.table.now c.in-Some.key (sym c.owner.ensures ∙ c.in-Some.is) c.in_ok-tuples.ensures.may.mapped
+
+pub returns-clause-keys : goal.returns-clause-keys
+returns-clause-keys g c = keys_more c.args.home c.args.slot c.args.table.now c.in-Some.key (sym c.owner.ensures ∙ c.in-Some.is) c.in_ok-tuples.ensures.may.mapped

@@ -2,44 +2,44 @@ use Rattle.std.proofs.Common.{◌∙◌, replicate, refl, sym, subst, rules}
 use Rattle.std.proofs.lemmas.Option.{same_Some}
 use Rattle.rss_base.specs.DiskRule.{LeavesOnly}
 use Rattle.rss_store.specs.Formatted.{IsFormatted}
-use Rattle.rss_store.proofs.Going.{goes_on, goes_then}
+use Rattle.rss_base.proofs.Moments.{goes_on, goes_then}
 use Rattle.rss_store.proofs.Formats.{formatted}
 use Rattle.rss_store.proofs.formatting.write_store.Goals as goal
 
 pub returns-in_err-write-clause-goes_on : goal.returns-in_err-write-clause-goes_on
 returns-in_err-write-clause-goes_on g c =
-    goes_then (goes_on c.set_size.ensures.told c.set_size.ensures.moments)
+    goes_then c.set_size.ensures.goes_on
     (goes_then c.write_zeros.ensures.goes_on
-    (goes_then (goes_on c.write_table.ensures.told c.write_table.ensures.moments)
-    (goes_on c.write.ensures.told c.write.ensures.moments)))
+    (goes_then (goes_on c.write_table.ensures.only)
+    (goes_on c.write.ensures.only)))
 
 pub returns-in_err-put-clause-goes_on : goal.returns-in_err-put-clause-goes_on
 returns-in_err-put-clause-goes_on g c =
-    goes_then (goes_on c.set_size.ensures.told c.set_size.ensures.moments)
+    goes_then c.set_size.ensures.goes_on
     (goes_then c.write_zeros.ensures.goes_on
-    (goes_then (goes_on c.write_table.ensures.told c.write_table.ensures.moments)
-    (goes_then (goes_on c.write.ensures.told c.write.ensures.moments)
-    (goes_on c.put.ensures.told c.put.ensures.moments))))
+    (goes_then (goes_on c.write_table.ensures.only)
+    (goes_then (goes_on c.write.ensures.only)
+    (goes_on c.put.ensures.only))))
 
 pub returns-clause-goes_on : goal.returns-clause-goes_on
 returns-clause-goes_on g c =
-    goes_then (goes_on c.set_size.ensures.told c.set_size.ensures.moments)
+    goes_then c.set_size.ensures.goes_on
     (goes_then c.write_zeros.ensures.goes_on
-    (goes_then (goes_on c.write_table.ensures.told c.write_table.ensures.moments)
-    (goes_then (goes_on c.write.ensures.told c.write.ensures.moments)
-    (goes_on c.put.ensures.told c.put.ensures.moments))))
+    (goes_then (goes_on c.write_table.ensures.only)
+    (goes_then (goes_on c.write.ensures.only)
+    (goes_on c.put.ensures.only))))
 
 pub returns-clause-synced : goal.returns-clause-synced
 returns-clause-synced g c = λ pages told.
-    let was = c.put.ensures.told.1 (record { pages = pages; is = told }) in
+    let was = c.put.ensures.only.told.1 (record { pages = pages; is = told }) in
     let same = same_Some _ pages (sym (c.in_ok-put.ensures.written was.pages was.is) ∙ told) in
     subst (LeavesOnly (g.D.Device.disk c.put.new.device)) same (c.in_ok-put.ensures.durable was.pages was.is)
 
 pub returns-clause-made : goal.returns-clause-made
 returns-clause-made g c = λ pages told.
-    let rooted = c.put.ensures.told.1 (record { pages = pages; is = told }) in
-    let mapped = c.write.ensures.told.1 rooted in
-    let zeroed = c.write_table.ensures.told.1 mapped in
+    let rooted = c.put.ensures.only.told.1 (record { pages = pages; is = told }) in
+    let mapped = c.write.ensures.only.told.1 rooted in
+    let zeroed = c.write_table.ensures.only.told.1 mapped in
     let sized = c.write_zeros.ensures.goes_on.told.1 zeroed in
     let zeros = c.in_ok-write_zeros.ensures.zeros sized.pages sized.is in
     let written = c.in_ok-write_table.ensures.written zeros.after zeros.told in

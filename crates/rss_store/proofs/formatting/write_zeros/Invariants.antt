@@ -1,6 +1,6 @@
 use Rattle.std.proofs.Common.{◌≡◌, ◌≤◌}
-use Rattle.rss_base.specs.DiskRule.{Told}
-use Rattle.rss_store.specs.Formatted.{GoesOn, HoldsZeros}
+use Rattle.rss_base.specs.DiskRule.{Told, GoesOn}
+use Rattle.rss_store.specs.Formatted.{HoldsZeros}
 use Rattle.rss_store.proofs.formatting.write_zeros.Given as goal
 
 abbrev pub invariant-loop-at : goal.invariant-loop-at

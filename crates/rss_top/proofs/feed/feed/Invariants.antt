@@ -1,21 +1,16 @@
-use Rattle.std.proofs.Common.{◌≤◌, ◌-◌, ◌++◌, ℕ, List, Option, length, take, vec_len}
-use Rattle.rss_base.specs.DiskRule.{IsTold, Continues}
-use Rattle.rss_model.specs.Machine.{State}
-use Rattle.rss_top.specs.Run.{Kept}
+use Rattle.std.proofs.Common.{◌≤◌, ◌-◌, ℕ, length, take}
+use Rattle.std.specs.Prelude.{Ok}
+use Rattle.rss_top.specs.Lines.{stream, seen, RunsBytes}
 use Rattle.rss_top.proofs.feed.feed.Given as goal
 
 abbrev pub invariant-loop-at : goal.invariant-loop-at
 invariant-loop-at g l = record {
   within : l.done ≤ length l.piece;
-  up : g.E.Engine.is_up l.engine;
-  short : vec_len l.front ≤ 8193;
-  told : IsTold (g.E.Engine.disk l.initial.engine) → IsTold (g.E.Engine.disk l.engine);
-  history : IsTold (g.E.Engine.disk l.initial.engine) → Continues (g.E.Engine.disk l.initial.engine) (g.E.Engine.disk l.engine);
-  kept : (start : ℕ) (first : State) (given : List ℕ) (before : Option (List ℕ)) → IsTold (g.E.Engine.disk l.initial.engine)
-      → Kept start (g.E.Engine.disk l.initial.engine) first (g.E.Engine.state l.initial.engine) given l.initial.front.items before (g.K.Sink.written l.initial.sink)
-      → Kept start (g.E.Engine.disk l.engine) first (g.E.Engine.state l.engine) (given ++ take l.done l.piece) l.front.items before (g.K.Sink.written l.sink);
-  sink_later : g.K.Sink.faults l.initial.sink ≤ g.K.Sink.faults l.sink;
-  device_later : g.E.Engine.faults l.initial.engine ≤ g.E.Engine.faults l.engine;
+  up : (g.E.Engine.view l.engine).is_up;
+  runs : RunsBytes {T = ℕ}
+      (seen (g.E.Engine.view l.initial.engine) (stream (g.K.Sink.written l.initial.sink) (g.K.Sink.faults l.initial.sink)))
+      (seen (g.E.Engine.view l.engine) (stream (g.K.Sink.written l.sink) (g.K.Sink.faults l.sink)))
+      l.initial.front.items (take l.done l.piece) l.front.items (Ok 0);
 }
 
 abbrev pub decreases-loop-at : goal.decreases-loop-at

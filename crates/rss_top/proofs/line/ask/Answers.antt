@@ -1,11 +1,16 @@
-use Rattle.std.proofs.Common.{◌∙◌, ap, Err}
-use Rattle.rss_base.proofs.Moments.{continues}
 use Rattle.rss_top.proofs.line.ask.Goals as goal
 
-pub returns-in-Err-Refused-clause-answered : goal.returns-in-Err-Refused-clause-answered
-returns-in-Err-Refused-clause-answered g c = λ told. c.call.ensures.refused c.in-Err-Refused.why (c.in-Err-Refused.is ∙ ap Err c.in-Err-Refused.field-0-is) c.requires.up told
+pub returns-in-Ok : goal.returns-in-Ok
+returns-in-Ok g c = record { goes = c.call.ensures.done.goes; outcome = c.in-Ok.ensures.done.outcome c.requires }
 
-pub returns-in-Err-Refused-clause-history : goal.returns-in-Err-Refused-clause-history
-returns-in-Err-Refused-clause-history g c = λ told.
-    let answered = c.call.ensures.refused c.in-Err-Refused.why (c.in-Err-Refused.is ∙ ap Err c.in-Err-Refused.field-0-is) c.requires.up told in
-    continues answered.moments
+pub returns-in-Err-Refused : goal.returns-in-Err-Refused
+returns-in-Err-Refused g c = let done = rw c.in-Err-Refused.field-0-is at c.in-Err-Refused.ensures.done in record { goes = done.goes; outcome = done.outcome c.requires }
+
+pub returns-in-Err-Device : goal.returns-in-Err-Device
+returns-in-Err-Device g c = let done = rw c.in-Err-Device.field-0-is at c.in-Err-Device.ensures.done in record { goes = done.goes; outcome = done.outcome c.requires }
+
+pub returns-in-Err-Damaged : goal.returns-in-Err-Damaged
+returns-in-Err-Damaged g c = let done = rw c.in-Err-Damaged.field-0-is at c.in-Err-Damaged.ensures.done in record { goes = done.goes; outcome = done.outcome c.requires }
+
+pub returns-in-Err-NoMemory : goal.returns-in-Err-NoMemory
+returns-in-Err-NoMemory g c = let done = rw c.in-Err-NoMemory.field-0-is at c.in-Err-NoMemory.ensures.done in record { goes = done.goes; outcome = done.outcome c.requires }

@@ -1,32 +1,31 @@
-use Rattle.std.proofs.Common.{[], ◌∙◌, ap, Ok, Err}
-use Rattle.rss_base.proofs.Moments.{started}
-use Rattle.rss_base.proofs.Flows.{takes_none}
-use Rattle.rss_model.specs.Plays.LineStep.{blank, words}
+use Rattle.std.proofs.Common.{◌∙◌, ap, Ok, Err}
+use Rattle.rss_top.proofs.Ways.{passed_on, runs_as}
+use Rattle.rss_top.proofs.Unasked.{line_unread, line_blank, line_words, line_cut}
 use Rattle.rss_top.proofs.line.line.Goals as goal
 
-pub returns-in-Ok-Blank-clause-ok : goal.returns-in-Ok-Blank-clause-ok
-returns-in-Ok-Blank-clause-ok g c = λ told. record {
-  turns = [];
-  text = [];
-  done = record { step = blank (c.read_line.ensures.blank (c.in-Ok-Blank.is ∙ ap Ok c.in-Ok-Blank.field-0-is)); moments = started _ _ };
-  opens = g.met.E.Engine.opens c.args.engine.now c.requires told;
-  takes = takes_none _;
-}
+pub returns-then-is_err : goal.returns-then-is_err
+returns-then-is_err g c = line_unread _ _
 
-pub returns-in_ok-write_answer-in-Err-Words-clause-ok : goal.returns-in_ok-write_answer-in-Err-Words-clause-ok
-returns-in_ok-write_answer-in-Err-Words-clause-ok g c = λ told. record {
-  turns = [];
-  text = _;
-  done = record { step = words (c.read_line.ensures.words (c.in-Err-Words.is ∙ ap Err c.in-Err-Words.field-0-is)); moments = started _ _ };
-  opens = g.met.E.Engine.opens c.args.engine.now c.requires told;
-  takes = c.in_ok-write_answer-in-Err-Words.ensures.ok;
-}
+pub returns-in-Ok-Blank : goal.returns-in-Ok-Blank
+returns-in-Ok-Blank g c = line_blank (g.E.Engine.view c.args.engine.now) c.requires (g.met.E.Engine.opens c.args.engine.now) _ (c.read_line.ensures.blank (c.in-Ok-Blank.is ∙ ap Ok c.in-Ok-Blank.field-0-is))
 
-pub returns-in_err-write_answer-in-Err-Words-clause-sink : goal.returns-in_err-write_answer-in-Err-Words-clause-sink
-returns-in_err-write_answer-in-Err-Words-clause-sink g c = λ fault told. record {
-  turns = [];
-  text = _;
-  done = record { step = words (c.read_line.ensures.words (c.in-Err-Words.is ∙ ap Err c.in-Err-Words.field-0-is)); moments = started _ _ };
-  opens = g.met.E.Engine.opens c.args.engine.now c.requires told;
-  takes = c.in_err-write_answer-in-Err-Words.ensures.fault;
-}
+pub returns-in_ok-write_answer-in-Err-Words : goal.returns-in_ok-write_answer-in-Err-Words
+returns-in_ok-write_answer-in-Err-Words g c = line_words (g.E.Engine.view c.args.engine.now) c.requires (g.met.E.Engine.opens c.args.engine.now) _ _ (c.read_line.ensures.words (c.in-Err-Words.is ∙ ap Err c.in-Err-Words.field-0-is)) _ c.in_ok-write_answer-in-Err-Words.ensures
+
+pub returns-in_err-write_answer-in-Err-Words : goal.returns-in_err-write_answer-in-Err-Words
+returns-in_err-write_answer-in-Err-Words g c =
+    line_cut (g.E.Engine.view c.args.engine.now) c.requires (g.met.E.Engine.opens c.args.engine.now) _ _ (c.read_line.ensures.words (c.in-Err-Words.is ∙ ap Err c.in-Err-Words.field-0-is))
+    _ c.from_residual-in_err-write_answer-in-Err-Words.ensures.1 c.in_err-write_answer-in-Err-Words.ensures
+
+pub returns-in-Err-NoMemory : goal.returns-in-Err-NoMemory
+returns-in-Err-NoMemory g c = line_unread _ _
+
+pub returns-in_err-make_call-in-Ok-Call : goal.returns-in_err-make_call-in-Ok-Call
+returns-in_err-make_call-in-Ok-Call g c =
+    let spells = c.read_line.ensures.call _ (c.in-Ok-Call.is ∙ ap Ok c.in-Ok-Call.field-0-is) in
+    passed_on _ c.from_residual.ensures.1 (runs_as (Err _) (λ ran. ran _ spells) (λ status stop. stop _ spells) c.in_err-make_call-in-Ok-Call.ensures)
+
+pub returns-in_ok-make_call-in-Ok-Call : goal.returns-in_ok-make_call-in-Ok-Call
+returns-in_ok-make_call-in-Ok-Call g c =
+    let spells = c.read_line.ensures.call _ (c.in-Ok-Call.is ∙ ap Ok c.in-Ok-Call.field-0-is) in
+    runs_as (Ok _) (λ ran. ran _ spells) (λ status stop. stop _ spells) c.in_ok-make_call-in-Ok-Call.ensures

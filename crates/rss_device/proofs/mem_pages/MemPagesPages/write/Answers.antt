@@ -1,6 +1,8 @@
-use Rattle.std.proofs.Common.{rules, ◌≡◌, All, true, false}
+use Rattle.std.proofs.Common.{rules, refl, arith, inl, ◌≡◌, All, true, false}
 use Rattle.rss_device.specs.MemPages.{has_key, place_at}
 use Rattle.rss_device.proofs.Places.{none_has, changes_own, held_put, stays_mapped, placed_after}
+use Rattle.rss_base.proofs.Calls.{leaves_rests}
+use Rattle.rss_base.proofs.Steps.{wrote}
 use Rattle.rss_device.proofs.mem_pages.MemPagesPages.write.Goals as goal
 
 pub unreachable-requires : goal.unreachable-requires
@@ -15,11 +17,10 @@ invariant_of-self c =
     record { placed = placed_after _ _ _ _ c.args.self.now.placed (changes_own _ _ _ _ c.args.self.now.placed has (λ other differs. differs)) (c.args.self.now.placed.allowed _ _ has) }
 
 pub returns-clause-written : goal.returns-clause-written
-returns-clause-written c = λ told.
+returns-clause-written c =
     let has : has_key c.args.key (place_at c.args.self.now.places.items c.in-Some.at) ≡ true = search rules in
-    held_put _ _ _ _ (changes_own _ _ _ _ c.args.self.now.placed has (λ other differs. differs))
+    let put = held_put _ _ _ c.args.from.now (changes_own _ _ _ _ c.args.self.now.placed has (λ other differs. differs)) in
+    record { mapped = stays_mapped _ _ _ c.args.from.now put c.requires; held = λ told. put }
 
-pub returns-clause-mapped : goal.returns-clause-mapped
-returns-clause-mapped c =
-    let has : has_key c.args.key (place_at c.args.self.now.places.items c.in-Some.at) ≡ true = search rules in
-    stays_mapped _ _ _ c.args.from.now (held_put _ _ _ _ (changes_own _ _ _ _ c.args.self.now.placed has (λ other differs. differs))) c.requires
+pub returns-clause-did : goal.returns-clause-did
+returns-clause-did c = wrote _ (record { slots = search rules; backing = refl; leaves = leaves_rests _ _ _; later = omega arith; asks_low = omega arith; asks_high = omega arith; writes_low = omega arith; writes_high = omega arith }) (λ other is. inl is) (returns-clause-written c)

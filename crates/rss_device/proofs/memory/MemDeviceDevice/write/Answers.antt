@@ -2,24 +2,24 @@ use Rattle.std.proofs.Common.{rules, ◌≡◌, ⊎_elim, [], ◌∷◌, ◌++�
 use Rattle.std.specs.Prelude.{is_ok}
 use Rattle.rss_base.specs.DiskRule.{Pages}
 use Rattle.rss_device.specs.declared.event.Event.TheVariants.{Torn, Wrote}
-use Rattle.rss_device.proofs.Events.{kept_after, kept_same, stays, either, tears, writes}
+use Rattle.rss_device.proofs.Events.{kept_after, kept_same, stays, either, tears, writes, written_at, written_none}
 use Rattle.rss_device.proofs.memory.MemDeviceDevice.write.Goals as goal
 
-pub invariant_of-self : goal.invariant_of-self
-invariant_of-self c = record { kept = ⊎_elim (λ pushed. kept_after _ _ _ c.args.self.now.kept _ (Torn c.args.at) _ pushed c.args.self.now.kept) (λ same. kept_same _ _ _ _ same c.args.self.now.kept) (either (is_ok c.push.result) c.push.ensures.items) }
+pub invariant_of-self-clause-kept : goal.invariant_of-self-clause-kept
+invariant_of-self-clause-kept c = ⊎_elim (λ pushed. kept_after _ _ _ c.args.self.now.kept _ (Torn c.args.at) _ pushed c.args.self.now.kept) (λ same. kept_same _ _ _ _ same c.args.self.now.kept) (either (is_ok c.push.result) c.push.ensures.items)
 
-pub returns-then-next_fails-clause-moments : goal.returns-then-next_fails-clause-moments
-returns-then-next_fails-clause-moments c = λ pages told. ⊎_elim
+pub returns-then-next_fails-clause-only : goal.returns-then-next_fails-clause-only
+returns-then-next_fails-clause-only c = written_none _ _ _ _ c.args.at (⊎_elim
     (λ pushed. tears _ _ _ c.args.self.now.kept _ _ _ c.requires pushed)
     (λ same. stays _ _ _ _ _ same)
-    (either (is_ok c.push.result) c.push.ensures.items)
+    (either (is_ok c.push.result) c.push.ensures.items))
 
-pub invariant_of-self-2 : goal.invariant_of-self-2
-invariant_of-self-2 c =
+pub invariant_of-self-2-clause-kept : goal.invariant_of-self-2-clause-kept
+invariant_of-self-2-clause-kept c =
     let pushed : c.push-2.new.self.items ≡ c.args.self.now.events.items ++ Wrote c.args.at c.args.from.now ∷ [] = search rules in
-    record { kept = kept_after _ _ _ c.args.self.now.kept _ (Wrote c.args.at c.args.from.now) _ pushed (ap (λ (p : Pages). set p c.args.at c.args.from.now) c.args.self.now.kept) }
+    kept_after _ _ _ c.args.self.now.kept _ (Wrote c.args.at c.args.from.now) _ pushed (ap (λ (p : Pages). set p c.args.at c.args.from.now) c.args.self.now.kept)
 
-pub returns-clause-moments : goal.returns-clause-moments
-returns-clause-moments c = λ pages told.
+pub returns-clause-only : goal.returns-clause-only
+returns-clause-only c =
     let pushed : c.push-2.new.self.items ≡ c.args.self.now.events.items ++ Wrote c.args.at c.args.from.now ∷ [] = search rules in
-    writes _ _ _ c.args.self.now.kept _ _ _ _ c.requires pushed
+    written_at _ _ _ _ c.args.at c.args.from.now (writes _ _ _ c.args.self.now.kept _ _ _ _ c.requires pushed)

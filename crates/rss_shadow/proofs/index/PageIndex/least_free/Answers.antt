@@ -1,14 +1,13 @@
-use Rattle.std.proofs.Common.{ℕ}
-use Rattle.std.specs.Prelude.{Option, Some, None, IfNone}
-use Rattle.rss_shadow.proofs.Columns.{full_place}
+use Rattle.rss_shadow.proofs.Columns.{first_unindexed_told, none_unindexed_told, free_within, free_lacks, lesser_indexed, none_full}
 use Rattle.rss_shadow.proofs.index.PageIndex.least_free.Goals as goal
 
-if_none : (P Q : Type 0) → (P → Q) → (o : Option ℕ) → IfNone o P → IfNone o Q
-if_none P Q then None has = then has
-if_none P Q then (Some number) has = has
-
-pub returns-clause-none : goal.returns-clause-none
-returns-clause-none c =
-    if_none _ _
-    (λ all. full_place c.args.self.now _ c.args.space c.args.segment _ _ c.self.view_is c.self.invariant c.requires.low c.requires.high c.requires.space c.column_at.ensures.place c.index.ensures all)
-    _ c.least_free.ensures.none
+pub returns : goal.returns
+returns c =
+    let first = first_unindexed_told c.self.invariant c.requires.low c.requires.high c.requires.space c.column_at.ensures.place c.index.ensures 0 _ c.first_free.ensures.some in
+    let none = none_unindexed_told c.self.invariant c.requires.low c.requires.high c.requires.space c.column_at.ensures.place c.index.ensures 0 _ c.first_free.ensures.none in
+    rw (← c.self.view_is) (record {
+      within = free_within _ _ _ _ first;
+      free = free_lacks _ _ _ _ first;
+      lesser = lesser_indexed _ _ _ _ first;
+      none = none_full _ _ _ c.self.invariant c.requires.low c.requires.high c.requires.space _ none;
+    })

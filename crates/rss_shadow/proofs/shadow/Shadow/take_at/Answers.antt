@@ -11,7 +11,7 @@ unreachable-requires c = some_unused c.self.invariant c.in_default.ensures.none 
 pub invariant_of-self : goal.invariant_of-self
 invariant_of-self c =
     let back = sym c.self.view_is in
-    let free = IsFree-unused c.self.invariant c.in-Some.ensures.within c.in-Some.ensures.absent in
+    let free = IsFree-unused c.self.invariant c.in-Some.ensures.within c.in-Some.ensures.some.has in
     rw (c.set.ensures, c.insert.ensures, c.heap_pages.ensures)
     (IsShadow-gains c.self.invariant free
     (subst (λ (m : Maps). IsKey (length m.current) c.args.key) back c.requires.allowed)
@@ -21,6 +21,6 @@ invariant_of-self c =
 
 pub returns-clause-spare : goal.returns-clause-spare
 returns-clause-spare c =
-    let free = IsFree-unused c.self.invariant c.in-Some.ensures.within c.in-Some.ensures.absent in
+    let free = IsFree-unused c.self.invariant c.in-Some.ensures.within c.in-Some.ensures.some.has in
     rw (c.set.ensures, ← c.self.view_is)
     (spare-gains _ _ c.args.key c.self.invariant.maps_hold free (subst (λ (m : Maps). 0 < spare m) (sym c.self.view_is) c.requires.room))

@@ -8,7 +8,7 @@ use Rattle.rss_store.proofs.engine.Store.new.Goals as goal
 
 pub returns-clause-state : goal.returns-clause-state
 returns-clause-state g c =
-    let held = g.S.Pages.held c.args.pages in
+    let held = (g.S.Pages.view c.args.pages).held in
     let values = values_in held c.args.count in
     let long = length_values held c.args.count in
     let session = c.new-session.ensures in

@@ -1,37 +1,43 @@
-use Rattle.std.proofs.Common.{◌≡◌}
+use Rattle.std.proofs.Common.{refl, arith}
 use Rattle.rss_base.proofs.Moments.{started}
+use Rattle.rss_model.proofs.Endings.{comes_to, costs_nothing}
 use Rattle.rss_store.specs.HomePages.{values_in}
 use Rattle.rss_store.proofs.HomePages.{length_values}
 use Rattle.rss_store.proofs.engine.StoreEngine.call.Goals as goal
 
-pub returns-in-End-clause-refused : goal.returns-in-End-clause-refused
-returns-in-End-clause-refused g c = λ why is up told. rw c.in-End.is (c.end.ensures.refused why is told)
+pub returns-in-End-clause-done : goal.returns-in-End-clause-done
+returns-in-End-clause-done g c = rw c.in-End.is c.end.ensures
 
-pub returns-in-Insert-clause-refused : goal.returns-in-Insert-clause-refused
-returns-in-Insert-clause-refused g c = λ why is up told. rw c.in-Insert.is (c.insert.ensures.refused why is told)
+pub returns-in-Insert-clause-done : goal.returns-in-Insert-clause-done
+returns-in-Insert-clause-done g c = rw c.in-Insert.is c.insert.ensures
 
-pub returns-in-Fetch-clause-refused : goal.returns-in-Fetch-clause-refused
-returns-in-Fetch-clause-refused g c = λ why is up told. rw c.in-Fetch.is (c.fetch.ensures.refused why is told)
+pub returns-in-Fetch-clause-done : goal.returns-in-Fetch-clause-done
+returns-in-Fetch-clause-done g c = rw c.in-Fetch.is c.fetch.ensures
 
-pub returns-in-Ok-clause-ok : goal.returns-in-Ok-clause-ok
-returns-in-Ok-clause-ok g c = λ up told.
+pub returns-in-Ok-clause-done : goal.returns-in-Ok-clause-done
+returns-in-Ok-clause-done g c =
     let store = c.args.self.now in
-    let held = g.S.Pages.held store.pages in
-    let values = values_in held store.session.count in
+    let values = values_in (g.S.Pages.view store.pages).held store.session.count in
     let begun = c.in-Ok.ensures in
-    record {
-      step = rw (c.in-Begin.is, begun.count) (begun.step values (length_values held store.session.count));
-      moments = started _ _;
-    }
+    comes_to c.if-self.false (costs_nothing _ refl refl (λ told. told) (omega arith)) (record {
+      up = c.if-self.false;
+      short = begun.answers.short;
+      answered = λ told. record {
+        step = rw (c.in-Begin.is, begun.keeps.count) (begun.answers.step values (length_values (g.S.Pages.view store.pages).held store.session.count));
+        moments = started _ _;
+      };
+    })
 
-pub returns-in-Err-clause-refused : goal.returns-in-Err-clause-refused
-returns-in-Err-clause-refused g c = λ why is up told.
+pub returns-in-Err-clause-done : goal.returns-in-Err-clause-done
+returns-in-Err-clause-done g c =
     let store = c.args.self.now in
-    let held = g.S.Pages.held store.pages in
-    let values = values_in held store.session.count in
+    let values = values_in (g.S.Pages.view store.pages).held store.session.count in
     let begun = c.in-Err.ensures in
-    let same : why ≡ c.in-Err.why = cc in
-    record {
-      step = rw (c.in-Begin.is, begun.count, same) (begun.step values (length_values held store.session.count));
-      moments = started _ _;
-    }
+    comes_to c.if-self.false (costs_nothing _ refl refl (λ told. told) (omega arith)) (record {
+      up = c.if-self.false;
+      short = begun.answers.short;
+      answered = λ told. record {
+        step = rw (c.in-Begin.is, begun.keeps.count) (begun.answers.step values (length_values (g.S.Pages.view store.pages).held store.session.count));
+        moments = started _ _;
+      };
+    })

@@ -12,23 +12,25 @@ use Rattle.rss_store.proofs.session.Session.admit_insert.Goals as goal
 pub returns-in_err-admit-clause-refused : goal.returns-in_err-admit-clause-refused
 returns-in_err-admit-clause-refused c =
     let p = err_from_is_err_and c.from_residual.result c.from_residual.ensures.1 in
-    rw (p.1, p.2) (λ values long. insert_refused _ _ _ values _ _ _ _ (c.in_err-admit.ensures.refused values))
+    rw (p.1, p.2) (record { step = λ values long. insert_refused _ _ _ values _ _ _ _ (c.in_err-admit.ensures.refused values); short = c.in_err-admit.ensures.short })
 
 pub returns-in_err-value-clause-refused : goal.returns-in_err-value-clause-refused
 returns-in_err-value-clause-refused c =
     let p = err_from_is_err_and c.from_residual-in_err-value.result c.from_residual-in_err-value.ensures.1 in
-    rw (p.1, p.2)
-    (λ values long.
     let session = c.args.self.now in
-    insert_misfit _ _ _ values _ _ (omega (arith, long, session.within)) (λ none. session.rest none ∙ sym long) c.in_ok-admit.ensures.open c.in_ok-admit.ensures.known _ _ c.in_err-value.ensures.refused)
+    rw (p.1, p.2) (record {
+      step = λ values long. insert_misfit _ _ _ values _ _ (omega (arith, long, session.within)) (λ none. session.rest none ∙ sym long) c.in_ok-admit.ensures.open c.in_ok-admit.ensures.known _ _ c.in_err-value.ensures.refused;
+      short = c.in_err-value.ensures.short;
+    })
 
 pub returns-then-needed-from-clause-refused : goal.returns-then-needed-from-clause-refused
-returns-then-needed-from-clause-refused c = λ values long.
+returns-then-needed-from-clause-refused c =
     let session = c.args.self.now in
-    let is : c.needed-needed.result ≡ needed session.committed (length values) = c.needed-needed.ensures ∙ ap (needed session.committed) (sym long) in
-    let full : session.slots < needed session.committed (length values) = omega (arith, is, c.from.ensures, c.if-needed-from.true) in
-    subst (λ (n : _). Step (state session values) (Insert c.args.transaction c.args.relation.now c.args.tuple.now) (Err (Full session.slots n)) (state session values)) (sym is)
-    (insert_full _ _ _ values _ _ (omega (arith, long, session.within)) (λ none. session.rest none ∙ sym long) c.in_ok-admit.ensures.open c.in_ok-admit.ensures.known _ _ c.in_ok-value.ensures.ok full)
-
-pub returns-then-needed-from-clause-short : goal.returns-then-needed-from-clause-short
-returns-then-needed-from-clause-short c = full_line c.args.self.now.slots c.needed-needed.result (omega (arith, c.args.self.now.few)) c.needed-needed.type_inv
+    record {
+      step = λ values long.
+          let is : c.needed-needed.result ≡ needed session.committed (length values) = c.needed-needed.ensures ∙ ap (needed session.committed) (sym long) in
+          let full : session.slots < needed session.committed (length values) = omega (arith, is, c.from.ensures, c.if-needed-from.true) in
+          subst (λ (n : _). Step (state session values) (Insert c.args.transaction c.args.relation.now c.args.tuple.now) (Err (Full session.slots n)) (state session values)) (sym is)
+          (insert_full _ _ _ values _ _ (omega (arith, long, session.within)) (λ none. session.rest none ∙ sym long) c.in_ok-admit.ensures.open c.in_ok-admit.ensures.known _ _ c.in_ok-value.ensures.ok full);
+      short = full_line session.slots c.needed-needed.result (omega (arith, session.few)) c.needed-needed.type_inv;
+    }

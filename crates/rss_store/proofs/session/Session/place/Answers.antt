@@ -13,7 +13,7 @@ use Rattle.rss_store.proofs.session.Session.place.Goals as goal
 pub returns-in_err-admit-clause-refused : goal.returns-in_err-admit-clause-refused
 returns-in_err-admit-clause-refused c =
     let p = err_from_is_err_and c.from_residual.result c.from_residual.ensures.1 in
-    rw (p.1, p.2) (λ values long. fetch_refused _ _ _ values _ _ _ _ (c.in_err-admit.ensures.refused values c.args.tid))
+    rw (p.1, p.2) (record { step = λ values long. fetch_refused _ _ _ values _ _ _ _ (c.in_err-admit.ensures.refused values c.args.tid); short = c.in_err-admit.ensures.short })
 
 pub returns-in-Some-clause-step : goal.returns-in-Some-clause-step
 returns-in-Some-clause-step c = λ values z long is.
@@ -24,10 +24,11 @@ returns-in-Some-clause-step c = λ values z long is.
     fetch_step _ _ _ values _ _ (omega (arith, long, session.within)) (λ none. session.rest none ∙ sym long) c.in_ok-admit.ensures.open c.in_ok-admit.ensures.known _ _ there
 
 pub returns-in-None-clause-refused : goal.returns-in-None-clause-refused
-returns-in-None-clause-refused c = λ values long.
+returns-in-None-clause-refused c =
     let session = c.args.self.now in
-    let none : content (tables_of values).contents (TupleItem relation_r c.args.tid) ≡ None = content_none (TupleItem relation_r c.args.tid) values (λ k lt e. c.in-None.ensures.none k (omega (arith, long, lt)) (sym (named c.args.tid k e))) in
-    fetch_none _ _ _ values _ _ (omega (arith, long, session.within)) (λ none. session.rest none ∙ sym long) c.in_ok-admit.ensures.open c.in_ok-admit.ensures.known _ none
-
-pub returns-in-None-clause-short : goal.returns-in-None-clause-short
-returns-in-None-clause-short c = no_tuple_line _ c.args.tid c.in_ok-admit.ensures.known (search rules) (search rules)
+    record {
+      step = λ values long.
+          let none : content (tables_of values).contents (TupleItem relation_r c.args.tid) ≡ None = content_none (TupleItem relation_r c.args.tid) values (λ k lt e. c.in-None.ensures.none k (omega (arith, long, lt)) (sym (named c.args.tid k e))) in
+          fetch_none _ _ _ values _ _ (omega (arith, long, session.within)) (λ none. session.rest none ∙ sym long) c.in_ok-admit.ensures.open c.in_ok-admit.ensures.known _ none;
+      short = no_tuple_line _ c.args.tid c.in_ok-admit.ensures.known (search rules) (search rules);
+    }

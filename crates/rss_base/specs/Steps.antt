@@ -1,0 +1,102 @@
+-- What there is to see of pages, and what a call on them passes on, whatever it does.
+use Rattle.std.specs.Prelude.{◌≡◌, ◌⊎◌, ℕ, ◌+◌, ◌≤◌, Bool, true, false, List, Some, None, Result, Ok, Err, IsErrOf}
+use Rattle.rss_base.specs.DiskRule.{Disk, IsTold}
+use Rattle.rss_base.specs.Sizes.{zero_page}
+use Rattle.rss_base.specs.Faults.{Rises}
+use Rattle.rss_base.specs.PageMap.{page_count}
+use Rattle.rss_base.specs.Paged.{Mapped, Held, Fixed, Backing, LeavesFixed, page_key, with_mapped, with_page, mapped_pages}
+use Rattle.rss_base.specs.declared.place.Place.{Place}
+use Rattle.rss_base.specs.declared.fault.PageFault.{PageFault}
+use Rattle.rss_base.specs.declared.fault.PageFault.TheVariants.{Device as DeviceFailed, Damaged}
+use Rattle.rss_base.specs.declared.key.PageKey.{PageKey}
+use Rattle.rss_base.specs.declared.key.Space.{Space}
+
+-- disk: what the device under the pages tells.
+-- slots: how many slots it has for them.
+-- mapped, held: which pages there are, and what each of them holds where the device tells its contents.
+-- changed: which of them were changed since all of them were saved.
+-- spare: how many more can be taken.
+-- asks, writes, faults: how many reads of a page there were, and writes and faults of the device.
+-- fixed, settled: what is fixed of the device's pages, and that none of this is on its way to the disk.
+-- backing: what the pages stand on.
+pub record PagesView : Type 1 where
+  pub disk : Disk
+  pub slots : ℕ
+  pub mapped : Mapped
+  pub held : Held
+  pub changed : Mapped
+  pub spare : ℕ
+  pub asks : ℕ
+  pub writes : ℕ
+  pub faults : ℕ
+  pub fixed : Fixed
+  pub settled : Bool
+  pub backing : Backing
+
+-- Each slot is spare, or one page's: of those that are mapped and of those that were saved, each has a slot of its own.
+abbrev pub AreCounted : PagesView → Type 0
+AreCounted view = view.spare + mapped_pages view.slots view.mapped + page_count view.backing.shadow ≡ view.slots
+
+-- ---- sets of pages
+
+abbrev pub Keys : Type 1
+Keys = PageKey → Type 0
+
+abbrev pub no_page : Keys
+no_page key = ⊥
+
+abbrev pub only : PageKey → Keys
+only one key = key ≡ one
+
+-- this page, where the call succeeded
+abbrev pub only_on_ok : {T E : Type 0} → PageKey → Result T E → Keys
+only_on_ok key (Ok value) = only key
+only_on_ok key (Err e) = no_page
+
+-- the page of the number that was answered
+abbrev pub taken : {E : Type 0} → ℕ → Space → Result ℕ E → Keys
+taken segment space (Ok number) = only (page_key segment space number)
+taken segment space (Err e) = no_page
+
+-- the pages of a segment and a space
+abbrev pub pages_in : ℕ → Space → Keys
+pages_in segment space key = key ≡ page_key segment space key.number
+
+-- ---- what is done to one page
+
+-- the page holds these bytes now
+pub record WritesPage (key : PageKey) (bytes : List ℕ) (old new : PagesView) : Type 0 where
+  pub mapped : new.mapped ≡ old.mapped
+  pub held : IsTold old.disk → new.held ≡ with_page old.held key (Some bytes)
+
+-- the page is mapped now, and holds zeros
+pub record TakesPage (key : PageKey) (old new : PagesView) : Type 0 where
+  pub mapped : new.mapped ≡ with_mapped old.mapped key true
+  pub held : IsTold old.disk → new.held ≡ with_page old.held key (Some zero_page)
+
+-- the page is mapped no longer
+pub record GivesPage (key : PageKey) (old new : PagesView) : Type 0 where
+  pub mapped : new.mapped ≡ with_mapped old.mapped key false
+  pub held : IsTold old.disk → new.held ≡ with_page old.held key None
+
+-- ---- what each call passes on
+
+-- Whatever was done: no pages were touched but these, so many were asked for at most, and so many writes made at most.
+pub record PagesStep (touched : Keys) (asks writes : ℕ) (old new : PagesView) : Type 0 where
+  pub slots : new.slots ≡ old.slots
+  pub backing : new.backing ≡ old.backing
+  pub leaves : LeavesFixed (old.settled ≡ true) (new.settled ≡ true) old.disk new.disk old.fixed new.fixed
+  pub later : old.faults ≤ new.faults
+  pub asks_low : old.asks ≤ new.asks
+  pub asks_high : new.asks ≤ old.asks + asks
+  pub writes_low : old.writes ≤ new.writes
+  pub writes_high : new.writes ≤ old.writes + writes
+  pub changed_off : (key : PageKey) → new.changed key ≡ true → (old.changed key ≡ true) ⊎ touched key
+  pub mapped_off : (key : PageKey) → (touched key → ⊥) → new.mapped key ≡ old.mapped key
+  pub held_off : IsTold old.disk → (key : PageKey) → (touched key → ⊥) → new.held key ≡ old.held key
+
+-- The same of a call, by its result: a device's fault has come, and nothing is found damaged on a device that tells its contents.
+pub record PagesCall {T : Type 0} (touched : Keys) (asks writes : ℕ) (old new : PagesView) (result : Result T PageFault) : Type 0 where
+  pub step : PagesStep touched asks writes old new
+  pub failed : IsErrOf result DeviceFailed → Rises old.faults new.faults
+  pub sound : (place : Place) → result ≡ Err (Damaged place) → IsTold old.disk → ⊥

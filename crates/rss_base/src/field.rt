@@ -1,0 +1,53 @@
+// Fields of relations.
+ghost use Rattle.std.specs.Prelude.{◌≡◌, [], ◌∷◌, ◌++◌, OnOk, OnErr};
+
+use crate::{FieldKind, Name};
+use std::alloc::{AllocError, Global};
+use std::marker::Model;
+
+/// A field of a relation, by its name.
+#[derive(Clone, Copy, Debug, PartialEq, Eq)]
+pub struct FieldDef {
+    pub name: Name,
+    pub kind: FieldKind,
+}
+
+/// The fields of a relation, in their order.
+#[derive(Debug, Drop)]
+pub struct Fields {
+    fields: Vec<FieldDef>,
+}
+
+impl Model for Fields {
+    ghost use Rattle.std.specs.Prelude.{List};
+    ghost use Rattle.rss_base.specs.declared.field.FieldDef.{FieldDef};
+
+    ghost Value = { List FieldDef };
+
+    ghost view = { λ f. f.fields.items };
+}
+
+impl Fields {
+    /// No fields; the list grows by this allocator.
+    pub fn new(alloc: Global) -> Self
+        ensures { result ≡ [] }
+    {
+        Fields {
+            fields: Vec::new(alloc),
+        }
+    }
+
+    pub fn push(&mut self, field: FieldDef) -> Result<(), AllocError>
+        ensures ok { OnOk result (self.new ≡ self.old ++ field ∷ []) }
+        ensures err { OnErr result (self.new ≡ self.old) }
+    {
+        self.fields.push(field)?;
+        Ok(())
+    }
+
+    pub fn as_slice(&self) -> &[FieldDef]
+        ensures { result.now ≡ self.now }
+    {
+        self.fields.as_slice()
+    }
+}

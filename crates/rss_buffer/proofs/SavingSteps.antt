@@ -1,0 +1,46 @@
+-- How calls follow one another by which pages are saved.
+use Rattle.std.proofs.Common.{◌≡◌, ℕ, Bool, false, List, Option, Some, None, refl, ◌∙◌, ap, arith}
+use Rattle.std.specs.Prelude.{is_none, option_map, unwrap_or, Err}
+use Rattle.rss_base.specs.PageMap.{owner_of}
+use Rattle.rss_base.specs.Paged.{HasPageCause}
+use Rattle.rss_base.specs.Steps.{PagesView}
+use Rattle.rss_base.specs.StoredPages.{slot_of}
+use Rattle.rss_base.specs.declared.fault.PageFault.{PageFault}
+use Rattle.rss_base.specs.declared.fault.PageFault.TheVariants.{Device as DeviceFailed, Damaged}
+use Rattle.rss_base.specs.declared.key.PageKey.{PageKey}
+use Rattle.rss_base.proofs.Keys.{owner_of-slot_of}
+use Rattle.rss_buffer.specs.Saving.{SavingView, changed_by, AreSaveable, SavingStep, SavingCall}
+
+-- one call after another
+pub saving_then : {old mid new : PagesView} {before between after : SavingView} → SavingStep old mid before between → SavingStep mid new between after → SavingStep old new before after
+saving_then one two = record {
+  current = two.current ∙ one.current;
+  waiting = λ key is. one.waiting key (two.waiting key is);
+  held = λ told. two.held (one.told.0 told) ∙ one.held told;
+  log_pages = two.log_pages ∙ one.log_pages;
+  asks = two.asks ∙ one.asks;
+  told = (λ told. two.told.0 (one.told.0 told), λ told. one.told.1 (two.told.1 told));
+  later = omega (arith, one.later, two.later);
+}
+
+-- where the current map was saved no page was changed
+pub none_changed : {pages : PagesView} {saving : SavingView} → AreSaveable pages saving → pages.backing.shadow ≡ saving.current → (key : PageKey) → pages.changed key ≡ false
+none_changed {pages = pages} {saving = saving} saveable saved key =
+    ap (λ (changed : PageKey → Bool). changed key) saveable.changed
+    ∙ ap (λ (shadow : List (Option PageKey)). changed_by (record { current = saving.current; shadow = shadow }) key) saved
+    ∙ unchanged (slot_of saving.current key) refl
+  where
+    unchanged : (o : Option ℕ) → slot_of saving.current key ≡ o → unwrap_or (option_map (λ slot. is_none (owner_of saving.current slot)) o) false ≡ false
+    unchanged None is = refl
+    unchanged (Some slot) is = ap (λ (o : Option PageKey). is_none o) (owner_of-slot_of saving.current key slot is)
+
+-- it fails by the device alone
+pub saving_fails : {T : Type 0} {old new : PagesView} {before after : SavingView} {fault : PageFault} → SavingCall {T = T} old new before after (Err fault) → fault ≡ DeviceFailed
+saving_fails call = call.fault
+
+pub saving_cause : {T : Type 0} {old new : PagesView} {before after : SavingView} {fault : PageFault} → SavingCall {T = T} old new before after (Err fault) → HasPageCause {T = T} old.disk old.faults new.faults (Err fault)
+saving_cause {fault = fault} call = record {
+  later = call.step.later;
+  failed = λ is. call.cause refl;
+  sound = λ place is told. let device : fault ≡ DeviceFailed = call.fault in let damaged : fault ≡ Damaged place = cc in absurd (cc);
+}

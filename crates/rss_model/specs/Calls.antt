@@ -1,0 +1,77 @@
+-- A call on an engine, whichever call it is: what it leaves, by its result.
+use Rattle.std.specs.Prelude.{◌≡◌, ℕ, ◌≤◌, List, length, Result, Ok, Err, IsErrOf, ⊤}
+use Rattle.rss_base.specs.DiskRule.{Disk, IsTold}
+use Rattle.rss_base.specs.Faults.{Rises}
+use Rattle.rss_base.specs.declared.call.Call.{Call}
+use Rattle.rss_base.specs.declared.call.Call.TheVariants.{Begin, End, Insert, Fetch}
+use Rattle.rss_base.specs.declared.answer.Reply.{Reply}
+use Rattle.rss_base.specs.declared.answer.CallError.{CallError}
+use Rattle.rss_base.specs.declared.answer.CallError.TheVariants.{Refused, Damaged, Device, NoMemory, Down}
+use Rattle.rss_model.specs.Machine.{State}
+use Rattle.rss_model.specs.Steps.{Answer}
+use Rattle.rss_model.specs.Turns.{IsAnswered, IsStopped, IsUnmade}
+use Rattle.rss_model.specs.ReplyText.{IsShort}
+use Rattle.rss_model.specs.Costs.{RisesAtMost, most_asks, HasChanged, most_writes}
+
+-- What there is to see of an engine: what its device tells, the machine's state, whether it answers calls, and how many pages were asked for, writes of the device made, and faults of it met.
+pub record EngineView : Type 1 where
+  pub disk : Disk
+  pub state : State
+  pub is_up : Type 0
+  pub asks : ℕ
+  pub writes : ℕ
+  pub faults : ℕ
+
+-- What each call passes on, whatever it does: it costs no more than it may, a device tells its contents as before, and no fault is forgotten.
+pub record GoesOn (old new : EngineView) (call : Call) : Type 0 where
+  pub asks : RisesAtMost (most_asks call) old.asks new.asks
+  pub writes : (pages : List ℕ) → HasChanged pages old.state.changes → RisesAtMost (most_writes (length pages) old.state call) old.writes new.writes
+  pub told : IsTold old.disk → IsTold new.disk
+  pub later : old.faults ≤ new.faults
+
+-- ---- the ways in which a call ends
+
+-- By a reply or a refusal: it is a step of the machine, and its line is short.
+pub record IsAnswer (old new : EngineView) (call : Call) (answer : Answer) : Type 0 where
+  pub answered : IsTold old.disk → IsAnswered old.disk new.disk old.state call answer new.state
+  pub up : new.is_up
+  pub short : IsShort answer
+
+-- By a fault of the device, within a step that was on its way.
+pub record IsFault (old new : EngineView) (call : Call) : Type 0 where
+  pub stopped : IsTold old.disk → IsStopped old.disk new.disk old.state call
+  pub down : new.is_up → ⊥
+  pub cause : Rises old.faults new.faults
+
+-- By damage, which no device shows that tells its contents.
+pub record IsDamaged (old new : EngineView) : Type 0 where
+  pub sound : IsTold old.disk → ⊥
+  pub down : new.is_up → ⊥
+
+-- a call that changes nothing, whatever comes of it
+abbrev pub OnlyLooks : Call → Type 0
+OnlyLooks (Begin transaction) = ⊥
+OnlyLooks (End transaction) = ⊥
+OnlyLooks (Insert transaction relation tuple) = ⊥
+OnlyLooks (Fetch transaction relation tid) = ⊤
+
+-- By want of memory: a stop leaves the committed tables. The engine stays up where the call only looks, and where it is up nothing has changed.
+pub record IsUnanswered (old new : EngineView) (call : Call) : Type 0 where
+  pub unmade : IsTold old.disk → IsUnmade old.disk new.disk old.state
+  pub up : OnlyLooks call → new.is_up
+  pub same : new.is_up → IsTold old.disk → new.state ≡ old.state
+
+-- an engine that is up is never found down
+abbrev pub IsOutcome : EngineView → EngineView → Call → Result Reply CallError → Type 0
+IsOutcome old new call (Ok reply) = IsAnswer old new call (Ok reply)
+IsOutcome old new call (Err (Refused why)) = IsAnswer old new call (Err why)
+IsOutcome old new call (Err Device) = IsFault old new call
+IsOutcome old new call (Err (Damaged place)) = IsDamaged old new
+IsOutcome old new call (Err NoMemory) = IsUnanswered old new call
+IsOutcome old new call (Err Down) = ⊥
+
+-- A call, by its result. An engine that is down answers nothing more.
+pub record IsCallOf (old new : EngineView) (call : Call) (result : Result Reply CallError) : Type 0 where
+  pub goes : GoesOn old new call
+  pub outcome : old.is_up → IsOutcome old new call result
+  pub down : (old.is_up → ⊥) → IsErrOf result Down

@@ -1,0 +1,202 @@
+-- What the functions that run lines say, each of what it runs.
+use Rattle.std.specs.Prelude.{◌≡◌, ℕ, ◌+◌, ◌≤◌, List, ◌++◌, length, take, Option, Result, Ok, Err, ⊤}
+use Rattle.rss_base.specs.DiskRule.{Disk, IsTold, Passes, Continues}
+use Rattle.rss_base.specs.Faults.{Rises}
+use Rattle.rss_base.specs.Streams.{Gives, Takes, TakesFront}
+use Rattle.rss_base.specs.declared.call.Call.{Call}
+use Rattle.rss_model.specs.Machine.{State}
+use Rattle.rss_model.specs.Steps.{Answer}
+use Rattle.rss_model.specs.Script.{Spells, line_limit}
+use Rattle.rss_model.specs.Plays.{Scene, Made, plain, LineStep}
+use Rattle.rss_model.specs.Calls.{EngineView, GoesOn, IsAnswer, IsFault, IsDamaged, IsUnanswered}
+use Rattle.rss_top.specs.Run.{Stream, World, Beginning, point_now, OpensAt, OpensAtEither, ImagesNow, Story, Stopped, Whole, Ended, script_limit}
+use Rattle.rss_top.specs.declared.status.Status.{Status}
+use Rattle.rss_top.specs.declared.status.Status.TheVariants.{Ok as Done, ReadFault, TooLong, WriteFault, DeviceFault, Damaged, NoMemory}
+
+-- ---- what there is to see
+
+abbrev pub stream : Option (List ℕ) → ℕ → Stream
+stream bytes faults = record { bytes = bytes; faults = faults }
+
+abbrev pub on : Disk → ℕ → ℕ → Stream → World
+on disk writes faults sink = record { disk = disk; writes = writes; faults = faults; sink = sink }
+
+abbrev pub world : EngineView → Stream → World
+world engine sink = on engine.disk engine.writes engine.faults sink
+
+-- an engine and a sink
+pub record View : Type 1 where
+  pub world : World
+  pub state : State
+  pub is_up : Type 0
+
+abbrev pub seen : EngineView → Stream → View
+seen engine sink = record {
+  world = world engine sink;
+  state = engine.state;
+  is_up = engine.is_up;
+}
+
+-- what is so whatever was run, and however it ended
+pub record PassesOn (old new : World) : Type 0 where
+  pub told : IsTold old.disk → IsTold new.disk
+  pub history : IsTold old.disk → Continues old.disk new.disk
+  pub device : old.faults ≤ new.faults
+  pub sink : old.sink.faults ≤ new.sink.faults
+
+-- ---- a call
+
+-- A call that an engine was asked for while it was up, by the answer or the status.
+abbrev pub IsOutcome : EngineView → EngineView → Call → Result Answer Status → Type 0
+IsOutcome old new call (Ok answer) = IsAnswer old new call answer
+IsOutcome old new call (Err DeviceFault) = IsFault old new call
+IsOutcome old new call (Err (Damaged place)) = IsDamaged old new
+IsOutcome old new call (Err NoMemory) = IsUnanswered old new call
+IsOutcome old new call (Err status) = ⊥
+
+pub record IsAsked (old new : EngineView) (call : Call) (result : Result Answer Status)
+    : Type 0 where
+  pub goes : GoesOn old new call
+  pub outcome : IsOutcome old new call result
+
+-- ---- a line
+
+-- A line is a step of the machine, and at each moment of it the pages open to the committed tables
+-- before or after.
+pub record LineDone (earlier later : Disk) (old : Scene) (line : List ℕ) (made : Made) (new : Scene)
+    : Type 0 where
+  pub step : LineStep old line made new
+  pub moments : Passes earlier later (OpensAtEither old new)
+
+-- the line was run, and its reply written
+pub record LineRan (old new : View) (line : List ℕ) : Type 0 where
+  pub made : Made
+  pub done : LineDone old.world.disk new.world.disk (plain old.state) line made (plain new.state)
+  pub opens : ImagesNow new.world.disk (OpensAt (plain new.state))
+  pub takes : Takes old.world.sink.bytes made.text new.world.sink.bytes
+
+-- the device failed within the line
+pub record DeviceStopped (old new : View) (line : List ℕ) : Type 0 where
+  pub made : Made
+  pub next : Scene
+  pub done : LineDone old.world.disk new.world.disk (plain old.state) line made next
+  pub same : new.world.sink.bytes ≡ old.world.sink.bytes
+
+-- the line was run, and the front of its reply written
+pub record SinkStopped (old new : View) (line : List ℕ) : Type 0 where
+  pub made : Made
+  pub done : LineDone old.world.disk new.world.disk (plain old.state) line made (plain new.state)
+  pub opens : ImagesNow new.world.disk (OpensAt (plain new.state))
+  pub takes : TakesFront old.world.sink.bytes made.text new.world.sink.bytes
+
+-- memory ran out in the line, and no table has changed
+pub record MemoryStopped (old new : View) : Type 0 where
+  pub moments : Passes old.world.disk new.world.disk (OpensAt (plain old.state))
+  pub same : new.world.sink.bytes ≡ old.world.sink.bytes
+
+-- the run ended within the line, by its status
+abbrev pub LineStopped : View → View → List ℕ → Status → Type 0
+LineStopped old new line DeviceFault = DeviceStopped old new line
+LineStopped old new line WriteFault = SinkStopped old new line
+LineStopped old new line NoMemory = MemoryStopped old new
+LineStopped old new line status = ⊥
+
+-- ---- how a function that runs lines ends
+
+-- The cause of a status with which a line ends the run: it has no other, and over a device that
+-- tells its contents no line finds damage.
+abbrev pub IsLineEnd : World → World → Status → Type 0
+IsLineEnd old new DeviceFault = Rises old.faults new.faults
+IsLineEnd old new WriteFault = Rises old.sink.faults new.sink.faults
+IsLineEnd old new NoMemory = ⊤
+IsLineEnd old new (Damaged place) = IsTold old.disk → ⊥
+IsLineEnd old new status = ⊥
+
+-- by its result: the engine is still up, and so it goes on; or the run has stopped with a status
+abbrev pub RunsTo : {T : Type 0} → View → View → Type 0 → (Status → Type 0) → Result T Status
+    → Type 0
+RunsTo old new on stopped (Ok done) = new.is_up × (IsTold old.world.disk → on)
+RunsTo old new on stopped (Err status) =
+    IsLineEnd old.world new.world status × (IsTold old.world.disk → stopped status)
+
+pub record Runs {T : Type 0} (old new : View) (on : Type 0) (stopped : Status → Type 0)
+    (result : Result T Status) : Type 0 where
+  pub passes : PassesOn old.world new.world
+  pub outcome : RunsTo old new on stopped result
+
+-- the line of a call, and its reply
+abbrev pub RunsCall : {T : Type 0} → View → View → Call → Result T Status → Type 0
+RunsCall old new call result =
+    Runs old new
+    ((line : List ℕ) → Spells line call → LineRan old new line)
+    (λ status. (line : List ℕ) → Spells line call → LineStopped old new line status)
+    result
+
+abbrev pub RunsLine : {T : Type 0} → View → View → List ℕ → Result T Status → Type 0
+RunsLine old new line result = Runs old new (LineRan old new line) (LineStopped old new line) result
+
+-- ---- bytes of a script
+
+-- of the front of a line this many bytes are kept: one more than a line may have
+abbrev pub kept_limit : ℕ
+kept_limit = line_limit + 1
+
+-- the run so far, where this much of the last line's front is kept
+pub record Kept (begin : Beginning) (now : View) (given front : List ℕ) : Type 0 where
+  pub left : List ℕ
+  pub kept : front ≡ take kept_limit left
+  pub story : Story begin now.world (plain now.state) given left
+
+-- Whatever was run so far, with this front kept: these bytes are run too, and then the next front
+-- is kept; or the run has stopped within them.
+abbrev pub RunsBytes : {T : Type 0} → View → View → List ℕ → List ℕ → List ℕ → Result T Status
+    → Type 0
+RunsBytes old new front bytes next result =
+    Runs old new
+    ((begin : Beginning) (given : List ℕ)
+    → Kept begin old given front → Kept begin new (given ++ bytes) next)
+    (λ status. (begin : Beginning) (given : List ℕ)
+    → Kept begin old given front → Stopped status begin new.world (given ++ bytes) ⊥)
+    result
+
+-- the last line, which has no end
+abbrev pub RunsLast : {T : Type 0} → View → View → List ℕ → Result T Status → Type 0
+RunsLast old new front result =
+    Runs old new
+    ((begin : Beginning) (given : List ℕ)
+    → Kept begin old given front → Whole begin new.world given)
+    (λ status. (begin : Beginning) (given : List ℕ)
+    → Kept begin old given front → Stopped status begin new.world given ⊤)
+    result
+
+-- ---- a script
+
+-- the cause of a status with which a script ends
+abbrev pub IsScriptEnd : World → World → Stream → Stream → Status → Type 0
+IsScriptEnd old new source_old source_new Done = ⊤
+IsScriptEnd old new source_old source_new TooLong = ⊤
+IsScriptEnd old new source_old source_new ReadFault = Rises source_old.faults source_new.faults
+IsScriptEnd old new source_old source_new status = IsLineEnd old new status
+
+-- no more bytes were taken than a script may have
+pub record IsTaken (left_old left_new : Option (List ℕ)) : Type 0 where
+  pub given : List ℕ
+  pub gives : Gives left_old given left_new
+  pub most : length given ≤ script_limit
+
+-- where a run of an engine begins
+abbrev pub beginning : State → World → Stream → Beginning
+beginning state now source = record {
+  point = point_now (plain state) now.disk;
+  left = source.bytes;
+  written = now.sink.bytes;
+}
+
+-- a script was run over an engine, from this state
+pub record RunsScript (state : State) (old new : World) (source_old source_new : Stream)
+    (status : Status) : Type 0 where
+  pub passes : PassesOn old new
+  pub cause : IsScriptEnd old new source_old source_new status
+  pub taken : IsTaken source_old.bytes source_new.bytes
+  pub ended : IsTold old.disk
+      → Ended status (beginning state old source_old) new source_new.bytes

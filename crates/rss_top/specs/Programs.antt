@@ -1,0 +1,107 @@
+-- What the program does, by the words of its command line.
+use Rattle.std.specs.Prelude.{◌≡◌, ◌⊎◌, ℕ, ◌<◌, List, [], length, Some}
+use Rattle.rss_base.specs.DiskRule.{Told, IsTold, Leaves, Passes}
+use Rattle.rss_base.specs.Faults.{Rises}
+use Rattle.rss_base.specs.declared.place.Place.{Place}
+use Rattle.rss_base.specs.declared.place.Place.TheVariants.{Room}
+use Rattle.rss_model.specs.Tables.{Tables}
+use Rattle.rss_model.specs.Machine.{at_rest}
+use Rattle.rss_model.specs.Plays.{plain}
+use Rattle.rss_model.specs.ReplyText.{not_a_store_line, damaged_line}
+use Rattle.rss_model.specs.Store.{OpensTo, IsBrokenAt, IsOverfull, IsNoStore}
+use Rattle.rss_top.specs.Words.{AreRun, AreFormat, IsCommand}
+use Rattle.rss_top.specs.Run.{Stream, World, IsRun, script_limit}
+use Rattle.rss_top.specs.Lines.{IsScriptEnd, IsTaken}
+use Rattle.rss_top.specs.Says.{Says}
+use Rattle.rss_top.specs.Format.{IsFormat}
+use Rattle.rss_top.specs.declared.status.Status.{Status}
+use Rattle.rss_top.specs.declared.status.Status.TheVariants.{Ok, Words, DeviceFault, NotAStore, Damaged, NoMemory}
+
+-- ---- a device that holds no store
+
+-- the script isn't read, nothing is written to the device, and a stop leaves what it could before
+pub record IsLeftAlone (old new : World) (source_old source_new : Stream) : Type 0 where
+  pub unread : source_new ≡ source_old
+  pub writes : new.writes ≡ old.writes
+  pub moments : IsTold old.disk → Passes old.disk new.disk (Leaves old.disk)
+
+-- the line that is written with a refusal
+abbrev pub refusal_line : Status → List ℕ
+refusal_line (NotAStore place) = not_a_store_line place
+refusal_line (Damaged place) = damaged_line place
+refusal_line status = []
+
+-- The line of a refusal, or its front where the sink failed, and nothing where the device failed or
+-- memory ran out.
+pub data IsRefusal (refused status : Status) (old new : World) : Type 0 where
+  says : Says refused (refusal_line refused) status old.sink new.sink
+      → IsRefusal refused status old new
+  fails : status ≡ DeviceFault → new.sink.bytes ≡ old.sink.bytes
+      → IsRefusal refused status old new
+
+-- the device was refused with this status, or the run failed before it could be
+pub record IsRefused (refused status : Status) (old new : World) (source_old source_new : Stream)
+    : Type 0 where
+  pub alone : IsLeftAlone old new source_old source_new
+  pub refusal : IsRefusal refused status old new
+
+-- the device was refused at some place, or the run failed before it could be
+pub record IsTurnedAway (status : Status) (old new : World) (source_old source_new : Stream)
+    : Type 0 where
+  pub place : Place
+  pub refused : IsRefused (NotAStore place) status old new source_old source_new
+      ⊎ IsRefused (Damaged place) status old new source_old source_new
+
+-- ---- a script, run over a device
+
+-- The cause of a status. A layout is refused by the place at which it is out of form, and only
+-- pages that are no store are called damaged.
+abbrev pub IsRunEnd : World → World → Stream → Stream → Status → Type 0
+IsRunEnd old new source_old source_new (NotAStore place) =
+    Told old.disk (IsBrokenAt place)
+    × IsRefused (NotAStore place) (NotAStore place) old new source_old source_new
+IsRunEnd old new source_old source_new (Damaged place) = Told old.disk IsNoStore
+IsRunEnd old new source_old source_new status =
+    IsScriptEnd old new source_old source_new status
+
+-- no count of faults rises
+pub record IsFaultless (old new : World) (source_old source_new : Stream) : Type 0 where
+  pub source : Rises source_old.faults source_new.faults → ⊥
+  pub sink : Rises old.sink.faults new.sink.faults → ⊥
+  pub device : Rises old.faults new.faults → ⊥
+
+pub record IsScriptRun (status : Status) (old new : World) (source_old source_new : Stream)
+    : Type 0 where
+  -- Over a store of these tables: a run of the machine from these tables with nothing open.
+  pub run : (slots : ℕ) (tables : Tables)
+      → Told old.disk (λ pages. OpensTo pages slots tables
+      → IsRun status (plain (at_rest slots tables)) old new source_old.bytes source_new.bytes)
+  -- Where nothing fails, the script is run to its end, or memory ran out.
+  pub complete : (slots : ℕ) (tables : Tables)
+      → Told old.disk (λ pages. OpensTo pages slots tables
+      → (script : List ℕ) → source_old.bytes ≡ Some script → length script < script_limit
+      → IsFaultless old new source_old source_new
+      → (status ≡ Ok) ⊎ (status ≡ NoMemory))
+  -- A layout that is out of form.
+  pub broken : (place : Place) → Told old.disk (λ pages. IsBrokenAt place pages
+      → IsRefused (NotAStore place) status old new source_old source_new)
+  -- A map of more pages than half the slots.
+  pub overfull : Told old.disk (λ pages. IsOverfull pages
+      → IsRefused (Damaged Room) status old new source_old source_new)
+  -- Pages that are no store.
+  pub no_store : Told old.disk (λ pages. IsNoStore pages
+      → IsTurnedAway status old new source_old source_new)
+  pub cause : IsRunEnd old new source_old source_new status
+  pub taken : IsTaken source_old.bytes source_new.bytes
+
+-- ---- the program
+
+pub data IsProgram (words : List (List ℕ)) (status : Status) (old new : World)
+    (source_old source_new : Stream) : Type 0 where
+  runs : AreRun words → IsScriptRun status old new source_old source_new
+      → IsProgram words status old new source_old source_new
+  formats : {slots log_pages : ℕ} → AreFormat words slots log_pages
+      → IsFormat slots log_pages status old new
+      → IsProgram words status old new source_old source_new
+  refuses : (IsCommand words → ⊥) → status ≡ Words → new.sink ≡ old.sink
+      → IsProgram words status old new source_old source_new
