@@ -1,0 +1,87 @@
+-- A walk over the directory.
+use Rattle.std.proofs.Common.{◌≡◌, inl, inr, ℕ, ◌+◌, ◌<◌, ◌≤◌, max, Bool, true, false, Option, Some, None, List, get_or, sym, ap, subst, arith}
+use Rattle.std.specs.Prelude.{◌↔◌, IsTrue, MatchOption, unwrap_or}
+use Rattle.std.proofs.lemmas.Bool.{cases_lt, cases_eq, false≢true}
+use Rattle.std.proofs.lemmas.List.{take_all, get_or_past}
+use Rattle.std.proofs.lemmas.List.Sums.{sum_by-take-le}
+use Rattle.rss_page.specs.declared.surveying.Survey.{Survey}
+use Rattle.rss_page.specs.Content.{Content, Empty, body_length}
+use Rattle.rss_page.specs.Slotted.{entry_of, entries, body_bytes, place_of, length_of, IsSlotted}
+use Rattle.rss_page.specs.Surveyed.{held_at, AllTaken, IsFirstEmpty, IsSurvey, IsSurveyOf}
+use Rattle.rss_page.proofs.Contents.{length-entries, body_within}
+use Rattle.rss_page.proofs.Sums.{body_more, bodies_fit}
+
+-- a fact on the first slots, and the next one
+first_more : (P : ℕ → Type 0) (count : ℕ) → ((slot : ℕ) → slot < count → P slot) → P count → (slot : ℕ) → slot < count + 1 → P slot
+first_more P count before here slot few = elim (cases_eq slot count) [
+  | inl same ↦ subst P (sym same) here
+  | inr differ ↦ before slot (omega (arith, differ))
+]
+
+pub walk_none : (page : List ℕ) (found : Survey) → found.free ≡ 3056 → found.end ≡ 1040 → found.first_empty ≡ None → found.is_vacant ≡ true → IsSurveyOf page 0 found
+walk_none page found free end first vacant = record {
+  free = omega (arith, free);
+  low = omega (arith, end);
+  high = omega (arith, end);
+  ends = λ slot few. absurd (omega arith);
+  least = λ other low ends. omega (arith, end);
+  empty = subst (λ (o : Option ℕ). MatchOption o (AllTaken (entries page) 0) (IsFirstEmpty (entries page))) (sym first) (λ slot few. absurd (omega arith));
+  vacant = (λ is. λ slot few. absurd (omega arith), λ each. vacant);
+}
+
+-- the next slot's body fits in what was free
+pub walk_fits : (page : List ℕ) (slot : ℕ) (found : Survey) → IsSlotted page → slot < 128 → IsSurveyOf page slot found → length_of (entry_of page slot) ≤ found.free
+walk_fits page slot found is low before = omega (arith, before.free, body_more page slot is low, sum_by-take-le body_length (entries page) (slot + 1), bodies_fit page is)
+
+-- the walk goes on, where the least empty slot and the vacancy are known
+pub walk_more : (page : List ℕ) (slot : ℕ) (found now : Survey) → IsSlotted page → slot < 128 → IsSurveyOf page slot found → now.free + length_of (entry_of page slot) ≡ found.free → now.end ≡ max found.end (place_of (entry_of page slot) + length_of (entry_of page slot))
+    → MatchOption now.first_empty (AllTaken (entries page) (slot + 1)) (IsFirstEmpty (entries page)) → (IsTrue now.is_vacant ↔ ((other : ℕ) → other < slot + 1 → held_at (entries page) other ≡ Empty)) → IsSurveyOf page (slot + 1) now
+walk_more page slot found now is low before free end empty vacant =
+    let within = elim (body_within (get_or page 0 0) (entry_of page slot) (is.spelled slot low).allowed) as (λ _. place_of (entry_of page slot) + length_of (entry_of page slot) ≤ 4096) [
+      | inl none_there ↦ omega arith
+      | inr body ↦ body.high
+    ] in
+    record {
+      free = omega (arith, before.free, free, body_more page slot is low);
+      low = omega (arith, before.low, end);
+      high = omega (arith, before.high, end, within);
+      ends = first_more (λ n. place_of (entry_of page n) + length_of (entry_of page n) ≤ now.end) slot (λ other few. omega (arith, before.ends other few, end)) (omega (arith, end));
+      least = λ other least ends. omega (arith, end, before.least other least (λ n few. ends n (omega arith)), ends slot (omega arith));
+      empty = empty;
+      vacant = vacant;
+    }
+
+-- an empty entry is the least one, where none was found before
+pub empty_found : (contents : List Content) (slot : ℕ) (first : Option ℕ) → slot < 128 → held_at contents slot ≡ Empty → MatchOption first (AllTaken contents slot) (IsFirstEmpty contents) → IsFirstEmpty contents (unwrap_or first slot)
+empty_found contents slot None low here before = record { low = low; empty = here; lesser = before }
+empty_found contents slot (Some other) low here before = before
+
+-- an entry that holds something is no empty one
+pub taken_more : (contents : List Content) (slot : ℕ) (first : Option ℕ) → (held_at contents slot ≡ Empty → ⊥) → MatchOption first (AllTaken contents slot) (IsFirstEmpty contents) → MatchOption first (AllTaken contents (slot + 1)) (IsFirstEmpty contents)
+taken_more contents slot None here before = first_more (λ n. held_at contents n ≡ Empty → ⊥) slot before here
+taken_more contents slot (Some other) here before = before
+
+-- all entries are empty so far, exactly where they were and this one is
+pub vacant_more : (contents : List Content) (slot : ℕ) (vacant : Bool) → held_at contents slot ≡ Empty → (IsTrue vacant ↔ ((other : ℕ) → other < slot → held_at contents other ≡ Empty)) → IsTrue vacant ↔ ((other : ℕ) → other < slot + 1 → held_at contents other ≡ Empty)
+vacant_more contents slot vacant here before = (λ is. first_more (λ n. held_at contents n ≡ Empty) slot (before.0 is) here, λ each. before.1 (λ other few. each other (omega arith)))
+
+pub vacant_no_more : (contents : List Content) (slot : ℕ) → (held_at contents slot ≡ Empty → ⊥) → IsTrue false ↔ ((other : ℕ) → other < slot + 1 → held_at contents other ≡ Empty)
+vacant_no_more contents slot here = (λ is. absurd (false≢true is), λ each. absurd (here (each slot (omega arith))))
+
+-- the walk over the whole directory
+pub walk_all : (page : List ℕ) (found : Survey) → IsSurveyOf page 128 found → IsSurvey page found
+walk_all page found all = record {
+  free = omega (arith, all.free, ap body_bytes (take_all 128 (entries page) (omega (arith, length-entries page))));
+  low = all.low;
+  high = all.high;
+  ends = all.ends;
+  least = all.least;
+  empty = all.empty;
+  vacant = (
+    λ is. λ slot. elim (cases_lt slot 128) [
+      | inl few ↦ all.vacant.0 is slot few
+      | inr past ↦ get_or_past (entries page) slot Empty (omega (arith, length-entries page))
+    ],
+    λ each. all.vacant.1 (λ slot few. each slot),
+  );
+}

@@ -1,0 +1,5 @@
+pub use Rattle.rss_base.specs.PageMap
+pub mod Content
+pub mod Marks
+pub mod Slotted
+pub mod Surveyed

@@ -1,0 +1,49 @@
+-- What one walk over the directory of a page finds.
+use Rattle.std.specs.Prelude.{◌≡◌, ◌↔◌, ℕ, ◌+◌, ◌<◌, ◌≤◌, List, take, slice_index_or, IsTrue, MatchOption}
+use Rattle.rss_page.specs.declared.surveying.Survey.{Survey}
+use Rattle.rss_page.specs.Content.{Content, Empty}
+use Rattle.rss_page.specs.Slotted.{slot_count, bodies_at, bodies_room, page_end, entries, entry_of, body_bytes, place_of, length_of, EndBy}
+
+-- what the entry of a slot holds
+abbrev pub held_at : List Content → ℕ → Content
+held_at contents slot = slice_index_or contents slot Empty
+
+-- the entries of the first slots are not empty
+abbrev pub AllTaken : List Content → ℕ → Type 0
+AllTaken contents count = (slot : ℕ) → slot < count → held_at contents slot ≡ Empty → ⊥
+
+-- the least slot whose entry is empty
+pub record IsFirstEmpty (contents : List Content) (slot : ℕ) : Type 0 where
+  pub low : slot < slot_count
+  pub empty : held_at contents slot ≡ Empty
+  pub lesser : AllTaken contents slot
+
+-- no entry holds anything
+abbrev pub IsVacant : List Content → Type 0
+IsVacant contents = (slot : ℕ) → held_at contents slot ≡ Empty
+
+-- The free bytes are those of the 3,056 that no body has. All bodies end where the last one does, and no earlier place will do.
+pub record IsSurvey (page : List ℕ) (survey : Survey) : Type 0 where
+  pub free : survey.free + body_bytes (entries page) ≡ bodies_room
+  pub low : bodies_at ≤ survey.end
+  pub high : survey.end ≤ page_end
+  pub ends : EndBy page survey.end
+  pub least : (end : ℕ) → bodies_at ≤ end → EndBy page end → survey.end ≤ end
+  pub empty : MatchOption survey.first_empty (AllTaken (entries page) slot_count) (IsFirstEmpty (entries page))
+  pub vacant : IsTrue survey.is_vacant ↔ IsVacant (entries page)
+
+-- ---- the walk
+
+-- the bodies of the first slots end at this place or before it
+abbrev pub FirstEndBy : List ℕ → ℕ → ℕ → Type 0
+FirstEndBy page count end = (slot : ℕ) → slot < count → place_of (entry_of page slot) + length_of (entry_of page slot) ≤ end
+
+-- the same of the first slots alone
+pub record IsSurveyOf (page : List ℕ) (count : ℕ) (survey : Survey) : Type 0 where
+  pub free : survey.free + body_bytes (take count (entries page)) ≡ bodies_room
+  pub low : bodies_at ≤ survey.end
+  pub high : survey.end ≤ page_end
+  pub ends : FirstEndBy page count survey.end
+  pub least : (end : ℕ) → bodies_at ≤ end → FirstEndBy page count end → survey.end ≤ end
+  pub empty : MatchOption survey.first_empty (AllTaken (entries page) count) (IsFirstEmpty (entries page))
+  pub vacant : IsTrue survey.is_vacant ↔ ((slot : ℕ) → slot < count → held_at (entries page) slot ≡ Empty)

@@ -1,0 +1,150 @@
+// Changes of a page.
+ghost use Rattle.std.specs.Prelude.{◌≡◌, ◌+◌, ◌-◌, ◌<◌, ◌≤◌, ℕ, length, replicate};
+ghost use Rattle.rss_page.specs.Content.{Empty, Here, Forward, body_length};
+ghost use Rattle.rss_page.specs.Slotted.{bodies_at, bodies_room, page_end, slot_count, part, entries, body_bytes, HasRoom, IsBody, IsSlotted, IsHome, Becomes, Sets, EndBy, OthersEndBy, OthersStay};
+ghost use Rattle.rss_page.specs.Surveyed.{held_at};
+
+use crate::directory::{HEADER_BYTES, entry, set_entry};
+use crate::entry_form::{BODIES_AT, ENTRIES, Entry, PAGE_END};
+use crate::surveying::Survey;
+use rss_base::{Page, put_bytes};
+
+/// How many bytes the directory has.
+const DIRECTORY_BYTES: usize = 1024;
+
+/// Empties an entry, whatever it holds.
+pub fn remove(page: &mut Page, slot: u8)
+    requires slotted { IsSlotted page.old }
+    requires slot { slot < slot_count }
+    ensures becomes { Sets page.old page.new slot Empty }
+    ensures stay { OthersStay page.old page.new slot }
+{
+    set_entry(page, slot, Entry::Empty);
+}
+
+/// Makes an entry of a home page lead to a slot of an overflow page, whatever it held.
+pub fn forward_at(page: &mut Page, slot: u8, to_page: u32, to_slot: u8)
+    requires slotted { IsSlotted page.old }
+    requires home { IsHome page.old }
+    requires slot { slot < slot_count }
+    requires to_slot { to_slot < slot_count }
+    ensures becomes { Sets page.old page.new slot (Forward to_page to_slot) }
+    ensures stay { OthersStay page.old page.new slot }
+{
+    let forward = Entry::Forward {
+        page: to_page,
+        slot: to_slot,
+    };
+    set_entry(page, slot, forward);
+}
+
+/// Gives an entry a body, whatever it held. Where the free bytes behind the last of the other bodies
+/// suffice, the body goes there and these stay in their places; else they are moved together first.
+pub fn put_at(page: &mut Page, slot: u8, body: &[u8])
+    requires slotted { IsSlotted page.old }
+    requires slot { slot < slot_count }
+    requires some { 1 ≤ length body.now }
+    requires room { HasRoom (entries page.old) slot (length body.now) }
+    ensures becomes { Sets page.old page.new slot (Here body.now) }
+    ensures stay { (end : ℕ) → OthersEndBy page.old slot end → end + length body.now ≤ page_end
+        → OthersStay page.old page.new slot }
+{
+    remove(page, slot);
+    let end = make_room(page, body.len() as u16);
+    append(page, slot, end, body);
+}
+
+/// Finds the place behind all bodies, with so many free bytes there.
+fn make_room(page: &mut Page, length: u16) -> u16
+    requires slotted { IsSlotted page.old }
+    requires room { body_bytes (entries page.old) + length ≤ bodies_room }
+    ensures becomes { Becomes page.old page.new (entries page.old) }
+    ensures ends { EndBy page.new result }
+    ensures low { bodies_at ≤ result }
+    ensures high { result + length ≤ page_end }
+    ensures stay { (end : ℕ) → EndBy page.old end → bodies_at ≤ end → end + length ≤ page_end
+        → page.new ≡ page.old }
+{
+    let found = Survey::of(page);
+    if found.end <= PAGE_END - length {
+        return found.end;
+    }
+    compact(page);
+    PAGE_END - found.free
+}
+
+/// Moves the bodies together, so that all free bytes stand behind the last one. Each entry holds what
+/// it held.
+pub fn compact(page: &mut Page)
+    requires { IsSlotted page.old }
+    ensures becomes { Becomes page.old page.new (entries page.old) }
+    ensures close { EndBy page.new (bodies_at + body_bytes (entries page.old)) }
+{
+    let from = *page;
+    let mut end = BODIES_AT;
+    clear(page);
+    for slot in 0..ENTRIES {
+        end = carry(&from, page, slot, end);
+    }
+}
+
+/// Empties all entries.
+fn clear(page: &mut Page)
+    requires { IsSlotted page.old }
+    ensures becomes { Becomes page.old page.new (replicate slot_count Empty) }
+    ensures ends { EndBy page.new bodies_at }
+{
+    put_bytes(page, HEADER_BYTES, &[0; DIRECTORY_BYTES]);
+}
+
+/// Gives an entry what it holds in another page, with the body, if there is one, behind all others.
+/// Answers where the last body ends then.
+fn carry(from: &Page, page: &mut Page, slot: u8, end: u16) -> u16
+    requires from { IsSlotted from.now }
+    requires slotted { IsSlotted page.old }
+    requires header { part page.old 0 16 ≡ part from.now 0 16 }
+    requires slot { slot < slot_count }
+    requires ends { EndBy page.old end }
+    requires low { bodies_at ≤ end }
+    requires high { end + body_length (held_at (entries from.now) slot) ≤ page_end }
+    ensures becomes { Sets page.old page.new slot (held_at (entries from.now) slot) }
+    ensures ends { EndBy page.new result }
+    ensures close { result ≡ end + body_length (held_at (entries from.now) slot) }
+{
+    match entry(from, slot) {
+        Entry::Empty => {
+            remove(page, slot);
+            end
+        }
+        Entry::Here { place, length } => {
+            let start = usize::from(place);
+            append(page, slot, end, &from[start..start + usize::from(length)]);
+            end + length
+        }
+        Entry::Forward {
+            page: to_page,
+            slot: to_slot,
+        } => {
+            forward_at(page, slot, to_page, to_slot);
+            end
+        }
+    }
+}
+
+/// Gives an entry a body that stands behind all others.
+fn append(page: &mut Page, slot: u8, end: u16, body: &[u8])
+    requires slotted { IsSlotted page.old }
+    requires slot { slot < slot_count }
+    requires free { OthersEndBy page.old slot end }
+    requires place { IsBody end (length body.now) }
+    ensures becomes { Sets page.old page.new slot (Here body.now) }
+    ensures stay { OthersStay page.old page.new slot }
+    ensures ends { EndBy page.new (end + length body.now) }
+{
+    put_bytes(page, usize::from(end), body);
+    let here = Entry::Here {
+        place: end,
+        length: body.len() as u16,
+    };
+    set_entry(page, slot, here);
+}

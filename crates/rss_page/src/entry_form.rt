@@ -1,0 +1,100 @@
+// The entry of a slot.
+ghost use Rattle.std.specs.Prelude.{◌≡◌, ◌↔◌, ◌+◌, IsTrue};
+ghost use Rattle.rss_page.specs.Slotted.{entry_bytes, entry_from, place_of, length_of, IsAllowed, IsEntry};
+
+/// How many bytes an entry has.
+pub const ENTRY_BYTES: usize = 8;
+
+/// How many entries a page has.
+pub const ENTRIES: u8 = 128;
+
+/// Where the bodies begin.
+pub const BODIES_AT: u16 = 1040;
+
+/// How many bytes a page has.
+pub const PAGE_END: u16 = 4096;
+
+/// The code of the home space, the one in which entries may be forwards.
+const HOME: u8 = 1;
+
+/// An entry of the directory.
+#[derive(Clone, Copy, Debug, PartialEq, Eq)]
+pub enum Entry {
+    Empty,
+    /// The body stands in this page: so many bytes, from a place on.
+    Here { place: u16, length: u16 },
+    /// The body stands in an overflow page of the segment, at a slot below 128.
+    Forward { page: u32, slot: u8 },
+}
+
+impl Entry {
+    /// The bytes of the entry.
+    pub(crate) fn encode(self) -> [u8; ENTRY_BYTES]
+        ensures { result ≡ entry_bytes self }
+    {
+        match self {
+            Entry::Empty => [0; ENTRY_BYTES],
+            Entry::Here { place, length } => {
+                let [a, b] = place.to_be_bytes();
+                let [c, d] = length.to_be_bytes();
+                [1, 0, a, b, c, d, 0, 0]
+            }
+            Entry::Forward { page, slot } => {
+                let [a, b, c, d] = page.to_be_bytes();
+                [2, slot, 0, 0, a, b, c, d]
+            }
+        }
+    }
+
+    /// The entry that the bytes spell, where they spell one.
+    pub(crate) fn decode(bytes: &[u8; ENTRY_BYTES]) -> Self
+        ensures { result ≡ entry_from bytes.now }
+    {
+        let [kind, slot, a, b, c, d, e, f] = *bytes;
+        match kind {
+            1 => Entry::Here {
+                place: u16::from_be_bytes([a, b]),
+                length: u16::from_be_bytes([c, d]),
+            },
+            2 => Entry::Forward {
+                page: u32::from_be_bytes([c, d, e, f]),
+                slot,
+            },
+            _ => Entry::Empty,
+        }
+    }
+
+    /// Whether the bytes are those of an entry that may stand in a page of the space with this code.
+    pub(crate) fn is_spelled(bytes: &[u8; ENTRY_BYTES], space: u8) -> bool
+        ensures { IsTrue result ↔ IsEntry space bytes.now }
+    {
+        let entry = Entry::decode(bytes);
+        *bytes == entry.encode() && entry.is_allowed(space)
+    }
+
+    /// How many bytes the body has, if there is one.
+    pub(crate) fn body_length(self) -> u16
+        ensures { result ≡ length_of self }
+    {
+        match self {
+            Entry::Here { length, .. } => length,
+            Entry::Empty | Entry::Forward { .. } => 0,
+        }
+    }
+
+    /// Whether the entry may stand in a page of the space with this code.
+    pub(crate) fn is_allowed(self, space: u8) -> bool
+        ensures { IsTrue result ↔ IsAllowed space self }
+    {
+        match self {
+            Entry::Empty => true,
+            Entry::Here { place, length } => {
+                place >= BODIES_AT
+                    && length >= 1
+                    && PAGE_END >= length
+                    && place <= PAGE_END - length
+            }
+            Entry::Forward { slot, .. } => space == HOME && slot < ENTRIES,
+        }
+    }
+}

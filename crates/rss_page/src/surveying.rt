@@ -1,0 +1,75 @@
+// What one walk over the directory of a page finds.
+ghost use Rattle.std.specs.Prelude.{◌≡◌, ◌↔◌, ◌+◌, ◌-◌, ◌<◌, ◌≤◌, ℕ, max, slice_set, IsTrue, Option, Some, None, unwrap_or};
+ghost use Rattle.rss_page.specs.Content.{Content, Empty};
+ghost use Rattle.rss_page.specs.Slotted.{slot_count, entries, HasRoom, IsSlotted};
+ghost use Rattle.rss_page.specs.Surveyed.{IsSurvey, IsSurveyOf};
+
+use crate::directory::entry;
+use crate::entry_form::{BODIES_AT, ENTRIES, Entry, PAGE_END};
+use rss_base::Page;
+
+/// What one walk over the directory of a page finds.
+#[derive(Clone, Copy, Debug, PartialEq, Eq)]
+pub struct Survey {
+    /// How many bytes of the 3,056 belong to no body.
+    pub free: u16,
+    /// Where the last body ends, and 1,040 where there is none.
+    pub end: u16,
+    /// The least slot with an empty entry.
+    pub first_empty: Option<u8>,
+    /// Whether all entries are empty.
+    pub is_vacant: bool,
+}
+
+impl Survey {
+    /// Looks at each entry of a page.
+    pub fn of(page: &Page) -> Self
+        requires { IsSlotted page.now }
+        ensures { IsSurvey page.now result }
+    {
+        let mut found = Survey {
+            free: PAGE_END - BODIES_AT,
+            end: BODIES_AT,
+            first_empty: None,
+            is_vacant: true,
+        };
+        for slot in 0..ENTRIES {
+            found = found.with(page, slot);
+        }
+        found
+    }
+
+    /// Goes on with the next slot.
+    fn with(self, page: &Page, slot: u8) -> Self
+        requires slotted { IsSlotted page.now }
+        requires slot { slot < slot_count }
+        requires before { IsSurveyOf page.now slot self }
+        ensures { IsSurveyOf page.now (slot + 1) result }
+    {
+        match entry(page, slot) {
+            Entry::Empty => Survey {
+                first_empty: Some(self.first_empty.unwrap_or(slot)),
+                ..self
+            },
+            Entry::Here { place, length } => Survey {
+                free: self.free - length,
+                end: self.end.max(place + length),
+                is_vacant: false,
+                ..self
+            },
+            Entry::Forward { .. } => Survey {
+                is_vacant: false,
+                ..self
+            },
+        }
+    }
+}
+
+/// Whether a body of this length fits at a slot, where what the slot holds now is given up.
+pub fn fits(page: &Page, slot: u8, length: u16) -> bool
+    requires slotted { IsSlotted page.now }
+    requires slot { slot < slot_count }
+    ensures { IsTrue result ↔ HasRoom (entries page.now) slot length }
+{
+    length <= Survey::of(page).free + entry(page, slot).body_length()
+}

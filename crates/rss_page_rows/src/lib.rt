@@ -1,0 +1,17 @@
+//! Tests over slotted pages, and over numbers that are found by their size: what no clause says.
+#![tactic(auto)]
+
+#[cfg(test)]
+mod asserts;
+#[cfg(test)]
+mod draws;
+#[cfg(test)]
+mod malformed;
+#[cfg(test)]
+mod maxima;
+#[cfg(test)]
+mod pages;
+#[cfg(test)]
+mod plain;
+#[cfg(test)]
+mod slotted;

@@ -1,0 +1,109 @@
+// Pages that are not as they should be, each of one kind.
+use crate::asserts::assert_same;
+use rss_base::{Page, PageKey, Space};
+use rss_page::well_formed;
+use std::test::Fail;
+
+const HOME: PageKey = PageKey {
+    segment: 1,
+    space: Space::Home,
+    number: 5,
+};
+
+const OVERFLOW: PageKey = PageKey {
+    segment: 1,
+    space: Space::Overflow,
+    number: 5,
+};
+
+/// A home page: a body of 9 bytes at slot 0, one of 3,047 bytes at slot 1, and a forward at slot 127.
+fn sound() -> Page {
+    let mut page = [0u8; 4096];
+    page[..8].copy_from_slice(&[1, 1, 0, 0, 0, 0, 0, 5]);
+    page[16..24].copy_from_slice(&[1, 0, 0x04, 0x10, 0, 9, 0, 0]);
+    page[24..32].copy_from_slice(&[1, 0, 0x04, 0x19, 0x0b, 0xe7, 0, 0]);
+    page[1032..1040].copy_from_slice(&[2, 127, 0, 0, 0xff, 0xff, 0xff, 0xff]);
+    page[2000] = 77;
+    page
+}
+
+/// Puts these bytes in the place of others.
+fn patch(page: &mut Page, at: usize, bytes: &[u8]) -> Result<(), Fail> {
+    for (place, byte) in bytes.iter().enumerate() {
+        let there = page.get_mut(at.wrapping_add(place)).ok_or("no such byte")?;
+        *there = *byte;
+    }
+    Ok(())
+}
+
+/// Bytes that are put in the place of others, and whether the page is well-formed then.
+const CASES: [(usize, [u8; 4], bool); 23] = [
+    // As it was, and with other bytes in a body.
+    (2, [0, 0, 0, 0], true),
+    (3000, [1, 2, 3, 4], true),
+    // The header: another space, segment or number, and bytes that are no zeros.
+    (0, [2, 1, 0, 0], false),
+    (0, [0, 1, 0, 0], false),
+    (0, [1, 2, 0, 0], false),
+    (4, [0, 0, 0, 6], false),
+    (0, [1, 1, 1, 0], false),
+    (8, [1, 0, 0, 0], false),
+    (12, [0, 0, 0, 1], false),
+    // An entry of a third kind, and an empty one that is no zeros.
+    (32, [3, 0, 0, 0], false),
+    (32, [0, 1, 0, 0], false),
+    (36, [0, 0, 0, 1], false),
+    // A body whose entry has other bytes than zeros, one in front of the bodies, and one behind the
+    // page's end.
+    (16, [1, 1, 0x04, 0x10], false),
+    (20, [0, 9, 0, 1], false),
+    (16, [1, 0, 0x04, 0x0f], false),
+    (28, [0x0b, 0xe8, 0, 0], false),
+    // A body of no bytes, and one that has a byte of another.
+    (20, [0, 0, 0, 0], false),
+    (20, [0, 10, 0, 0], false),
+    (20, [0, 8, 0, 0], true),
+    // A forward to slot 128, one to slot 0, and one whose entry has other bytes than zeros.
+    (1032, [2, 128, 0, 0], false),
+    (1032, [2, 0, 0, 0], true),
+    (1032, [2, 127, 1, 0], false),
+    (1032, [2, 127, 0, 1], false),
+];
+
+#[test]
+fn each_kind_of_malformed_page_is_told(rt: HostRuntime) -> Result<(), Fail> {
+    for (at, bytes, want) in CASES {
+        let mut page = sound();
+        patch(&mut page, at, &bytes)?;
+        assert_same(&rt, &well_formed(&page, HOME), &want, (at, bytes));
+    }
+    Ok(())
+}
+
+#[test]
+fn a_body_in_the_midst_of_another_is_told(rt: HostRuntime) -> Result<(), Fail> {
+    let mut page = sound();
+    patch(&mut page, 32, &[1, 0, 8, 0, 0, 5, 0, 0])?;
+    assert_same(&rt, &well_formed(&page, HOME), &false, "two bodies");
+    patch(&mut page, 24, &[0; 8])?;
+    assert_same(&rt, &well_formed(&page, HOME), &true, "one of them");
+    Ok(())
+}
+
+#[test]
+fn an_overflow_page_has_no_forward(rt: HostRuntime) -> Result<(), Fail> {
+    let mut page = sound();
+    patch(&mut page, 0, &[2])?;
+    assert_same(&rt, &well_formed(&page, OVERFLOW), &false, "a forward");
+    patch(&mut page, 1032, &[0; 8])?;
+    assert_same(&rt, &well_formed(&page, OVERFLOW), &true, "no forward");
+    assert_same(&rt, &well_formed(&page, HOME), &false, "another space");
+    patch(&mut page, 0, &[3])?;
+    let image = PageKey {
+        segment: 1,
+        space: Space::Image,
+        number: 5,
+    };
+    assert_same(&rt, &well_formed(&page, image), &false, "an image page");
+    Ok(())
+}

@@ -1,0 +1,113 @@
+// Pages that are filled, emptied and filled again, against a plain list.
+use crate::asserts::assert_same;
+use crate::draws::Draws;
+use crate::plain::{Held, Plain, assert_holds, byte_at, bytes_of, has_room};
+use crate::slotted::Slotted;
+use std::process::Abort;
+use std::test::Fail;
+
+/// The bytes of the longest body.
+type Buffer = [u8; 3056];
+
+fn fill(buffer: &mut Buffer, first: u8) {
+    for (place, byte) in buffer.iter_mut().enumerate() {
+        *byte = byte_at(first, place);
+    }
+}
+
+/// Puts a body into the page and into the list, exactly where it fits.
+fn put(rt: &impl Abort, page: &mut Slotted, plain: &mut Plain, slot: u8, length: u16, first: u8) {
+    let mut buffer = [0u8; 3056];
+    fill(&mut buffer, first);
+    if slot >= 128 || length == 0 || length > 3056 {
+        return;
+    }
+    let fits = has_room(plain, slot, usize::from(length));
+    assert_same(rt, &page.fits(slot, length), &fits, (slot, length));
+    assert_same(
+        rt,
+        &page.put(slot, &buffer[..usize::from(length)]),
+        &fits,
+        (slot, length),
+    );
+    if fits {
+        plain[usize::from(slot)] = Held::Here { length, first };
+    }
+}
+
+/// One change: a body at five of eight, else a forward, an empty entry, or bodies moved together.
+fn step(rt: &impl Abort, draws: &mut Draws, page: &mut Slotted, plain: &mut Plain, longest: u16) {
+    let slot = draws.below(128) as u8;
+    let first = draws.below(256) as u8;
+    let length = draws.below(u32::from(longest)) as u16;
+    let kind = draws.below(8);
+    if slot >= 128 {
+        return;
+    }
+    match kind {
+        0 => {
+            page.forward(slot, 4_000_000_000, first / 2);
+            plain[usize::from(slot)] = Held::Forward {
+                page: 4_000_000_000,
+                slot: first / 2,
+            };
+        }
+        1 => {
+            page.remove(slot);
+            plain[usize::from(slot)] = Held::Empty;
+        }
+        2 => page.compact(),
+        _ => put(rt, page, plain, slot, length, first),
+    }
+}
+
+#[test]
+fn a_page_holds_what_a_plain_list_holds(rt: HostRuntime) -> Result<(), Fail> {
+    let mut draws = Draws::new(2);
+    for longest in [10, 60, 400, 3058] {
+        let mut page = Slotted::new();
+        let mut plain: Plain = [Held::Empty; 128];
+        assert_holds(&rt, &page, &plain, 0);
+        for case in 0..250u32 {
+            step(&rt, &mut draws, &mut page, &mut plain, longest);
+            assert_holds(&rt, &page, &plain, case);
+        }
+    }
+    Ok(())
+}
+
+#[test]
+fn a_body_of_each_length_fits_alone(rt: HostRuntime) -> Result<(), Fail> {
+    let mut page = Slotted::new();
+    let mut plain: Plain = [Held::Empty; 128];
+    for length in 1..3057u16 {
+        put(&rt, &mut page, &mut plain, 5, length, (length % 256) as u8);
+        assert_same(&rt, &bytes_of(&plain), &u32::from(length), length);
+    }
+    assert_holds(&rt, &page, &plain, 3056);
+    assert_same(&rt, &page.fits(6, 0), &true, 0);
+    assert_same(&rt, &page.fits(6, 1), &false, 1);
+    assert_same(&rt, &page.fits(5, 3056), &true, 3056);
+    assert_same(&rt, &page.fits(5, 3057), &false, 3057);
+    Ok(())
+}
+
+#[test]
+fn holes_are_closed_where_a_body_needs_them(rt: HostRuntime) -> Result<(), Fail> {
+    let mut page = Slotted::new();
+    let mut plain: Plain = [Held::Empty; 128];
+    for slot in 0..128u8 {
+        put(&rt, &mut page, &mut plain, slot, 23, slot);
+    }
+    assert_same(&rt, &bytes_of(&plain), &2944, 0);
+    for slot in 0..128u8 {
+        if slot % 2 == 0 {
+            page.remove(slot);
+            plain[usize::from(slot)] = Held::Empty;
+        }
+    }
+    put(&rt, &mut page, &mut plain, 64, 1584, 200);
+    assert_same(&rt, &bytes_of(&plain), &3056, 1);
+    assert_holds(&rt, &page, &plain, 2);
+    Ok(())
+}

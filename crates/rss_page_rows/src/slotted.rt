@@ -1,0 +1,96 @@
+// A slotted page that is changed only as it may be.
+ghost use Rattle.std.specs.Prelude.{◌<◌};
+
+use rss_base::{Page, PageKey, Space};
+use rss_page::{Entry, Survey, blank, body, compact, entry, fits, forward_at, put_at, remove};
+use std::marker::Model;
+
+/// The key of the page.
+pub(crate) const KEY: PageKey = PageKey {
+    segment: 3,
+    space: Space::Home,
+    number: 70_000,
+};
+
+/// A well-formed home page.
+#[derive(Drop)]
+pub(crate) struct Slotted {
+    page: Page,
+}
+
+impl Model for Slotted {
+    ghost use Rattle.std.specs.Prelude.{List, ℕ};
+    ghost use Rattle.rss_page.specs.Slotted.{IsSlotted};
+
+    ghost Value = { List ℕ };
+
+    ghost view = { λ s. s.page };
+
+    ghost invariant = { λ s. IsSlotted s.page };
+}
+
+impl Slotted {
+    pub(crate) fn new() -> Self {
+        let page = blank(KEY);
+        Slotted { page }
+    }
+
+    pub(crate) fn page(&self) -> &Page {
+        &self.page
+    }
+
+    pub(crate) fn survey(&self) -> Survey {
+        Survey::of(&self.page)
+    }
+
+    pub(crate) fn entry(&self, slot: u8) -> Entry
+        requires { slot < 128 }
+    {
+        entry(&self.page, slot)
+    }
+
+    pub(crate) fn body(&self, slot: u8) -> Option<&[u8]>
+        requires { slot < 128 }
+    {
+        body(&self.page, slot)
+    }
+
+    pub(crate) fn fits(&self, slot: u8, length: u16) -> bool
+        requires { slot < 128 }
+    {
+        fits(&self.page, slot, length)
+    }
+
+    /// Puts a body, where it fits.
+    pub(crate) fn put(&mut self, slot: u8, body: &[u8]) -> bool
+        requires { slot < 128 }
+    {
+        if body.is_empty() || body.len() > 4096 {
+            return false;
+        }
+        if !fits(&self.page, slot, body.len() as u16) {
+            return false;
+        }
+        put_at(&mut self.page, slot, body);
+        true
+    }
+
+    /// Puts a forward to a slot below 128.
+    pub(crate) fn forward(&mut self, slot: u8, to_page: u32, to_slot: u8)
+        requires { slot < 128 }
+    {
+        if self.page[0] == 1 && to_slot < 128 {
+            forward_at(&mut self.page, slot, to_page, to_slot);
+        }
+    }
+
+    pub(crate) fn remove(&mut self, slot: u8)
+        requires { slot < 128 }
+    {
+        remove(&mut self.page, slot);
+    }
+
+    pub(crate) fn compact(&mut self) {
+        compact(&mut self.page);
+    }
+}
