@@ -1,0 +1,9 @@
+pub mod Orders
+pub mod Numbers
+pub mod Fitting
+pub mod KeyOrders
+pub mod Reading
+pub mod Bytes
+pub mod Walking
+pub mod Choosing
+pub mod Sums

@@ -1,0 +1,66 @@
+// Tuples: whether they fit, and their bytes.
+ghost use Rattle.std.specs.Prelude.{◌≡◌, ◌+◌, ◌≤◌, ◌++◌, List, length, Some, None, IfOk, IfErr, IfSome, OnOk};
+ghost use Rattle.rss_base.specs.TupleTypes.{kinds, misfit, most_fields, width, tuple_bytes, Spells};
+ghost use Rattle.rss_base.specs.declared.value.Value.{Value};
+
+use crate::cursor::Cursor;
+use crate::value_ref::ValueRef;
+use rss_base::{BODY_BYTES, Body, FieldDef, Tuple};
+use std::alloc::{AllocError, Global};
+
+/// Whether a tuple fits the fields. If not, the first field, counted from 1, whose value has the
+/// wrong kind, is too long, has a character that isn't allowed, is missing, or is one too many.
+pub fn fits(fields: &[FieldDef], tuple: &Tuple) -> Result<(), u8>
+    requires { length fields.now ≤ most_fields }
+    ensures ok { OnOk result (misfit (kinds fields.now) tuple.now ≡ None) }
+    ensures first { IfErr result (λ number. misfit (kinds fields.now) tuple.now ≡ Some number) }
+{
+    let values = tuple.as_slice();
+    let mut number = 1;
+    for (field, value) in fields.iter().zip(values) {
+        if !ValueRef::new(value).fits(field.kind) {
+            return Err(number);
+        }
+        number += 1;
+    }
+    if fields.len() == values.len() {
+        Ok(())
+    } else {
+        Err(number)
+    }
+}
+
+/// Puts the bytes of a tuple's values behind those that are there. The form is that of
+/// `docs/VALUES.md`.
+pub fn encode(fields: &[FieldDef], tuple: &Tuple, into: &mut Body)
+    requires fit { misfit (kinds fields.now) tuple.now ≡ None }
+    requires room { length into.old + width (kinds fields.now) ≤ BODY_BYTES }
+    ensures appended { into.new ≡ into.old ++ tuple_bytes tuple.now }
+    ensures spelled { Spells (kinds fields.now) (tuple_bytes tuple.now) tuple.now }
+{
+    for (field, value) in fields.iter().zip(tuple.as_slice()) {
+        ValueRef::new(value).write(field.kind, into);
+    }
+}
+
+/// The tuple whose values' bytes these are, or `None` where they spell no tuple that fits the
+/// fields.
+pub fn decode(alloc: Global, fields: &[FieldDef], bytes: &[u8]) -> Result<Option<Tuple>, AllocError>
+    ensures some { IfOk result (λ tuple. IfSome tuple (Spells (kinds fields.now) bytes.now)) }
+    ensures exact { IfOk result (λ tuple. (values : List Value)
+        → Spells (kinds fields.now) bytes.now values → tuple ≡ Some values) }
+{
+    let mut cursor = Cursor::new(bytes);
+    let mut tuple = Tuple::new(alloc);
+    for field in fields {
+        let Some(value) = cursor.read(field.kind) else {
+            return Ok(None);
+        };
+        tuple.push(value.to_value(alloc)?)?;
+    }
+    if cursor.is_at_end() {
+        Ok(Some(tuple))
+    } else {
+        Ok(None)
+    }
+}

@@ -1,0 +1,56 @@
+// Keys: the bytes by which tuples are ordered.
+ghost use Rattle.std.specs.Prelude.{◌≡◌, ◌↔◌, ◌+◌, ◌≤◌, [], ◌∷◌, ◌++◌, List, length, All};
+ghost use Rattle.std.specs.Ordering.{nat_cmp};
+ghost use Rattle.std.specs.Cmp.Lexicographic.{slice_cmp};
+ghost use Rattle.rss_base.specs.TupleTypes.{kinds, values_cmp, most_key_width, key_width, key_bytes, chosen, Spells, SpellsSome, IsKeyOf};
+ghost use Rattle.rss_base.specs.declared.value.Value.{Value};
+ghost use Rattle.rss_base.specs.declared.value.FieldKind.{FieldKind};
+ghost use Rattle.rss_value.specs.Numbers.{IsNumberOf};
+
+use crate::cursor::Cursor;
+use rss_base::{FieldDef, KEY_BYTES, Key};
+use std::cmp::Ordering;
+
+/// Writes the key that a tuple has in an image of these of its fields, in this order, from the
+/// bytes of the tuple's values. Fields are counted from 1.
+pub fn key(fields: &[FieldDef], which: &[u8], values: &[u8], into: &mut Key)
+    requires spelled { SpellsSome (kinds fields.now) values.now }
+    requires numbers { All (IsNumberOf fields.now) which.now }
+    requires narrow { key_width (chosen which.now (kinds fields.now)) ≤ most_key_width }
+    requires empty { into.old ≡ [] }
+    ensures { (tuple : List Value) → Spells (kinds fields.now) values.now tuple
+        → IsKeyOf (chosen which.now (kinds fields.now)) (chosen which.now tuple) into.new }
+{
+    for number in which {
+        put_part(fields, *number, values, into);
+    }
+}
+
+/// Puts the part of one field behind what is there.
+fn put_part(fields: &[FieldDef], number: u8, values: &[u8], into: &mut Key)
+    requires spelled { SpellsSome (kinds fields.now) values.now }
+    requires number { IsNumberOf fields.now number }
+    requires room { length into.old + key_width (chosen (number ∷ []) (kinds fields.now)) ≤ KEY_BYTES }
+    ensures { (tuple : List Value) → Spells (kinds fields.now) values.now tuple
+        → into.new ≡ into.old ++ key_bytes (chosen (number ∷ []) (kinds fields.now)) (chosen (number ∷ []) tuple) }
+{
+    let at = usize::from(number) - 1;
+    let mut cursor = Cursor::new(values);
+    for field in &fields[..at] {
+        let _passed = cursor.read(field.kind);
+    }
+    let kind = fields[at].kind;
+    let value = cursor.read(kind).unwrap();
+    value.write_key_part(kind, into);
+}
+
+/// The order of two keys, which is that of the values that they are made from.
+pub fn compare_keys(a: &Key, b: &Key) -> Ordering
+    ensures bytes { result ≡ slice_cmp nat_cmp a.now b.now }
+    ensures values { (fields : List FieldKind) (first second : List Value)
+        → IsKeyOf fields first a.now → IsKeyOf fields second b.now → result ≡ values_cmp first second }
+    ensures same { (fields : List FieldKind) (first second : List Value)
+        → IsKeyOf fields first a.now → IsKeyOf fields second b.now → (a.now ≡ b.now) ↔ (first ≡ second) }
+{
+    a.as_slice().cmp(b.as_slice())
+}

@@ -1,0 +1,12 @@
+//! Which tuples fit a relation's fields, and how tuples and keys stand as bytes.
+#![tactic(auto)]
+
+mod codec;
+mod cursor;
+mod keys;
+mod value_ref;
+mod widths;
+
+pub use codec::{decode, encode, fits};
+pub use keys::{compare_keys, key};
+pub use widths::{key_width, width};

@@ -1,0 +1,127 @@
+// Values that are borrowed: whether they fit a field, and how they are written.
+ghost use Rattle.std.specs.Prelude.{◌≡◌, ◌+◌, ◌-◌, ◌≤◌, ◌++◌, true, length, replicate, IfOk};
+ghost use Rattle.std.specs.List.{list_all};
+ghost use Rattle.rss_base.specs.TupleTypes.{is_allowed_byte, is_allowed_text, fits, IsStorable, field_width, value_bytes, with_sign_inverted, key_part, key_part_width};
+ghost use Rattle.rss_value.specs.ValueRefs.{value_of};
+
+use rss_base::{BODY_BYTES, Body, FieldKind, KEY_BYTES, Key, Text, Value};
+use std::alloc::{AllocError, Global};
+use std::str;
+
+/// The bit of a number's first byte that says that the number is negative.
+const SIGN_BIT: u8 = 0x80;
+
+/// A value whose text is borrowed.
+#[derive(Clone, Copy)]
+pub enum ValueRef<'a> {
+    Int(i64),
+    Text(&'a [u8]),
+}
+
+impl<'a> ValueRef<'a> {
+    pub fn new(value: &'a Value) -> Self
+        ensures { value_of result ≡ value.now }
+    {
+        match value {
+            Value::Int(number) => ValueRef::Int(*number),
+            Value::Text(text) => ValueRef::Text(text.as_slice()),
+        }
+    }
+
+    /// The value, with a text of its own.
+    pub fn to_value(&self, alloc: Global) -> Result<Value, AllocError>
+        ensures { IfOk result (λ value. value ≡ value_of self.now) }
+    {
+        match self {
+            ValueRef::Int(number) => Ok(Value::Int(*number)),
+            ValueRef::Text(bytes) => Ok(Value::Text(to_text(alloc, bytes)?)),
+        }
+    }
+
+    /// Whether the value is of this kind.
+    pub fn fits(&self, kind: FieldKind) -> bool
+        ensures { result ≡ fits kind (value_of self.now) }
+    {
+        match (self, kind) {
+            (ValueRef::Int(_), FieldKind::Int) => true,
+            (ValueRef::Text(bytes), FieldKind::Text(most)) => {
+                bytes.len() <= usize::from(most) && is_allowed_text(bytes)
+            }
+            _ => false,
+        }
+    }
+
+    /// Puts the value's bytes behind those that are there.
+    pub fn write(&self, kind: FieldKind, into: &mut Body)
+        requires fit { fits kind (value_of self.now) ≡ true }
+        requires room { length into.old + field_width kind ≤ BODY_BYTES }
+        ensures written { into.new ≡ into.old ++ value_bytes (value_of self.now) }
+        ensures storable { IsStorable (value_of self.now) }
+    {
+        match self {
+            ValueRef::Int(number) => into.extend_from_slice(&number.to_be_bytes()),
+            ValueRef::Text(bytes) => {
+                into.push(bytes.len() as u8);
+                into.extend_from_slice(bytes);
+            }
+        }
+    }
+
+    /// Puts the part of a key that a field of this kind has behind what is there.
+    pub fn write_key_part(&self, kind: FieldKind, into: &mut Key)
+        requires fit { fits kind (value_of self.now) ≡ true }
+        requires room { length into.old + key_part_width kind ≤ KEY_BYTES }
+        ensures { into.new ≡ into.old ++ key_part kind (value_of self.now) }
+    {
+        match (self, kind) {
+            (ValueRef::Int(number), _) => {
+                into.extend_from_slice(&invert_sign(number.to_be_bytes()));
+            }
+            (ValueRef::Text(bytes), FieldKind::Text(most)) => {
+                into.extend_from_slice(bytes);
+                push_zeros(into, usize::from(most) - bytes.len());
+            }
+            (ValueRef::Text(_), FieldKind::Int) => unreachable!(),
+        }
+    }
+}
+
+/// Whether the bytes are UTF-8 text of characters from U+0020 on, without U+007F.
+pub fn is_allowed_text(bytes: &[u8]) -> bool
+    ensures { result ≡ is_allowed_text bytes.now }
+{
+    str::from_utf8(bytes).is_ok() && has_no_control(bytes)
+}
+
+fn has_no_control(bytes: &[u8]) -> bool
+    ensures { result ≡ list_all is_allowed_byte bytes.now }
+{
+    bytes.iter().all(|byte| *byte >= 32 && *byte != 127)
+}
+
+fn to_text(alloc: Global, bytes: &[u8]) -> Result<Text, AllocError>
+    ensures { IfOk result (λ text. text ≡ bytes.now) }
+{
+    let mut text = Text::new(alloc);
+    for byte in bytes {
+        text.push(*byte)?;
+    }
+    Ok(text)
+}
+
+fn invert_sign(number: [u8; 8]) -> [u8; 8]
+    ensures { result ≡ with_sign_inverted number }
+{
+    let mut inverted = number;
+    inverted[0] ^= SIGN_BIT;
+    inverted
+}
+
+fn push_zeros(into: &mut Key, count: usize)
+    requires { length into.old + count ≤ KEY_BYTES }
+    ensures { into.new ≡ into.old ++ replicate count 0 }
+{
+    for _ in 0..count {
+        into.push(0);
+    }
+}
