@@ -1,0 +1,5 @@
+use Rattle.rss_log.proofs.LogViews.{is_log}
+use Rattle.rss_log.proofs.log.Log.head.Goals as goal
+
+pub returns-clause-log : goal.returns-clause-log
+returns-clause-log c = rw (← c.self.view_is) (is_log c.self.inside c.self.invariant)

@@ -1,0 +1,4 @@
+pub mod Putting
+pub mod FieldBytes
+pub mod Marks
+pub mod Records

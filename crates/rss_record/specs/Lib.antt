@@ -1,0 +1,3 @@
+pub use Rattle.rss_base.specs.LogRecords
+pub mod Reading
+pub mod Writing
