@@ -1,7 +1,11 @@
 -- How calls of a device follow one another.
-use Rattle.std.proofs.Common.{◌≡◌, ◌⊎◌, inl, inr, ⊎_elim, ℕ, ◌≤◌, Some, refl, sym, ◌∙◌, subst, arith}
+use Rattle.std.proofs.Common.{◌≡◌, ◌⊎◌, inl, inr, ⊎_elim, ℕ, ◌+◌, ◌≤◌, Some, refl, sym, ◌∙◌, subst, arith}
+use Rattle.std.specs.Prelude.{Result, IsErr}
 use Rattle.std.proofs.lemmas.Bool.{cases_lt}
-use Rattle.rss_base.specs.DiskRule.{Disk, Pages, Leaves, LeavesOnly, Places, IsAt, SameOff, TornIn, Passes, Continues, GoesOn, OnlyReads, WritesIn}
+use Rattle.rss_base.specs.DiskRule.{Disk, Pages, Leaves, LeavesOnly, Places, IsAt, SameOff, TornIn, Passes, Continues, GoesOn, WritesIn}
+use Rattle.rss_base.specs.Devices.{DeviceView, OnlyReads, ReadsPages, WritesPages}
+use Rattle.rss_base.specs.Faults.{Rises}
+use Rattle.rss_base.specs.declared.fault.Failed.{Failed}
 
 -- before the first call
 pub started : (disk : Disk) (P : Pages → Type 0) → Passes disk disk P
@@ -81,11 +85,15 @@ no_more_then first second = then first second (no_more first)
 
 -- ---- calls of a device
 
-pub reads_none : (disk : Disk) (writes faults : ℕ) → OnlyReads disk disk writes writes faults faults
-reads_none disk writes faults = record { contents = refl; moments = λ told. started disk (Leaves disk); same_writes = refl; later = omega arith }
+-- a count that rose has risen since an earlier time
+pub rises_since : {old mid new : ℕ} → old ≤ mid → Rises mid new → Rises old new
+rises_since early rises = omega (arith, early, rises)
+
+pub reads_none : (device : DeviceView) → OnlyReads device device
+reads_none device = record { contents = refl; moments = λ told. started device.disk (Leaves device.disk); same_writes = refl; later = omega arith }
 
 -- a call that reads, after others
-pub reads_then : {old mid new : Disk} {w v u f h k : ℕ} → OnlyReads old mid w v f h → OnlyReads mid new v u h k → OnlyReads old new w u f k
+pub reads_then : {old mid new : DeviceView} → OnlyReads old mid → OnlyReads mid new → OnlyReads old new
 reads_then first second = record {
   contents = second.contents ∙ first.contents;
   moments = λ told. no_more_then (first.moments told) (second.moments (record { pages = told.pages; is = first.contents ∙ told.is }));
@@ -94,7 +102,7 @@ reads_then first second = record {
 }
 
 -- after calls that only read a stop leaves what it left before them
-pub only_read : {old new : Disk} {w v f h : ℕ} (pages : Pages) → old.contents ≡ Some pages → LeavesOnly old pages → OnlyReads old new w v f h → LeavesOnly new pages
+pub only_read : {old new : DeviceView} (pages : Pages) → old.disk.contents ≡ Some pages → LeavesOnly old.disk pages → OnlyReads old new → LeavesOnly new.disk pages
 only_read pages told only reads = only_stays pages only (reads.moments (record { pages = pages; is = told }))
 
 pub writes_none : {places : Places} (disk : Disk) → WritesIn places disk disk
@@ -105,7 +113,7 @@ writes_none disk = record {
 }
 
 -- a call that only reads writes in no place
-pub writes_nothing : {places : Places} {old new : Disk} {w v f h : ℕ} → OnlyReads old new w v f h → WritesIn places old new
+pub writes_nothing : {places : Places} {old new : DeviceView} → OnlyReads old new → WritesIn places old.disk new.disk
 writes_nothing reads = record {
   told = (λ told. record { pages = told.pages; is = reads.contents ∙ told.is }, λ told. record { pages = told.pages; is = sym reads.contents ∙ told.is });
   kept = λ pages told. record { after = pages; told = reads.contents ∙ told; same = none_changed pages };
@@ -146,3 +154,31 @@ goes_then first second = record {
   told = (λ told. second.told.0 (first.told.0 told), λ told. first.told.1 (second.told.1 told));
   history = λ told. continues_then (first.history told) (second.history (first.told.0 told));
 }
+
+-- ---- calls that write pages, by their results
+
+-- a call that read after one that wrote
+pub wrote_reads : {T U : Type 0} {places : Places} {count : ℕ} {old mid new : DeviceView} {first : Result T Failed} {second : Result U Failed} → WritesPages places count old mid first → ReadsPages mid new second → WritesPages places count old new second
+wrote_reads one two = record {
+  only = writes_then one.only (writes_nothing two.reads);
+  size = two.size ∙ one.size;
+  writes = omega (arith, one.writes, two.reads.same_writes);
+  cause = record { later = omega (arith, one.cause.later, two.reads.later); failed = λ is. rises_since one.cause.later (two.failed is) };
+}
+
+-- a call that wrote after another one
+pub wrote_then : {T U : Type 0} {places : Places} {count more : ℕ} {old mid new : DeviceView} {first : Result T Failed} {second : Result U Failed} → WritesPages places count old mid first → WritesPages places more mid new second → WritesPages places (count + more) old new second
+wrote_then one two = record {
+  only = writes_then one.only two.only;
+  size = two.size ∙ one.size;
+  writes = omega (arith, one.writes, two.writes);
+  cause = record { later = omega (arith, one.cause.later, two.cause.later); failed = λ is. rises_since one.cause.later (two.cause.failed is) };
+}
+
+-- more places may be written
+pub wrote_among : {T : Type 0} {places wider : Places} {count : ℕ} {old new : DeviceView} {result : Result T Failed} → ((q : ℕ) → places q → wider q) → WritesPages places count old new result → WritesPages wider count old new result
+wrote_among is wrote = record { only = writes_among is wrote.only; size = wrote.size; writes = wrote.writes; cause = wrote.cause }
+
+-- another result, which is no error unless the first is
+pub wrote_as : {T U : Type 0} {places : Places} {count : ℕ} {old new : DeviceView} {first : Result T Failed} {second : Result U Failed} → (IsErr second → IsErr first) → WritesPages places count old new first → WritesPages places count old new second
+wrote_as is wrote = record { only = wrote.only; size = wrote.size; writes = wrote.writes; cause = record { later = wrote.cause.later; failed = λ error. wrote.cause.failed (is error) } }

@@ -86,14 +86,6 @@ pub record GoesOn (old new : Disk) : Type 0 where
   pub told : IsTold old ↔ IsTold new
   pub history : IsTold old → Continues old new
 
--- A call that only reads: the device tells what it told, a stop within it leaves what was left
--- before, no write is counted, and the count of the faults never falls.
-pub record OnlyReads (old new : Disk) (writes writes_now faults faults_now : ℕ) : Type 0 where
-  pub contents : new.contents ≡ old.contents
-  pub moments : IsTold old → Passes old new (Leaves old)
-  pub same_writes : writes_now ≡ writes
-  pub later : faults ≤ faults_now
-
 -- A call that writes at most in these places: a device that tells its contents tells them as before,
 -- the other pages read as they did, and a stop within it leaves what was left before, with any bytes
 -- in these places.

@@ -1,10 +1,12 @@
 pub mod Faults
 pub mod Streams
 pub mod DiskRule
+pub mod Devices
 pub mod Sizes
 pub mod Layout
 pub mod PageMap
 pub mod Paged
+pub mod Notes
 pub mod Steps
 pub mod StoredPages
 pub mod Answers

@@ -43,6 +43,15 @@ pub record IsLeastUnmapped (mapped : Mapped) (segment : ℕ) (space : Space) (nu
   pub free : mapped (page_key segment space number) ≡ false
   pub lesser : (k : ℕ) → k < number → mapped (page_key segment space k) ≡ true
 
+-- the page of this number is mapped
+abbrev pub IsMappedAt : Mapped → ℕ → Space → ℕ → Type 0
+IsMappedAt mapped segment space number = mapped (page_key segment space number) ≡ true
+
+-- the number is one of a page's of so many slots, and its page isn't mapped
+pub record IsUnmappedAt (slots : ℕ) (mapped : Mapped) (segment : ℕ) (space : Space) (number : ℕ) : Type 0 where
+  pub within : number < slots
+  pub free : mapped (page_key segment space number) ≡ false
+
 -- ---- how many pages are mapped
 
 -- of a segment and a space, with numbers below a limit

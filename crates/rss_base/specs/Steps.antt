@@ -4,6 +4,7 @@ use Rattle.rss_base.specs.DiskRule.{Disk, IsTold}
 use Rattle.rss_base.specs.Sizes.{zero_page}
 use Rattle.rss_base.specs.Faults.{Rises}
 use Rattle.rss_base.specs.PageMap.{page_count}
+use Rattle.rss_base.specs.Notes.{Noted, with_note}
 use Rattle.rss_base.specs.Paged.{Mapped, Held, Fixed, Backing, LeavesFixed, page_key, with_mapped, with_page, mapped_pages}
 use Rattle.rss_base.specs.declared.place.Place.{Place}
 use Rattle.rss_base.specs.declared.fault.PageFault.{PageFault}
@@ -14,7 +15,9 @@ use Rattle.rss_base.specs.declared.key.Space.{Space}
 -- disk: what the device under the pages tells.
 -- slots: how many slots it has for them.
 -- mapped, held: which pages there are, and what each of them holds where the device tells its contents.
+-- notes: what was noted on them.
 -- changed: which of them were changed since all of them were saved.
+-- in_memory: which of them can be lent.
 -- spare: how many more can be taken.
 -- asks, writes, faults: how many reads of a page there were, and writes and faults of the device.
 -- fixed, settled: what is fixed of the device's pages, and that none of this is on its way to the disk.
@@ -24,7 +27,9 @@ pub record PagesView : Type 1 where
   pub slots : ℕ
   pub mapped : Mapped
   pub held : Held
+  pub notes : Noted
   pub changed : Mapped
+  pub in_memory : Mapped
   pub spare : ℕ
   pub asks : ℕ
   pub writes : ℕ
@@ -64,25 +69,35 @@ pages_in segment space key = key ≡ page_key segment space key.number
 
 -- ---- what is done to one page
 
--- the page holds these bytes now
+-- the page holds these bytes now, and has no note
 pub record WritesPage (key : PageKey) (bytes : List ℕ) (old new : PagesView) : Type 0 where
   pub mapped : new.mapped ≡ old.mapped
   pub held : IsTold old.disk → new.held ≡ with_page old.held key (Some bytes)
+  pub notes : new.notes ≡ with_note old.notes key None
 
--- the page is mapped now, and holds zeros
+-- the page is mapped now, holds zeros, and has no note
 pub record TakesPage (key : PageKey) (old new : PagesView) : Type 0 where
   pub mapped : new.mapped ≡ with_mapped old.mapped key true
   pub held : IsTold old.disk → new.held ≡ with_page old.held key (Some zero_page)
+  pub notes : new.notes ≡ with_note old.notes key None
 
--- the page is mapped no longer
+-- the page is mapped no longer, and has no note
 pub record GivesPage (key : PageKey) (old new : PagesView) : Type 0 where
   pub mapped : new.mapped ≡ with_mapped old.mapped key false
   pub held : IsTold old.disk → new.held ≡ with_page old.held key None
+  pub notes : new.notes ≡ with_note old.notes key None
+
+-- this number is noted on the page
+pub record NotesPage (key : PageKey) (number : ℕ) (old new : PagesView) : Type 0 where
+  pub mapped : new.mapped ≡ old.mapped
+  pub held : new.held ≡ old.held
+  pub changed : new.changed ≡ old.changed
+  pub notes : new.notes ≡ with_note old.notes key (Some number)
 
 -- ---- what each call passes on
 
--- Whatever was done: no pages were touched but these, so many were asked for at most, and so many writes made at most.
-pub record PagesStep (touched : Keys) (asks writes : ℕ) (old new : PagesView) : Type 0 where
+-- Whatever was done: so many pages were asked for at most, and so many writes made at most.
+pub record PassesOn (asks writes : ℕ) (old new : PagesView) : Type 0 where
   pub slots : new.slots ≡ old.slots
   pub backing : new.backing ≡ old.backing
   pub leaves : LeavesFixed (old.settled ≡ true) (new.settled ≡ true) old.disk new.disk old.fixed new.fixed
@@ -91,9 +106,14 @@ pub record PagesStep (touched : Keys) (asks writes : ℕ) (old new : PagesView) 
   pub asks_high : new.asks ≤ old.asks + asks
   pub writes_low : old.writes ≤ new.writes
   pub writes_high : new.writes ≤ old.writes + writes
+
+-- And no pages were touched but these.
+pub record PagesStep (touched : Keys) (asks writes : ℕ) (old new : PagesView) : Type 0 where
+  pub passes : PassesOn asks writes old new
   pub changed_off : (key : PageKey) → new.changed key ≡ true → (old.changed key ≡ true) ⊎ touched key
   pub mapped_off : (key : PageKey) → (touched key → ⊥) → new.mapped key ≡ old.mapped key
   pub held_off : IsTold old.disk → (key : PageKey) → (touched key → ⊥) → new.held key ≡ old.held key
+  pub notes_off : (key : PageKey) → (touched key → ⊥) → new.notes key ≡ old.notes key
 
 -- The same of a call, by its result: a device's fault has come, and nothing is found damaged on a device that tells its contents.
 pub record PagesCall {T : Type 0} (touched : Keys) (asks writes : ℕ) (old new : PagesView) (result : Result T PageFault) : Type 0 where

@@ -1,7 +1,8 @@
 // What a store is kept on.
-ghost use Rattle.std.specs.Prelude.{◌≡◌, ◌<◌, ◌≤◌, ℕ, length, Some, IfOk, OnOk, slice_set};
+ghost use Rattle.std.specs.Prelude.{◌≡◌, ◌<◌, ◌≤◌, length, Some, IfOk, OnOk, slice_set};
 ghost use Rattle.rss_base.specs.Faults.{count_limit, counted, HasCause};
-ghost use Rattle.rss_base.specs.DiskRule.{Disk, page, Told, IsResized, Leaves, LeavesOnly, IsAt, GoesOn, OnlyReads, WritesIn};
+ghost use Rattle.rss_base.specs.DiskRule.{page, Told, IsResized, Leaves, LeavesOnly, IsAt, GoesOn};
+ghost use Rattle.rss_base.specs.Devices.{DeviceView, OnlyReads, ReadsPages, WritesPages};
 
 use crate::{Failed, Page};
 
@@ -10,69 +11,52 @@ use crate::{Failed, Page};
 /// Between two syncs a page that was written, also by a write that failed, may hold any bytes after
 /// a stop, and every other page stays. After a sync that succeeds a stop leaves what a read gives.
 pub trait Device {
-    /// What is told of the pages: what a read gives, and what a stop at each moment may leave.
-    ghost disk: { Self → Disk };
-
-    /// How many pages there are. A device that tells nothing of its pages has as many as its last
-    /// `size` or `set_size` said.
-    ghost size_of: { Self → ℕ };
-
-    /// How often the device has failed, counted up to 2 ^ 64 - 1.
-    ghost faults: { Self → ℕ };
-
-    /// How many writes there were, counted up to 2 ^ 64 - 1.
-    ghost writes: { Self → ℕ };
+    /// What there is to see of it.
+    ghost view: { Self → DeviceView };
 
     /// How many pages there are.
     fn size(&mut self) -> Result<u64, Failed>
-        ensures size { IfOk result (λ n. n ≡ size_of self.new) }
-        ensures same_size { Told (disk self.old) (λ _. size_of self.new ≡ size_of self.old) }
-        ensures reads { OnlyReads (disk self.old) (disk self.new)
-            (writes self.old) (writes self.new) (faults self.old) (faults self.new) }
-        ensures cause { HasCause (faults self.old) (faults self.new) result };
+        ensures size { IfOk result (λ n. n ≡ (view self.new).size) }
+        ensures same_size { Told (view self.old).disk (λ _.
+            (view self.new).size ≡ (view self.old).size) }
+        ensures reads { OnlyReads (view self.old) (view self.new) }
+        ensures cause { HasCause (view self.old).faults (view self.new).faults result };
 
     /// Makes the device this many pages. The pages that are new hold any bytes. After a failure the
     /// device has any size.
     fn set_size(&mut self, pages: u64) -> Result<(), Failed>
-        ensures size { OnOk result (size_of self.new ≡ pages) }
-        ensures kept { OnOk result (Told (disk self.old) (λ before.
-            IsResized before (disk self.new).contents)) }
-        ensures goes_on { GoesOn (disk self.old) (disk self.new) }
-        ensures writes { writes self.new ≡ writes self.old }
-        ensures cause { HasCause (faults self.old) (faults self.new) result };
+        ensures size { OnOk result ((view self.new).size ≡ pages) }
+        ensures kept { OnOk result (Told (view self.old).disk (λ before.
+            IsResized before (view self.new).disk.contents)) }
+        ensures goes_on { GoesOn (view self.old).disk (view self.new).disk }
+        ensures writes { (view self.new).writes ≡ (view self.old).writes }
+        ensures cause { HasCause (view self.old).faults (view self.new).faults result };
 
     fn read(&mut self, at: u64, into: &mut Page) -> Result<(), Failed>
-        requires { at < size_of self.old }
-        ensures page { OnOk result (Told (disk self.old) (λ pages. into.new ≡ page pages at)) }
-        ensures size { size_of self.new ≡ size_of self.old }
-        ensures reads { OnlyReads (disk self.old) (disk self.new)
-            (writes self.old) (writes self.new) (faults self.old) (faults self.new) }
-        ensures cause { HasCause (faults self.old) (faults self.new) result };
+        requires { at < (view self.old).size }
+        ensures page { OnOk result (Told (view self.old).disk (λ pages. into.new ≡ page pages at)) }
+        ensures did { ReadsPages (view self.old) (view self.new) result };
 
     /// Writes a page. It is sure to outlast a stop only after the next sync.
     fn write(&mut self, at: u64, from: &Page) -> Result<(), Failed>
-        requires { at < size_of self.old }
-        ensures written { OnOk result (Told (disk self.old) (λ pages.
-            (disk self.new).contents ≡ Some (slice_set pages at from.now))) }
-        ensures only { WritesIn (IsAt at) (disk self.old) (disk self.new) }
-        ensures size { size_of self.new ≡ size_of self.old }
-        ensures writes { writes self.new ≡ counted (writes self.old) }
-        ensures cause { HasCause (faults self.old) (faults self.new) result };
+        requires { at < (view self.old).size }
+        ensures written { OnOk result (Told (view self.old).disk (λ pages.
+            (view self.new).disk.contents ≡ Some (slice_set pages at from.now))) }
+        ensures counts { (view self.new).writes ≡ counted (view self.old).writes }
+        ensures did { WritesPages (IsAt at) 1 (view self.old) (view self.new) result };
 
     /// Brings every page that was written to the disk.
     fn sync(&mut self) -> Result<(), Failed>
-        ensures synced { OnOk result (Told (disk self.old) (LeavesOnly (disk self.new))) }
-        ensures size { size_of self.new ≡ size_of self.old }
-        ensures reads { OnlyReads (disk self.old) (disk self.new)
-            (writes self.old) (writes self.new) (faults self.old) (faults self.new) }
-        ensures cause { HasCause (faults self.old) (faults self.new) result };
+        ensures synced { OnOk result (Told (view self.old).disk (LeavesOnly (view self.new).disk)) }
+        ensures did { ReadsPages (view self.old) (view self.new) result };
 
     /// A device as it reads is one of its images.
-    ghost reads_as_image: { (device : Self) → Told (disk device) (Leaves (disk device)) };
+    ghost reads_as_image: { (device : Self) → Told (view device).disk (Leaves (view device).disk) };
 
     /// The size is that of the pages.
-    ghost sized: { (device : Self) → Told (disk device) (λ pages. length pages ≡ size_of device) };
+    ghost sized: { (device : Self) → Told (view device).disk (λ pages.
+        length pages ≡ (view device).size) };
 
     /// A count of writes stays at its limit.
-    ghost counts: { (device : Self) → writes device ≤ count_limit };
+    ghost limited: { (device : Self) → (view device).writes ≤ count_limit };
 }

@@ -1,11 +1,12 @@
 // Pages by their keys.
-ghost use Rattle.std.specs.Prelude.{◌≡◌, ◌≢◌, ◌<◌, ◌≤◌, true, false, is_some, Some, IfOk, OnOk};
+ghost use Rattle.std.specs.Prelude.{◌≡◌, ◌≢◌, ◌<◌, ◌≤◌, true, false, is_some, Some, IfOk, IfSome, IfNone, OnOk};
 ghost use Rattle.rss_base.specs.Faults.{counted};
 ghost use Rattle.rss_base.specs.Sizes.{segments};
 ghost use Rattle.rss_base.specs.DiskRule.{Pages as DevicePages, Told, IsTold, Leaves};
 ghost use Rattle.rss_base.specs.PageMap.{IsKey};
-ghost use Rattle.rss_base.specs.Paged.{page_key, IsLeastUnmapped, HasFixed};
-ghost use Rattle.rss_base.specs.Steps.{PagesView, AreCounted, PagesCall, no_page, only_on_ok, taken, WritesPage, TakesPage, GivesPage};
+ghost use Rattle.rss_base.specs.Notes.{is_noted_space, note_most, MayDo};
+ghost use Rattle.rss_base.specs.Paged.{page_key, IsLeastUnmapped, IsMappedAt, IsUnmappedAt, IsFirstFrom, NoneFrom, HasFixed};
+ghost use Rattle.rss_base.specs.Steps.{PagesView, AreCounted, PagesStep, PagesCall, NotesPage, no_page, only, only_on_ok, taken, WritesPage, TakesPage, GivesPage};
 ghost use Rattle.rss_base.specs.declared.key.Space.TheVariants.{System};
 ghost use Rattle.rss_base.specs.declared.key.PageKey.{PageKey as Key};
 
@@ -29,6 +30,59 @@ pub trait Pages {
     /// Whether the page is mapped.
     fn has(&self, key: PageKey) -> bool
         ensures { result ≡ (view self.now).mapped key };
+
+    /// The first number from this one on, of a segment and a space, whose page is mapped.
+    fn first_mapped(&self, segment: u8, space: Space, from: u32) -> Option<u32>
+        requires low { 1 ≤ segment }
+        requires high { segment ≤ segments }
+        requires space { space ≢ System }
+        ensures some { IfSome result
+            (IsFirstFrom (IsMappedAt (view self.now).mapped segment space) from) }
+        ensures none { IfNone result
+            (NoneFrom (IsMappedAt (view self.now).mapped segment space) from) };
+
+    /// The first number from this one on, below the number of slots, whose page isn't mapped.
+    fn first_unmapped(&self, segment: u8, space: Space, from: u32) -> Option<u32>
+        requires low { 1 ≤ segment }
+        requires high { segment ≤ segments }
+        requires space { space ≢ System }
+        ensures some { IfSome result (IsFirstFrom
+            (IsUnmappedAt (view self.now).slots (view self.now).mapped segment space) from) }
+        ensures none { IfNone result (NoneFrom
+            (IsUnmappedAt (view self.now).slots (view self.now).mapped segment space) from) };
+
+    /// Notes a number on a home or an overflow page, in place of what was noted before. The note
+    /// stays until the page is written, taken or given.
+    fn note(&mut self, key: PageKey, number: u16)
+        requires mapped { (view self.old).mapped key ≡ true }
+        requires space { is_noted_space key.space ≡ true }
+        requires most { number ≤ note_most }
+        ensures noted { NotesPage key number (view self.old) (view self.new) }
+        ensures did { PagesStep (only key) 0 0 (view self.old) (view self.new) };
+
+    /// The first number from this one on whose page may do: it is mapped, and has no note or one of
+    /// at least `least`.
+    fn first_noted(&self, segment: u8, space: Space, from: u32, least: u16) -> Option<u32>
+        requires low { 1 ≤ segment }
+        requires high { segment ≤ segments }
+        requires noted { is_noted_space space ≡ true }
+        ensures some { IfSome result (IsFirstFrom
+            (MayDo (view self.now).mapped (view self.now).notes least segment space) from) }
+        ensures none { IfNone result (NoneFrom
+            (MayDo (view self.now).mapped (view self.now).notes least segment space) from) };
+
+    /// Brings a page into memory, where `loaded` lends it. It may leave with the next call that
+    /// changes `self`.
+    fn load(&mut self, key: PageKey) -> Result<(), PageFault>
+        requires { (view self.old).mapped key ≡ true }
+        ensures there { OnOk result ((view self.new).in_memory key ≡ true) }
+        ensures asks { (view self.new).asks ≡ counted (view self.old).asks }
+        ensures did { PagesCall no_page 1 1 (view self.old) (view self.new) result };
+
+    /// Lends a page that is in memory, without a copy of it.
+    fn loaded(&self, key: PageKey) -> &Page
+        requires { (view self.now).in_memory key ≡ true }
+        ensures { IsTold (view self.now).disk → (view self.now).held key ≡ Some result.now };
 
     fn read(&mut self, key: PageKey, into: &mut Page) -> Result<(), PageFault>
         requires { (view self.old).mapped key ≡ true }
@@ -83,6 +137,10 @@ pub trait Pages {
 
     /// Each slot is spare or one page's, and so `spare` follows from what is mapped.
     ghost are_counted: { (pages : Self) → AreCounted (view pages) };
+
+    /// What is noted is mapped.
+    ghost noted_are: { (pages : Self) (key : Key) → is_some ((view pages).notes key) ≡ true
+        → (view pages).mapped key ≡ true };
 
     /// What was changed is mapped.
     ghost changed_are: { (pages : Self) (key : Key) → (view pages).changed key ≡ true → (view pages).mapped key ≡ true };

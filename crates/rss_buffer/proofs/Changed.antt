@@ -1,6 +1,6 @@
 -- What changing one page does to a buffer: the page gets a slot or loses it, and its frame is changed with it.
-use Rattle.std.proofs.Common.{◌≡◌, ◌≢◌, ◌⊎◌, inl, inr, ℕ, ◌+◌, ◌<◌, ◌≤◌, true, false, List, length, replicate, set, Option, Some, None, refl, sym, ◌∙◌, ap, subst, arith, length-set, get_or-set_same, get_or-set_other}
-use Rattle.std.specs.Prelude.{is_some, is_none, option_map, unwrap_or}
+use Rattle.std.proofs.Common.{◌≡◌, ◌≢◌, ◌⊎◌, inl, inr, ℕ, ◌+◌, ◌<◌, ◌≤◌, Bool, true, false, List, length, set, Option, Some, None, refl, sym, ◌∙◌, ap, subst, arith, length-set, get_or-set_same, get_or-set_other}
+use Rattle.std.specs.Prelude.{Result, is_some, is_none, option_map, unwrap_or}
 use Rattle.std.proofs.Math.Path.{fun_ext}
 use Rattle.std.proofs.lemmas.Bool.{cases_Bool, cond-true, cond-false}
 use Rattle.std.proofs.lemmas.Option.{same_Some}
@@ -9,11 +9,15 @@ use Rattle.rss_base.specs.DiskRule.{Pages, page, Told, IsTold}
 use Rattle.rss_base.specs.Layout.{slots_at}
 use Rattle.rss_base.specs.PageMap.{IsKey, IsTable, owner_of, page_count}
 use Rattle.rss_base.specs.Paged.{Mapped, Held, Fixed, LeavesFixed, is_same, with_mapped, with_page, page_key, IsLeastUnmapped}
-use Rattle.rss_base.specs.Steps.{Keys, no_page, PagesStep, WritesPage, TakesPage, GivesPage}
+use Rattle.rss_base.specs.Sizes.{zero_page}
+use Rattle.rss_base.specs.Notes.{is_noted_space, with_note}
+use Rattle.rss_base.specs.Steps.{Keys, no_page, PassesOn, PagesStep, PagesCall, WritesPage, TakesPage, GivesPage}
+use Rattle.rss_base.specs.declared.fault.PageFault.{PageFault}
 use Rattle.rss_base.specs.declared.key.Space.{Space}
 use Rattle.rss_base.specs.declared.key.Space.TheVariants.{Home, Overflow, Image, System}
 use Rattle.rss_base.specs.declared.key.PageKey.{PageKey}
 use Rattle.rss_pagemap.proofs.Owners.{table_set}
+use Rattle.rss_notes.specs.Notes.{NotesView, Marks}
 use Rattle.rss_shadow.specs.Maps.{Maps, spare, HasPage, LacksPage, GainsPage, LosesPage, MovesPage, IsLeastLacking}
 use Rattle.rss_shadow.proofs.Counts.{Owners, no_owner, one_page, Assigns-set, owned_within}
 use Rattle.rss_shadow.proofs.Slots.{Changes, Changes-then, Changes-gains, Changes-loses}
@@ -22,13 +26,13 @@ use Rattle.rss_buffer.specs.declared.stage.Stage.TheVariants.{Changing}
 use Rattle.rss_buffer.specs.Frames.{FrameOf, with_frame}
 use Rattle.rss_buffer.specs.Slots.{held_in, held_by, fixed_by, told_pages}
 use Rattle.rss_base.specs.StoredPages.{slot_of, mapped_by}
-use Rattle.rss_buffer.specs.Buffered.{BufferView, AreFrames, StaysFixed, HaveSlots, IsBuffer, held_of, KeepsPages}
+use Rattle.rss_buffer.specs.Buffered.{BufferView, AreFrames, StaysFixed, HaveSlots, AreNotesOf, IsBuffer, held_of, KeepsPages, MovesPages}
 use Rattle.rss_buffer.specs.Saving.{changed_by}
 use Rattle.rss_buffer.specs.Views.{pages_view}
-use Rattle.rss_base.proofs.Steps.{PassesOn, kept_all}
+use Rattle.rss_base.proofs.Steps.{kept_all}
 use Rattle.rss_base.proofs.Keys.{is_same-true, is_same-itself, owner_of-slot_of, the_slot}
 use Rattle.rss_buffer.proofs.Lookups.{with_frame-same, with_frame-other}
-use Rattle.rss_buffer.proofs.Found.{mapped-owned, LacksPage-unmapped, mapped-has, mapped-lacks, slot_of-here, slot_of-others, mapped-changed}
+use Rattle.rss_shadow.proofs.Owned.{mapped-owned, LacksPage-unmapped, mapped-has, mapped-lacks, slot_of-here, slot_of-others, mapped-changed}
 use Rattle.rss_buffer.proofs.Turns.{with_frame-cases}
 
 -- ---- one page has this slot now, or none
@@ -115,7 +119,7 @@ Reslots-moves old new key slot table room moves =
     })
 
 -- the least page of a segment and a space that isn't mapped
-IsKey-least : (owners : Owners) (segment : ℕ) (space : Space) (number : ℕ) → 1 ≤ segment → segment ≤ 8 → space ≢ System → IsLeastLacking owners segment space number → IsKey (length owners) (page_key segment space number)
+pub IsKey-least : (owners : Owners) (segment : ℕ) (space : Space) (number : ℕ) → 1 ≤ segment → segment ≤ 8 → space ≢ System → IsLeastLacking owners segment space number → IsKey (length owners) (page_key segment space number)
 IsKey-least owners segment Home number low high other least = record { segment = (low, high); number = least.within }
 IsKey-least owners segment Overflow number low high other least = record { segment = (low, high); number = least.within }
 IsKey-least owners segment Image number low high other least = record { segment = (low, high); number = least.within }
@@ -188,6 +192,38 @@ held-there first owners frames contents key frame mapped there =
     ap (option_map (λ s. held_in (frames key) (page (told_pages contents) (first + s)))) (the_slot owners key mapped).1
     ∙ ap (λ (f : Option Frame). Some (held_in f (page (told_pages contents) (first + (the_slot owners key mapped).0)))) there
 
+-- ---- the notes
+
+pub AreNotesOf-marked : {old new : Owners} {notes notes_now : NotesView} {key : PageKey} {is_mapped mapped : Bool} {note : Option ℕ} → length new ≡ length old → mapped_by new ≡ with_mapped (mapped_by old) key mapped → AreNotesOf old notes → Marks notes notes_now key is_mapped note → (is_noted_space key.space ≡ true → is_mapped ≡ mapped) → AreNotesOf new notes_now
+AreNotesOf-marked {old = old} {notes = notes} {key = key} {is_mapped = is_mapped} {mapped = mapped} long now noted marks alike = record {
+  slots = marks.slots ∙ noted.slots ∙ sym long;
+  mapped = λ other space. ap (λ (m : Mapped). m other) marks.mapped ∙ elim (cases_Bool (is_same other key)) [
+    | inl here ↦
+        let at : is_noted_space key.space ≡ true = ap (λ (k : PageKey). is_noted_space k.space) (sym (is_same-true other key here)) ∙ space in
+        cond-true (is_same other key) is_mapped (notes.mapped other) here ∙ alike at ∙ sym (cond-true (is_same other key) mapped (mapped_by old other) here)
+    | inr off ↦ cond-false (is_same other key) is_mapped (notes.mapped other) off ∙ noted.mapped other space ∙ sym (cond-false (is_same other key) mapped (mapped_by old other) off)
+  ] ∙ sym (ap (λ (m : Mapped). m other) now);
+}
+
+-- the note of a page is changed, or forgotten
+pub AreNotesOf-noted : {owners : Owners} {notes notes_now : NotesView} {key : PageKey} {note : Option ℕ} → mapped_by owners key ≡ true → AreNotesOf owners notes → Marks notes notes_now key (notes.mapped key) note → AreNotesOf owners notes_now
+AreNotesOf-noted {owners = owners} {key = key} is noted marks =
+    AreNotesOf-marked refl (sym (with_mapped-same (mapped_by owners) key is)) noted marks (λ space. noted.mapped key space ∙ is)
+
+pub IsBuffer-noted : {b : BufferView} {notes : NotesView} → IsBuffer b → AreNotesOf b.maps.current notes → IsBuffer (record b { notes = notes })
+IsBuffer-noted buffer noted = record {
+  laid_out = buffer.laid_out;
+  noted = noted;
+  frames_hold = buffer.frames_hold;
+  clean = buffer.clean;
+  fixed = buffer.fixed;
+  at_stage = record {
+    none_changed = buffer.at_stage.none_changed;
+    saved = buffer.at_stage.saved;
+    synced = buffer.at_stage.synced;
+  };
+}
+
 -- ---- the whole
 
 -- a frame that the page may have, with this slot
@@ -203,39 +239,59 @@ Fits-changed shadow slot frame changed none f is = record {
   own = λ s at. ap (owner_of shadow) (sym (same_Some slot s at)) ∙ none;
 }
 
--- The page has this slot now, or none, and its frame is this one, or none.
-module _ {b : BufferView} {maps : Maps} {key : PageKey} {slot : Option ℕ} (re : Reslots b.maps maps key slot) (frame : Option Frame) {frames : FrameOf} (now : frames ≡ with_frame b.frames key frame) where
+-- The page has this slot now, or none, its frame is this one, or none, and it has no note.
+pub record ChangesPage (b : BufferView) (maps : Maps) (notes : NotesView) (frames : FrameOf) (key : PageKey) (slot : Option ℕ) (frame : Option Frame) : Type 0 where
+  pub re : Reslots b.maps maps key slot
+  pub now : frames ≡ with_frame b.frames key frame
+  pub noted : AreNotesOf maps.current notes
+  pub notes_now : notes.notes ≡ with_note b.notes.notes key None
+
+pub changes_page : (b : BufferView) {maps : Maps} {notes : NotesView} {frames : FrameOf} {key : PageKey} {slot : Option ℕ} {is_mapped : Bool} (frame : Option Frame) → IsBuffer b → Reslots b.maps maps key slot → frames ≡ with_frame b.frames key frame → Marks b.notes notes key is_mapped None → (is_noted_space key.space ≡ true → is_mapped ≡ is_some slot) → ChangesPage b maps notes frames key slot frame
+changes_page b frame buffer re now marks alike = record {
+  re = re;
+  now = now;
+  noted = AreNotesOf-marked re.long (mapped-reslots re) buffer.noted marks alike;
+  notes_now = marks.notes;
+}
+
+module _ {b : BufferView} {maps : Maps} {notes : NotesView} {frames : FrameOf} {key : PageKey} {slot : Option ℕ} {frame : Option Frame} (change : ChangesPage b maps notes frames key slot frame) where
+  abbrev after : BufferView
+  after = record b { maps = maps; notes = notes; frames = frames; stage = Changing }
+
   module _ (buffer : IsBuffer b) (fits : (f : Frame) → frame ≡ Some f → Fits b.maps.shadow slot f) where
     still_mapped : (other : PageKey) → other ≢ key → mapped_by b.maps.current other ≡ true → mapped_by maps.current other ≡ true
     still_mapped other off is =
         let found = the_slot b.maps.current other is in
-        mapped-owned maps.current other found.0 ((re.changes.others found.0 other off).0 (owner_of-slot_of b.maps.current other found.0 found.1))
+        mapped-owned maps.current other found.0 ((change.re.changes.others found.0 other off).0 (owner_of-slot_of b.maps.current other found.0 found.1))
 
     AreFrames-reslots : AreFrames maps (with_frame b.frames key frame)
     AreFrames-reslots = record {
       mapped = λ other f is. elim (with_frame-cases b.frames key frame other f is) [
-        | inl here ↦ ap (mapped_by maps.current) here.0 ∙ ap (λ (o : Option ℕ). is_some o) (slot_of-here b.maps.current maps.current key slot re.was.distinct re.table.distinct re.changes) ∙ (fits f here.1).mapped
+        | inl here ↦ ap (mapped_by maps.current) here.0 ∙ ap (λ (o : Option ℕ). is_some o) (slot_of-here b.maps.current maps.current key slot change.re.was.distinct change.re.table.distinct change.re.changes) ∙ (fits f here.1).mapped
         | inr there ↦ still_mapped other there.0 (buffer.frames_hold.mapped other f there.1)
       ];
-      own_slot = λ other f s is changed owned. ap (λ (shadow : Owners). owner_of shadow s) re.shadow ∙ elim (with_frame-cases b.frames key frame other f is) [
-        | inl here ↦ (fits f here.1).own s ((re.changes.here s).1 (owned ∙ ap Some here.0))
-        | inr there ↦ buffer.frames_hold.own_slot other f s there.1 changed ((re.changes.others s other there.0).1 owned)
+      own_slot = λ other f s is changed owned. ap (λ (shadow : Owners). owner_of shadow s) change.re.shadow ∙ elim (with_frame-cases b.frames key frame other f is) [
+        | inl here ↦ (fits f here.1).own s ((change.re.changes.here s).1 (owned ∙ ap Some here.0))
+        | inr there ↦ buffer.frames_hold.own_slot other f s there.1 changed ((change.re.changes.others s other there.0).1 owned)
       ];
     }
 
-    pub IsBuffer-reslots : IsBuffer (record b { maps = maps; frames = frames; stage = Changing })
-    IsBuffer-reslots = subst (λ (f : FrameOf). IsBuffer (record b { maps = maps; frames = f; stage = Changing })) (sym now) (record {
-      table = re.table;
-      count = ap (λ (owners : Owners). length owners) re.shadow ∙ buffer.count ∙ sym re.long;
-      room = re.room;
-      place = buffer.place ∙ ap (λ (n : ℕ). slots_at n b.log_pages) (sym re.long);
-      ends = buffer.ends ∙ ap (λ (n : ℕ). b.first + n) (sym re.long);
+    pub IsBuffer-changes : IsBuffer after
+    IsBuffer-changes = subst (λ (f : FrameOf). IsBuffer (record b { maps = maps; notes = notes; frames = f; stage = Changing })) (sym change.now) (record {
+      laid_out = record {
+        table = change.re.table;
+        count = ap (λ (owners : Owners). length owners) change.re.shadow ∙ buffer.laid_out.count ∙ sym change.re.long;
+        room = change.re.room;
+        place = buffer.laid_out.place ∙ ap (λ (n : ℕ). slots_at n b.log_pages) (sym change.re.long);
+        ends = buffer.laid_out.ends ∙ ap (λ (n : ℕ). b.first + n) (sym change.re.long);
+      };
+      noted = change.noted;
       frames_hold = AreFrames-reslots;
       clean = λ pages is other f s there clean owned. elim (with_frame-cases b.frames key frame other f there) [
         | inl here ↦ absurd (let no : true ≡ false = sym (fits f here.1).changed ∙ clean in cc)
-        | inr off ↦ buffer.clean pages is other f s off.1 clean ((re.changes.others s other off.0).1 owned)
+        | inr off ↦ buffer.clean pages is other f s off.1 clean ((change.re.changes.others s other off.0).1 owned)
       ];
-      fixed = λ is. subst (λ (shadow : Owners). Told b.disk (StaysFixed b.disk b.first shadow)) (sym re.shadow) (buffer.fixed is);
+      fixed = λ is. subst (λ (shadow : Owners). Told b.device.disk (StaysFixed b.device.disk b.first shadow)) (sym change.re.shadow) (buffer.fixed is);
       at_stage = record {
         none_changed = λ is. absurd (is refl);
         saved = λ area is. absurd (cc);
@@ -247,14 +303,14 @@ module _ {b : BufferView} {maps : Maps} {key : PageKey} {slot : Option ℕ} (re 
 
   module _ {old : BufferView} (keeps : KeepsPages old b) where
     -- the same shadow map, whose slots are fixed
-    fixed_same : fixed_by b.first maps.shadow b.disk.contents ≡ fixed_by b.first b.maps.shadow b.disk.contents
-    fixed_same = ap (λ (shadow : Owners). fixed_by b.first shadow b.disk.contents) re.shadow
+    fixed_same : fixed_by b.first maps.shadow b.device.disk.contents ≡ fixed_by b.first b.maps.shadow b.device.disk.contents
+    fixed_same = ap (λ (shadow : Owners). fixed_by b.first shadow b.device.disk.contents) change.re.shadow
 
-    pub passes_on : {asks writes : ℕ} → b.writes ≤ old.writes + writes → PassesOn asks writes (pages_view old) (pages_view (record b { maps = maps; frames = frames; stage = Changing }))
+    pub passes_on : {asks writes : ℕ} → b.device.writes ≤ old.device.writes + writes → PassesOn asks writes (pages_view old) (pages_view after)
     passes_on few = record {
-      slots = re.long ∙ ap (λ (m : Maps). length m.current) keeps.maps;
-      backing = λ i. record { log_pages = keeps.log_pages i; area = keeps.area i; shadow = (re.shadow ∙ ap (λ (m : Maps). m.shadow) keeps.maps) i };
-      leaves = subst (λ (f : Fixed). LeavesFixed (old.settled ≡ true) (b.settled ≡ true) old.disk b.disk (fixed_by old.first old.maps.shadow old.disk.contents) f) (sym fixed_same) keeps.leaves;
+      slots = change.re.long ∙ ap (λ (m : Maps). length m.current) keeps.maps;
+      backing = λ i. record { log_pages = keeps.log_pages i; area = keeps.area i; shadow = (change.re.shadow ∙ ap (λ (m : Maps). m.shadow) keeps.maps) i };
+      leaves = subst (λ (f : Fixed). LeavesFixed (old.settled ≡ true) (b.settled ≡ true) old.device.disk b.device.disk (fixed_by old.first old.maps.shadow old.device.disk.contents) f) (sym fixed_same) keeps.leaves;
       later = keeps.later;
       asks_low = omega (arith, keeps.asks);
       asks_high = omega (arith, keeps.asks);
@@ -263,47 +319,55 @@ module _ {b : BufferView} {maps : Maps} {key : PageKey} {slot : Option ℕ} (re 
     }
 
     mapped_now : mapped_by maps.current ≡ with_mapped (mapped_by old.maps.current) key (is_some slot)
-    mapped_now = mapped-reslots re ∙ ap (λ (m : Maps). with_mapped (mapped_by m.current) key (is_some slot)) keeps.maps
+    mapped_now = mapped-reslots change.re ∙ ap (λ (m : Maps). with_mapped (mapped_by m.current) key (is_some slot)) keeps.maps
 
-    held_now : (bytes : Option (List ℕ)) → option_map (λ s. held_in frame (page (told_pages b.disk.contents) (b.first + s))) slot ≡ bytes → IsTold old.disk → held_of (record b { maps = maps; frames = frames; stage = Changing }) ≡ with_page (held_of old) key bytes
+    held_now : (bytes : Option (List ℕ)) → option_map (λ s. held_in frame (page (told_pages b.device.disk.contents) (b.first + s))) slot ≡ bytes → IsTold old.device.disk → held_of after ≡ with_page (held_of old) key bytes
     held_now bytes is told =
-        held-reslots b.first b.frames frame b.disk.contents bytes re now is
+        held-reslots b.first b.frames frame b.device.disk.contents bytes change.re change.now is
         ∙ ap (λ (held : Held). with_page held key bytes) (keeps.held told)
+
+    notes_now : notes.notes ≡ with_note old.notes.notes key None
+    notes_now = change.notes_now ∙ ap (λ (n : NotesView). with_note n.notes key None) keeps.notes
 
     -- no other page was changed
     pub changed-off : (other : PageKey) → changed_by maps other ≡ true → (changed_by old.maps other ≡ true) ⊎ (other ≡ key)
     changed-off other is = elim (cases_Bool (is_same other key)) [
       | inl here ↦ inr (is_same-true other key here)
       | inr off ↦
-          let slot_is = slot_of-others b.maps.current maps.current key slot re.was.distinct re.table.distinct re.changes other (off_by other key off) in
+          let slot_is = slot_of-others b.maps.current maps.current key slot change.re.was.distinct change.re.table.distinct change.re.changes other (off_by other key off) in
           let now_is : changed_by maps other ≡ changed_by b.maps other =
           ap (λ (o : Option ℕ). unwrap_or (option_map (λ s. is_none (owner_of maps.shadow s)) o) false) slot_is
-          ∙ ap (λ (shadow : Owners). unwrap_or (option_map (λ s. is_none (owner_of shadow s)) (slot_of b.maps.current other)) false) re.shadow in
+          ∙ ap (λ (shadow : Owners). unwrap_or (option_map (λ s. is_none (owner_of shadow s)) (slot_of b.maps.current other)) false) change.re.shadow in
           inl (sym (ap (λ (m : Maps). changed_by m other) keeps.maps) ∙ sym now_is ∙ is)
     ]
 
--- a page that was mapped is written
-pub writes_page : {old b : BufferView} {maps : Maps} {key : PageKey} {slot : ℕ} {frames : FrameOf} (re : Reslots b.maps maps key (Some slot)) (bytes : List ℕ) (now : frames ≡ with_frame b.frames key (Some (record { page = bytes; changed = true }))) → KeepsPages old b → mapped_by old.maps.current key ≡ true → WritesPage key bytes (pages_view old) (pages_view (record b { maps = maps; frames = frames; stage = Changing }))
-writes_page {old = old} {b = b} {key = key} re bytes now keeps is = record {
-  mapped = mapped_now {b = b} re (Some (record { page = bytes; changed = true })) now keeps ∙ with_mapped-same (mapped_by old.maps.current) key is;
-  held = held_now {b = b} re (Some (record { page = bytes; changed = true })) now keeps (Some bytes) refl;
-}
+-- ---- one page was written, taken or given
 
-pub takes_page : {old b : BufferView} {maps : Maps} {key : PageKey} {slot : ℕ} {frames : FrameOf} (re : Reslots b.maps maps key (Some slot)) (now : frames ≡ with_frame b.frames key (Some (record { page = replicate 4096 0; changed = true }))) → KeepsPages old b → TakesPage key (pages_view old) (pages_view (record b { maps = maps; frames = frames; stage = Changing }))
-takes_page {b = b} re now keeps = record {
-  mapped = mapped_now {b = b} re (Some (record { page = replicate 4096 0; changed = true })) now keeps;
-  held = held_now {b = b} re (Some (record { page = replicate 4096 0; changed = true })) now keeps (Some (replicate 4096 0)) refl;
-}
+module _ {old b : BufferView} {maps : Maps} {notes : NotesView} {frames : FrameOf} {key : PageKey} (keeps : KeepsPages old b) where
+  pub writes_page : {slot : ℕ} {bytes : List ℕ} → ChangesPage b maps notes frames key (Some slot) (Some (record { page = bytes; changed = true })) → mapped_by old.maps.current key ≡ true → WritesPage key bytes (pages_view old) (pages_view (record b { maps = maps; notes = notes; frames = frames; stage = Changing }))
+  writes_page {bytes = bytes} change is = record {
+    mapped = mapped_now change keeps ∙ with_mapped-same (mapped_by old.maps.current) key is;
+    held = held_now change keeps (Some bytes) refl;
+    notes = notes_now change keeps;
+  }
 
-pub gives_page : {old b : BufferView} {maps : Maps} {key : PageKey} {frames : FrameOf} (re : Reslots b.maps maps key None) (now : frames ≡ with_frame b.frames key None) → KeepsPages old b → GivesPage key (pages_view old) (pages_view (record b { maps = maps; frames = frames; stage = Changing }))
-gives_page {b = b} re now keeps = record {
-  mapped = mapped_now {b = b} re None now keeps;
-  held = held_now {b = b} re None now keeps None refl;
-}
+  pub takes_page : {slot : ℕ} → ChangesPage b maps notes frames key (Some slot) (Some (record { page = zero_page; changed = true })) → TakesPage key (pages_view old) (pages_view (record b { maps = maps; notes = notes; frames = frames; stage = Changing }))
+  takes_page change = record {
+    mapped = mapped_now change keeps;
+    held = held_now change keeps (Some zero_page) refl;
+    notes = notes_now change keeps;
+  }
+
+  pub gives_page : ChangesPage b maps notes frames key None None → GivesPage key (pages_view old) (pages_view (record b { maps = maps; notes = notes; frames = frames; stage = Changing }))
+  gives_page change = record {
+    mapped = mapped_now change keeps;
+    held = held_now change keeps None refl;
+    notes = notes_now change keeps;
+  }
 
 -- ---- a call that changed no page
 
-pub keeps_on : {old new : BufferView} {asks writes : ℕ} → KeepsPages old new → new.writes ≤ old.writes + writes → PassesOn asks writes (pages_view old) (pages_view new)
+pub keeps_on : {old new : BufferView} {asks writes : ℕ} → KeepsPages old new → new.device.writes ≤ old.device.writes + writes → PassesOn asks writes (pages_view old) (pages_view new)
 keeps_on keeps few = record {
   slots = ap (λ (m : Maps). length m.current) keeps.maps;
   backing = λ i. record { log_pages = keeps.log_pages i; area = keeps.area i; shadow = ap (λ (m : Maps). m.shadow) keeps.maps i };
@@ -316,11 +380,11 @@ keeps_on keeps few = record {
 }
 
 -- no page was touched
-pub keeps_step : {old new : BufferView} {touched : Keys} {asks writes : ℕ} → KeepsPages old new → new.writes ≤ old.writes + writes → PagesStep touched asks writes (pages_view old) (pages_view new)
-keeps_step keeps few = kept_all (keeps_on keeps few) (ap (λ (m : Maps). changed_by m) keeps.maps) (ap (λ (m : Maps). mapped_by m.current) keeps.maps) keeps.held
+pub keeps_step : {old new : BufferView} {touched : Keys} {asks writes : ℕ} → KeepsPages old new → new.device.writes ≤ old.device.writes + writes → PagesStep touched asks writes (pages_view old) (pages_view new)
+keeps_step keeps few = kept_all (keeps_on keeps few) (ap (λ (m : Maps). changed_by m) keeps.maps) (ap (λ (m : Maps). mapped_by m.current) keeps.maps) keeps.held (ap (λ (n : NotesView). n.notes) keeps.notes)
 
 -- the same of a page that was asked for
-pub asked_step : {old new : BufferView} {asks writes : ℕ} → KeepsPages (record old { asks = asks }) new → old.asks ≤ asks → asks ≤ old.asks + 1 → new.writes ≤ old.writes + writes → PagesStep no_page 1 writes (pages_view old) (pages_view new)
+pub asked_step : {old new : BufferView} {asks writes : ℕ} → KeepsPages (record old { asks = asks }) new → old.asks ≤ asks → asks ≤ old.asks + 1 → new.device.writes ≤ old.device.writes + writes → PagesStep no_page 1 writes (pages_view old) (pages_view new)
 asked_step keeps low high few =
     let on = keeps_on {asks = 0} keeps few in
     kept_all (record {
@@ -332,4 +396,7 @@ asked_step keeps low high few =
       asks_high = omega (arith, high, keeps.asks);
       writes_low = on.writes_low;
       writes_high = on.writes_high;
-    }) (ap (λ (m : Maps). changed_by m) keeps.maps) (ap (λ (m : Maps). mapped_by m.current) keeps.maps) keeps.held
+    }) (ap (λ (m : Maps). changed_by m) keeps.maps) (ap (λ (m : Maps). mapped_by m.current) keeps.maps) keeps.held (ap (λ (n : NotesView). n.notes) keeps.notes)
+
+pub asked : {T : Type 0} {old new : BufferView} {asks : ℕ} {result : Result T PageFault} → MovesPages (record old { asks = asks }) new result → old.asks ≤ asks → asks ≤ old.asks + 1 → PagesCall no_page 1 1 (pages_view old) (pages_view new) result
+asked call low high = record { step = asked_step call.keeps low high call.few; failed = call.cause.failed; sound = call.cause.sound }

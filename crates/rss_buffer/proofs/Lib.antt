@@ -1,9 +1,9 @@
 pub mod Lookups
-pub mod Found
 pub mod Loose
 pub mod Turns
 pub mod Waits
 pub mod Changed
+pub mod Noted
 pub mod Elsewhere
 pub mod Saves
 pub mod Stops

@@ -1,18 +1,20 @@
 -- What is written to the slots and to a map area, and what a switch then selects.
-use Rattle.std.proofs.Common.{◌≡◌, ◌↔◌, inl, inr, ℕ, ◌+◌, ◌<◌, ◌≤◌, Bool, true, false, List, [], length, set, Option, Some, None, option_map, refl, sym, ◌∙◌, ap, subst, arith, length-set, get_or-set_other, get_or-set_same}
+use Rattle.std.proofs.Common.{◌≡◌, inl, inr, ℕ, ◌+◌, ◌<◌, Bool, true, false, List, [], length, set, Option, Some, None, option_map, refl, sym, ◌∙◌, ap, subst, arith, length-set, get_or-set_other, get_or-set_same}
 use Rattle.std.proofs.lemmas.Bool.{cases_eq}
 use Rattle.std.proofs.lemmas.Option.{same_Some}
-use Rattle.rss_base.specs.DiskRule.{Disk, Pages, page, Told, IsTold, SameOff, IsWithin, WritesIn}
+use Rattle.rss_base.specs.Devices.{DeviceView}
+use Rattle.rss_base.specs.DiskRule.{Disk, Pages, page, Told, IsTold, SameOff, Places, IsWithin, WritesIn}
 use Rattle.rss_base.specs.Layout.{map_pages, map_at, IsAreaPage, slots_at, device_pages, selected, selected_by, root_page, IsWellFormed}
 use Rattle.rss_base.specs.PageMap.{owner_of, HoldsMap}
 use Rattle.std.specs.Prelude.{Result, Ok, Err, IsErr, IfErr}
-use Rattle.rss_base.specs.Faults.{Rises}
+use Rattle.rss_base.specs.Faults.{HasCause, Rises}
 use Rattle.rss_base.specs.Paged.{Held, HasPageCause}
+use Rattle.rss_base.specs.declared.fault.Failed.{Failed}
 use Rattle.rss_base.specs.declared.fault.PageFault.{PageFault}
 use Rattle.rss_base.specs.declared.fault.PageFault.TheVariants.{Device as DeviceFailed}
 use Rattle.rss_base.specs.declared.root.Root.{Root}
 use Rattle.rss_base.specs.declared.key.PageKey.{PageKey}
-use Rattle.rss_base.proofs.Moments.{writes_among, writes_then}
+use Rattle.rss_base.proofs.Moments.{rises_since, writes_among, writes_then}
 use Rattle.rss_pagemap.proofs.Owners.{owned_within}
 use Rattle.rss_shadow.specs.Maps.{Maps}
 use Rattle.rss_buffer.specs.declared.frames.Frame.{Frame}
@@ -26,9 +28,10 @@ use Rattle.rss_base.specs.StoredPages.{mapped_by}
 use Rattle.rss_buffer.specs.Buffered.{BufferView, NoneChanged, HoldsMapAt, IsAtStage, IsBuffer, held_of, unchanged, with_unchanged, IsLoose, WritesLoose, KeepsPages, WritesPages}
 use Rattle.rss_buffer.specs.Saved.{IsSaveable, AreWritten}
 use Rattle.rss_base.specs.StoredPages.{StandInSlots, SavesPages, HoldsPages}
-use Rattle.rss_buffer.proofs.Found.{slot_of-owned, HasPage-mapped}
+use Rattle.rss_shadow.proofs.Owned.{slot_of-owned, HasPage-mapped}
 use Rattle.rss_buffer.proofs.Turns.{with_frame-cases}
-use Rattle.rss_buffer.proofs.Elsewhere.{same_map, below_log, above_roots}
+use Rattle.rss_notes.specs.Notes.{NotesView}
+use Rattle.rss_buffer.proofs.Elsewhere.{held_after, same_map, below_log, above_roots}
 
 -- ---- the changed pages
 
@@ -61,21 +64,21 @@ in_slot (Some here) bytes same = same here refl
 
 module _ {b : BufferView} (buffer : IsBuffer b) (none : NoneChanged b.frames) where
   -- where no page was changed, each one stands in its slot
-  pub stands : Told b.disk (λ pages. StandInSlots b.first pages b.maps.current (held_of b))
+  pub stands : Told b.device.disk (λ pages. StandInSlots b.first pages b.maps.current (held_of b))
   stands = λ pages told slot key owned.
       ap (λ (contents : Option Pages). held_by b.first b.maps.current b.frames contents key) told
-      ∙ ap (option_map (λ (s : ℕ). held_in (b.frames key) (page pages (b.first + s)))) (slot_of-owned b.maps.current key slot buffer.table.distinct owned)
+      ∙ ap (option_map (λ (s : ℕ). held_in (b.frames key) (page pages (b.first + s)))) (slot_of-owned b.maps.current key slot buffer.laid_out.table.distinct owned)
       ∙ ap Some (in_slot (b.frames key) (page pages (b.first + slot)) (λ frame here. buffer.clean pages told key frame slot here (none key frame here) owned))
 
   -- the same, by what was known before
-  pub flushed : (maps : Maps) (log_pages : ℕ) (held : Held) → b.maps ≡ maps → b.log_pages ≡ log_pages → held_of b ≡ held → Told b.disk (λ pages. StandInSlots (slots_at (length maps.current) log_pages) pages maps.current held)
+  pub flushed : (maps : Maps) (log_pages : ℕ) (held : Held) → b.maps ≡ maps → b.log_pages ≡ log_pages → held_of b ≡ held → Told b.device.disk (λ pages. StandInSlots (slots_at (length maps.current) log_pages) pages maps.current held)
   flushed maps log_pages held same_maps same_log same_held = λ pages told slot key owned.
-      let place : b.first ≡ slots_at (length maps.current) log_pages = buffer.place ∙ ap (λ (m : Maps). slots_at (length m.current) b.log_pages) same_maps ∙ ap (slots_at (length maps.current)) same_log in
+      let place : b.first ≡ slots_at (length maps.current) log_pages = buffer.laid_out.place ∙ ap (λ (m : Maps). slots_at (length m.current) b.log_pages) same_maps ∙ ap (slots_at (length maps.current)) same_log in
       let here : owner_of b.maps.current slot ≡ Some key = ap (λ (m : Maps). owner_of m.current slot) same_maps ∙ owned in
       ap (λ (h : Held). h key) (sym same_held) ∙ stands pages told slot key here ∙ ap (λ (n : ℕ). Some (page pages (n + slot))) place
 
 -- what a flush of such pages leaves
-pub flushed_from : {old new : BufferView} → IsBuffer new → KeepsPages old new → NoneChanged new.frames → IsTold old.disk → Told new.disk (λ pages. StandInSlots (slots_at (length old.maps.current) old.log_pages) pages old.maps.current (held_of old))
+pub flushed_from : {old new : BufferView} → IsBuffer new → KeepsPages old new → NoneChanged new.frames → IsTold old.device.disk → Told new.device.disk (λ pages. StandInSlots (slots_at (length old.maps.current) old.log_pages) pages old.maps.current (held_of old))
 flushed_from {old = old} buffer keeps none told = flushed buffer none old.maps old.log_pages (held_of old) keeps.maps keeps.log_pages (keeps.held told)
 
 -- pages that are the same in the area and in the slots of the owners save the same
@@ -93,11 +96,11 @@ saves_map log_pages area owners held before contents two stand holds pages told 
   stand = λ slot key owned. stand slot key owned ∙ ap Some (sym (holds.same.others (slots_at (length owners) log_pages + slot) (λ within. below_log (length owners) area (slots_at (length owners) log_pages + slot) two (omega arith) within)));
 })
 
-pub at_saved : (b : BufferView) (area : ℕ) {mid : Disk} → b.stage ≡ Saved area → NoneChanged b.frames → IsTold mid ↔ IsTold b.disk → Told mid (λ pages. HoldsMap pages (map_at (length b.maps.current) area) b.maps.current b.disk.contents) → IsAtStage b
-at_saved b area at none told written = record {
+pub at_saved : (b : BufferView) (area : ℕ) {mid : Disk} → b.stage ≡ Saved area → NoneChanged b.frames → WritesIn (IsAreaPage (length b.maps.current) area) mid b.device.disk → Told mid (λ pages. HoldsMap pages (map_at (length b.maps.current) area) b.maps.current b.device.disk.contents) → IsAtStage b
+at_saved b area at none only written = record {
   none_changed = λ other. none;
   saved = λ saved is pages now.
-      let was = told.1 (record { pages = pages; is = now }) in
+      let was = only.told.1 (record { pages = pages; is = now }) in
       let holds = written was.pages was.is in
       let stages : Saved area ≡ Saved saved = sym at ∙ is in
       let same : area ≡ saved = cc in
@@ -115,6 +118,7 @@ saving_kept keeps = record {
   current = ap (λ (m : Maps). m.current) keeps.maps;
   waiting = keeps.waiting;
   held = keeps.held;
+  notes = ap (λ (n : NotesView). n.notes) keeps.notes;
   log_pages = keeps.log_pages;
   asks = keeps.asks;
   told = keeps.leaves.told;
@@ -130,16 +134,21 @@ pub saving_flushed : {T : Type 0} {old new : BufferView} (result : Result T Page
 saving_flushed result did = record { step = saving_kept did.keeps; fault = did.fault; cause = cause_of_device result did.fault did.cause }
 
 -- and then something is written outside the data slots
-pub saving_after : {old mid : BufferView} (disk : Disk) {area writes faults : ℕ} {settled : Bool} {stage : Stage} → KeepsPages old mid → IsTold mid.disk ↔ IsTold disk → (IsTold mid.disk → held_by mid.first mid.maps.current mid.frames disk.contents ≡ held_of mid) → mid.faults ≤ faults
-    → SavingStep (pages_view old) (pages_view (record mid { disk = disk; area = area; settled = settled; stage = stage; writes = writes; faults = faults })) (saving_view old) (saving_view (record mid { disk = disk; area = area; settled = settled; stage = stage; writes = writes; faults = faults }))
-saving_after disk keeps told held later = record {
-  current = ap (λ (m : Maps). m.current) keeps.maps;
-  waiting = keeps.waiting;
-  held = λ is. held (keeps.leaves.told.0 is) ∙ keeps.held is;
-  log_pages = keeps.log_pages;
-  asks = keeps.asks;
-  told = (λ is. told.0 (keeps.leaves.told.0 is), λ is. keeps.leaves.told.1 (told.1 is));
-  later = omega (arith, keeps.later, later);
+pub saving_wrote : {T U : Type 0} {old mid : BufferView} {places : Places} {wrote : Result U Failed} {result : Result T PageFault} (device : DeviceView) {area : ℕ} {settled : Bool} {stage : Stage} → KeepsPages old mid → ((q : ℕ) → places q → q < mid.first) → WritesIn places mid.device.disk device.disk → HasCause mid.device.faults device.faults wrote → IfErr result (λ fault. fault ≡ DeviceFailed) → (IsErr result → IsErr wrote)
+    → SavingCall (pages_view old) (pages_view (record mid { device = device; area = area; settled = settled; stage = stage })) (saving_view old) (saving_view (record mid { device = device; area = area; settled = settled; stage = stage })) result
+saving_wrote {mid = mid} device keeps below only cause fault is_err = record {
+  step = record {
+    current = ap (λ (m : Maps). m.current) keeps.maps;
+    waiting = keeps.waiting;
+    held = λ is. held_after mid.device.disk device.disk mid.first mid.maps.current mid.frames below only (keeps.leaves.told.0 is) ∙ keeps.held is;
+    notes = ap (λ (n : NotesView). n.notes) keeps.notes;
+    log_pages = keeps.log_pages;
+    asks = keeps.asks;
+    told = (λ is. only.told.0 (keeps.leaves.told.0 is), λ is. keeps.leaves.told.1 (only.told.1 is));
+    later = omega (arith, keeps.later, cause.later);
+  };
+  fault = fault;
+  cause = λ is. rises_since keeps.later (cause.failed (is_err is));
 }
 
 -- ---- what saving may write
@@ -159,7 +168,7 @@ module _ {first slots_first : ℕ} (maps : Maps) (area : ℕ) (place : first ≡
 
 -- ---- the switch
 
-pub saved_by : {b : BufferView} (area : ℕ) → b.stage ≡ Saved area → IsBuffer b → Told b.disk (λ pages. SavesPages b.log_pages area pages b.maps.current (held_of b))
+pub saved_by : {b : BufferView} (area : ℕ) → b.stage ≡ Saved area → IsBuffer b → Told b.device.disk (λ pages. SavesPages b.log_pages area pages b.maps.current (held_of b))
 saved_by {b = b} area is buffer = λ pages told. record {
   map = buffer.at_stage.saved area is pages told;
   stand = flushed buffer (buffer.at_stage.none_changed (λ other. cc)) b.maps b.log_pages (held_of b) refl refl refl pages told;

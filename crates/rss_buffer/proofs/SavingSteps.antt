@@ -17,6 +17,7 @@ saving_then one two = record {
   current = two.current ∙ one.current;
   waiting = λ key is. one.waiting key (two.waiting key is);
   held = λ told. two.held (one.told.0 told) ∙ one.held told;
+  notes = two.notes ∙ one.notes;
   log_pages = two.log_pages ∙ one.log_pages;
   asks = two.asks ∙ one.asks;
   told = (λ told. two.told.0 (one.told.0 told), λ told. one.told.1 (two.told.1 told));

@@ -1,5 +1,5 @@
 -- What moving pages between memory and their slots does to a buffer.
-use Rattle.std.proofs.Common.{◌≡◌, ◌≢◌, ◌⊎◌, inl, inr, ℕ, ◌+◌, ◌<◌, ◌≤◌, true, false, List, [], length, Option, Some, None, refl, sym, ◌∙◌, ap, subst, arith, get_or-set_same}
+use Rattle.std.proofs.Common.{◌≡◌, ◌≢◌, ◌⊎◌, inl, inr, ℕ, ◌+◌, ◌<◌, ◌≤◌, Bool, true, false, List, [], length, Option, Some, None, refl, sym, ◌∙◌, ap, subst, arith, get_or-set_same}
 use Rattle.std.specs.Prelude.{is_some, option_map, slice_set, Result, Ok, Err, is_err, IsErrAnd, OnOk, OnErr}
 use Rattle.std.proofs.lemmas.Result.{err_from_is_err_and, on_ok_weaker}
 use Rattle.rss_base.specs.declared.fault.PageFault.{PageFault}
@@ -7,7 +7,8 @@ use Rattle.rss_base.specs.declared.fault.PageFault.TheVariants.{Device as Device
 use Rattle.std.proofs.Math.Path.{fun_ext}
 use Rattle.std.proofs.lemmas.Bool.{cases_Bool, cond-true, cond-false}
 use Rattle.std.proofs.lemmas.Option.{same_Some}
-use Rattle.rss_base.specs.DiskRule.{Disk, Pages, page, Told, IsTold, IsAt, OnlyReads, WritesIn}
+use Rattle.rss_base.specs.Devices.{DeviceView, OnlyReads}
+use Rattle.rss_base.specs.DiskRule.{Disk, Pages, page, Told, IsTold, IsAt, WritesIn}
 use Rattle.rss_base.specs.PageMap.{owner_of}
 use Rattle.rss_base.specs.Paged.{is_same, AreAmong, HasPageCause}
 use Rattle.rss_base.specs.declared.key.PageKey.{PageKey}
@@ -15,15 +16,16 @@ use Rattle.rss_base.proofs.Moments.{only_stays, reads_none, writes_none, writes_
 use Rattle.rss_shadow.specs.Maps.{Maps}
 use Rattle.rss_shadow.proofs.Counts.{owned_within}
 use Rattle.rss_buffer.specs.declared.frames.Frame.{Frame}
+use Rattle.rss_buffer.specs.declared.stage.Stage.{Stage}
 use Rattle.rss_buffer.specs.declared.stage.Stage.TheVariants.{Changing, Saved, Switched}
 use Rattle.rss_buffer.specs.Frames.{FrameOf, with_frame, waiting_in}
 use Rattle.rss_buffer.specs.Slots.{held_in, held_by}
 use Rattle.rss_base.specs.StoredPages.{slot_of, mapped_by}
-use Rattle.rss_buffer.specs.Buffered.{BufferView, NoneChanged, AreFrames, AreClean, IsAtStage, IsBuffer, IsLoose, held_of, unchanged, with_unchanged, WritesLoose, KeepsPages, MovesPages, WritesPages}
+use Rattle.rss_buffer.specs.Buffered.{BufferView, NoneChanged, AreFrames, AreClean, StaysFixed, IsAtStage, AreLaidOut, IsBuffer, IsLoose, held_of, unchanged, with_unchanged, WritesLoose, KeepsPages, MovesPages, WritesPages}
 use Rattle.rss_base.proofs.Calls.{leaves_then, leaves_rests}
 use Rattle.rss_base.proofs.Keys.{is_same-true, is_same-itself, owner_of-slot_of}
 use Rattle.rss_buffer.proofs.Lookups.{with_frame-same}
-use Rattle.rss_buffer.proofs.Found.{mapped-owned}
+use Rattle.rss_shadow.proofs.Owned.{mapped-owned}
 use Rattle.rss_buffer.proofs.Waits.{waits-less, waits-alike, settles-rests, settles-then, settles-count, settles-writes}
 use Rattle.rss_buffer.proofs.Loose.{IsLoose-slot, StaysFixed-writes, LeavesFixed-writes}
 
@@ -86,13 +88,14 @@ pub KeepsPages-rests : (view : BufferView) → KeepsPages view view
 KeepsPages-rests view = record {
   first = refl;
   maps = refl;
+  notes = refl;
   settled = refl;
   log_pages = refl;
   area = refl;
   stage = refl;
   asks = refl;
   held = λ told. refl;
-  leaves = leaves_rests (view.settled ≡ true) view.disk _;
+  leaves = leaves_rests (view.settled ≡ true) view.device.disk _;
   waiting = λ key is. is;
   writes = omega arith;
   later = omega arith;
@@ -102,6 +105,7 @@ pub KeepsPages-then : {old mid new : BufferView} → KeepsPages old mid → Keep
 KeepsPages-then one two = record {
   first = two.first ∙ one.first;
   maps = two.maps ∙ one.maps;
+  notes = two.notes ∙ one.notes;
   settled = two.settled ∙ one.settled;
   log_pages = two.log_pages ∙ one.log_pages;
   area = two.area ∙ one.area;
@@ -154,14 +158,11 @@ NoneChanged-removed frames key none = λ other f is. elim (with_frame-cases fram
 
 -- ---- a buffer
 
--- the counts and the area say nothing of its pages
-pub IsBuffer-counts : {b : BufferView} {area asks writes faults : ℕ} → IsBuffer b → IsBuffer (record b { area = area; asks = asks; writes = writes; faults = faults })
+-- what the selected root names and the count say nothing of its pages
+pub IsBuffer-counts : {b : BufferView} {area asks : ℕ} → IsBuffer b → IsBuffer (record b { area = area; asks = asks })
 IsBuffer-counts buffer = record {
-  table = buffer.table;
-  count = buffer.count;
-  room = buffer.room;
-  place = buffer.place;
-  ends = buffer.ends;
+  laid_out = buffer.laid_out;
+  noted = buffer.noted;
   frames_hold = buffer.frames_hold;
   clean = buffer.clean;
   fixed = buffer.fixed;
@@ -173,32 +174,35 @@ IsBuffer-counts buffer = record {
 }
 
 module _ {b : BufferView} (buffer : IsBuffer b) where
-  -- what any call that writes loose pages alone leaves
-  module _ {disk : Disk} {size writes faults : ℕ} {frames : FrameOf} where
-    IsBuffer-writes : WritesLoose b.first b.maps.shadow b.disk disk → size ≡ b.size → AreFrames b.maps frames → Told disk (AreClean b.first b.maps frames) → IsAtStage (record b { disk = disk; size = size; frames = frames; writes = writes; faults = faults }) → IsBuffer (record b { disk = disk; size = size; frames = frames; writes = writes; faults = faults })
-    IsBuffer-writes loose same are clean at_stage = record {
-      table = buffer.table;
-      count = buffer.count;
-      room = buffer.room;
-      place = buffer.place;
-      ends = same ∙ buffer.ends;
+  module _ {device : DeviceView} {frames : FrameOf} where
+    -- what any call of the device leaves
+    pub IsBuffer-after : {settled : Bool} {stage : Stage} → device.size ≡ b.device.size → AreFrames b.maps frames → Told device.disk (AreClean b.first b.maps frames) → (settled ≡ true → Told device.disk (StaysFixed device.disk b.first b.maps.shadow))
+        → IsAtStage (record b { device = device; frames = frames; settled = settled; stage = stage }) → IsBuffer (record b { device = device; frames = frames; settled = settled; stage = stage })
+    IsBuffer-after same are clean fixed at_stage = record {
+      laid_out = subst (AreLaidOut b.maps b.first b.log_pages) (sym same) buffer.laid_out;
+      noted = buffer.noted;
       frames_hold = are;
       clean = clean;
-      fixed = λ is. StaysFixed-writes b.first b.maps.shadow b.disk disk loose (buffer.fixed is);
+      fixed = fixed;
       at_stage = at_stage;
     }
 
-    KeepsPages-writes : WritesLoose b.first b.maps.shadow b.disk disk → AreAmong (waiting_in frames) (waiting_in b.frames) → b.writes ≤ writes → b.faults ≤ faults → (IsTold b.disk → held_by b.first b.maps.current frames disk.contents ≡ held_of b) → KeepsPages b (record b { disk = disk; size = size; frames = frames; writes = writes; faults = faults })
+    -- what one leaves that writes loose pages alone
+    IsBuffer-writes : WritesLoose b.first b.maps.shadow b.device.disk device.disk → device.size ≡ b.device.size → AreFrames b.maps frames → Told device.disk (AreClean b.first b.maps frames) → IsAtStage (record b { device = device; frames = frames }) → IsBuffer (record b { device = device; frames = frames })
+    IsBuffer-writes loose same are clean = IsBuffer-after same are clean (λ is. StaysFixed-writes b.first b.maps.shadow b.device.disk device.disk loose (buffer.fixed is))
+
+    KeepsPages-writes : WritesLoose b.first b.maps.shadow b.device.disk device.disk → AreAmong (waiting_in frames) (waiting_in b.frames) → b.device.writes ≤ device.writes → b.device.faults ≤ device.faults → (IsTold b.device.disk → held_by b.first b.maps.current frames device.disk.contents ≡ held_of b) → KeepsPages b (record b { device = device; frames = frames })
     KeepsPages-writes loose waiting more later held = record {
       first = refl;
       maps = refl;
+      notes = refl;
       settled = refl;
       log_pages = refl;
       area = refl;
       stage = refl;
       asks = refl;
       held = held;
-      leaves = LeavesFixed-writes b.first b.maps.shadow (b.settled ≡ true) b.disk disk loose buffer.fixed;
+      leaves = LeavesFixed-writes b.first b.maps.shadow (b.settled ≡ true) b.device.disk device.disk loose buffer.fixed;
       waiting = waiting;
       writes = more;
       later = later;
@@ -207,8 +211,8 @@ module _ {b : BufferView} (buffer : IsBuffer b) where
   -- ---- a page that was changed is written to its slot
 
   module _ (key : PageKey) (frame : Frame) (slot : ℕ) (there : b.frames key ≡ Some frame) (changed : frame.changed ≡ true) (owned : owner_of b.maps.current slot ≡ Some key)
-      (disk : Disk) (only : WritesIn (IsAt (b.first + slot)) b.disk disk) where
-    pub loose-back : WritesLoose b.first b.maps.shadow b.disk disk
+      (device : DeviceView) (only : WritesIn (IsAt (b.first + slot)) b.device.disk device.disk) where
+    pub loose-back : WritesLoose b.first b.maps.shadow b.device.disk device.disk
     loose-back = writes_one {places = IsLoose b.first b.maps.shadow} (IsLoose-slot b.first b.maps.shadow slot (buffer.frames_hold.own_slot key frame slot there changed owned)) only
 
     -- no other page stands there
@@ -218,7 +222,7 @@ module _ {b : BufferView} (buffer : IsBuffer b) where
         let here : Some other ≡ Some key = sym is ∙ ap (owner_of b.maps.current) same ∙ owned in
         off (same_Some other key here)
 
-    held-written : (frames : FrameOf) → ((other : PageKey) (bytes : List ℕ) → held_in (frames other) bytes ≡ held_in (b.frames other) bytes) → IsTold b.disk → held_by b.first b.maps.current frames disk.contents ≡ held_of b
+    held-written : (frames : FrameOf) → ((other : PageKey) (bytes : List ℕ) → held_in (frames other) bytes ≡ held_in (b.frames other) bytes) → IsTold b.device.disk → held_by b.first b.maps.current frames device.disk.contents ≡ held_of b
     held-written frames alike is_told =
         let written = only.kept is_told.pages is_told.is in
         ap (held_by b.first b.maps.current frames) written.told
@@ -230,7 +234,7 @@ module _ {b : BufferView} (buffer : IsBuffer b) where
     not_saved : (b.stage ≢ Changing) → ⊥
     not_saved is = let clean = buffer.at_stage.none_changed is key frame there in let no : true ≡ false = sym changed ∙ clean in cc
 
-    at_stage-written : {size writes faults : ℕ} (frames : FrameOf) → IsAtStage (record b { disk = disk; size = size; frames = frames; writes = writes; faults = faults })
+    at_stage-written : (frames : FrameOf) → IsAtStage (record b { device = device; frames = frames })
     at_stage-written frames = record {
       none_changed = λ is. absurd (not_saved is);
       saved = λ area is. absurd (not_saved (λ at. let no : Saved area ≡ Changing = sym is ∙ at in cc));
@@ -238,21 +242,21 @@ module _ {b : BufferView} (buffer : IsBuffer b) where
     }
 
     -- the pages of the other frames still stand in their slots
-    clean-others : (pages : Pages) (is : b.disk.contents ≡ Some pages) (other : PageKey) (f : Frame) (s : ℕ) → other ≢ key → b.frames other ≡ Some f → f.changed ≡ false → owner_of b.maps.current s ≡ Some other → f.page ≡ page (only.kept pages is).after (b.first + s)
+    clean-others : (pages : Pages) (is : b.device.disk.contents ≡ Some pages) (other : PageKey) (f : Frame) (s : ℕ) → other ≢ key → b.frames other ≡ Some f → f.changed ≡ false → owner_of b.maps.current s ≡ Some other → f.page ≡ page (only.kept pages is).after (b.first + s)
     clean-others pages is other f s off here clean owns = buffer.clean pages is other f s here clean owns ∙ sym ((only.kept pages is).same.others (b.first + s) (other_slot other s off owns))
 
     -- the write failed
-    pub IsBuffer-failed : {size writes faults : ℕ} {frames : FrameOf} → frames ≡ b.frames → size ≡ b.size → IsBuffer (record b { disk = disk; size = size; frames = frames; writes = writes; faults = faults })
-    IsBuffer-failed {size = size} {writes = writes} {faults = faults} now same = subst (λ (f : FrameOf). IsBuffer (record b { disk = disk; size = size; frames = f; writes = writes; faults = faults })) (sym now) (IsBuffer-writes loose-back same buffer.frames_hold (λ pages is other f s here clean owns.
+    pub IsBuffer-failed : {frames : FrameOf} → frames ≡ b.frames → device.size ≡ b.device.size → IsBuffer (record b { device = device; frames = frames })
+    IsBuffer-failed now same = subst (λ (f : FrameOf). IsBuffer (record b { device = device; frames = f })) (sym now) (IsBuffer-writes loose-back same buffer.frames_hold (λ pages is other f s here clean owns.
         let was = only.told.1 (record { pages = pages; is = is }) in
         let after : (only.kept was.pages was.is).after ≡ pages = same_Some _ _ (sym (only.kept was.pages was.is).told ∙ is) in
         let off : other ≢ key = λ at. let same_frame : frame ≡ f = same_Some _ _ (sym there ∙ ap b.frames (sym at) ∙ here) in let no : true ≡ false = sym changed ∙ ap (λ (x : Frame). x.changed) same_frame ∙ clean in cc in
         clean-others was.pages was.is other f s off here clean owns ∙ ap (λ (p : Pages). page p (b.first + s)) after)
         (at_stage-written b.frames))
 
-    pub KeepsPages-failed : {size writes faults : ℕ} {frames : FrameOf} → frames ≡ b.frames → b.writes ≤ writes → b.faults ≤ faults → KeepsPages b (record b { disk = disk; size = size; frames = frames; writes = writes; faults = faults })
+    pub KeepsPages-failed : {frames : FrameOf} → frames ≡ b.frames → b.device.writes ≤ device.writes → b.device.faults ≤ device.faults → KeepsPages b (record b { device = device; frames = frames })
     KeepsPages-failed {frames = frames} now more later = KeepsPages-writes loose-back (waits-alike b.frames frames now) more later
-        (λ is_told. ap (λ (f : FrameOf). held_by b.first b.maps.current f disk.contents) now ∙ held-written b.frames (λ other bytes. refl) is_told)
+        (λ is_told. ap (λ (f : FrameOf). held_by b.first b.maps.current f device.disk.contents) now ∙ held-written b.frames (λ other bytes. refl) is_told)
 
     -- it was written, and is noted as such
     abbrev settled_frames : FrameOf
@@ -268,26 +272,26 @@ module _ {b : BufferView} (buffer : IsBuffer b) where
     ]
 
     module _ {frames : FrameOf} (now : frames ≡ settled_frames) where
-      pub KeepsPages-written : {size writes faults : ℕ} → b.writes ≤ writes → b.faults ≤ faults → KeepsPages b (record b { disk = disk; size = size; frames = frames; writes = writes; faults = faults })
+      pub KeepsPages-written : b.device.writes ≤ device.writes → b.device.faults ≤ device.faults → KeepsPages b (record b { device = device; frames = frames })
       KeepsPages-written more later = KeepsPages-writes loose-back (waits-less b.frames frames key (Some (unchanged frame)) now refl) more later
-          (λ is_told. ap (λ (f : FrameOf). held_by b.first b.maps.current f disk.contents) now ∙ held-written settled_frames held_in-settled is_told)
+          (λ is_told. ap (λ (f : FrameOf). held_by b.first b.maps.current f device.disk.contents) now ∙ held-written settled_frames held_in-settled is_told)
 
-      pub IsBuffer-written : {size writes faults : ℕ} {bytes : List ℕ} → size ≡ b.size → bytes ≡ frame.page → Told b.disk (λ pages. length pages ≡ b.size) → Told b.disk (λ pages. disk.contents ≡ Some (slice_set pages (b.first + slot) bytes)) → IsBuffer (record b { disk = disk; size = size; frames = frames; writes = writes; faults = faults })
-      IsBuffer-written {size = size} {writes = writes} {faults = faults} {bytes = bytes} same from sized written =
-          subst (λ (f : FrameOf). IsBuffer (record b { disk = disk; size = size; frames = f; writes = writes; faults = faults })) (sym now)
+      pub IsBuffer-written : {bytes : List ℕ} → device.size ≡ b.device.size → bytes ≡ frame.page → Told b.device.disk (λ pages. length pages ≡ b.device.size) → Told b.device.disk (λ pages. device.disk.contents ≡ Some (slice_set pages (b.first + slot) bytes)) → IsBuffer (record b { device = device; frames = frames })
+      IsBuffer-written {bytes = bytes} same from sized written =
+          subst (λ (f : FrameOf). IsBuffer (record b { device = device; frames = f })) (sym now)
           (IsBuffer-writes loose-back same (AreFrames-put b.maps b.frames key (unchanged frame) buffer.frames_hold (buffer.frames_hold.mapped key frame there) refl) clean (at_stage-written settled_frames))
         where
           within : slot < length b.maps.current
           within = owned_within b.maps.current slot key owned
 
-          clean : Told disk (AreClean b.first b.maps settled_frames)
+          clean : Told device.disk (AreClean b.first b.maps settled_frames)
           clean pages is other f s here is_clean owns =
               let was = only.told.1 (record { pages = pages; is = is }) in
               elim (with_frame-cases b.frames key (Some (unchanged frame)) other f here) [
                 | inl at_key ↦
                     let set : slice_set was.pages (b.first + slot) bytes ≡ pages = same_Some _ _ (sym (written was.pages was.is) ∙ is) in
-                    let long : b.first + slot < length was.pages = omega (arith, sized was.pages was.is, buffer.ends, within) in
-                    let at : s ≡ slot = buffer.table.distinct s slot key (owns ∙ ap Some at_key.0) owned in
+                    let long : b.first + slot < length was.pages = omega (arith, sized was.pages was.is, buffer.laid_out.ends, within) in
+                    let at : s ≡ slot = buffer.laid_out.table.distinct s slot key (owns ∙ ap Some at_key.0) owned in
                     ap (λ (x : Frame). x.page) (sym (same_Some _ _ at_key.1)) ∙ sym from ∙ sym (get_or-set_same was.pages (b.first + slot) bytes [] long)
                     ∙ ap (λ (p : Pages). page p (b.first + slot)) set ∙ ap (λ (t : ℕ). page pages (b.first + t)) (sym at)
                 | inr off ↦
@@ -297,49 +301,52 @@ module _ {b : BufferView} (buffer : IsBuffer b) where
 
   -- ---- nothing is written
 
-  module _ {disk : Disk} {w v f h : ℕ} (reads : OnlyReads b.disk disk w v f h) where
-    writes-rests : WritesLoose b.first b.maps.shadow b.disk disk
+  module _ {device : DeviceView} (reads : OnlyReads b.device device) where
+    writes-rests : WritesLoose b.first b.maps.shadow b.device.disk device.disk
     writes-rests = writes_nothing reads
 
-    at_stage-rests : {size writes faults : ℕ} {frames : FrameOf} → (NoneChanged b.frames → NoneChanged frames) → IsAtStage (record b { disk = disk; size = size; frames = frames; writes = writes; faults = faults })
+    at_stage-rests : {frames : FrameOf} → (NoneChanged b.frames → NoneChanged frames) → IsAtStage (record b { device = device; frames = frames })
     at_stage-rests none = record {
       none_changed = λ is. none (buffer.at_stage.none_changed is);
       saved = λ area is pages told. buffer.at_stage.saved area is pages (sym reads.contents ∙ told);
       synced = λ is pages told. only_stays pages (buffer.at_stage.synced is pages (sym reads.contents ∙ told)) (reads.moments (record { pages = pages; is = sym reads.contents ∙ told }));
     }
 
-    pub IsBuffer-rests : {size writes faults : ℕ} → size ≡ b.size → IsBuffer (record b { disk = disk; size = size; writes = writes; faults = faults })
+    pub IsBuffer-rests : device.size ≡ b.device.size → IsBuffer (record b { device = device })
     IsBuffer-rests size_same = IsBuffer-writes writes-rests size_same buffer.frames_hold (λ pages is. buffer.clean pages (sym reads.contents ∙ is)) (at_stage-rests (λ none. none))
 
-    pub KeepsPages-read : {size writes faults : ℕ} → b.writes ≤ writes → b.faults ≤ faults → KeepsPages b (record b { disk = disk; size = size; writes = writes; faults = faults })
-    KeepsPages-read more later = KeepsPages-writes writes-rests (λ other is. is) more later (λ told. ap (held_by b.first b.maps.current b.frames) reads.contents)
+    more-rests : b.device.writes ≤ device.writes
+    more-rests = omega (arith, reads.same_writes)
+
+    pub KeepsPages-read : KeepsPages b (record b { device = device })
+    KeepsPages-read = KeepsPages-writes writes-rests (λ other is. is) more-rests reads.later (λ told. ap (held_by b.first b.maps.current b.frames) reads.contents)
 
     -- a page that isn't in memory is brought there
-    module _ (key : PageKey) (slot : ℕ) (bytes : List ℕ) (none : b.frames key ≡ None) (owned : owner_of b.maps.current slot ≡ Some key) (read : Told b.disk (λ pages. bytes ≡ page pages (b.first + slot))) where
+    module _ (key : PageKey) (slot : ℕ) (bytes : List ℕ) (none : b.frames key ≡ None) (owned : owner_of b.maps.current slot ≡ Some key) (read : Told b.device.disk (λ pages. bytes ≡ page pages (b.first + slot))) where
       abbrev loaded : Frame
       loaded = record { page = bytes; changed = false }
 
       abbrev loaded_frames : FrameOf
       loaded_frames = with_frame b.frames key (Some loaded)
 
-      IsBuffer-loaded : {size writes faults : ℕ} → size ≡ b.size → IsBuffer (record b { disk = disk; size = size; frames = loaded_frames; writes = writes; faults = faults })
+      IsBuffer-loaded : device.size ≡ b.device.size → IsBuffer (record b { device = device; frames = loaded_frames })
       IsBuffer-loaded size_same =
           IsBuffer-writes writes-rests size_same (AreFrames-put b.maps b.frames key loaded buffer.frames_hold (mapped-owned b.maps.current key slot owned) refl) clean (at_stage-rests (NoneChanged-put b.frames key loaded refl))
         where
-          clean : Told disk (AreClean b.first b.maps loaded_frames)
+          clean : Told device.disk (AreClean b.first b.maps loaded_frames)
           clean pages is other f s there is_clean owns = elim (with_frame-cases b.frames key (Some loaded) other f there) [
             | inl here ↦
-                let at : s ≡ slot = buffer.table.distinct s slot key (owns ∙ ap Some here.0) owned in
+                let at : s ≡ slot = buffer.laid_out.table.distinct s slot key (owns ∙ ap Some here.0) owned in
                 ap (λ (x : Frame). x.page) (sym (same_Some _ _ here.1)) ∙ read pages (sym reads.contents ∙ is) ∙ ap (λ (t : ℕ). page pages (b.first + t)) (sym at)
             | inr off ↦ buffer.clean pages (sym reads.contents ∙ is) other f s off.1 is_clean owns
           ]
 
-      held-loaded : IsTold b.disk → held_by b.first b.maps.current loaded_frames disk.contents ≡ held_of b
+      held-loaded : IsTold b.device.disk → held_by b.first b.maps.current loaded_frames device.disk.contents ≡ held_of b
       held-loaded told = ap (held_by b.first b.maps.current loaded_frames) (reads.contents ∙ told.is)
           ∙ held-same b.first b.maps.current b.frames loaded_frames told.pages told.pages (λ other s owns. elim (cases_Bool (is_same other key)) [
             | inl here ↦
                 let key_at = is_same-true other key here in
-                let at : s ≡ slot = buffer.table.distinct s slot key (owns ∙ ap Some key_at) owned in
+                let at : s ≡ slot = buffer.laid_out.table.distinct s slot key (owns ∙ ap Some key_at) owned in
                 ap (λ (k : PageKey). held_in (loaded_frames k) (page told.pages (b.first + s))) key_at
                 ∙ ap (λ (o : Option Frame). held_in o (page told.pages (b.first + s))) (with_frame-same b.frames key (Some loaded))
                 ∙ read told.pages told.is ∙ ap (λ (t : ℕ). page told.pages (b.first + t)) (sym at)
@@ -349,13 +356,13 @@ module _ {b : BufferView} (buffer : IsBuffer b) where
           ∙ sym (ap (held_by b.first b.maps.current b.frames) told.is)
 
       -- there may be no memory for it
-      pub IsBuffer-loads : {size writes faults : ℕ} {frames : FrameOf} → size ≡ b.size → (frames ≡ loaded_frames) ⊎ (frames ≡ b.frames) → IsBuffer (record b { disk = disk; size = size; frames = frames; writes = writes; faults = faults })
-      IsBuffer-loads {size = size} {writes = writes} {faults = faults} size_same (inl now) = subst (λ (f : FrameOf). IsBuffer (record b { disk = disk; size = size; frames = f; writes = writes; faults = faults })) (sym now) (IsBuffer-loaded size_same)
-      IsBuffer-loads {size = size} {writes = writes} {faults = faults} size_same (inr now) = subst (λ (f : FrameOf). IsBuffer (record b { disk = disk; size = size; frames = f; writes = writes; faults = faults })) (sym now) (IsBuffer-rests size_same)
+      pub IsBuffer-loads : {frames : FrameOf} → device.size ≡ b.device.size → (frames ≡ loaded_frames) ⊎ (frames ≡ b.frames) → IsBuffer (record b { device = device; frames = frames })
+      IsBuffer-loads size_same (inl now) = subst (λ (f : FrameOf). IsBuffer (record b { device = device; frames = f })) (sym now) (IsBuffer-loaded size_same)
+      IsBuffer-loads size_same (inr now) = subst (λ (f : FrameOf). IsBuffer (record b { device = device; frames = f })) (sym now) (IsBuffer-rests size_same)
 
-      pub KeepsPages-loads : {size writes faults : ℕ} {frames : FrameOf} → b.writes ≤ writes → b.faults ≤ faults → (frames ≡ loaded_frames) ⊎ (frames ≡ b.frames) → KeepsPages b (record b { disk = disk; size = size; frames = frames; writes = writes; faults = faults })
-      KeepsPages-loads {frames = frames} more later (inl now) = KeepsPages-writes writes-rests (waits-less b.frames frames key (Some loaded) now refl) more later (λ told. ap (λ (f : FrameOf). held_by b.first b.maps.current f disk.contents) now ∙ held-loaded told)
-      KeepsPages-loads {frames = frames} more later (inr now) = KeepsPages-writes writes-rests (waits-alike b.frames frames now) more later (λ told. ap (λ (f : FrameOf). held_by b.first b.maps.current f disk.contents) now ∙ ap (held_by b.first b.maps.current b.frames) reads.contents)
+      pub KeepsPages-loads : {frames : FrameOf} → (frames ≡ loaded_frames) ⊎ (frames ≡ b.frames) → KeepsPages b (record b { device = device; frames = frames })
+      KeepsPages-loads {frames = frames} (inl now) = KeepsPages-writes writes-rests (waits-less b.frames frames key (Some loaded) now refl) more-rests reads.later (λ told. ap (λ (f : FrameOf). held_by b.first b.maps.current f device.disk.contents) now ∙ held-loaded told)
+      KeepsPages-loads {frames = frames} (inr now) = KeepsPages-writes writes-rests (waits-alike b.frames frames now) more-rests reads.later (λ told. ap (λ (f : FrameOf). held_by b.first b.maps.current f device.disk.contents) now ∙ ap (held_by b.first b.maps.current b.frames) reads.contents)
 
   -- ---- a page that stands in its slot leaves memory
 
@@ -365,19 +372,19 @@ module _ {b : BufferView} (buffer : IsBuffer b) where
 
     pub IsBuffer-removed : IsBuffer (record b { frames = frames })
     IsBuffer-removed = subst (λ (f : FrameOf). IsBuffer (record b { frames = f })) (sym now)
-        (IsBuffer-writes (writes-rests (reads_none b.disk b.writes b.faults)) refl (AreFrames-removed b.maps b.frames key buffer.frames_hold) (λ pages is other f s there is_clean owns. elim (with_frame-cases b.frames key None other f there) [
+        (IsBuffer-writes (writes-rests (reads_none b.device)) refl (AreFrames-removed b.maps b.frames key buffer.frames_hold) (λ pages is other f s there is_clean owns. elim (with_frame-cases b.frames key None other f there) [
           | inl here ↦ absurd (cc)
           | inr off ↦ buffer.clean pages is other f s off.1 is_clean owns
-        ]) (at_stage-rests (reads_none b.disk b.writes b.faults) (NoneChanged-removed b.frames key)))
+        ]) (at_stage-rests (reads_none b.device) (NoneChanged-removed b.frames key)))
 
-    left_slot : (pages : Pages) → b.disk.contents ≡ Some pages → (s : ℕ) → owner_of b.maps.current s ≡ Some key → page pages (b.first + s) ≡ held_in (b.frames key) (page pages (b.first + s))
+    left_slot : (pages : Pages) → b.device.disk.contents ≡ Some pages → (s : ℕ) → owner_of b.maps.current s ≡ Some key → page pages (b.first + s) ≡ held_in (b.frames key) (page pages (b.first + s))
     left_slot pages is s owns = by (b.frames key) refl
       where
         by : (o : Option Frame) → b.frames key ≡ o → page pages (b.first + s) ≡ held_in o (page pages (b.first + s))
         by None there = refl
         by (Some frame) there = sym (buffer.clean pages is key frame s there (clean frame there) owns)
 
-    held-removed : IsTold b.disk → held_by b.first b.maps.current left_frames b.disk.contents ≡ held_of b
+    held-removed : IsTold b.device.disk → held_by b.first b.maps.current left_frames b.device.disk.contents ≡ held_of b
     held-removed told = ap (held_by b.first b.maps.current left_frames) told.is
         ∙ held-same b.first b.maps.current b.frames left_frames told.pages told.pages (λ other s owns. elim (cases_Bool (is_same other key)) [
           | inl here ↦
@@ -391,8 +398,8 @@ module _ {b : BufferView} (buffer : IsBuffer b) where
         ∙ sym (ap (held_by b.first b.maps.current b.frames) told.is)
 
     pub KeepsPages-removed : KeepsPages b (record b { frames = frames })
-    KeepsPages-removed = KeepsPages-writes (writes-rests (reads_none b.disk b.writes b.faults)) (waits-less b.frames frames key None now refl) (omega arith) (omega arith)
-        (λ told. ap (λ (f : FrameOf). held_by b.first b.maps.current f b.disk.contents) now ∙ held-removed told)
+    KeepsPages-removed = KeepsPages-writes (writes-rests (reads_none b.device)) (waits-less b.frames frames key None now refl) (omega arith) (omega arith)
+        (λ told. ap (λ (f : FrameOf). held_by b.first b.maps.current f b.device.disk.contents) now ∙ held-removed told)
 
 -- a page in memory is mapped
 pub mapped_there : {b : BufferView} → IsBuffer b → (key : PageKey) → is_some (b.frames key) ≡ true → mapped_by b.maps.current key ≡ true
@@ -404,9 +411,9 @@ mapped_there {b = b} buffer key there = by (b.frames key) refl there
 
 -- ---- nothing is done
 
-loose_then : {old mid : BufferView} (disk : Disk) → KeepsPages old mid → WritesLoose old.first old.maps.shadow old.disk mid.disk → WritesLoose mid.first mid.maps.shadow mid.disk disk → WritesLoose old.first old.maps.shadow old.disk disk
+loose_then : {old mid : BufferView} (disk : Disk) → KeepsPages old mid → WritesLoose old.first old.maps.shadow old.device.disk mid.device.disk → WritesLoose mid.first mid.maps.shadow mid.device.disk disk → WritesLoose old.first old.maps.shadow old.device.disk disk
 loose_then {old = old} {mid = mid} disk keeps before after =
-    writes_then before (subst (λ (n : ℕ). WritesLoose n old.maps.shadow mid.disk disk) keeps.first (subst (λ (m : Maps). WritesLoose mid.first m.shadow mid.disk disk) keeps.maps after))
+    writes_then before (subst (λ (n : ℕ). WritesLoose n old.maps.shadow mid.device.disk disk) keeps.first (subst (λ (m : Maps). WritesLoose mid.first m.shadow mid.device.disk disk) keeps.maps after))
 
 -- the maps and the frames are the same
 pub IsBuffer-same : {b : BufferView} {frames : FrameOf} → IsBuffer b → frames ≡ b.frames → IsBuffer (record b { frames = frames })
@@ -434,7 +441,7 @@ cause_fails {U = U} {disk = disk} {faults = faults} {faults_now = faults_now} {f
       sound = λ place at told. let same : fault ≡ Damaged place = cc in cause.sound place (ap Err same) told;
     })
 
-pub MovesPages-keeps : {T : Type 0} {old new : BufferView} (value : T) → KeepsPages old new → new.writes ≤ old.writes + 1 → MovesPages old new (Ok value)
+pub MovesPages-keeps : {T : Type 0} {old new : BufferView} (value : T) → KeepsPages old new → new.device.writes ≤ old.device.writes + 1 → MovesPages old new (Ok value)
 MovesPages-keeps value keeps few = record {
   keeps = keeps;
   few = few;
@@ -449,17 +456,17 @@ MovesPages-fails result is call = record { keeps = call.keeps; few = call.few; c
 pub WritesPages-none : {T : Type 0} {b : BufferView} {frames : FrameOf} (value : T) → frames ≡ b.frames → WritesPages b (record b { frames = frames }) (Ok value)
 WritesPages-none {b = b} value now = subst (λ (f : FrameOf). WritesPages b (record b { frames = f }) (Ok value)) (sym now) (record {
   keeps = KeepsPages-rests b;
-  loose = writes_none b.disk;
-  settles = settles-rests (waiting_in b.frames) b.writes;
-  few = settles-count (settles-rests (waiting_in b.frames) b.writes);
+  loose = writes_none b.device.disk;
+  settles = settles-rests (waiting_in b.frames) b.device.writes;
+  few = settles-count (settles-rests (waiting_in b.frames) b.device.writes);
   fault = tt;
-  cause = no_cause b.disk b.faults value;
+  cause = no_cause b.device.disk b.device.faults value;
 })
 
 pub WritesPages-then : {T : Type 0} {old mid new : BufferView} {result : Result T PageFault} → WritesPages {T = Unit {0}} old mid (Ok tt) → WritesPages mid new result → WritesPages old new result
 WritesPages-then {old = old} {mid = mid} {new = new} {result = result} one two = record {
   keeps = KeepsPages-then one.keeps two.keeps;
-  loose = loose_then new.disk one.keeps one.loose two.loose;
+  loose = loose_then new.device.disk one.keeps one.loose two.loose;
   settles = on_ok_weaker result (λ settles. settles-then one.settles settles) two.settles;
   few = settles-writes one.settles two.few;
   fault = two.fault;

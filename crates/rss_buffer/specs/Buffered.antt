@@ -1,13 +1,16 @@
 -- What holds of a buffer between any two calls, and what each call within it passes on.
 use Rattle.std.specs.Prelude.{◌≡◌, ◌≢◌, ℕ, ◌+◌, ◌≤◌, Bool, true, false, List, length, Option, Some, None, option_map, Result, IfErr, OnOk}
+use Rattle.rss_base.specs.Devices.{DeviceView}
 use Rattle.rss_base.specs.DiskRule.{Disk, Pages, page, Told, IsTold, Leaves, LeavesOnly, WritesIn}
 use Rattle.rss_base.specs.Layout.{map_at, slots_at}
 use Rattle.rss_base.specs.PageMap.{owner_of, page_count, IsTable, IsMap}
 use Rattle.rss_base.specs.Paged.{Held, AreAmong, WritesWaiting, HasFixed, LeavesFixed, HasPageCause}
+use Rattle.rss_base.specs.Notes.{is_noted_space}
 use Rattle.rss_base.specs.StoredPages.{mapped_by}
 use Rattle.rss_base.specs.declared.fault.PageFault.{PageFault}
 use Rattle.rss_base.specs.declared.fault.PageFault.TheVariants.{Device as DeviceFailed}
 use Rattle.rss_base.specs.declared.key.PageKey.{PageKey}
+use Rattle.rss_notes.specs.Notes.{NotesView}
 use Rattle.rss_shadow.specs.Maps.{Maps}
 use Rattle.rss_buffer.specs.declared.frames.Frame.{Frame}
 use Rattle.rss_buffer.specs.declared.stage.Stage.{Stage}
@@ -16,31 +19,30 @@ use Rattle.rss_buffer.specs.Frames.{FrameOf, with_frame, waiting_in, Settles}
 use Rattle.rss_buffer.specs.Slots.{held_by, is_loose, fixed_by}
 
 -- What there is to see of a buffer within the crate.
--- disk, size: what the device tells, and how many pages it has.
+-- device: what there is to see of the device.
 -- first: where the data slots begin on it.
 -- maps: the current map, and the shadow map.
+-- notes: what was noted on the pages, and on which of them it can be.
 -- frames: the pages in memory.
 -- settled: no page but a data slot is on its way to the disk.
 -- log_pages, area: how many log pages there are, and the map area that the selected root names.
 -- stage: how far the saving has come.
--- asks, writes, faults: how many reads of a page there were, and writes and faults of the device.
+-- asks: how many reads of a page there were.
 pub record BufferView : Type 1 where
-  pub disk : Disk
-  pub size : ℕ
+  pub device : DeviceView
   pub first : ℕ
   pub maps : Maps
+  pub notes : NotesView
   pub frames : FrameOf
   pub settled : Bool
   pub log_pages : ℕ
   pub area : ℕ
   pub stage : Stage
   pub asks : ℕ
-  pub writes : ℕ
-  pub faults : ℕ
 
 -- what each page holds
 abbrev pub held_of : BufferView → Held
-held_of view = held_by view.first view.maps.current view.frames view.disk.contents
+held_of view = held_by view.first view.maps.current view.frames view.device.disk.contents
 
 -- ---- what holds between any two calls
 
@@ -74,22 +76,35 @@ HoldsMapAt owners area pages = IsMap (length owners) pages (map_at (length owner
 -- Once the current map is saved no page is changed, and its area holds it; once its root is selected a stop leaves what a read gives.
 pub record IsAtStage (view : BufferView) : Type 0 where
   pub none_changed : view.stage ≢ Changing → NoneChanged view.frames
-  pub saved : (area : ℕ) → view.stage ≡ Saved area → Told view.disk (HoldsMapAt view.maps.current area)
-  pub synced : view.stage ≡ Switched → Told view.disk (LeavesOnly view.disk)
+  pub saved : (area : ℕ) → view.stage ≡ Saved area → Told view.device.disk (HoldsMapAt view.maps.current area)
+  pub synced : view.stage ≡ Switched → Told view.device.disk (LeavesOnly view.device.disk)
 
 -- each page of either map has a slot of its own
 abbrev pub HaveSlots : Maps → Type 0
 HaveSlots maps = page_count maps.shadow + page_count maps.current ≤ length maps.current
 
+-- The maps are tables of the slots, which stand behind the log pages, up to the end of a device of
+-- this size.
+pub record AreLaidOut (maps : Maps) (first log_pages size : ℕ) : Type 0 where
+  pub table : IsTable maps.current
+  pub count : length maps.shadow ≡ length maps.current
+  pub room : HaveSlots maps
+  pub place : first ≡ slots_at (length maps.current) log_pages
+  pub ends : size ≡ first + length maps.current
+
+-- The notes are for so many slots as the map has, and of home and overflow pages those are mapped
+-- there that the map has.
+pub record AreNotesOf (owners : List (Option PageKey)) (notes : NotesView) : Type 0 where
+  pub slots : notes.slots ≡ length owners
+  pub mapped : (key : PageKey) → is_noted_space key.space ≡ true
+      → notes.mapped key ≡ mapped_by owners key
+
 pub record IsBuffer (view : BufferView) : Type 0 where
-  pub table : IsTable view.maps.current
-  pub count : length view.maps.shadow ≡ length view.maps.current
-  pub room : HaveSlots view.maps
-  pub place : view.first ≡ slots_at (length view.maps.current) view.log_pages
-  pub ends : view.size ≡ view.first + length view.maps.current
+  pub laid_out : AreLaidOut view.maps view.first view.log_pages view.device.size
+  pub noted : AreNotesOf view.maps.current view.notes
   pub frames_hold : AreFrames view.maps view.frames
-  pub clean : Told view.disk (AreClean view.first view.maps view.frames)
-  pub fixed : view.settled ≡ true → Told view.disk (StaysFixed view.disk view.first view.maps.shadow)
+  pub clean : Told view.device.disk (AreClean view.first view.maps view.frames)
+  pub fixed : view.settled ≡ true → Told view.device.disk (StaysFixed view.device.disk view.first view.maps.shadow)
   pub at_stage : IsAtStage view
 
 -- ---- what is done to the frames
@@ -112,34 +127,36 @@ IsLoose first shadow q = is_loose first shadow q ≡ true
 abbrev pub WritesLoose : ℕ → List (Option PageKey) → Disk → Disk → Type 0
 WritesLoose first shadow old new = WritesIn (IsLoose first shadow) old new
 
--- Pages move between memory and their slots: the maps stay, what each page holds, and what is fixed. No more pages wait to be written.
+-- Pages move between memory and their slots: the maps stay, what each page holds, what is noted, and
+-- what is fixed. No more pages wait to be written.
 pub record KeepsPages (old new : BufferView) : Type 0 where
   pub first : new.first ≡ old.first
   pub maps : new.maps ≡ old.maps
+  pub notes : new.notes ≡ old.notes
   pub settled : new.settled ≡ old.settled
   pub log_pages : new.log_pages ≡ old.log_pages
   pub area : new.area ≡ old.area
   pub stage : new.stage ≡ old.stage
   pub asks : new.asks ≡ old.asks
-  pub held : IsTold old.disk → held_of new ≡ held_of old
-  pub leaves : LeavesFixed (old.settled ≡ true) (new.settled ≡ true) old.disk new.disk
-      (fixed_by old.first old.maps.shadow old.disk.contents)
-      (fixed_by new.first new.maps.shadow new.disk.contents)
+  pub held : IsTold old.device.disk → held_of new ≡ held_of old
+  pub leaves : LeavesFixed (old.settled ≡ true) (new.settled ≡ true) old.device.disk new.device.disk
+      (fixed_by old.first old.maps.shadow old.device.disk.contents)
+      (fixed_by new.first new.maps.shadow new.device.disk.contents)
   pub waiting : AreAmong (waiting_in new.frames) (waiting_in old.frames)
-  pub writes : old.writes ≤ new.writes
-  pub later : old.faults ≤ new.faults
+  pub writes : old.device.writes ≤ new.device.writes
+  pub later : old.device.faults ≤ new.device.faults
 
 -- A call that makes one write at most, for room in memory.
 pub record MovesPages {T : Type 0} (old new : BufferView) (result : Result T PageFault) : Type 0 where
   pub keeps : KeepsPages old new
-  pub few : new.writes ≤ old.writes + 1
-  pub cause : HasPageCause old.disk old.faults new.faults result
+  pub few : new.device.writes ≤ old.device.writes + 1
+  pub cause : HasPageCause old.device.disk old.device.faults new.device.faults result
 
 -- A call that writes pages that wait to their slots, each of them once.
 pub record WritesPages {T : Type 0} (old new : BufferView) (result : Result T PageFault) : Type 0 where
   pub keeps : KeepsPages old new
-  pub loose : WritesLoose old.first old.maps.shadow old.disk new.disk
-  pub settles : OnOk result (Settles (waiting_in old.frames) (waiting_in new.frames) old.writes new.writes)
-  pub few : WritesWaiting (waiting_in old.frames) 0 old.writes new.writes
+  pub loose : WritesLoose old.first old.maps.shadow old.device.disk new.device.disk
+  pub settles : OnOk result (Settles (waiting_in old.frames) (waiting_in new.frames) old.device.writes new.device.writes)
+  pub few : WritesWaiting (waiting_in old.frames) 0 old.device.writes new.device.writes
   pub fault : IfErr result (λ fault. fault ≡ DeviceFailed)
-  pub cause : HasPageCause old.disk old.faults new.faults result
+  pub cause : HasPageCause old.device.disk old.device.faults new.device.faults result

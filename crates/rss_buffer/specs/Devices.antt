@@ -1,5 +1,6 @@
 -- What a `Buffer` stands on, and what there is to see of it.
 use Rattle.rss_base.specs.declared.device.Device.{Ghosts}
+use Rattle.rss_notes.specs.Marks.{told}
 use Rattle.rss_buffer.specs.declared.buffer.Buffer.{Buffer}
 use Rattle.rss_buffer.specs.Frames.{frame_in}
 use Rattle.rss_buffer.specs.Buffered.{BufferView}
@@ -11,16 +12,14 @@ module _ {D : Type 0} {g : Ghosts D} where
 
   abbrev pub buffer_view : Buffer D g → BufferView
   buffer_view buffer = record {
-    disk = g.disk buffer.device;
-    size = g.size_of buffer.device;
+    device = g.view buffer.device;
     first = buffer.first_slot;
     maps = buffer.shadow;
+    notes = told buffer.notes;
     frames = frame_in buffer.frames.cache.entries;
     settled = buffer.settled;
     log_pages = buffer.log_pages;
     area = buffer.area;
     stage = buffer.stage;
     asks = buffer.asks;
-    writes = g.writes buffer.device;
-    faults = g.faults buffer.device;
   }

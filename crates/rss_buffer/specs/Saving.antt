@@ -1,5 +1,5 @@
 -- What there is to see of pages that can be saved, and what a call passes on by which they are.
-use Rattle.std.specs.Prelude.{◌≡◌, ◌↔◌, ℕ, ◌≤◌, true, false, List, length, Option, Result, IsErr, IfErr, option_map, is_none, unwrap_or}
+use Rattle.std.specs.Prelude.{◌≡◌, ◌↔◌, ℕ, ◌≤◌, true, false, List, length, Option, None, Result, IsErr, IfErr, option_map, is_none, unwrap_or}
 use Rattle.rss_base.specs.DiskRule.{Disk, Pages, IsTold, Leaves, Passes}
 use Rattle.rss_base.specs.Faults.{Rises}
 use Rattle.rss_base.specs.Layout.{slots_at, IsWellFormed}
@@ -45,11 +45,13 @@ pub record AreSaveable (pages : PagesView) (saving : SavingView) : Type 0 where
   pub waiting : AreAmong saving.waiting pages.changed
   pub fixed : pages.fixed ≡ fixed_by (first_slot pages) pages.backing.shadow pages.disk.contents
 
--- What each call passes on: no page, no slot and no log page changes, no page is asked for, and none waits more.
+-- What each call passes on: no page, no note, no slot and no log page changes, no page is asked for,
+-- and none waits more.
 pub record SavingStep (old new : PagesView) (before after : SavingView) : Type 0 where
   pub current : after.current ≡ before.current
   pub waiting : AreAmong after.waiting before.waiting
   pub held : IsTold old.disk → new.held ≡ old.held
+  pub notes : new.notes ≡ old.notes
   pub log_pages : new.backing.log_pages ≡ old.backing.log_pages
   pub asks : new.asks ≡ old.asks
   pub told : IsTold old.disk ↔ IsTold new.disk
@@ -82,12 +84,14 @@ pub record IsAdopted (map : List (Option PageKey)) (old new : PagesView) : Type 
   pub writes : new.writes ≡ old.writes
   pub faults : new.faults ≡ old.faults
 
--- The pages of this root and this map, as after they were read from the device: nothing was changed or asked for as yet.
+-- The pages of this root and this map, as after they were read from the device: nothing was changed,
+-- noted or asked for as yet.
 pub record IsFresh (root : Root) (table : List (Option PageKey)) (writes : ℕ) (pages : PagesView) (saving : SavingView) : Type 0 where
   pub current : saving.current ≡ table
   pub backing : pages.backing ≡ record { log_pages = root.log_pages; area = root.area; shadow = table }
   pub stage : saving.stage ≡ Changing
   pub none_wait : (key : PageKey) → saving.waiting key ≡ false
+  pub none_noted : (key : PageKey) → pages.notes key ≡ None
   pub settled : pages.settled ≡ true
   pub asks : pages.asks ≡ 0
   pub writes_are : pages.writes ≡ writes

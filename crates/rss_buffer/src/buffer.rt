@@ -1,20 +1,23 @@
 // Pages over a device.
 ghost use Rattle.std.proofs.Props.{props};
 ghost use Rattle.rss_base.proofs.Props.{IsSegmentOf-prop};
-ghost use Rattle.std.specs.Prelude.{◌≡◌, ◌*◌, ◌<◌, ◌≤◌, ℕ, [], length, IfOk, IfErr};
+ghost use Rattle.std.specs.Prelude.{◌≡◌, ◌*◌, ◌<◌, ◌≤◌, ℕ, [], length, None, IfOk, IfErr};
 ghost use Rattle.rss_base.specs.DiskRule.{Told, LeavesOnly};
 ghost use Rattle.rss_base.specs.Layout.{IsWellFormed, device_pages, slots_at};
-ghost use Rattle.rss_base.specs.PageMap.{page_count};
+ghost use Rattle.rss_base.specs.PageMap.{IsTable, page_count};
 ghost use Rattle.rss_base.specs.StoredPages.{StandInSlots};
+ghost use Rattle.rss_base.specs.declared.key.PageKey.{PageKey as Key};
 ghost use Rattle.rss_base.specs.declared.fault.OpenFault.TheVariants.{NoMemory as LacksMemory};
+ghost use Rattle.rss_notes.specs.Marks.{told};
 ghost use Rattle.rss_buffer.specs.Frames.{frame_in};
-ghost use Rattle.rss_buffer.specs.Buffered.{HoldsMapAt, IsBuffer};
+ghost use Rattle.rss_buffer.specs.Buffered.{HoldsMapAt, AreNotesOf, IsBuffer};
 ghost use Rattle.rss_buffer.specs.Saving.{IsFresh};
 ghost use Rattle.rss_buffer.specs.declared.stage.Stage.TheVariants.{Saved};
 
 use crate::frames::Frames;
 use crate::{Saving, Stage};
 use rss_base::{Device, OpenFault, Pages, Root, Unopened, slots_at};
+use rss_notes::Notes;
 use rss_pagemap::SlotTable;
 use rss_shadow::Shadow;
 use std::alloc::{AllocError, Global};
@@ -32,6 +35,7 @@ pub const MOST_FRAMES: u32 = 1024;
 pub struct Buffer<D: Device> {
     pub(crate) device: D,
     pub(crate) shadow: Shadow,
+    pub(crate) notes: Notes,
     pub(crate) frames: Frames,
     pub(crate) log_pages: u32,
     /// Where the data slots begin on the device.
@@ -44,18 +48,16 @@ pub struct Buffer<D: Device> {
     pub(crate) asks: u64,
     ghost saved_area: { (area : ℕ) → stage ≡ Saved area → area < 2 },
     ghost holds: { IsBuffer (record {
-      disk = D.disk device;
-      size = D.size_of device;
+      device = D.view device;
       first = first_slot;
       maps = shadow;
+      notes = told notes;
       frames = frame_in frames.cache.entries;
       settled = settled;
       log_pages = log_pages;
       area = area;
       stage = stage;
       asks = asks;
-      writes = D.writes device;
-      faults = D.faults device;
     }) } by { Prim.hlevel (props, IsSegmentOf-prop) },
 }
 
@@ -74,26 +76,20 @@ impl<D: Device> Buffer<D> {
         requires least { LEAST_FRAMES ≤ frames }
         requires most { frames ≤ MOST_FRAMES }
         requires formed { IsWellFormed root.now }
-        requires size { D.size_of device ≡ device_pages root.now }
+        requires size { (D.view device).size ≡ device_pages root.now }
         requires count { length table ≡ root.now.slots }
         requires half { 2 * page_count table ≤ length table }
-        requires map { Told (D.disk device) (HoldsMapAt table root.now.area) }
-        requires synced { Told (D.disk device) (LeavesOnly (D.disk device)) }
+        requires map { Told (D.view device).disk (HoldsMapAt table root.now.area) }
+        requires synced { Told (D.view device).disk (LeavesOnly (D.view device).disk) }
         ensures device { IfOk result (λ buffer. device_of buffer ≡ device) }
-        ensures held { IfOk result (λ buffer. Told (D.disk device) (λ pages.
+        ensures held { IfOk result (λ buffer. Told (D.view device).disk (λ pages.
             StandInSlots (slots_at root.now.slots root.now.log_pages) pages table
             (⟦<Buffer<D> as Pages>⟧.view buffer).held)) }
-        ensures fresh { IfOk result (λ buffer. IsFresh root.now table (D.writes device)
+        ensures fresh { IfOk result (λ buffer. IsFresh root.now table (D.view device).writes
             (⟦<Buffer<D> as Pages>⟧.view buffer) (⟦<Buffer<D> as Saving>⟧.saving buffer)) }
         ensures back { IfErr result (λ e. (e.device ≡ device) × (e.fault ≡ LacksMemory)) }
     {
-        let Ok(frames) = new_frames(alloc, frames) else {
-            return Err(Unopened {
-                device,
-                fault: OpenFault::NoMemory,
-            });
-        };
-        let Ok(shadow) = Shadow::new(alloc, table) else {
+        let Ok((shadow, notes, frames)) = new_parts(alloc, table, frames) else {
             return Err(Unopened {
                 device,
                 fault: OpenFault::NoMemory,
@@ -102,6 +98,7 @@ impl<D: Device> Buffer<D> {
         Ok(Buffer {
             device,
             shadow,
+            notes,
             frames,
             log_pages: root.log_pages,
             first_slot: slots_at(root.slots, root.log_pages),
@@ -111,6 +108,40 @@ impl<D: Device> Buffer<D> {
             asks: 0,
         })
     }
+}
+
+/// What a buffer keeps of this map: the map itself, as it is now and as it was saved, no notes, and
+/// so many frames, all empty.
+fn new_parts(
+    alloc: Global,
+    table: SlotTable,
+    frames: u32,
+) -> Result<(Shadow, Notes, Frames), AllocError>
+    requires some { 0 < frames }
+    requires half { 2 * page_count table ≤ length table }
+    ensures table { IfOk result (λ _. IsTable table) }
+    ensures maps { IfOk result (λ parts. parts.0 ≡ record { current = table; shadow = table }) }
+    ensures notes { IfOk result (λ parts. AreNotesOf table (told parts.1)) }
+    ensures none { IfOk result (λ parts. (key : Key) → (told parts.1).notes key ≡ None) }
+    ensures frames { IfOk result (λ parts. parts.2.cache.entries ≡ []) }
+{
+    let notes = new_notes(alloc, &table)?;
+    let frames = new_frames(alloc, frames)?;
+    Ok((Shadow::new(alloc, table)?, notes, frames))
+}
+
+/// The notes of a map, with none on any page.
+fn new_notes(alloc: Global, table: &SlotTable) -> Result<Notes, AllocError>
+    ensures notes { IfOk result (λ notes. AreNotesOf table.now (told notes)) }
+    ensures none { IfOk result (λ notes. (key : Key) → (told notes).notes key ≡ None) }
+{
+    let mut notes = Notes::new(alloc, table.slots())?;
+    for owner in table.as_slice() {
+        if let Some(key) = owner {
+            notes.map(*key);
+        }
+    }
+    Ok(notes)
 }
 
 /// So many frames, all empty.

@@ -17,7 +17,8 @@ impl<D: Device> Buffer<D> {
         ensures written { OnOk result
             ((buffer_view self.new).frames ≡ with_unchanged (buffer_view self.old).frames key) }
         ensures err { OnErr result ((buffer_view self.new).frames ≡ (buffer_view self.old).frames) }
-        ensures few { (buffer_view self.new).writes ≤ (buffer_view self.old).writes + 1 }
+        ensures few { (buffer_view self.new).device.writes
+            ≤ (buffer_view self.old).device.writes + 1 }
         ensures did { WritesPages (buffer_view self.old) (buffer_view self.new) result }
     {
         let Some(frame) = self.frames.cache.peek_mut(&key) else {
@@ -69,7 +70,7 @@ impl<D: Device> Buffer<D> {
     }
 
     /// Brings a page into memory.
-    fn load(&mut self, key: PageKey) -> Result<(), PageFault>
+    fn bring(&mut self, key: PageKey) -> Result<(), PageFault>
         requires { mapped_by self.old.shadow.current key ≡ true }
         ensures there { OnOk result (IsSome ((buffer_view self.new).frames key)) }
         ensures did { MovesPages (buffer_view self.old) (buffer_view self.new) result }
@@ -95,7 +96,7 @@ impl<D: Device> Buffer<D> {
 impl<D: Device> Pages for Buffer<D> {
     ghost use Rattle.rss_buffer.specs.Views.{pages_view};
     ghost use Rattle.rss_buffer.specs.Devices.{buffer_view};
-    ghost use Rattle.rss_buffer.specs.BufferLaws.{stays_by, holds_by, allowed_by, counted_by, changed_mapped};
+    ghost use Rattle.rss_buffer.specs.BufferLaws.{stays_by, holds_by, allowed_by, counted_by, noted_by, changed_mapped};
 
     ghost view = { λ b. pages_view (buffer_view b) };
 
@@ -108,6 +109,8 @@ impl<D: Device> Pages for Buffer<D> {
     ghost allowed = { λ b key mapped. allowed_by b.holds key mapped };
 
     ghost are_counted = { λ b. counted_by b.holds };
+
+    ghost noted_are = { λ b key noted. noted_by b.notes b.holds.noted key noted };
 
     ghost changed_are = { λ b key changed. changed_mapped b.shadow key changed };
 
@@ -123,13 +126,37 @@ impl<D: Device> Pages for Buffer<D> {
         self.shadow.slot_of(key).is_some()
     }
 
-    fn read(&mut self, key: PageKey, into: &mut Page) -> Result<(), PageFault> {
+    fn first_mapped(&self, segment: u8, space: Space, from: u32) -> Option<u32> {
+        self.shadow.first_mapped(segment, space, from)
+    }
+
+    fn first_unmapped(&self, segment: u8, space: Space, from: u32) -> Option<u32> {
+        self.shadow.first_unmapped(segment, space, from)
+    }
+
+    fn note(&mut self, key: PageKey, number: u16) {
+        self.notes.note(key, number);
+    }
+
+    fn first_noted(&self, segment: u8, space: Space, from: u32, least: u16) -> Option<u32> {
+        self.notes.first_noted(segment, space, from, least)
+    }
+
+    fn load(&mut self, key: PageKey) -> Result<(), PageFault> {
         self.asks = self.asks.saturating_add(1);
-        self.load(key)?;
+        self.bring(key)
+    }
+
+    fn loaded(&self, key: PageKey) -> &Page {
         let Some(frame) = self.frames.get(key) else {
             unreachable!()
         };
-        *into = frame.page;
+        &frame.page
+    }
+
+    fn read(&mut self, key: PageKey, into: &mut Page) -> Result<(), PageFault> {
+        self.load(key)?;
+        *into = *self.loaded(key);
         Ok(())
     }
 
@@ -139,6 +166,7 @@ impl<D: Device> Pages for Buffer<D> {
             return Err(PageFault::NoMemory);
         }
         self.shadow.first_write(key);
+        self.notes.forget(key);
         self.stage = Stage::Changing;
         Ok(())
     }
@@ -155,6 +183,7 @@ impl<D: Device> Pages for Buffer<D> {
             self.shadow.give(key);
             return Err(PageFault::NoMemory);
         }
+        self.notes.map(key);
         self.stage = Stage::Changing;
         Ok(number)
     }
@@ -165,6 +194,7 @@ impl<D: Device> Pages for Buffer<D> {
             return Err(PageFault::NoMemory);
         }
         self.shadow.take_at(key);
+        self.notes.map(key);
         self.stage = Stage::Changing;
         Ok(())
     }
@@ -172,6 +202,7 @@ impl<D: Device> Pages for Buffer<D> {
     fn give(&mut self, key: PageKey) -> Result<(), PageFault> {
         self.frames.remove(key);
         self.shadow.give(key);
+        self.notes.unmap(key);
         self.stage = Stage::Changing;
         Ok(())
     }

@@ -239,6 +239,7 @@ impl<D: Device> Buffer<D> {
         let Buffer {
             device,
             shadow: _,
+            notes: _,
             frames: _,
             log_pages: _,
             first_slot: _,

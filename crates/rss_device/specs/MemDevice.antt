@@ -1,30 +1,19 @@
 -- A device in memory: what it tells, its moments, and the calls of it that fail.
-use Rattle.std.specs.Prelude.{◌≡◌, ℕ, List, length, take, Contains, Result, IsErr}
-use Rattle.rss_base.specs.DiskRule.{Disk, OnlyReads}
+use Rattle.std.specs.Prelude.{◌≡◌, ℕ, List, [], length, take, Some, Contains, Result, IsErr}
+use Rattle.rss_base.specs.DiskRule.{Pages, LeavesOnly}
+use Rattle.rss_base.specs.Devices.{DeviceView}
 use Rattle.rss_base.specs.Faults.{counted}
 use Rattle.rss_device.specs.Memory.{Held, replay, at_first, writes_in, disk_of}
 use Rattle.rss_device.specs.declared.memory.MemDevice.{MemDevice}
 
--- what it tells of its pages
-abbrev pub disk_told : MemDevice → Disk
-disk_told device = disk_of device.first.items device.events.items device.pages.items
-
--- how many pages it has
-abbrev pub size_now : MemDevice → ℕ
-size_now device = length device.pages.items
-
--- how many writes there were, and how often it failed
-abbrev pub write_count : MemDevice → ℕ
-write_count device = device.writes
-
-abbrev pub fault_count : MemDevice → ℕ
-fault_count device = device.faults
-
--- a call that only reads
-abbrev pub JustReads : MemDevice → MemDevice → Type 0
-JustReads old new =
-    OnlyReads (disk_told old) (disk_told new) (write_count old) (write_count new) (fault_count old)
-    (fault_count new)
+-- what there is to see of it
+abbrev pub view_of : MemDevice → DeviceView
+view_of device = record {
+  disk = disk_of device.first.items device.events.items device.pages.items;
+  size = length device.pages.items;
+  writes = device.writes;
+  faults = device.faults;
+}
 
 -- what it held at a moment
 abbrev pub held_at : MemDevice → ℕ → Held
@@ -41,6 +30,15 @@ failing_calls device = device.calls.failing.items
 -- the number of the next call
 abbrev pub next_call : MemDevice → ℕ
 next_call device = device.calls.next
+
+-- It holds these pages, all synced, and nothing was done with it.
+pub record IsFresh (pages : Pages) (device : MemDevice) : Type 0 where
+  pub contents : (view_of device).disk.contents ≡ Some pages
+  pub only : LeavesOnly (view_of device).disk pages
+  pub faults : (view_of device).faults ≡ 0
+  pub writes : (view_of device).writes ≡ 0
+  pub failing : failing_calls device ≡ []
+  pub next : next_call device ≡ 0
 
 -- a call fails where its number is one of those that fail, and each call is counted
 pub record IsNumbered {T E : Type 0} (old new : MemDevice) (result : Result T E) : Type 0 where

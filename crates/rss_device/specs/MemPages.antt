@@ -1,7 +1,8 @@
 -- Pages in memory, each in a place of its own.
-use Rattle.std.specs.Prelude.{◌≡◌, ℕ, ◌≤◌, Bool, true, false, if◌then◌else◌, List, [], ◌∷◌, length, slice_index_or, count_by, Option, Some, None, is_some, is_none}
+use Rattle.std.specs.Prelude.{◌≡◌, ℕ, ◌≤◌, Bool, true, false, if◌then◌else◌, List, [], ◌∷◌, length, slice_index_or, count_by, Option, Some, None, option_map, is_some, is_none}
 use Rattle.rss_base.specs.DiskRule.{Disk}
 use Rattle.rss_base.specs.PageMap.{IsKey}
+use Rattle.rss_base.specs.Notes.{Noted}
 use Rattle.rss_base.specs.Paged.{Held, Mapped, Fixed, Backing, is_same}
 use Rattle.rss_base.specs.declared.key.PageKey.{PageKey}
 use Rattle.rss_device.specs.declared.stored.Stored.{Stored}
@@ -14,15 +15,38 @@ has_key key (Some stored) = is_same key stored.key
 abbrev pub place_at : List (Option Stored) → ℕ → Option Stored
 place_at places at = slice_index_or places at None
 
--- what the first place of each page holds
+-- what the first place of each page has
+abbrev pub StoredOf : Type 0
+StoredOf = PageKey → Option Stored
+
+abbrev pub stored_in : List (Option Stored) → StoredOf
+stored_in [] key = None
+stored_in (None ∷ places) key = stored_in places key
+stored_in (Some stored ∷ places) key =
+    if is_same key stored.key then Some stored else stored_in places key
+
+-- the same places, but that this page's has this, or it has none
+abbrev pub with_stored : StoredOf → PageKey → Option Stored → StoredOf
+with_stored all key stored other = if is_same other key then stored else all other
+
+-- what each page holds
+abbrev pub page_in : Option Stored → Option (List ℕ)
+page_in place = option_map (λ stored. stored.page) place
+
 abbrev pub held_in : List (Option Stored) → Held
-held_in [] key = None
-held_in (None ∷ places) key = held_in places key
-held_in (Some stored ∷ places) key = if is_same key stored.key then Some stored.page else held_in places key
+held_in places key = page_in (stored_in places key)
+
+-- what was noted on it
+abbrev pub note_in : Option Stored → Option ℕ
+note_in None = None
+note_in (Some stored) = stored.note
+
+abbrev pub noted_in : List (Option Stored) → Noted
+noted_in places key = note_in (stored_in places key)
 
 -- the pages that have a place
 unfoldable pub mapped_in : List (Option Stored) → Mapped
-mapped_in places key = is_some (held_in places key)
+mapped_in places key = is_some (stored_in places key)
 
 -- how many places are free
 abbrev pub free_in : List (Option Stored) → ℕ

@@ -1,14 +1,17 @@
 -- The laws of pages, for those in memory.
-use Rattle.std.proofs.Common.{◌≡◌, ℕ, zero, suc, ◌+◌, true, false, cond, List, [], ◌∷◌, length, map, inl, inr, Option, Some, None, refl, sym, ◌∙◌, ap, arith}
+use Rattle.std.proofs.Common.{◌≡◌, ◌≢◌, ℕ, zero, suc, ◌+◌, ◌<◌, true, false, cond, List, [], ◌∷◌, length, map, inl, inr, Option, Some, None, refl, sym, ◌∙◌, ap, arith}
 use Rattle.std.specs.Prelude.{is_some, is_none, option_map}
 use Rattle.std.proofs.lemmas.Bool.{cases_Bool, cond-true, cond-false, true≢false}
 use Rattle.std.proofs.lemmas.List.Sums.{sum_by-cons}
 use Rattle.rss_base.specs.DiskRule.{Pages}
-use Rattle.rss_base.specs.PageMap.{IsKey, owner_of, page_count}
-use Rattle.rss_base.specs.Paged.{HasFixed, is_same, mapped_pages}
+use Rattle.rss_base.specs.Notes.{is_noted_space}
+use Rattle.rss_base.specs.PageMap.{IsKey, number_limit, owner_of, page_count}
+use Rattle.rss_base.specs.Paged.{HasFixed, is_same, page_key, mapped_pages}
 use Rattle.rss_base.specs.StoredPages.{slot_from}
+use Rattle.rss_base.specs.declared.key.Space.{Space}
+use Rattle.rss_base.specs.declared.key.Space.TheVariants.{Home, Overflow, Image, System}
 use Rattle.rss_base.specs.declared.key.PageKey.{PageKey}
-use Rattle.rss_device.specs.MemPages.{has_key, place_at, held_in, mapped_in, free_in, ArePlaces, none_fixed, no_backing}
+use Rattle.rss_device.specs.MemPages.{has_key, place_at, stored_in, page_in, held_in, note_in, noted_in, mapped_in, free_in, ArePlaces, none_fixed, no_backing}
 use Rattle.rss_base.proofs.Counts.{mapped_pages-owners}
 use Rattle.rss_base.proofs.Keys.{is_same-true, is_same-itself, is_same-other}
 use Rattle.rss_device.specs.declared.stored.Stored.{Stored}
@@ -21,7 +24,20 @@ none_stays image is = record { size = ap length is; pages = λ q bytes none. cc 
 
 pub some_mapped : (places : List (Option Stored)) (key : PageKey) → is_some (held_in places key) ≡ mapped_in places key
 unfolding mapped_in
-some_mapped places key = refl
+some_mapped places key = at (stored_in places key)
+  where
+    at : (place : Option Stored) → is_some (page_in place) ≡ is_some place
+    at None = refl
+    at (Some stored) = refl
+
+-- what is noted is mapped
+pub noted_mapped : (places : List (Option Stored)) (key : PageKey) → is_some (noted_in places key) ≡ true → mapped_in places key ≡ true
+unfolding mapped_in
+noted_mapped places key is = at (stored_in places key) is
+  where
+    at : (place : Option Stored) → is_some (note_in place) ≡ true → is_some place ≡ true
+    at None is = is
+    at (Some stored) is = refl
 
 -- a page that is mapped has a place
 pub mapped_at : (places : List (Option Stored)) (key : PageKey) → mapped_in places key ≡ true → (at : ℕ) × (has_key key (place_at places at) ≡ true)
@@ -46,15 +62,15 @@ owner_at (Some stored ∷ places) zero key is = let at : stored.key ≡ key = cc
 owner_at (None ∷ places) (suc s) key is = owner_at places s key is
 owner_at (Some stored ∷ places) (suc s) key is = owner_at places s key is
 
-mapped_from : (n : ℕ) (places : List (Option Stored)) (key : PageKey) → is_some (held_in places key) ≡ is_some (slot_from n (owners_of places) key)
+mapped_from : (n : ℕ) (places : List (Option Stored)) (key : PageKey) → is_some (stored_in places key) ≡ is_some (slot_from n (owners_of places) key)
 mapped_from n [] key = refl
 mapped_from n (None ∷ places) key = mapped_from (n + 1) places key
 mapped_from n (Some stored ∷ places) key = elim (cases_Bool (is_same key stored.key)) [
   | inl same ↦
-      ap (λ (o : Option (List ℕ)). is_some o) (cond-true (is_same key stored.key) (Some stored.page) (held_in places key) same)
+      ap (λ (o : Option Stored). is_some o) (cond-true (is_same key stored.key) (Some stored) (stored_in places key) same)
       ∙ sym (ap (λ (o : Option ℕ). is_some o) (cond-true (is_same stored.key key) (Some n) (slot_from (n + 1) (owners_of places) key) (ap (is_same stored.key) (is_same-true key stored.key same) ∙ is_same-itself stored.key)))
   | inr other ↦
-      ap (λ (o : Option (List ℕ)). is_some o) (cond-false (is_same key stored.key) (Some stored.page) (held_in places key) other)
+      ap (λ (o : Option Stored). is_some o) (cond-false (is_same key stored.key) (Some stored) (stored_in places key) other)
       ∙ mapped_from (n + 1) places key
       ∙ sym (ap (λ (o : Option ℕ). is_some o) (cond-false (is_same stored.key key) (Some n) (slot_from (n + 1) (owners_of places) key)
       (is_same-other stored.key key (λ at. let no : is_same key stored.key ≡ true = ap (λ (k : PageKey). is_same key k) at ∙ is_same-itself key in true≢false (sym no ∙ other)))))
@@ -68,7 +84,7 @@ free_and_used (Some stored ∷ places) = omega (arith, free_and_used places, sum
 pub counted_in : {places : List (Option Stored)} → ArePlaces places → free_in places + mapped_pages (length places) (mapped_in places) + page_count no_backing.shadow ≡ length places
 unfolding mapped_in
 counted_in {places} placed =
-    let pages = mapped_pages-owners (length places) (owners_of places) (λ key. is_some (held_in places key))
+    let pages = mapped_pages-owners (length places) (owners_of places) (λ key. is_some (stored_in places key))
     (λ s key is. placed.allowed s key (owner_at places s key is))
     (λ s t key here there. placed.distinct s t key (owner_at places s key here) (owner_at places t key there))
     (mapped_from 0 places) in
@@ -80,3 +96,17 @@ never is = cc
 
 pub allowed_in : {places : List (Option Stored)} → ArePlaces places → (key : PageKey) → mapped_in places key ≡ true → IsKey (length places) key
 allowed_in {places} placed key is = let found = mapped_at places key is in placed.allowed found.0 key found.1
+
+-- and its number is below the number of places, but in the system space
+pub number_below : {places : List (Option Stored)} (segment : ℕ) (space : Space) → ArePlaces places → space ≢ System → (k : ℕ) → mapped_in places (page_key segment space k) ≡ true → k < length places
+number_below {places} segment space placed apart k is = at space apart (allowed_in placed (page_key segment space k) is).number
+  where
+    at : (space : Space) → space ≢ System → k < number_limit (length places) space → k < length places
+    at Home apart below = below
+    at Overflow apart below = below
+    at Image apart below = below
+    at System apart below = absurd (apart refl)
+
+-- the system space is none that is noted
+pub noted_apart : (space : Space) → is_noted_space space ≡ true → space ≢ System
+noted_apart space noted is = true≢false (sym noted ∙ ap is_noted_space is)

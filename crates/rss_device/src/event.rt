@@ -1,5 +1,6 @@
 // What happens to a device in memory.
-ghost use Rattle.std.specs.Prelude.{◌≡◌, ◌+◌, ◌-◌, ◌≤◌, false, length, take, IsTrue, IsNone, IfSome};
+ghost use Rattle.std.specs.Prelude.{◌≡◌, ◌+◌, ◌-◌, ◌≤◌, false, length, take, IsTrue, IsNone};
+ghost use Rattle.std.specs.Prelude.{IfSome};
 ghost use Rattle.rss_device.specs.Memory.{is_write, writes_in};
 
 use rss_base::Page;

@@ -10,9 +10,9 @@ use std::io;
 
 /// Pages in a file, one behind the other. It tells nothing of what the file holds.
 ///
-/// The file is opened and locked at the first call, and the lock is held until the device is dropped.
-/// Where there is no file, `set_size` makes it. Any other call fails then, as each does that can't
-/// open the file, or finds that another process has its lock.
+/// The file is opened and locked at the first call, and the lock is held until the device is
+/// dropped. Where there is no file, `set_size` makes it. Any other call fails then, as each does
+/// that can't open the file, or finds that another process has its lock.
 #[derive(Drop)]
 pub struct FileDevice<'a, S: StoreFiles> {
     files: &'a S,
@@ -27,8 +27,8 @@ pub struct FileDevice<'a, S: StoreFiles> {
 impl<'a, S: StoreFiles> FileDevice<'a, S> {
     /// The file at this path, which isn't touched yet.
     pub fn new(files: &'a S, path: &'a str) -> Self
-        ensures faults { ⟦<FileDevice<'a, S> as Device>⟧.faults result ≡ 0 }
-        ensures writes { ⟦<FileDevice<'a, S> as Device>⟧.writes result ≡ 0 }
+        ensures faults { (⟦<FileDevice<'a, S> as Device>⟧.view result).faults ≡ 0 }
+        ensures writes { (⟦<FileDevice<'a, S> as Device>⟧.view result).writes ≡ 0 }
     {
         FileDevice {
             files,
@@ -44,19 +44,18 @@ impl<'a, S: StoreFiles> FileDevice<'a, S> {
 impl<S: StoreFiles> Device for FileDevice<'_, S> {
     ghost use Rattle.std.proofs.Common.{arith};
 
-    ghost disk = { λ d. record { contents = None; moment = 0; images = λ t image. ⊤ } };
-
-    ghost size_of = { λ d. d.pages };
-
-    ghost faults = { λ d. d.faults };
-
-    ghost writes = { λ d. d.writes };
+    ghost view = { λ d. record {
+      disk = record { contents = None; moment = 0; images = λ t image. ⊤ };
+      size = d.pages;
+      writes = d.writes;
+      faults = d.faults;
+    } };
 
     ghost reads_as_image = { λ d pages told. tt };
 
     ghost sized = { λ d pages told. absurd (Prim.cc (told)) };
 
-    ghost counts = { λ d. Prim.omega (arith, d.counts) };
+    ghost limited = { λ d. Prim.omega (arith, d.counts) };
 
     /// A file of fewer than three whole pages has as many as are whole. Where a longer one ends
     /// within a page, this is `u64::MAX`, which is the size of no store.

@@ -1,5 +1,6 @@
 // What a stop of a device in memory leaves.
-ghost use Rattle.std.specs.Prelude.{◌≡◌, ◌<◌, ◌≤◌, ℕ, length, take, drop, All, OnOk, IfOk, replicate, slice_set};
+ghost use Rattle.std.specs.Prelude.{◌≡◌, ◌<◌, ◌≤◌, ℕ, length, take, drop, All, OnOk, IfOk};
+ghost use Rattle.std.specs.Prelude.{replicate, slice_set};
 ghost use Rattle.rss_device.specs.Memory.{Held, step, replay, at_first, IsImage};
 ghost use Rattle.rss_device.specs.Stop.{IsSettled, IsUnsynced, Allows, IsFilled, IsLeft};
 

@@ -1,16 +1,18 @@
 // A file of pages that this process alone works on.
-ghost use Rattle.std.specs.Prelude.{◌≡◌, ◌≢◌, ◌-◌, ◌*◌, ◌/◌, ◌%◌, ◌^◌, ◌<◌, ◌≤◌, ◌<ℤ◌, pos, IfOk, IsOk, IsTrue};
+ghost use Rattle.std.specs.Prelude.{◌≡◌, ◌≢◌, ◌-◌, ◌*◌, ◌/◌, ◌%◌, ◌^◌, ◌<◌, ◌≤◌, ◌<ℤ◌, pos, IfOk};
+ghost use Rattle.std.specs.Prelude.{IsOk, IsTrue};
+ghost use Rattle.rss_base.specs.Sizes.{page_bytes, head_pages};
 
 use crate::store_file::{StoreFile, StoreFiles, folder_of};
-use rss_base::Page;
+use rss_base::{HEAD_PAGES, PAGE_BYTES, Page};
 use std::io;
 use std::io::ErrorKind;
 
 /// The standard streams have the descriptors from 0 to this one, whether they are open or not.
 const LAST_STREAM: i32 = 2;
 
-/// A store has at least so many pages, its selector and its roots.
-const LEAST_PAGES: u64 = 3;
+/// How many bytes of the file a page has.
+const PAGE_LENGTH: u64 = PAGE_BYTES as u64;
 
 /// An open file that is locked, and that no standard stream can be mistaken for.
 #[derive(Drop)]
@@ -21,8 +23,8 @@ pub(crate) struct LockedFile<F: StoreFile> {
 }
 
 impl<F: StoreFile> LockedFile<F> {
-    /// Opens the file at a path and locks it. Where there is none, it is made if `make` says so, and
-    /// its name is brought to the disk.
+    /// Opens the file at a path and locks it. Where there is none, it is made if `make` says so,
+    /// and its name is brought to the disk.
     pub(crate) fn open<S: StoreFiles<File = F>>(
         files: &S,
         path: &str,
@@ -67,9 +69,9 @@ fn open_or_make<S: StoreFiles>(files: &S, path: &str, make: bool) -> io::Result<
     }
 }
 
-/// The same file under a descriptor above those of the standard streams. Where one of them is closed
-/// the system gives its descriptor to the next file that is opened, and what is written to the
-/// stream would go into that file.
+/// The same file under a descriptor above those of the standard streams. Where one of them is
+/// closed the system gives its descriptor to the next file that is opened, and what is written to
+/// the stream would go into that file.
 fn away_from_streams<F: StoreFile>(file: F) -> io::Result<F>
     ensures { IfOk result (λ file. pos 2 <ℤ F.descriptor_of file) }
 {
@@ -87,12 +89,13 @@ fn away_from_streams<F: StoreFile>(file: F) -> io::Result<F>
 /// How many pages a file of this length holds. One that holds pages enough for a store and ends
 /// within a page has `u64::MAX`, which is the size of no store.
 fn pages_in(bytes: u64) -> u64
-    ensures whole { bytes % 4096 ≡ 0 → result * 4096 ≡ bytes }
-    ensures few { bytes < 3 * 4096 → result ≡ bytes / 4096 }
-    ensures torn { 3 * 4096 ≤ bytes → bytes % 4096 ≢ 0 → result ≡ 2 ^ 64 - 1 }
+    ensures whole { bytes % page_bytes ≡ 0 → result * page_bytes ≡ bytes }
+    ensures few { bytes < head_pages * page_bytes → result ≡ bytes / page_bytes }
+    ensures torn { head_pages * page_bytes ≤ bytes → bytes % page_bytes ≢ 0
+        → result ≡ 2 ^ 64 - 1 }
 {
-    let pages = bytes / 4096;
-    if pages < LEAST_PAGES || bytes % 4096 == 0 {
+    let pages = bytes / PAGE_LENGTH;
+    if pages < HEAD_PAGES || bytes % PAGE_LENGTH == 0 {
         pages
     } else {
         u64::MAX
@@ -101,10 +104,10 @@ fn pages_in(bytes: u64) -> u64
 
 /// Where a page begins. No file reaches past `i64::MAX`.
 fn offset(at: u64) -> io::Result<u64>
-    ensures value { IfOk result (λ n. n ≡ at * 4096) }
+    ensures value { IfOk result (λ n. n ≡ at * page_bytes) }
     ensures fits { at < 2 ^ 51 → IsOk result }
 {
-    match at.checked_mul(4096) {
+    match at.checked_mul(PAGE_LENGTH) {
         Some(bytes) if bytes <= i64::MAX as u64 => Ok(bytes),
         _ => Err(io::Error::from(ErrorKind::InvalidInput)),
     }

@@ -1,16 +1,18 @@
 // Pages in memory.
 ghost use Rattle.std.proofs.Props.{props};
 ghost use Rattle.rss_base.proofs.Props.{IsSegmentOf-prop};
-ghost use Rattle.std.specs.Prelude.{◌≡◌, ◌+◌, ◌<◌, ◌≤◌, length, replicate, true, false, Some, IfOk};
+ghost use Rattle.std.specs.Prelude.{◌≡◌, ◌↔◌, ◌+◌, ◌<◌, ◌≤◌, length, true, false, Some, None, IsTrue, IfOk};
 ghost use Rattle.rss_base.specs.DiskRule.{IsTold};
+ghost use Rattle.rss_base.specs.Notes.{MayDo};
 ghost use Rattle.rss_base.specs.PageMap.{IsKey};
-ghost use Rattle.rss_base.specs.Paged.{with_page, page_key, IsLeastUnmapped};
+ghost use Rattle.rss_base.specs.Sizes.{zero_page};
+ghost use Rattle.rss_base.specs.Paged.{page_key};
 ghost use Rattle.rss_base.specs.declared.key.PageKey.{PageKey as Key};
-ghost use Rattle.rss_device.specs.MemPages.{ArePlaces, held_in, mapped_in, free_in, no_device, none_fixed, no_backing};
-ghost use Rattle.rss_device.specs.MemPagesLaws.{none_left, none_stays, some_mapped, allowed_in, counted_in, never};
+ghost use Rattle.rss_device.specs.MemPages.{ArePlaces, stored_in, with_stored, held_in, noted_in, mapped_in, free_in, no_device, none_fixed, no_backing};
+ghost use Rattle.rss_device.specs.MemPagesLaws.{none_left, none_stays, some_mapped, noted_mapped, allowed_in, counted_in, never};
 
-use crate::stored::{Stored, free_place, free_places, page_of, place_of};
-use rss_base::{Page, PageFault, PageKey, Pages, Space};
+use crate::stored::{Stored, free_place, free_places, place_of, stored_of};
+use rss_base::{PAGE_BYTES, Page, PageFault, PageKey, Pages, Space};
 use std::alloc::{AllocError, Global};
 
 /// Pages in memory, for the tests of what stands on pages. There is no device: no call fails, and
@@ -28,6 +30,8 @@ impl MemPages {
         requires least { 64 ≤ slots }
         requires most { slots ≤ 65536 }
         ensures mapped { IfOk result (λ pages. (key : Key) → (⟦<MemPages as Pages>⟧.view pages).mapped key ≡ false) }
+        ensures notes { IfOk result (λ pages. (key : Key)
+            → (⟦<MemPages as Pages>⟧.view pages).notes key ≡ None) }
         ensures spare { IfOk result (λ pages. (⟦<MemPages as Pages>⟧.view pages).spare ≡ slots) }
         ensures slots { IfOk result (λ pages. (⟦<MemPages as Pages>⟧.view pages).slots ≡ slots) }
         ensures asks { IfOk result (λ pages. (⟦<MemPages as Pages>⟧.view pages).asks ≡ 0) }
@@ -40,12 +44,14 @@ impl MemPages {
         Ok(MemPages { places, reads: 0 })
     }
 
-    /// Gives a free place to a page, with zeros.
+    /// Gives a free place to a page, with zeros and no note.
     fn map(&mut self, key: PageKey)
         requires allowed { IsKey (length self.old.places.items) key }
         requires unmapped { mapped_in self.old.places.items key ≡ false }
         requires room { 0 < free_in self.old.places.items }
-        ensures held { held_in self.new.places.items ≡ with_page (held_in self.old.places.items) key (Some (replicate 4096 0)) }
+        ensures stored { stored_in self.new.places.items
+            ≡ with_stored (stored_in self.old.places.items) key
+            (Some (record { key = key; page = zero_page; note = None })) }
         ensures free { free_in self.new.places.items + 1 ≡ free_in self.old.places.items }
         ensures count { length self.new.places.items ≡ length self.old.places.items }
         ensures reads { self.new.reads ≡ self.old.reads }
@@ -55,26 +61,23 @@ impl MemPages {
         };
         self.places[at] = Some(Stored {
             key,
-            page: [0; 4096],
+            page: [0; PAGE_BYTES],
+            note: None,
         });
     }
 
-    /// The least page of a segment and a space that isn't mapped.
-    fn least_unmapped(&self, segment: u8, space: Space) -> u32
-        requires { 0 < free_in self.now.places.items }
-        ensures least { IsLeastUnmapped (mapped_in self.now.places.items) segment space result }
-        ensures within { result < length self.now.places.items }
+    /// Whether the page is mapped, and has no note or one of at least `least`.
+    fn may_do(&self, key: PageKey, least: u16) -> bool
+        ensures { IsTrue result ↔ MayDo (mapped_in self.now.places.items)
+            (noted_in self.now.places.items) least key.segment key.space key.number }
     {
-        for number in 0..self.slots() {
-            if !self.has(PageKey {
-                segment,
-                space,
-                number,
-            }) {
-                return number;
-            }
+        let Some(stored) = stored_of(self.places.as_slice(), key) else {
+            return false;
+        };
+        match stored.note {
+            Some(note) => note >= least,
+            None => true,
         }
-        unreachable!()
     }
 }
 
@@ -84,7 +87,9 @@ impl Pages for MemPages {
       slots = length m.places.items;
       mapped = mapped_in m.places.items;
       held = held_in m.places.items;
+      notes = noted_in m.places.items;
       changed = λ _. false;
+      in_memory = mapped_in m.places.items;
       spare = free_in m.places.items;
       asks = m.reads;
       writes = 0;
@@ -104,6 +109,8 @@ impl Pages for MemPages {
 
     ghost are_counted = { λ m. counted_in m.placed };
 
+    ghost noted_are = { λ m key noted. noted_mapped m.places.items key noted };
+
     ghost changed_are = { λ m key is. never is };
 
     fn slots(&self) -> u32 {
@@ -116,16 +123,80 @@ impl Pages for MemPages {
 
     #[tactic(auto, unfolding(crate::specs::MemPages::mapped_in))]
     fn has(&self, key: PageKey) -> bool {
-        page_of(self.places.as_slice(), key).is_some()
+        stored_of(self.places.as_slice(), key).is_some()
+    }
+
+    fn first_mapped(&self, segment: u8, space: Space, from: u32) -> Option<u32> {
+        for number in from..self.slots() {
+            if self.has(PageKey {
+                segment,
+                space,
+                number,
+            }) {
+                return Some(number);
+            }
+        }
+        None
+    }
+
+    fn first_unmapped(&self, segment: u8, space: Space, from: u32) -> Option<u32> {
+        for number in from..self.slots() {
+            if !self.has(PageKey {
+                segment,
+                space,
+                number,
+            }) {
+                return Some(number);
+            }
+        }
+        None
+    }
+
+    fn note(&mut self, key: PageKey, number: u16) {
+        let Some(at) = place_of(self.places.as_slice(), key) else {
+            unreachable!()
+        };
+        let Some(stored) = self.places[at] else {
+            unreachable!()
+        };
+        let page = stored.page;
+        self.places[at] = Some(Stored {
+            key,
+            page,
+            note: Some(number),
+        });
+    }
+
+    fn first_noted(&self, segment: u8, space: Space, from: u32, least: u16) -> Option<u32> {
+        for number in from..self.slots() {
+            let key = PageKey {
+                segment,
+                space,
+                number,
+            };
+            if self.may_do(key, least) {
+                return Some(number);
+            }
+        }
+        None
+    }
+
+    fn load(&mut self, _key: PageKey) -> Result<(), PageFault> {
+        self.reads = self.reads.saturating_add(1);
+        Ok(())
     }
 
     #[tactic(auto, unfolding(crate::specs::MemPages::mapped_in))]
-    fn read(&mut self, key: PageKey, into: &mut Page) -> Result<(), PageFault> {
-        self.reads = self.reads.saturating_add(1);
-        let Some(page) = page_of(self.places.as_slice(), key) else {
+    fn loaded(&self, key: PageKey) -> &Page {
+        let Some(stored) = stored_of(self.places.as_slice(), key) else {
             unreachable!()
         };
-        *into = *page;
+        &stored.page
+    }
+
+    fn read(&mut self, key: PageKey, into: &mut Page) -> Result<(), PageFault> {
+        self.load(key)?;
+        *into = *self.loaded(key);
         Ok(())
     }
 
@@ -133,12 +204,18 @@ impl Pages for MemPages {
         let Some(at) = place_of(self.places.as_slice(), key) else {
             unreachable!()
         };
-        self.places[at] = Some(Stored { key, page: *from });
+        self.places[at] = Some(Stored {
+            key,
+            page: *from,
+            note: None,
+        });
         Ok(())
     }
 
     fn take(&mut self, segment: u8, space: Space) -> Result<u32, PageFault> {
-        let number = self.least_unmapped(segment, space);
+        let Some(number) = self.first_unmapped(segment, space, 0) else {
+            unreachable!()
+        };
         self.map(PageKey {
             segment,
             space,

@@ -25,19 +25,14 @@ pub struct MemDevice {
 
 impl MemDevice {
     ghost use Rattle.std.specs.Prelude.{◌≡◌, ◌+◌, ◌-◌, ◌≤◌, [], IfOk, IfSome, IsNone, Some};
-    ghost use Rattle.rss_base.specs.DiskRule.{Leaves, LeavesOnly, Passes};
+    ghost use Rattle.rss_base.specs.Devices.{OnlyReads};
     ghost use Rattle.rss_device.specs.Stop.{IsLeft};
-    ghost use Rattle.rss_device.specs.MemDevice.{held_at, writes_by, failing_calls, next_call};
+    ghost use Rattle.rss_device.specs.MemDevice.{view_of, IsFresh, held_at, writes_by};
+    ghost use Rattle.rss_device.specs.MemDevice.{failing_calls, next_call};
 
     /// A device of these pages, all synced.
     pub fn new(alloc: Global, pages: Vec<Page>) -> Result<Self, AllocError>
-        ensures contents { IfOk result (λ d.
-            (⟦<MemDevice as Device>⟧.disk d).contents ≡ Some pages.items) }
-        ensures only { IfOk result (λ d. LeavesOnly (⟦<MemDevice as Device>⟧.disk d) pages.items) }
-        ensures faults { IfOk result (λ d. ⟦<MemDevice as Device>⟧.faults d ≡ 0) }
-        ensures writes { IfOk result (λ d. ⟦<MemDevice as Device>⟧.writes d ≡ 0) }
-        ensures failing { IfOk result (λ d. failing_calls d ≡ []) }
-        ensures next { IfOk result (λ d. next_call d ≡ 0) }
+        ensures { IfOk result (IsFresh pages.items) }
     {
         Ok(MemDevice {
             first: Vec::from_slice(alloc, pages.as_slice())?,
@@ -51,12 +46,7 @@ impl MemDevice {
 
     /// A device of no pages.
     pub fn empty(alloc: Global) -> Self
-        ensures contents { (⟦<MemDevice as Device>⟧.disk result).contents ≡ Some [] }
-        ensures only { LeavesOnly (⟦<MemDevice as Device>⟧.disk result) [] }
-        ensures faults { ⟦<MemDevice as Device>⟧.faults result ≡ 0 }
-        ensures writes { ⟦<MemDevice as Device>⟧.writes result ≡ 0 }
-        ensures failing { failing_calls result ≡ [] }
-        ensures next { next_call result ≡ 0 }
+        ensures { IsFresh [] result }
     {
         MemDevice {
             first: Vec::new(alloc),
@@ -71,15 +61,9 @@ impl MemDevice {
     /// Fails the calls with these numbers, counted from 0 over all calls of the device, and no
     /// others.
     pub fn failing_at(self, calls: Vec<u64>) -> Self
-        ensures contents { (⟦<MemDevice as Device>⟧.disk result).contents
-            ≡ (⟦<MemDevice as Device>⟧.disk self).contents }
-        ensures moment { (⟦<MemDevice as Device>⟧.disk result).moment
-            ≡ (⟦<MemDevice as Device>⟧.disk self).moment }
-        ensures moments { Passes (⟦<MemDevice as Device>⟧.disk self)
-            (⟦<MemDevice as Device>⟧.disk result)
-            (Leaves (⟦<MemDevice as Device>⟧.disk self)) }
-        ensures faults { ⟦<MemDevice as Device>⟧.faults result ≡ ⟦<MemDevice as Device>⟧.faults self }
-        ensures writes { ⟦<MemDevice as Device>⟧.writes result ≡ ⟦<MemDevice as Device>⟧.writes self }
+        ensures reads { OnlyReads (view_of self) (view_of result) }
+        ensures moment { (view_of result).disk.moment ≡ (view_of self).disk.moment }
+        ensures faults { (view_of result).faults ≡ (view_of self).faults }
         ensures failing { failing_calls result ≡ calls.items }
         ensures next { next_call result ≡ next_call self }
     {
@@ -90,7 +74,7 @@ impl MemDevice {
 
     /// The number of this moment.
     pub fn moment(&self) -> usize
-        ensures { result ≡ (⟦<MemDevice as Device>⟧.disk self.now).moment }
+        ensures { result ≡ (view_of self.now).disk.moment }
     {
         self.events.len()
     }
@@ -99,18 +83,18 @@ impl MemDevice {
     /// failed. A stop before it comes at the moment before, and one within it leaves old or other
     /// bytes in its page.
     pub fn moment_of_write(&self, k: usize) -> Option<usize>
-        ensures within { IfSome result (λ t. t ≤ (⟦<MemDevice as Device>⟧.disk self.now).moment) }
+        ensures within { IfSome result (λ t. t ≤ (view_of self.now).disk.moment) }
         ensures before { IfSome result (λ t. writes_by self.now (t - 1) ≡ k) }
         ensures after { IfSome result (λ t. writes_by self.now t ≡ k + 1) }
         ensures none { IsNone result
-            → writes_by self.now (⟦<MemDevice as Device>⟧.disk self.now).moment ≤ k }
+            → writes_by self.now (view_of self.now).disk.moment ≤ k }
     {
         events_to_write(self.events.as_slice(), k)
     }
 
     /// What a read gives.
     pub fn pages(&self) -> &[Page]
-        ensures { (⟦<MemDevice as Device>⟧.disk self.now).contents ≡ Some result.now }
+        ensures { (view_of self.now).disk.contents ≡ Some result.now }
     {
         self.pages.as_slice()
     }
@@ -122,10 +106,10 @@ impl MemDevice {
         moment: usize,
         unsynced: Unsynced,
     ) -> Result<Vec<Page>, AllocError>
-        requires { moment ≤ (⟦<MemDevice as Device>⟧.disk self.now).moment }
-        ensures image { IfOk result (λ image.
-            (⟦<MemDevice as Device>⟧.disk self.now).images moment image.items) }
-        ensures left { IfOk result (λ image. IsLeft unsynced (held_at self.now moment) image.items) }
+        requires { moment ≤ (view_of self.now).disk.moment }
+        ensures image { IfOk result (λ image. (view_of self.now).disk.images moment image.items) }
+        ensures left { IfOk result (λ image.
+            IsLeft unsynced (held_at self.now moment) image.items) }
     {
         image_after(
             alloc,
@@ -138,34 +122,29 @@ impl MemDevice {
 
 // A call states what it does on every device, and that it fails where its number is named.
 impl Device for MemDevice {
-    ghost use Rattle.std.specs.Prelude.{◌≡◌, ◌<◌, length, Some, IfOk, OnOk, slice_set};
+    ghost use Rattle.std.specs.Prelude.{◌≡◌, ◌<◌, Some, IfOk, OnOk, slice_set};
     ghost use Rattle.rss_base.specs.Faults.{counted, HasCause};
-    ghost use Rattle.rss_base.specs.DiskRule.{page, Told, IsResized, LeavesOnly, IsAt, GoesOn, WritesIn};
-    ghost use Rattle.rss_device.specs.MemDevice.{disk_told, size_now, write_count, fault_count, JustReads, IsNumbered};
-    ghost use Rattle.std.proofs.Common.{ap, arith, sym};
-    ghost use Rattle.rss_device.specs.Memory.{disk_of};
+    ghost use Rattle.rss_base.specs.DiskRule.{page, Told, IsResized, LeavesOnly, IsAt, GoesOn};
+    ghost use Rattle.rss_base.specs.Devices.{OnlyReads, ReadsPages, WritesPages};
+    ghost use Rattle.rss_device.specs.MemDevice.{view_of, IsNumbered};
     ghost use Rattle.rss_device.specs.MemoryLaws.{reads, same_some};
+    ghost use Rattle.std.proofs.Common.{ap, arith, length, sym};
 
-    ghost disk = { λ m. disk_of m.first.items m.events.items m.pages.items };
-
-    ghost size_of = { λ m. length m.pages.items };
-
-    ghost faults = { λ m. m.faults };
-
-    ghost writes = { λ m. m.writes };
+    ghost view = { λ m. view_of m };
 
     ghost reads_as_image = { λ m pages told.
         reads m.first.items m.events.items m.pages.items m.kept pages told };
 
     ghost sized = { λ m pages told. ap length (sym (same_some told)) };
 
-    ghost counts = { λ m. Prim.omega (arith, m.counts) };
+    ghost limited = { λ m. Prim.omega (arith, m.counts) };
 
     fn size(&mut self) -> Result<u64, Failed>
-        ensures size { IfOk result (λ n. n ≡ size_now self.new) }
-        ensures same_size { Told (disk_told self.old) (λ _. size_now self.new ≡ size_now self.old) }
-        ensures reads { JustReads self.old self.new }
-        ensures cause { HasCause (fault_count self.old) (fault_count self.new) result }
+        ensures size { IfOk result (λ n. n ≡ (view_of self.new).size) }
+        ensures same_size { Told (view_of self.old).disk (λ _.
+            (view_of self.new).size ≡ (view_of self.old).size) }
+        ensures reads { OnlyReads (view_of self.old) (view_of self.new) }
+        ensures cause { HasCause (view_of self.old).faults (view_of self.new).faults result }
         ensures numbered { IsNumbered self.old self.new result }
     {
         if self.calls.next_fails() {
@@ -175,12 +154,12 @@ impl Device for MemDevice {
     }
 
     fn set_size(&mut self, pages: u64) -> Result<(), Failed>
-        ensures size { OnOk result (size_now self.new ≡ pages) }
-        ensures kept { OnOk result (Told (disk_told self.old) (λ before.
-            IsResized before (disk_told self.new).contents)) }
-        ensures goes_on { GoesOn (disk_told self.old) (disk_told self.new) }
-        ensures writes { write_count self.new ≡ write_count self.old }
-        ensures cause { HasCause (fault_count self.old) (fault_count self.new) result }
+        ensures size { OnOk result ((view_of self.new).size ≡ pages) }
+        ensures kept { OnOk result (Told (view_of self.old).disk (λ before.
+            IsResized before (view_of self.new).disk.contents)) }
+        ensures goes_on { GoesOn (view_of self.old).disk (view_of self.new).disk }
+        ensures writes { (view_of self.new).writes ≡ (view_of self.old).writes }
+        ensures cause { HasCause (view_of self.old).faults (view_of self.new).faults result }
         ensures numbered { IsNumbered self.old self.new result }
     {
         if self.calls.next_fails() || self.events.push(Event::Sized(pages)).is_err() {
@@ -198,11 +177,10 @@ impl Device for MemDevice {
     }
 
     fn read(&mut self, at: u64, into: &mut Page) -> Result<(), Failed>
-        requires { at < size_now self.old }
-        ensures page { OnOk result (Told (disk_told self.old) (λ pages. into.new ≡ page pages at)) }
-        ensures size { size_now self.new ≡ size_now self.old }
-        ensures reads { JustReads self.old self.new }
-        ensures cause { HasCause (fault_count self.old) (fault_count self.new) result }
+        requires { at < (view_of self.old).size }
+        ensures page { OnOk result (Told (view_of self.old).disk (λ pages.
+            into.new ≡ page pages at)) }
+        ensures did { ReadsPages (view_of self.old) (view_of self.new) result }
         ensures numbered { IsNumbered self.old self.new result }
     {
         if self.calls.next_fails() {
@@ -213,13 +191,11 @@ impl Device for MemDevice {
     }
 
     fn write(&mut self, at: u64, from: &Page) -> Result<(), Failed>
-        requires { at < size_now self.old }
-        ensures written { OnOk result (Told (disk_told self.old) (λ pages.
-            (disk_told self.new).contents ≡ Some (slice_set pages at from.now))) }
-        ensures only { WritesIn (IsAt at) (disk_told self.old) (disk_told self.new) }
-        ensures size { size_now self.new ≡ size_now self.old }
-        ensures writes { write_count self.new ≡ counted (write_count self.old) }
-        ensures cause { HasCause (fault_count self.old) (fault_count self.new) result }
+        requires { at < (view_of self.old).size }
+        ensures written { OnOk result (Told (view_of self.old).disk (λ pages.
+            (view_of self.new).disk.contents ≡ Some (slice_set pages at from.now))) }
+        ensures counts { (view_of self.new).writes ≡ counted (view_of self.old).writes }
+        ensures did { WritesPages (IsAt at) 1 (view_of self.old) (view_of self.new) result }
         ensures numbered { IsNumbered self.old self.new result }
     {
         self.writes = self.writes.saturating_add(1);
@@ -235,10 +211,9 @@ impl Device for MemDevice {
     }
 
     fn sync(&mut self) -> Result<(), Failed>
-        ensures synced { OnOk result (Told (disk_told self.old) (LeavesOnly (disk_told self.new))) }
-        ensures size { size_now self.new ≡ size_now self.old }
-        ensures reads { JustReads self.old self.new }
-        ensures cause { HasCause (fault_count self.old) (fault_count self.new) result }
+        ensures synced { OnOk result
+            (Told (view_of self.old).disk (LeavesOnly (view_of self.new).disk)) }
+        ensures did { ReadsPages (view_of self.old) (view_of self.new) result }
         ensures numbered { IsNumbered self.old self.new result }
     {
         if self.calls.next_fails() || self.events.push(Event::Synced).is_err() {

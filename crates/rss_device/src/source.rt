@@ -1,9 +1,11 @@
 // A source in memory.
-ghost use Rattle.std.specs.Prelude.{◌≡◌, ◌↔◌, ◌<◌, ◌≤◌, ℕ, List, [], length, take, min, max, None, Some, Ok, IfOk, OnErr, IsErr};
+ghost use Rattle.std.specs.Prelude.{◌≡◌, ◌↔◌, ◌<◌, ◌≤◌, ℕ, List, [], length, take, min, max, None};
+ghost use Rattle.std.specs.Prelude.{Some, Ok, IfOk, OnErr, IsErr};
 ghost use Rattle.rss_base.specs.Faults.{HasCause};
 ghost use Rattle.rss_base.specs.Streams.{Gives};
 ghost use Rattle.rss_device.specs.Failing.{after_call};
-ghost use Rattle.rss_device.specs.MemSource.{bytes_left, told_left, faults_of, piece_of, failing_read};
+ghost use Rattle.rss_device.specs.MemSource.{bytes_left, told_left, faults_of, piece_of};
+ghost use Rattle.rss_device.specs.MemSource.{failing_read};
 
 use crate::failing::{failed, is_due};
 use rss_base::{Failed, Source};

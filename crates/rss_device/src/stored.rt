@@ -1,15 +1,16 @@
 // Places for pages.
 ghost use Rattle.std.specs.Prelude.{◌≡◌, ◌<◌, length, true, false, None, is_none, IfSome, IfNone, All};
 ghost use Rattle.std.specs.Option.{option_copied};
-ghost use Rattle.rss_device.specs.MemPages.{has_key, place_at, held_in, free_in};
+ghost use Rattle.rss_device.specs.MemPages.{has_key, place_at, stored_in, free_in};
 
 use rss_base::{Page, PageKey};
 
-/// A page and its key.
+/// A page and its key, and what was noted on it.
 #[derive(Clone, Copy)]
 pub(crate) struct Stored {
     pub(crate) key: PageKey,
     pub(crate) page: Page,
+    pub(crate) note: Option<u16>,
 }
 
 /// Whether the place has this page.
@@ -40,14 +41,14 @@ pub(crate) fn free_place(places: &[Option<Stored>]) -> Option<usize>
     places.iter().position(|place| place.is_none())
 }
 
-/// What a page holds.
-pub(crate) fn page_of(places: &[Option<Stored>], key: PageKey) -> Option<&Page>
-    ensures { option_copied result ≡ held_in places.now key }
+/// What the place of a page has.
+pub(crate) fn stored_of(places: &[Option<Stored>], key: PageKey) -> Option<&Stored>
+    ensures { option_copied result ≡ stored_in places.now key }
 {
     for place in places {
         if let Some(stored) = place {
             if key == stored.key {
-                return Some(&stored.page);
+                return Some(stored);
             }
         }
     }

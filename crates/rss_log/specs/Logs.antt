@@ -1,6 +1,7 @@
 -- The log as its callers see it.
 use Rattle.std.specs.Prelude.{◌≡◌, ℕ, ◌+◌, ◌-◌, ◌*◌, ◌/◌, ◌^◌, ◌<◌, ◌≤◌, List, ◌++◌, length, take, drop}
 use Rattle.rss_base.specs.declared.log_record.LogRecord.{LogRecord}
+use Rattle.rss_base.specs.Sizes.{log_pages_most}
 use Rattle.rss_base.specs.LogPages.{piece_length}
 use Rattle.rss_base.specs.LogRecords.{Placed, Parses, BeginsWith}
 
@@ -26,7 +27,7 @@ free_of log = room_end log.pages log.head - 1 - log.end
 -- There are log pages, the positions stand in order, and the pieces from the one with the head on have all log pages and the root's tail.
 pub record IsRing (pages head end : ℕ) : Type 0 where
   pub some : 0 < pages
-  pub most : pages ≤ 4096
+  pub most : pages ≤ log_pages_most
   pub order : head ≤ end
   pub room : end < room_end pages head
   pub limit : end < 2 ^ 64

@@ -4,8 +4,10 @@ ghost use Rattle.rss_base.specs.DiskRule.{Pages as DevicePages, SameOff};
 ghost use Rattle.rss_base.specs.Layout.{log_at};
 ghost use Rattle.rss_base.specs.declared.root.Root.{Root as SomeRoot};
 ghost use Rattle.rss_base.specs.LogRecords.{record_size, Placed, ArePlaced, Parses, BeginsWith};
-ghost use Rattle.rss_base.specs.LogPages.{log_bytes, piece, piece_length, IsNewPiece, HasRoom, Grows};
-ghost use Rattle.rss_log.specs.Logs.{LogView, IsLog, HasRecords, bytes_from, piece_of, piece_start, tail_of};
+ghost use Rattle.rss_base.specs.LogPages.{log_bytes, piece, piece_length, IsNewPiece, HasRoom};
+ghost use Rattle.rss_base.specs.LogPages.{Grows};
+ghost use Rattle.rss_log.specs.Logs.{LogView, IsLog, HasRecords, bytes_from, piece_of, piece_start};
+ghost use Rattle.rss_log.specs.Logs.{tail_of};
 
 /// Bytes spell one list of records at most.
 pub fn spelled_once()
@@ -13,18 +15,20 @@ pub fn spelled_once()
         → Parses bytes from ps until → Parses bytes from qs until_too → ps ≡ qs }
 {}
 
-/// Where the log's bytes are those of records, each of them stands at its position, with the next one
-/// behind it.
+/// Where the log's bytes are those of records, each of them stands at its position, with the next
+/// one behind it.
 pub fn listed_records_stand()
-    ensures { (log : LogView) (before after : List Placed) (p : Placed) → HasRecords log (before ++ p ∷ after)
+    ensures { (log : LogView) (before after : List Placed) (p : Placed)
+        → HasRecords log (before ++ p ∷ after)
         → BeginsWith (bytes_from log p.at) p.is (bytes_from log (p.at + record_size p.is)) }
 {}
 
 /// While the pieces are written that became full since a root was last written, whatever a stop
 /// leaves of their pages, that root has its log.
 pub fn old_log_stays()
-    ensures { (before image : DevicePages) (root : SomeRoot) (end : ℕ) → root.head ≤ root.end → HasRoom root end
-        → SameOff (IsNewPiece root end) before image → log_bytes image root ≡ log_bytes before root }
+    ensures { (before image : DevicePages) (root : SomeRoot) (end : ℕ)
+        → root.head ≤ root.end → HasRoom root end → SameOff (IsNewPiece root end) before image
+        → log_bytes image root ≡ log_bytes before root }
 {}
 
 /// Where the full pieces of a log stand in their pages, the log of the root that was last written
@@ -41,10 +45,12 @@ pub fn pieces_grow()
 /// A root whose log has more records behind those of the old root, and a head behind some of them,
 /// has the rest of them all.
 pub fn next_log_follows()
-    ensures { (pages : DevicePages) (root next : SomeRoot) (more : List ℕ) (ps qs gone kept : List Placed)
+    ensures { (pages : DevicePages) (root next : SomeRoot) (more : List ℕ)
+        (ps qs gone kept : List Placed)
         → next.slots ≡ root.slots → next.log_pages ≡ root.log_pages → root.head < root.end
         → length next.tail ≡ next.end % piece_length → Grows root more pages next.end next.tail
         → Parses (log_bytes pages root) root.head ps root.end → Parses more root.end qs next.end
-        → ps ++ qs ≡ gone ++ kept → ArePlaced root.head gone next.head → ArePlaced next.head kept next.end
+        → ps ++ qs ≡ gone ++ kept
+        → ArePlaced root.head gone next.head → ArePlaced next.head kept next.end
         → Parses (log_bytes pages next) next.head kept next.end }
 {}

@@ -1,5 +1,5 @@
-//! The log: a list of records by position, kept in memory in a ring of the pieces that a store's log
-//! pages and its root can hold.
+//! The log: a list of records by position, kept in memory in a ring of the pieces that a store's
+//! log pages and its root can hold.
 #![tactic(auto)]
 
 mod laws;

@@ -1,13 +1,20 @@
 // The log in memory.
-ghost use Rattle.std.specs.Prelude.{◌≡◌, ◌⊎◌, ℕ, ◌+◌, ◌-◌, ◌*◌, ◌/◌, ◌%◌, ◌^◌, ◌<◌, ◌≤◌, List, [], ◌∷◌, ◌++◌, length, take, drop, IfOk, IfErr, IfSome, IfNone, IsErrOf, OnOk};
-ghost use Rattle.rss_base.specs.DiskRule.{Told, Leaves, Passes};
-ghost use Rattle.rss_base.specs.Faults.{Rises, HasCause};
+ghost use Rattle.std.specs.Prelude.{◌≡◌, ◌⊎◌, ℕ, ◌+◌, ◌-◌, ◌*◌, ◌/◌, ◌%◌, ◌^◌, ◌<◌, ◌≤◌, List, []};
+ghost use Rattle.std.specs.Prelude.{◌∷◌, ◌++◌, length, take, drop, IfOk, IfErr, IfSome, IfNone};
+ghost use Rattle.std.specs.Prelude.{OnOk};
+ghost use Rattle.rss_base.specs.DiskRule.{Told};
+ghost use Rattle.rss_base.specs.Devices.{ReadsPages, ReadsStore};
+ghost use Rattle.rss_base.specs.Sizes.{log_pages_most};
 ghost use Rattle.rss_base.specs.LogPages.{piece_length, pieces, kept_from};
-ghost use Rattle.rss_base.specs.LogRecords.{record_bytes, record_size, IsBounded, Placed, ArePlaced, BeginsWith};
-ghost use Rattle.rss_base.specs.declared.fault.OpenFault.TheVariants.{Device as DeviceFailed, NoMemory as LacksMemory};
+ghost use Rattle.rss_base.specs.LogRecords.{record_bytes, record_size, IsBounded, Placed};
+ghost use Rattle.rss_base.specs.LogRecords.{ArePlaced, BeginsWith};
+ghost use Rattle.rss_base.specs.declared.fault.OpenFault.TheVariants.{Device as DeviceFailed};
+ghost use Rattle.rss_base.specs.declared.fault.OpenFault.TheVariants.{NoMemory as LacksMemory};
 ghost use Rattle.rss_base.specs.declared.log_record.LogRecord.{LogRecord as SomeRecord};
 ghost use Rattle.rss_log.specs.Rings.{ring_bytes};
-ghost use Rattle.rss_log.specs.Logs.{IsRing, IsLog, piece_start, room_end, free_of, bytes_from, piece_of, tail_of, HasRecords, HasRecordAt, with_bytes, with_head};
+ghost use Rattle.rss_log.specs.Logs.{IsRing, IsLog, piece_start, room_end, free_of, bytes_from};
+ghost use Rattle.rss_log.specs.Logs.{piece_of, tail_of, HasRecords, HasRecordAt, with_bytes};
+ghost use Rattle.rss_log.specs.Logs.{with_head};
 
 use crate::ring::{copy, copy_front, put};
 use rss_base::{Device, Failed, LogRecord, OpenFault, PAGE_BYTES, PIECE_BYTES, Page, Tail};
@@ -44,9 +51,9 @@ impl Model for Log {
 }
 
 impl Log {
-    /// Reads the log of a store: its full pieces from the log pages, of which there are so many from
-    /// `first_page` on, and the last part from the root. It reads the pages of the pieces from the
-    /// one with the head on, and no others.
+    /// Reads the log of a store: its full pieces from the log pages, of which there are so many
+    /// from `first_page` on, and the last part from the root. It reads the pages of the pieces from
+    /// the one with the head on, and no others.
     pub fn load<D: Device>(
         alloc: Global,
         device: &mut D,
@@ -58,19 +65,16 @@ impl Log {
     ) -> Result<Log, OpenFault>
         requires ring { IsRing log_pages head end }
         requires tail { length tail.now ≡ end % piece_length }
-        requires size { first_page + log_pages ≤ D.size_of device.old }
+        requires size { first_page + log_pages ≤ (D.view device.old).size }
         // The size of a device is a number of 64 bits.
         requires limit { first_page + log_pages < 2 ^ 64 }
-        ensures numbers { IfOk result (λ log. (log.pages ≡ log_pages) × (log.head ≡ head) × (log.end ≡ end)) }
-        ensures kept { IfOk result (λ log. Told (D.disk device.old) (λ pages.
+        ensures numbers { IfOk result (λ log.
+            (log.pages ≡ log_pages) × (log.head ≡ head) × (log.end ≡ end)) }
+        ensures kept { IfOk result (λ log. Told (D.view device.old).disk (λ pages.
             log.kept ≡ kept_from pages first_page log_pages head end tail.now)) }
         ensures fault { IfErr result (λ fault. (fault ≡ DeviceFailed) ⊎ (fault ≡ LacksMemory)) }
-        ensures cause { IsErrOf result OpenFault.Device → Rises (D.faults device.old) (D.faults device.new) }
-        ensures contents { (D.disk device.new).contents ≡ (D.disk device.old).contents }
-        ensures moments { Told (D.disk device.old) (λ _. Passes (D.disk device.old) (D.disk device.new) (Leaves (D.disk device.old))) }
-        ensures size { D.size_of device.new ≡ D.size_of device.old }
-        ensures writes { D.writes device.new ≡ D.writes device.old }
-        ensures later { D.faults device.old ≤ D.faults device.new }
+        ensures did { ReadsStore (D.view device.old) (D.view device.new) result }
+        ensures size { (D.view device.new).size ≡ (D.view device.old).size }
     {
         let mut ring = new_ring(alloc, log_pages)?;
         let tail = tail.as_slice();
@@ -130,7 +134,8 @@ impl Log {
         requires low { self.now.head ≤ position }
         requires high { position ≤ self.now.end }
         requires there { HasRecordAt self.now position }
-        ensures found { BeginsWith (bytes_from self.now position) result.0 (bytes_from self.now result.1) }
+        ensures found { BeginsWith (bytes_from self.now position) result.0
+            (bytes_from self.now result.1) }
         ensures next { result.1 ≡ position + record_size result.0 }
     {
         match self.try_at(position) {
@@ -139,15 +144,17 @@ impl Log {
         }
     }
 
-    /// The record that begins at a position, and the position behind it; none exactly where the bytes
-    /// from there up to the end begin with no record.
+    /// The record that begins at a position, and the position behind it; none exactly where the
+    /// bytes from there up to the end begin with no record.
     pub fn try_at(&self, position: u64) -> Option<(LogRecord, u64)>
         requires low { self.now.head ≤ position }
         requires high { position ≤ self.now.end }
-        ensures found { IfSome result (λ f. BeginsWith (bytes_from self.now position) f.0 (bytes_from self.now f.1)) }
+        ensures found { IfSome result (λ f.
+            BeginsWith (bytes_from self.now position) f.0 (bytes_from self.now f.1)) }
         ensures next { IfSome result (λ f. f.1 ≡ position + record_size f.0) }
         ensures within { IfSome result (λ f. f.1 ≤ self.now.end) }
-        ensures none { IfNone result ((r : SomeRecord) (rest : List ℕ) → BeginsWith (bytes_from self.now position) r rest → ⊥) }
+        ensures none { IfNone result ((r : SomeRecord) (rest : List ℕ)
+            → BeginsWith (bytes_from self.now position) r rest → ⊥) }
     {
         let mut bytes = [0u8; RECORD_BYTES];
         let size = (self.end - position).min(RECORD_BYTES as u64) as usize;
@@ -194,7 +201,7 @@ impl Log {
 
 /// A ring for the pieces of so many log pages and the last part.
 fn new_ring(alloc: Global, log_pages: u32) -> Result<Vec<u8>, OpenFault>
-    requires { log_pages ≤ 4096 }
+    requires { log_pages ≤ log_pages_most }
     ensures size { IfOk result (λ ring. length ring.items ≡ (log_pages + 1) * piece_length) }
     ensures fault { IfErr result (λ fault. fault ≡ LacksMemory) }
 {
@@ -216,17 +223,14 @@ fn read_log<D: Device>(
 ) -> Result<(), Failed>
     requires ring { IsRing log_pages head end }
     requires tail { length tail.now ≡ end % piece_length }
-    requires size { first_page + log_pages ≤ D.size_of device.old }
+    requires size { first_page + log_pages ≤ (D.view device.old).size }
     requires limit { first_page + log_pages < 2 ^ 64 }
     requires room { length ring.old ≡ (log_pages + 1) * piece_length }
-    ensures kept { OnOk result (Told (D.disk device.old) (λ pages. ring_bytes ring.new (piece_start head) (end - piece_start head)
+    ensures kept { OnOk result (Told (D.view device.old).disk (λ pages.
+        ring_bytes ring.new (piece_start head) (end - piece_start head)
         ≡ kept_from pages first_page log_pages head end tail.now)) }
     ensures long { length ring.new ≡ length ring.old }
-    ensures contents { (D.disk device.new).contents ≡ (D.disk device.old).contents }
-    ensures moments { Told (D.disk device.old) (λ _. Passes (D.disk device.old) (D.disk device.new) (Leaves (D.disk device.old))) }
-    ensures size { D.size_of device.new ≡ D.size_of device.old }
-    ensures writes { D.writes device.new ≡ D.writes device.old }
-    ensures cause { HasCause (D.faults device.old) (D.faults device.new) result }
+    ensures did { ReadsPages (D.view device.old) (D.view device.new) result }
 {
     let first = head / PIECE_LENGTH;
     let last = end / PIECE_LENGTH;
@@ -246,18 +250,15 @@ fn read_pieces<D: Device>(
 ) -> Result<(), Failed>
     requires some { 0 < log_pages }
     requires order { first ≤ last }
-    requires size { first_page + log_pages ≤ D.size_of device.old }
+    requires size { first_page + log_pages ≤ (D.view device.old).size }
     requires room { (last - first) * piece_length ≤ length ring.old }
     requires limit { first_page + log_pages < 2 ^ 64 }
     requires end { last * piece_length < 2 ^ 64 }
-    ensures ring { OnOk result (Told (D.disk device.old) (λ pages.
-        ring_bytes ring.new (first * piece_length) ((last - first) * piece_length) ≡ pieces pages first_page log_pages first (last - first))) }
+    ensures ring { OnOk result (Told (D.view device.old).disk (λ pages.
+        ring_bytes ring.new (first * piece_length) ((last - first) * piece_length)
+        ≡ pieces pages first_page log_pages first (last - first))) }
     ensures long { length ring.new ≡ length ring.old }
-    ensures contents { (D.disk device.new).contents ≡ (D.disk device.old).contents }
-    ensures moments { Told (D.disk device.old) (λ _. Passes (D.disk device.old) (D.disk device.new) (Leaves (D.disk device.old))) }
-    ensures size { D.size_of device.new ≡ D.size_of device.old }
-    ensures writes { D.writes device.new ≡ D.writes device.old }
-    ensures cause { HasCause (D.faults device.old) (D.faults device.new) result }
+    ensures did { ReadsPages (D.view device.old) (D.view device.new) result }
 {
     let mut page = [0u8; PAGE_BYTES];
     for number in first..last {

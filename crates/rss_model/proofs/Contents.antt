@@ -1,6 +1,8 @@
 -- What the tables of a list of values hold.
-use Rattle.std.proofs.Common.{◌≡◌, ◌≢◌, ℕ, zero, suc, ◌+◌, ◌/◌, ◌%◌, ◌<◌, ◌≤◌, ℤ, Bool, true, false, cond, List, [], ◌∷◌, ◌++◌, length, get_or, refl, sym, ◌∙◌, ap, arith, add-zero}
-use Rattle.std.specs.Prelude.{Some, None}
+use Rattle.std.proofs.Common.{◌≡◌, ◌≢◌, inl, inr, ℕ, zero, suc, ◌+◌, ◌/◌, ◌%◌, ◌<◌, ◌≤◌, ℤ, Bool, true, false, cond, List, [], ◌∷◌, ◌++◌, length, get_or, refl, sym, ◌∙◌, ap, arith, add-zero}
+use Rattle.std.specs.Prelude.{Option, Some, None, is_some, option_map}
+use Rattle.std.proofs.lemmas.Bool.{cases_Bool, true≢false}
+use Rattle.rss_base.specs.TupleTypes.{kinds}
 use Rattle.std.specs.Ordering.{eq_by_cmp, is_eq}
 use Rattle.std.specs.Cmp.{IsTotalOrder, Equal-is, tied_itself}
 use Rattle.std.specs.FinMap as map
@@ -12,8 +14,8 @@ use Rattle.rss_base.specs.declared.item.Item.{Item}
 use Rattle.rss_base.specs.declared.value.Value.TheVariants.{Int}
 use Rattle.rss_base.specs.declared.value.FieldKind.TheVariants.{Int as IntField}
 use Rattle.rss_model.specs.Items.{Content, Values, item_cmp, name_cmp}
-use Rattle.rss_model.specs.Tables.{content, fields_of}
-use Rattle.rss_model.specs.Store.{relation_r, tid_at, item_at, tuples_from, tables_of}
+use Rattle.rss_model.specs.Tables.{content, fields_of, segment_of}
+use Rattle.rss_model.specs.Store.{relation_r, segment_s, definition_r, tid_at, item_at, tuples_from, tables_of}
 use Rattle.rss_model.proofs.Codes.{item_total, item_apart, name_total, name_apart}
 
 module _ {K : Type 0} {R : K → K → Ordering} (total : IsTotalOrder R) (apart : IsAntisymmetric R) where
@@ -40,7 +42,7 @@ same_place j k e =
     let slots : j % 128 ≡ k % 128 = ap (λ (t : Tid). t.slot) e in
     omega (arith, pages, slots)
 
-tids : (j k : ℕ) → item_at j ≡ item_at k → tid_at j ≡ tid_at k
+pub tids : (j k : ℕ) → item_at j ≡ item_at k → tid_at j ≡ tid_at k
 tids j k e = cc
 
 pub find_none : (item : Item) (place : ℕ) (values : List ℤ) → ((k : ℕ) → place ≤ k → k < place + length values → item ≢ item_at k) → find item_cmp item (tuples_from place values) ≡ None
@@ -76,10 +78,27 @@ contents_push values z =
     ∙ from_entries_push item_total item_apart (tuples_from 0 values) (item_at (length values)) (Values (Int z ∷ []))
     (find_none (item_at (length values)) 0 values (λ k low high e. absurd (omega (arith, same_place (length values) k (tids (length values) k e)))))
 
--- ---- relations
+-- ---- definitions
+
+module _ {X : Type 0} (one name : Name) (x : X) where
+  pub defined_one : map.get {R = name_cmp} (map.insert map.empty one x) one ≡ Some x
+  defined_one = get-insert name_total map.empty one x one ∙ ap (λ (t : Bool). cond t (Some x) (map.get {R = name_cmp} map.empty one)) (tied name_total name_apart one)
+
+  pub defined_other : name ≢ one → map.get {R = name_cmp} (map.insert map.empty one x) name ≡ None
+  defined_other other = get-insert name_total map.empty one x name ∙ ap (λ (t : Bool). cond t (Some x) (map.get {R = name_cmp} map.empty name)) (not_tied name_total name_apart name one other) ∙ get-empty name_cmp name
+
+  -- what is defined is the one
+  pub defined_is : is_some (map.get {R = name_cmp} (map.insert map.empty one x) name) ≡ true → name ≡ one
+  defined_is is = elim (cases_Bool (eq_by_cmp name_cmp name one)) [
+    | inl same ↦ name_apart name one ((Equal-is (name_cmp name one)).0 same)
+    | inr other ↦ absurd (true≢false (sym is ∙ ap is_some (get-insert name_total map.empty one x name ∙ ap (λ (t : Bool). cond t (Some x) (map.get {R = name_cmp} map.empty name)) other ∙ get-empty name_cmp name)))
+  ]
 
 pub fields_of_r : (values : List ℤ) → fields_of (tables_of values) relation_r ≡ Some (IntField ∷ [])
-fields_of_r values = get-insert name_total (map.empty) relation_r (IntField ∷ []) relation_r ∙ ap (λ (t : Bool). cond t (Some (IntField ∷ [])) (map.get {R = name_cmp} map.empty relation_r)) (tied name_total name_apart relation_r)
+fields_of_r values = ap (option_map (λ relation. kinds relation.fields)) (defined_one relation_r relation_r definition_r)
 
 pub fields_of_other : (values : List ℤ) (name : Name) → name ≢ relation_r → fields_of (tables_of values) name ≡ None
-fields_of_other values name other = get-insert name_total (map.empty) relation_r (IntField ∷ []) name ∙ ap (λ (t : Bool). cond t (Some (IntField ∷ [])) (map.get {R = name_cmp} map.empty name)) (not_tied name_total name_apart name relation_r other) ∙ get-empty name_cmp name
+fields_of_other values name other = ap (option_map (λ relation. kinds relation.fields)) (defined_other relation_r name definition_r other)
+
+pub segment_of_r : (values : List ℤ) → segment_of (tables_of values) relation_r ≡ Some segment_s
+segment_of_r values = ap (option_map (λ relation. relation.segment)) (defined_one relation_r relation_r definition_r)

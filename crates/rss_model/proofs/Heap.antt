@@ -1,7 +1,10 @@
 -- How many pages hold the tuples of a list of values.
-use Rattle.std.proofs.Common.{◌≡◌, inl, inr, ℕ, zero, suc, ◌+◌, ◌-◌, ◌*◌, ◌/◌, ◌%◌, ◌<◌, ◌≤◌, min, ℤ, Bool, true, false, cond, List, length, ◌∙◌, ap, arith}
-use Rattle.std.specs.Prelude.{pos, is_some, count_by}
-use Rattle.std.specs.List.{range_with_len}
+use Rattle.std.proofs.Common.{◌≡◌, inl, inr, ℕ, zero, suc, ◌+◌, ◌-◌, ◌*◌, ◌/◌, ◌%◌, ◌<◌, ◌≤◌, min, ℤ, Bool, true, false, cond, List, [], ◌∷◌, length, refl, sym, ◌∙◌, ap, arith, rules}
+use Rattle.std.specs.Prelude.{pos, is_some, count_by, sum_by, filter, Option, unwrap_or, option_map, map as list_map}
+use Rattle.std.specs.Ordering.{eq_by_cmp}
+use Rattle.std.specs.FinMap as map
+use Rattle.std.specs.FinMap.{entries, put, entries-insert, len-entries, len-empty}
+use Rattle.std.specs.List.{range_with_len, list_any}
 use Rattle.std.proofs.lemmas.Bool.{cases_lt}
 use Rattle.std.proofs.lemmas.List.Folds.{list_any_at, list_any_none}
 use Rattle.std.proofs.lemmas.List.Sums.{sum_by-cons}
@@ -9,9 +12,12 @@ use Rattle.rss_base.specs.declared.tid.Tid.{Tid}
 use Rattle.rss_base.specs.declared.item.Item.{Item}
 use Rattle.rss_base.specs.declared.item.Item.TheVariants.{Tuple as TupleItem}
 use Rattle.rss_model.specs.Tables.{content}
-use Rattle.rss_model.specs.Store.{relation_r, tid_at, item_at, tables_of, home_pages}
-use Rattle.rss_model.specs.Meter.{has_tuples, heap_pages}
-use Rattle.rss_model.proofs.Contents.{content_at, content_none}
+use Rattle.rss_model.specs.Store.{relation_r, segment_s, definition_r, tid_at, item_at, tables_of, home_pages}
+use Rattle.rss_model.specs.Meter.{is_in_segment, relations_in, has_tuples, is_heap_page, heap_pages}
+use Rattle.rss_model.proofs.Contents.{tied, content_at, content_none, segment_of_r}
+use Rattle.rss_model.proofs.Codes.{name_total, name_apart}
+use Rattle.rss_model.specs.Items.{name_cmp}
+use Rattle.rss_base.specs.declared.name.Name.{Name}
 
 abbrev tuple_of : ℕ → ℕ → Item
 tuple_of number slot = TupleItem relation_r (record { page = number; slot = slot })
@@ -28,14 +34,14 @@ page_of number slot place is =
     let same : record { page = number; slot = slot } ≡ tid_at place = cc in
     ap (λ (t : Tid). t.page) same
 
-page_has : (values : List ℤ) (number : ℕ) → number < home_pages (length values) → has_tuples (tables_of values).contents number ≡ true
+page_has : (values : List ℤ) (number : ℕ) → number < home_pages (length values) → has_tuples (tables_of values).contents number relation_r ≡ true
 unfolding has_tuples
 page_has values number lt =
     let contents = (tables_of values).contents in
     list_any_at (λ slot. is_some (content contents (tuple_of number slot))) (range_with_len 0 128) 0 0 (omega arith)
     (ap (λ (item : Item). is_some (content contents item)) (first_of number) ∙ ap is_some (content_at (128 * number) values (pos 0) (omega arith)))
 
-page_lacks : (values : List ℤ) (number : ℕ) → home_pages (length values) ≤ number → has_tuples (tables_of values).contents number ≡ false
+page_lacks : (values : List ℤ) (number : ℕ) → home_pages (length values) ≤ number → has_tuples (tables_of values).contents number relation_r ≡ false
 unfolding has_tuples
 page_lacks values number past =
     list_any_none (λ slot. is_some (content (tables_of values).contents (tuple_of number slot))) (range_with_len 0 128)
@@ -52,6 +58,29 @@ count_below test limit first (suc n) below past =
       | inr high ↦ omega (arith, rest, more, ap one (past first high))
     ]
 
-pub heap_is : (slots : ℕ) (values : List ℤ) → home_pages (length values) ≤ slots → heap_pages slots (tables_of values).contents ≡ home_pages (length values)
+-- ---- the relation in its segment
+
+nothing : {A : Type 0} (list : List A) → length list ≡ 0 → list ≡ []
+nothing [] is = refl
+nothing (a ∷ list) is = absurd (omega arith)
+
+keys_of_one : {X : Type 0} (name : Name) (x : X) → map.keys (map.insert {R = name_cmp} map.empty name x) ≡ name ∷ []
+keys_of_one {X = X} name x =
+    let none : entries (map.empty {X = X} {R = name_cmp}) ≡ [] = nothing _ (sym (len-entries map.empty) ∙ len-empty name_cmp X) in
+    ap (λ (es : List (Name × X)). list_map (λ e. e.0) es) (entries-insert name_total map.empty name x ∙ ap (λ (es : List (Name × X)). put name_cmp name x es) none)
+
+relations_are : (values : List ℤ) → relations_in (tables_of values) segment_s ≡ relation_r ∷ []
+relations_are values =
+    let inside : is_in_segment (tables_of values) segment_s relation_r ≡ true = ap (λ (o : Option Name). unwrap_or (option_map (eq_by_cmp name_cmp segment_s) o) false) (segment_of_r values) ∙ tied name_total name_apart segment_s in
+    ap (filter (is_in_segment (tables_of values) segment_s)) (keys_of_one relation_r definition_r) ∙ search (rules, inside)
+
+heap_page_is : (values : List ℤ) (number : ℕ) → is_heap_page (tables_of values) segment_s number ≡ has_tuples (tables_of values).contents number relation_r
+heap_page_is values number = ap (list_any (has_tuples (tables_of values).contents number)) (relations_are values) ∙ search rules
+
+pub heap_is : (slots : ℕ) (values : List ℤ) → home_pages (length values) ≤ slots → heap_pages slots (tables_of values) ≡ home_pages (length values)
 unfolding heap_pages
-heap_is slots values within = count_below (has_tuples (tables_of values).contents) (home_pages (length values)) 0 slots (page_has values) (page_lacks values) ∙ omega arith
+heap_is slots values within =
+    let test : ℕ → Bool = is_heap_page (tables_of values) segment_s in
+    let counted : Name → ℕ = λ segment. count_by (is_heap_page (tables_of values) segment) (range_with_len 0 slots) in
+    let all = count_below test (home_pages (length values)) 0 slots (λ k lt. heap_page_is values k ∙ page_has values k lt) (λ k past. heap_page_is values k ∙ page_lacks values k past) in
+    omega (arith, ap (sum_by counted) (keys_of_one segment_s (tt {0})), sum_by-cons counted segment_s [], all)

@@ -1,5 +1,9 @@
 pub mod Codes
 pub mod Contents
 pub mod Lengths
+pub mod Counts
+pub mod Putting
+pub mod Fitting
+pub mod Keeping
 pub mod Heap
 pub mod Endings

@@ -9,14 +9,19 @@ use Rattle.rss_base.specs.declared.answer.CallError.{CallError}
 use Rattle.rss_base.specs.declared.answer.CallError.TheVariants.{Refused, Damaged, Device, NoMemory, Down}
 use Rattle.rss_model.specs.Machine.{State}
 use Rattle.rss_model.specs.Steps.{Answer}
+use Rattle.rss_model.specs.Store.{Opens}
 use Rattle.rss_model.specs.Turns.{IsAnswered, IsStopped, IsUnmade}
 use Rattle.rss_model.specs.ReplyText.{IsShort}
 use Rattle.rss_model.specs.Costs.{RisesAtMost, most_asks, HasChanged, most_writes}
 
--- What there is to see of an engine: what its device tells, the machine's state, whether it answers calls, and how many pages were asked for, writes of the device made, and faults of it met.
+-- states of the machine
+abbrev pub States : Type 1
+States = State → Type 0
+
+-- What there is to see of an engine: what its device tells, the state of the machine that it shows, whether it answers calls, and how many pages were asked for, writes of the device made, and faults of it met.
 pub record EngineView : Type 1 where
   pub disk : Disk
-  pub state : State
+  pub shows : States
   pub is_up : Type 0
   pub asks : ℕ
   pub writes : ℕ
@@ -25,21 +30,40 @@ pub record EngineView : Type 1 where
 -- What each call passes on, whatever it does: it costs no more than it may, a device tells its contents as before, and no fault is forgotten.
 pub record GoesOn (old new : EngineView) (call : Call) : Type 0 where
   pub asks : RisesAtMost (most_asks call) old.asks new.asks
-  pub writes : (pages : List ℕ) → HasChanged pages old.state.changes → RisesAtMost (most_writes (length pages) old.state call) old.writes new.writes
+  pub writes : (state : State) → old.shows state
+      → (pages : List ℕ) → HasChanged pages state.changes
+      → RisesAtMost (most_writes (length pages) state call) old.writes new.writes
   pub told : IsTold old.disk → IsTold new.disk
   pub later : old.faults ≤ new.faults
 
+-- the engine shows a state
+pub record ShowsState (view : EngineView) : Type 0 where
+  pub state : State
+  pub shows : view.shows state
+
+-- a stop leaves the committed tables of each state that is shown
+abbrev pub OpensShown : EngineView → Type 0
+OpensShown view = (state : State) → view.shows state → Opens view.disk state.size state.base
+
 -- ---- the ways in which a call ends
+
+-- A call was answered, and led to a state that is shown.
+pub record LeadsTo (shown : States) (earlier later : Disk) (old : State) (call : Call) (answer : Answer) : Type 0 where
+  pub next : State
+  pub shows : shown next
+  pub answered : IsAnswered earlier later old call answer next
 
 -- By a reply or a refusal: it is a step of the machine, and its line is short.
 pub record IsAnswer (old new : EngineView) (call : Call) (answer : Answer) : Type 0 where
-  pub answered : IsTold old.disk → IsAnswered old.disk new.disk old.state call answer new.state
+  pub answered : IsTold old.disk → (state : State) → old.shows state
+      → LeadsTo new.shows old.disk new.disk state call answer
   pub up : new.is_up
   pub short : IsShort answer
 
 -- By a fault of the device, within a step that was on its way.
 pub record IsFault (old new : EngineView) (call : Call) : Type 0 where
-  pub stopped : IsTold old.disk → IsStopped old.disk new.disk old.state call
+  pub stopped : IsTold old.disk → (state : State) → old.shows state
+      → IsStopped old.disk new.disk state call
   pub down : new.is_up → ⊥
   pub cause : Rises old.faults new.faults
 
@@ -57,9 +81,10 @@ OnlyLooks (Fetch transaction relation tid) = ⊤
 
 -- By want of memory: a stop leaves the committed tables. The engine stays up where the call only looks, and where it is up nothing has changed.
 pub record IsUnanswered (old new : EngineView) (call : Call) : Type 0 where
-  pub unmade : IsTold old.disk → IsUnmade old.disk new.disk old.state
+  pub unmade : IsTold old.disk → (state : State) → old.shows state
+      → IsUnmade old.disk new.disk state
   pub up : OnlyLooks call → new.is_up
-  pub same : new.is_up → IsTold old.disk → new.state ≡ old.state
+  pub same : new.is_up → IsTold old.disk → (state : State) → old.shows state → new.shows state
 
 -- an engine that is up is never found down
 abbrev pub IsOutcome : EngineView → EngineView → Call → Result Reply CallError → Type 0

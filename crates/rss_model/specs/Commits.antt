@@ -4,14 +4,14 @@ use Rattle.rss_base.specs.declared.call.Call.{Call}
 use Rattle.rss_base.specs.declared.call.Call.TheVariants.{End}
 use Rattle.rss_base.specs.declared.answer.Reply.TheVariants.{Ok as Done}
 use Rattle.rss_model.specs.Tables.{Tables}
-use Rattle.rss_model.specs.Changes.{after, own}
-use Rattle.rss_model.specs.Machine.{State}
+use Rattle.rss_model.specs.Changes.{own}
+use Rattle.rss_model.specs.Machine.{State, with_changes}
 use Rattle.rss_model.specs.Steps.{Answer, Step}
 use Rattle.rss_model.specs.Runs.{Turn, Run}
 
 -- The committed tables after a call: where it ended a transaction, with that transaction's own changes, else as they were.
 abbrev pub committed : State → Call → Answer → Tables
-committed old (End t) (Ok Done) = record { relations = old.base.relations; contents = after old.base.contents (own t old.changes) }
+committed old (End t) (Ok Done) = with_changes old.base (own t old.changes)
 committed old call answer = old.base
 
 -- the turn ended no transaction

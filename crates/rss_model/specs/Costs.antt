@@ -32,6 +32,6 @@ commit_writes changed slots (change ∷ changes) = changed + map_pages slots + 2
 -- How many writes of the device a call makes at most. A page that is brought into memory may drive out another that was changed.
 abbrev pub most_writes : ℕ → State → Call → Option ℕ
 most_writes changed state (Begin transaction) = Some 0
-most_writes changed state (End transaction) = Some (commit_writes changed state.slots state.changes)
+most_writes changed state (End transaction) = Some (commit_writes changed state.size.slots state.changes)
 most_writes changed state (Insert transaction relation tuple) = None
 most_writes changed state (Fetch transaction relation tid) = Some 1

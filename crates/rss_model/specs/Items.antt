@@ -4,14 +4,17 @@ use Rattle.std.specs.Ordering.{nat_cmp}
 use Rattle.std.specs.Cmp.Lexicographic.{slice_cmp}
 use Rattle.std.specs.declared.cmp.Ordering.{Ordering}
 use Rattle.rss_base.specs.declared.name.Name.{Name}
+use Rattle.rss_base.specs.declared.tid.Tid.{Tid}
 use Rattle.rss_base.specs.declared.value.Value.{Value}
 use Rattle.rss_base.specs.declared.value.Value.TheVariants.{Int, Text}
 use Rattle.rss_base.specs.declared.item.Item.{Item}
 use Rattle.rss_base.specs.declared.item.Item.TheVariants.{Segment, Relation, Tuple, Chain, Key}
 
--- What an item holds: a tuple item the values of its tuple.
+-- What an item holds: a tuple item the values of its tuple, and a chain its tuples in their order,
+-- of which there is at least one.
 pub data Content : Type 0 where
   Values : List Value → Content
+  Tuples : List Tid → Content
 
 -- No two values, and no two items, have one code. Items are ordered by their codes.
 abbrev pub value_code : Value → List ℕ

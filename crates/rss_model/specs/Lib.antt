@@ -8,10 +8,12 @@ pub use Rattle.rss_base.specs.StoredPages
 pub use Rattle.rss_base.specs.TupleTypes
 pub mod Items
 pub mod Tables
+pub mod Fits
 pub mod Changes
 pub mod Meter
 pub mod Machine
 pub mod Steps
+pub mod Kept
 pub mod Runs
 pub mod Commits
 pub mod ReplyText

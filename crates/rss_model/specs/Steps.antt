@@ -1,5 +1,5 @@
 -- A step of the relation machine: which reply a call may get, and the state that follows.
-use Rattle.std.specs.Prelude.{◌≡◌, ℕ, ◌+◌, ◌<◌, Bool, if◌then◌else◌, nat_le, nat_lt, List, [], ◌∷◌, Option, Some, None, is_some, Result, Ok, Err}
+use Rattle.std.specs.Prelude.{◌≡◌, ℕ, ◌+◌, Bool, if◌then◌else◌, nat_le, nat_lt, List, [], ◌∷◌, Option, Some, None, is_some, option_map, Result, Ok, Err, All, count_by}
 use Rattle.std.specs.FinMap as map
 use Rattle.rss_base.specs.declared.name.Name.{Name}
 use Rattle.rss_base.specs.declared.tid.Tid.{Tid}
@@ -12,13 +12,15 @@ use Rattle.rss_base.specs.declared.answer.Reply.{Reply}
 use Rattle.rss_base.specs.declared.answer.Reply.TheVariants.{Ok as Done, Tid as Identifier, Tuple as TupleReply}
 use Rattle.rss_base.specs.declared.refusal.Kind.TheVariants.{Relation as RelationKind}
 use Rattle.rss_base.specs.declared.refusal.Refusal.{Refusal}
-use Rattle.rss_base.specs.declared.refusal.Refusal.TheVariants.{NoTransaction, AlreadyOpen, TooMany, NoSuch, BadTuple, NoTuple, Full}
+use Rattle.rss_base.specs.declared.refusal.LimitKind.TheVariants.{Tuples as TupleLimit}
+use Rattle.rss_base.specs.declared.refusal.Refusal.TheVariants.{NoTransaction, AlreadyOpen, TooMany, NoSuch, Limit, BadTuple, NoTuple, Full}
 use Rattle.rss_base.specs.TupleTypes.{misfit}
 use Rattle.rss_model.specs.Items.{Values}
-use Rattle.rss_model.specs.Tables.{content, fields_of}
-use Rattle.rss_model.specs.Changes.{Change, after, own, others}
-use Rattle.rss_model.specs.Meter.{Meter, checkpointed, needed_slots}
-use Rattle.rss_model.specs.Machine.{State, now}
+use Rattle.rss_model.specs.Tables.{content, fields_of, segment_of, tuple_count}
+use Rattle.rss_model.specs.Fits.{tuple_limit, IsIdentifier}
+use Rattle.rss_model.specs.Changes.{Change, is_delete_of, own, others}
+use Rattle.rss_model.specs.Meter.{Meter, IsCheckpointed, IsCounted, needed_slots}
+use Rattle.rss_model.specs.Machine.{State, with_changes, now}
 
 -- A call is answered by a reply or refused.
 abbrev pub Answer : Type 0
@@ -40,11 +42,7 @@ is_open state transaction = is_some (map.get state.marks transaction)
 
 abbrev pub misfit_of : Option (List FieldKind) → List Value → Option Refusal
 misfit_of None values = None
-misfit_of (Some fields) values = bad (misfit fields values)
-  where
-    bad : Option ℕ → Option Refusal
-    bad None = None
-    bad (Some field) = Some (BadTuple field)
+misfit_of (Some fields) values = option_map BadTuple (misfit fields values)
 
 -- the first refusal that applies
 abbrev pub first_of : List (Option Refusal) → Option Refusal
@@ -52,58 +50,106 @@ first_of [] = None
 first_of (None ∷ rest) = first_of rest
 first_of (Some why ∷ rest) = Some why
 
--- the refusal of a call before it looks at the tuple that it names
-abbrev pub refusal : State → Call → Option Refusal
-refusal state (Begin t) = first_of (refused_if (is_open state t) AlreadyOpen ∷ refused_if (nat_le transaction_limit (map.len state.marks)) TooMany ∷ [])
-refusal state (End t) = first_of (refused_unless (is_open state t) NoTransaction ∷ [])
-refusal state (Insert t relation values) =
-    first_of (refused_unless (is_open state t) NoTransaction ∷ refused_unless (is_some (fields_of state.base relation)) (NoSuch RelationKind) ∷ misfit_of (fields_of state.base relation) values ∷ refused_if (nat_lt state.slots (needed_slots state.meter)) (Full state.slots (needed_slots state.meter)) ∷ [])
-refusal state (Fetch t relation tid) = first_of (refused_unless (is_open state t) NoTransaction ∷ refused_unless (is_some (fields_of state.base relation)) (NoSuch RelationKind) ∷ [])
+-- ---- the tests of a call, in their order
 
--- a new tuple may have this identifier
-pub record IsFree (state : State) (relation : Name) (tid : Tid) : Type 0 where
-  pub page : tid.page < state.slots
-  pub slot : tid.slot < 128
-  pub absent : content (now state).contents (TupleItem relation tid) ≡ None
+-- how many tuples of a relation there are or may come back: those now, and those that an open transaction deleted
+abbrev pub used_tuples : State → Name → ℕ
+used_tuples state relation =
+    tuple_count (now state).contents relation + count_by (is_delete_of relation) state.changes
+
+abbrev pub unless_open : State → ℕ → Option Refusal
+unless_open state t = refused_unless (is_open state t) NoTransaction
+
+abbrev pub unless_defined : State → Name → Option Refusal
+unless_defined state relation =
+    refused_unless (is_some (fields_of state.base relation)) (NoSuch RelationKind)
+
+-- what a call on a relation is refused for first
+abbrev pub admission : State → ℕ → Name → Option Refusal
+admission state t relation = first_of (unless_open state t ∷ unless_defined state relation ∷ [])
+
+abbrev pub if_used_up : State → Name → Option Refusal
+if_used_up state relation =
+    refused_if (nat_le tuple_limit (used_tuples state relation)) (Limit TupleLimit)
+
+abbrev pub if_full : State → Option Refusal
+if_full state =
+    refused_if (nat_lt state.size.slots (needed_slots state.meter))
+    (Full state.size.slots (needed_slots state.meter))
+
+abbrev pub unless_live : State → Name → Tid → Option Refusal
+unless_live state relation tid =
+    refused_unless (is_some (content (now state).contents (TupleItem relation tid)))
+    (NoTuple relation tid)
+
+abbrev pub tests : State → Call → List (Option Refusal)
+tests state (Begin t) =
+    refused_if (is_open state t) AlreadyOpen
+    ∷ refused_if (nat_le transaction_limit (map.len state.marks)) TooMany
+    ∷ []
+tests state (End t) = unless_open state t ∷ []
+tests state (Insert t relation values) =
+    unless_open state t
+    ∷ unless_defined state relation
+    ∷ misfit_of (fields_of state.base relation) values
+    ∷ if_used_up state relation
+    ∷ if_full state
+    ∷ []
+tests state (Fetch t relation tid) =
+    unless_open state t
+    ∷ unless_defined state relation
+    ∷ unless_live state relation tid
+    ∷ []
+
+abbrev pub refusal : State → Call → Option Refusal
+refusal state call = first_of (tests state call)
+
+-- ---- what a call does
+
+-- A new tuple of a transaction may have this identifier: no tuple of the segment has it, and no other open transaction changed one that did.
+pub record IsFree (state : State) (t : ℕ) (relation : Name) (tid : Tid) : Type 0 where
+  pub within : IsIdentifier state.size.slots tid
+  pub absent : (other : Name) → segment_of state.base other ≡ segment_of state.base relation
+      → content (now state).contents (TupleItem other tid) ≡ None
+  pub alone : (other : Name)
+      → All (λ change. change.item ≡ TupleItem other tid → change.by ≡ t) state.changes
 
 abbrev pub begun : ℕ → State → State
-begun t state = record { slots = state.slots; base = state.base; changes = state.changes; marks = map.insert state.marks t []; meter = state.meter }
+begun t state = record state { marks = map.insert state.marks t [] }
 
--- one change more since the last checkpoint
-abbrev pub counted : Meter → Meter
-counted meter = record { heap = meter.heap; since = meter.since + 1 }
+-- one change more, and the meter afterwards
+abbrev pub changed : Change → Meter → State → State
+changed change meter state = record state { changes = change ∷ state.changes; meter = meter }
 
-abbrev pub inserted : ℕ → Name → Tid → List Value → State → State
-inserted t relation tid values state = record {
-  slots = state.slots;
-  base = state.base;
-  changes = record { by = t; item = TupleItem relation tid; old = None; new = Some (Values values) } ∷ state.changes;
-  marks = state.marks;
-  meter = counted state.meter;
-}
+abbrev pub insertion : ℕ → Name → Tid → List Value → Change
+insertion t relation tid values =
+    record { by = t; item = TupleItem relation tid; old = None; new = Some (Values values) }
 
 -- the end of a transaction that made these changes is a checkpoint, where there is one
-abbrev pub meter_after : List Change → State → Meter
-meter_after [] state = state.meter
-meter_after (change ∷ changes) state = checkpointed state.slots (now state).contents
+abbrev pub IsMeterAfter : List Change → State → Meter → Type 0
+IsMeterAfter [] state meter = meter ≡ state.meter
+IsMeterAfter (change ∷ changes) state meter = IsCheckpointed state.size.slots (now state) meter
 
 -- what the transaction changed is committed
-abbrev pub ended : ℕ → State → State
-ended t state = record {
-  slots = state.slots;
-  base = record { relations = state.base.relations; contents = after state.base.contents (own t state.changes) };
+abbrev pub ended : ℕ → Meter → State → State
+ended t meter state = record state {
+  base = with_changes state.base (own t state.changes);
   changes = others t state.changes;
   marks = map.remove state.marks t;
-  meter = meter_after (own t state.changes) state;
+  meter = meter;
 }
 
+-- The machine leaves open which meter follows, but for what it must be.
 pub data Step (old : State) : Call → Answer → State → Type 0 where
   refuses : (call : Call) (why : Refusal) → refusal old call ≡ Some why → Step old call (Err why) old
   begins : (t : ℕ) → refusal old (Begin t) ≡ None → Step old (Begin t) (Ok Done) (begun t old)
-  inserts : (t : ℕ) (relation : Name) (values : List Value) (tid : Tid) → refusal old (Insert t relation values) ≡ None → IsFree old relation tid
-      → Step old (Insert t relation values) (Ok (Identifier tid)) (inserted t relation tid values old)
-  fetches : (t : ℕ) (relation : Name) (tid : Tid) (values : List Value) → refusal old (Fetch t relation tid) ≡ None → content (now old).contents (TupleItem relation tid) ≡ Some (Values values)
+  inserts : (t : ℕ) (relation : Name) (values : List Value) (tid : Tid) (meter : Meter)
+      → refusal old (Insert t relation values) ≡ None → IsFree old t relation tid → IsCounted old.meter meter
+      → Step old (Insert t relation values) (Ok (Identifier tid))
+      (changed (insertion t relation tid values) meter old)
+  fetches : (t : ℕ) (relation : Name) (tid : Tid) (values : List Value)
+      → refusal old (Fetch t relation tid) ≡ None
+      → content (now old).contents (TupleItem relation tid) ≡ Some (Values values)
       → Step old (Fetch t relation tid) (Ok (TupleReply values)) old
-  finds_none : (t : ℕ) (relation : Name) (tid : Tid) → refusal old (Fetch t relation tid) ≡ None → content (now old).contents (TupleItem relation tid) ≡ None
-      → Step old (Fetch t relation tid) (Err (NoTuple relation tid)) old
-  ends : (t : ℕ) → refusal old (End t) ≡ None → Step old (End t) (Ok Done) (ended t old)
+  ends : (t : ℕ) (meter : Meter) → refusal old (End t) ≡ None → IsMeterAfter (own t old.changes) old meter
+      → Step old (End t) (Ok Done) (ended t meter old)

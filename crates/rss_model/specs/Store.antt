@@ -14,21 +14,41 @@ use Rattle.rss_base.specs.declared.key.Space.TheVariants.{Home, System}
 use Rattle.rss_base.specs.declared.key.PageKey.{PageKey}
 use Rattle.rss_base.specs.declared.place.Place.{Place}
 use Rattle.rss_base.specs.DiskRule.{Disk, Pages, Leaves}
+use Rattle.rss_base.specs.Sizes.{system_pages}
 use Rattle.rss_base.specs.Layout.{map_at, slots_at, HasRoot, IsRootFault}
 use Rattle.rss_base.specs.PageMap.{space_code, IsMap, IsMapFault}
 use Rattle.rss_base.specs.Paged.{Mapped, Held, page_key}
 use Rattle.rss_base.specs.StoredPages.{mapped_by, held_at}
 use Rattle.rss_model.specs.Items.{Content, Values}
-use Rattle.rss_model.specs.Tables.{Relations, Tables}
+use Rattle.rss_model.specs.Tables.{RelationDef, Definitions, Tables}
+use Rattle.rss_model.specs.Fits.{tuple_limit}
+use Rattle.rss_model.specs.Machine.{StoreSize}
 
 -- ---- the relation
 
--- the one relation, `r`, with one field, an INT
+-- the one relation, `r`, with one field, an INT, in the one segment
 abbrev pub relation_r : Name
-relation_r = record { bytes = 114 ∷ 0 ∷ 0 ∷ 0 ∷ 0 ∷ 0 ∷ 0 ∷ 0 ∷ 0 ∷ 0 ∷ 0 ∷ 0 ∷ 0 ∷ 0 ∷ 0 ∷ 0 ∷ [] }
+relation_r = record { bytes = 114 ∷ replicate 15 0 }
 
-abbrev pub relations : Relations
-relations = map.insert map.empty relation_r (IntField ∷ [])
+abbrev pub segment_s : Name
+segment_s = record { bytes = 115 ∷ replicate 15 0 }
+
+abbrev pub field_a : Name
+field_a = record { bytes = 97 ∷ replicate 15 0 }
+
+abbrev pub definition_r : RelationDef
+definition_r = record {
+  segment = segment_s;
+  fields = record { name = field_a; kind = IntField } ∷ [];
+}
+
+abbrev pub definitions : Definitions
+definitions = record {
+  segments = map.insert map.empty segment_s tt;
+  relations = map.insert map.empty relation_r definition_r;
+  images = map.empty;
+  links = map.empty;
+}
 
 -- the tuple at a place, counted from 0
 abbrev pub tid_at : ℕ → Tid
@@ -44,7 +64,10 @@ tuples_from place (z ∷ values) = (item_at place, Values (Int z ∷ [])) ∷ tu
 
 -- the tables whose tuples have these values, in order
 abbrev pub tables_of : List ℤ → Tables
-tables_of values = record { relations = relations; contents = map.from_entries (tuples_from 0 values) }
+tables_of values = record {
+  definitions = definitions;
+  contents = map.from_entries (tuples_from 0 values);
+}
 
 -- ---- its pages
 
@@ -87,32 +110,47 @@ pub record HasFirstLog (root : Root) : Type 0 where
   pub end : root.end ≡ 2
   pub tail : root.tail ≡ 9 ∷ 0 ∷ []
 
--- The pages are a store: the selected root by its number, the map that it names, and in the slots the pages of these tuples. There is room for each page in two slots.
-pub record IsStore (pages : Pages) (number : ℕ) (root : Root) (owners : List (Option PageKey)) (values : List ℤ) : Type 0 where
-  pub root_there : HasRoot pages number root
-  pub log : HasFirstLog root
-  pub map : IsMap root.slots pages (map_at root.slots root.area) owners
-  pub mapped : (key : PageKey) → mapped_by owners key ≡ store_pages (home_pages (length values)) key
-  pub room : 2 * (home_pages (length values) + 10) ≤ root.slots
-  pub tuples : HoldsTuples (held_at (slots_at root.slots root.log_pages) pages owners) values
-  pub fit : All (FitsSigned w64) values
-
--- the pages are a store of so many slots with these tables
-pub record OpensTo (pages : Pages) (slots : ℕ) (tables : Tables) : Type 0 where
+-- What a store is: its selected root by its number, the map that this names, and what the pages in its slots spell.
+pub record Stored : Type 0 where
   pub number : ℕ
   pub root : Root
   pub owners : List (Option PageKey)
   pub values : List ℤ
-  pub store : IsStore pages number root owners values
-  pub size : slots ≡ root.slots
-  pub holds : tables ≡ tables_of values
 
-abbrev pub OpensToEither : ℕ → Tables → Tables → Pages → Type 0
-OpensToEither slots before after pages = OpensTo pages slots before ⊎ OpensTo pages slots after
+abbrev pub stored : ℕ → Root → List (Option PageKey) → List ℤ → Stored
+stored number root owners values =
+    record { number = number; root = root; owners = owners; values = values }
+
+-- There is room for each page in two slots.
+pub record IsStore (pages : Pages) (stored : Stored) : Type 0 where
+  pub root_there : HasRoot pages stored.number stored.root
+  pub log : HasFirstLog stored.root
+  pub map : IsMap stored.root.slots pages (map_at stored.root.slots stored.root.area) stored.owners
+  pub mapped : (key : PageKey)
+      → mapped_by stored.owners key ≡ store_pages (home_pages (length stored.values)) key
+  pub room : 2 * (home_pages (length stored.values) + system_pages) ≤ stored.root.slots
+  pub tuples : HoldsTuples
+      (held_at (slots_at stored.root.slots stored.root.log_pages) pages stored.owners) stored.values
+  pub fit : All (FitsSigned w64) stored.values
+  pub few : length stored.values ≤ tuple_limit
+
+-- the size of a store, by its root
+abbrev pub size_of : Root → StoreSize
+size_of root = record { slots = root.slots; log_pages = root.log_pages }
+
+-- the pages are a store of this size with these tables
+pub record OpensTo (pages : Pages) (size : StoreSize) (tables : Tables) : Type 0 where
+  pub stored : Stored
+  pub store : IsStore pages stored
+  pub same_size : size ≡ size_of stored.root
+  pub holds : tables ≡ tables_of stored.values
+
+abbrev pub OpensToEither : StoreSize → Tables → Tables → Pages → Type 0
+OpensToEither size before after pages = OpensTo pages size before ⊎ OpensTo pages size after
 
 -- a stop now leaves pages that open to these tables
-abbrev pub Opens : Disk → ℕ → Tables → Type 0
-Opens disk slots tables = (image : Pages) → Leaves disk image → OpensTo image slots tables
+abbrev pub Opens : Disk → StoreSize → Tables → Type 0
+Opens disk size tables = (image : Pages) → Leaves disk image → OpensTo image size tables
 
 -- ---- pages that are no store
 
@@ -132,4 +170,4 @@ pub record IsOverfull (pages : Pages) : Type 0 where
 
 -- the pages open to no tables
 abbrev pub IsNoStore : Pages → Type 0
-IsNoStore pages = (slots : ℕ) (tables : Tables) → OpensTo pages slots tables → ⊥
+IsNoStore pages = (size : StoreSize) (tables : Tables) → OpensTo pages size tables → ⊥

@@ -1,11 +1,42 @@
--- Tables: the relations that are defined, and what the items hold.
-use Rattle.std.specs.Prelude.{List, Option, Some, None}
+-- Tables: what is defined, and what the items hold.
+use Rattle.std.specs.Prelude.{ℕ, Bool, true, false, List, Option, Some, None, option_map, ⊤}
+use Rattle.std.specs.Ordering.{eq_by_cmp}
 use Rattle.std.specs.FinMap as map
 use Rattle.std.specs.FinMap.{FinMap}
 use Rattle.rss_base.specs.declared.name.Name.{Name}
 use Rattle.rss_base.specs.declared.item.Item.{Item}
+use Rattle.rss_base.specs.declared.item.Item.TheVariants.{Segment, Relation, Tuple, Chain, Key}
+use Rattle.rss_base.specs.declared.field.FieldDef.{FieldDef}
 use Rattle.rss_base.specs.declared.value.FieldKind.{FieldKind}
+use Rattle.rss_base.specs.TupleTypes.{kinds}
 use Rattle.rss_model.specs.Items.{Content, item_cmp, name_cmp}
+
+-- ---- what is defined
+
+-- a relation: the segment that its tuples stand in, and its fields
+pub record RelationDef : Type 0 where
+  pub segment : Name
+  pub fields : List FieldDef
+
+-- an image: an order of a relation's tuples by some of its fields, which may be unique
+pub record ImageDef : Type 0 where
+  pub relation : Name
+  pub is_unique : Bool
+  pub fields : List Name
+
+-- a link: chains of tuples of one relation, each under a tuple of another where there is a parent
+pub record LinkDef : Type 0 where
+  pub parent : Option Name
+  pub child : Name
+
+-- of each kind, what is defined by its name
+pub record Definitions : Type 0 where
+  pub segments : FinMap name_cmp ⊤
+  pub relations : FinMap name_cmp RelationDef
+  pub images : FinMap name_cmp ImageDef
+  pub links : FinMap name_cmp LinkDef
+
+-- ---- what the items hold
 
 -- from items to what they hold
 abbrev pub Contents : Type 0
@@ -20,14 +51,29 @@ unfoldable pub put : Contents → Item → Option Content → Contents
 put contents item None = map.remove contents item
 put contents item (Some held) = map.insert contents item held
 
--- the fields of each relation, by its name
-abbrev pub Relations : Type 0
-Relations = FinMap name_cmp (List FieldKind)
+-- ---- tables
 
 pub record Tables : Type 0 where
-  pub relations : Relations
+  pub definitions : Definitions
   pub contents : Contents
 
--- the fields of a relation, where there is one of this name
+-- the fields of a relation, and its segment, where there is one of this name
 abbrev pub fields_of : Tables → Name → Option (List FieldKind)
-fields_of tables name = map.get tables.relations name
+fields_of tables name =
+    option_map (λ relation. kinds relation.fields) (map.get tables.definitions.relations name)
+
+abbrev pub segment_of : Tables → Name → Option Name
+segment_of tables name =
+    option_map (λ relation. relation.segment) (map.get tables.definitions.relations name)
+
+-- the item is a tuple of this relation
+abbrev pub is_tuple_of : Name → Item → Bool
+is_tuple_of relation (Segment name) = false
+is_tuple_of relation (Relation name) = false
+is_tuple_of relation (Tuple name tid) = eq_by_cmp name_cmp relation name
+is_tuple_of relation (Chain link parent) = false
+is_tuple_of relation (Key image values) = false
+
+-- how many tuples a relation has
+unfoldable pub tuple_count : Contents → Name → ℕ
+tuple_count contents relation = map.len (map.retain_keys contents (is_tuple_of relation))

@@ -8,7 +8,7 @@ use Rattle.rss_model.specs.Store.{OpensTo, OpensToEither}
 -- The call was answered. At each moment of it the pages open to the committed tables before or after.
 pub record IsAnswered (earlier later : Disk) (old : State) (call : Call) (answer : Answer) (new : State) : Type 0 where
   pub step : Step old call answer new
-  pub moments : Passes earlier later (OpensToEither old.slots old.base new.base)
+  pub moments : Passes earlier later (OpensToEither old.size old.base new.base)
 
 -- The device failed within a step that the call was to make.
 pub record IsStopped (earlier later : Disk) (old : State) (call : Call) : Type 0 where
@@ -18,4 +18,4 @@ pub record IsStopped (earlier later : Disk) (old : State) (call : Call) : Type 0
 
 -- Memory ran out within the call: at each moment of it the pages open to the committed tables.
 abbrev pub IsUnmade : Disk → Disk → State → Type 0
-IsUnmade earlier later old = Passes earlier later (λ pages. OpensTo pages old.slots old.base)
+IsUnmade earlier later old = Passes earlier later (λ pages. OpensTo pages old.size old.base)

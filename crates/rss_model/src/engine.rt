@@ -1,8 +1,7 @@
 // The engine as the lines of a script see it.
 ghost use Rattle.std.specs.Prelude.{◌≡◌, IsErrOf};
 ghost use Rattle.rss_base.specs.DiskRule.{IsTold};
-ghost use Rattle.rss_model.specs.Store.{Opens};
-ghost use Rattle.rss_model.specs.Calls.{EngineView, IsCallOf};
+ghost use Rattle.rss_model.specs.Calls.{EngineView, IsCallOf, ShowsState, OpensShown};
 
 use rss_base::{Call, CallError, Reply};
 
@@ -18,6 +17,10 @@ pub trait Engine {
         ensures done { IsCallOf (view self.old) (view self.new) call.now result }
         ensures untouched { IsErrOf result CallError.Down → self.new ≡ self.old };
 
+    /// An engine that is up shows a state of the machine.
+    ghost shown: { (engine : Self) → (view engine).is_up → ShowsState (view engine) };
+
     /// A stop between two calls leaves the committed tables.
-    ghost opens: { (engine : Self) → (view engine).is_up → IsTold (view engine).disk → Opens (view engine).disk (view engine).state.slots (view engine).state.base };
+    ghost opens: { (engine : Self) → (view engine).is_up → IsTold (view engine).disk
+        → OpensShown (view engine) };
 }

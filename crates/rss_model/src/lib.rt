@@ -1,8 +1,8 @@
 //! The relation machine: what a store is to do, with no pages, maps or log. `specs/` has the definitions.
 #![tactic(auto)]
 
-mod commits;
 mod engine;
+mod laws;
 
-pub use commits::only_ends_commit;
 pub use engine::Engine;
+pub use laws::{only_ends_commit, tables_fit, undo_turns_back};

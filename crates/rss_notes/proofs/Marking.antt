@@ -9,7 +9,8 @@ use Rattle.rss_base.specs.declared.key.Space.{Space}
 use Rattle.rss_base.specs.declared.key.Space.TheVariants.{Home, Overflow, Image, System}
 use Rattle.rss_base.specs.declared.key.PageKey.{PageKey}
 use Rattle.rss_base.proofs.Keys.{is_same-true, is_same-itself}
-use Rattle.rss_notes.specs.Notes.{NotesView, Marks, is_noted_space}
+use Rattle.rss_base.specs.Notes.{is_noted_space}
+use Rattle.rss_notes.specs.Notes.{NotesView, Marks}
 use Rattle.rss_notes.specs.Marks.{Columns, Marked, AreColumns, column_from, column_at, mark_in, mark_of, marked_in, with_mark, is_mapped_mark, note_of_mark, told}
 
 -- ---- where a mark stands

@@ -1,10 +1,11 @@
 // Notes on pages.
 ghost use Rattle.std.specs.Prelude.{◌≡◌, ◌≤◌, ℕ, true, false, None, IfOk, IfSome, IfNone};
+ghost use Rattle.rss_base.specs.Notes.{MayDo, is_noted_space, note_most};
 ghost use Rattle.rss_base.specs.PageMap.{IsKey};
 ghost use Rattle.rss_base.specs.Paged.{IsFirstFrom, NoneFrom};
 ghost use Rattle.rss_base.specs.declared.key.PageKey.{PageKey as Key};
 ghost use Rattle.rss_notes.specs.Marks.{told};
-ghost use Rattle.rss_notes.specs.Notes.{Marks, MayDo, is_noted_space, note_most, noted_on};
+ghost use Rattle.rss_notes.specs.Notes.{Marks, noted_on};
 
 use crate::marks::{COLUMNS, UNMAPPED, UNNOTED, column_at, mark_of, note_of_mark, put_mark};
 use rss_base::{PageKey, Space};
@@ -98,8 +99,10 @@ impl Notes {
     /// The first mapped page of a segment and a space, from this number on, that has no note or one
     /// of at least `least`.
     pub fn first_noted(&self, segment: u8, space: Space, from: u32, least: u16) -> Option<u32>
-        ensures some { IfSome result (IsFirstFrom (MayDo (told self.now) least segment space) from) }
-        ensures none { IfNone result (NoneFrom (MayDo (told self.now) least segment space) from) }
+        ensures some { IfSome result (IsFirstFrom
+            (MayDo (told self.now).mapped (told self.now).notes least segment space) from) }
+        ensures none { IfNone result (NoneFrom
+            (MayDo (told self.now).mapped (told self.now).notes least segment space) from) }
     {
         let column = column_at(space, segment)?;
         let place = self.columns[column].first(from as usize, least.saturating_add(1))?;

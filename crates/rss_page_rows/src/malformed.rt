@@ -1,6 +1,6 @@
 // Pages that are not as they should be, each of one kind.
 use crate::asserts::assert_same;
-use rss_base::{Page, PageKey, Space};
+use rss_base::{PAGE_BYTES, Page, PageKey, Space};
 use rss_page::well_formed;
 use std::test::Fail;
 
@@ -16,9 +16,10 @@ const OVERFLOW: PageKey = PageKey {
     number: 5,
 };
 
-/// A home page: a body of 9 bytes at slot 0, one of 3,047 bytes at slot 1, and a forward at slot 127.
+/// A home page: a body of 9 bytes at slot 0, one of 3,047 bytes at slot 1, and a forward at slot
+/// 127.
 fn sound() -> Page {
-    let mut page = [0u8; 4096];
+    let mut page = [0u8; PAGE_BYTES];
     page[..8].copy_from_slice(&[1, 1, 0, 0, 0, 0, 0, 5]);
     page[16..24].copy_from_slice(&[1, 0, 0x04, 0x10, 0, 9, 0, 0]);
     page[24..32].copy_from_slice(&[1, 0, 0x04, 0x19, 0x0b, 0xe7, 0, 0]);

@@ -2,7 +2,7 @@
 use crate::asserts::assert_same;
 use crate::draws::Draws;
 use crate::plain::{Held, Plain, assert_holds, byte_at, bytes_of, has_room};
-use crate::slotted::Slotted;
+use crate::slotted::{ENTRIES, Slotted};
 use std::process::Abort;
 use std::test::Fail;
 
@@ -19,7 +19,7 @@ fn fill(buffer: &mut Buffer, first: u8) {
 fn put(rt: &impl Abort, page: &mut Slotted, plain: &mut Plain, slot: u8, length: u16, first: u8) {
     let mut buffer = [0u8; 3056];
     fill(&mut buffer, first);
-    if slot >= 128 || length == 0 || length > 3056 {
+    if slot >= ENTRIES || length == 0 || length > 3056 {
         return;
     }
     let fits = has_room(plain, slot, usize::from(length));
@@ -37,11 +37,11 @@ fn put(rt: &impl Abort, page: &mut Slotted, plain: &mut Plain, slot: u8, length:
 
 /// One change: a body at five of eight, else a forward, an empty entry, or bodies moved together.
 fn step(rt: &impl Abort, draws: &mut Draws, page: &mut Slotted, plain: &mut Plain, longest: u16) {
-    let slot = draws.below(128) as u8;
+    let slot = draws.below(u32::from(ENTRIES)) as u8;
     let first = draws.below(256) as u8;
     let length = draws.below(u32::from(longest)) as u16;
     let kind = draws.below(8);
-    if slot >= 128 {
+    if slot >= ENTRIES {
         return;
     }
     match kind {
@@ -66,7 +66,7 @@ fn a_page_holds_what_a_plain_list_holds(rt: HostRuntime) -> Result<(), Fail> {
     let mut draws = Draws::new(2);
     for longest in [10, 60, 400, 3058] {
         let mut page = Slotted::new();
-        let mut plain: Plain = [Held::Empty; 128];
+        let mut plain: Plain = [Held::Empty; ENTRIES as usize];
         assert_holds(&rt, &page, &plain, 0);
         for case in 0..250u32 {
             step(&rt, &mut draws, &mut page, &mut plain, longest);
@@ -79,7 +79,7 @@ fn a_page_holds_what_a_plain_list_holds(rt: HostRuntime) -> Result<(), Fail> {
 #[test]
 fn a_body_of_each_length_fits_alone(rt: HostRuntime) -> Result<(), Fail> {
     let mut page = Slotted::new();
-    let mut plain: Plain = [Held::Empty; 128];
+    let mut plain: Plain = [Held::Empty; ENTRIES as usize];
     for length in 1..3057u16 {
         put(&rt, &mut page, &mut plain, 5, length, (length % 256) as u8);
         assert_same(&rt, &bytes_of(&plain), &u32::from(length), length);
@@ -95,12 +95,12 @@ fn a_body_of_each_length_fits_alone(rt: HostRuntime) -> Result<(), Fail> {
 #[test]
 fn holes_are_closed_where_a_body_needs_them(rt: HostRuntime) -> Result<(), Fail> {
     let mut page = Slotted::new();
-    let mut plain: Plain = [Held::Empty; 128];
-    for slot in 0..128u8 {
+    let mut plain: Plain = [Held::Empty; ENTRIES as usize];
+    for slot in 0..ENTRIES {
         put(&rt, &mut page, &mut plain, slot, 23, slot);
     }
     assert_same(&rt, &bytes_of(&plain), &2944, 0);
-    for slot in 0..128u8 {
+    for slot in 0..ENTRIES {
         if slot % 2 == 0 {
             page.remove(slot);
             plain[usize::from(slot)] = Held::Empty;

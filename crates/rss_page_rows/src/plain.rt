@@ -1,6 +1,6 @@
 // What a page holds, as a plain list.
 use crate::asserts::assert_same;
-use crate::slotted::{KEY, Slotted};
+use crate::slotted::{ENTRIES, KEY, Slotted};
 use rss_page::{Entry, well_formed};
 use std::process::Abort;
 
@@ -12,7 +12,7 @@ pub(crate) enum Held {
     Forward { page: u32, slot: u8 },
 }
 
-pub(crate) type Plain = [Held; 128];
+pub(crate) type Plain = [Held; ENTRIES as usize];
 
 /// The byte at a place of a body.
 pub(crate) fn byte_at(first: u8, place: usize) -> u8 {
@@ -29,7 +29,7 @@ fn is_body(bytes: &[u8], length: u16, first: u8) -> bool {
 }
 
 fn holds(page: &Slotted, slot: u8, held: Held) -> bool {
-    if slot >= 128 {
+    if slot >= ENTRIES {
         return false;
     }
     match held {
@@ -68,7 +68,7 @@ pub(crate) fn bytes_of(plain: &Plain) -> u32 {
 }
 
 fn first_empty(plain: &Plain) -> Option<u8> {
-    for slot in 0..128u8 {
+    for slot in 0..ENTRIES {
         if plain[usize::from(slot)] == Held::Empty {
             return Some(slot);
         }
@@ -82,7 +82,7 @@ fn is_vacant(plain: &Plain) -> bool {
 
 /// The page holds this, is well-formed, and tells how much room it has.
 pub(crate) fn assert_holds(rt: &impl Abort, page: &Slotted, plain: &Plain, case: u32) {
-    for slot in 0..128u8 {
+    for slot in 0..ENTRIES {
         let held = plain[usize::from(slot)];
         assert_same(rt, &holds(page, slot, held), &true, (case, slot));
     }
@@ -97,7 +97,7 @@ pub(crate) fn assert_holds(rt: &impl Abort, page: &Slotted, plain: &Plain, case:
 /// Whether a body of this length fits at a slot beside the others.
 pub(crate) fn has_room(plain: &Plain, slot: u8, length: usize) -> bool {
     let mut others = *plain;
-    if slot >= 128 {
+    if slot >= ENTRIES {
         return false;
     }
     others[usize::from(slot)] = Held::Empty;

@@ -1,9 +1,13 @@
 // A slotted page that is changed only as it may be.
 ghost use Rattle.std.specs.Prelude.{◌<◌};
+ghost use Rattle.rss_base.specs.Sizes.{page_entries};
 
-use rss_base::{Page, PageKey, Space};
+use rss_base::{PAGE_BYTES, Page, PageKey, Space};
 use rss_page::{Entry, Survey, blank, body, compact, entry, fits, forward_at, put_at, remove};
 use std::marker::Model;
+
+/// How many entries a page has.
+pub(crate) const ENTRIES: u8 = 128;
 
 /// The key of the page.
 pub(crate) const KEY: PageKey = PageKey {
@@ -44,28 +48,28 @@ impl Slotted {
     }
 
     pub(crate) fn entry(&self, slot: u8) -> Entry
-        requires { slot < 128 }
+        requires { slot < page_entries }
     {
         entry(&self.page, slot)
     }
 
     pub(crate) fn body(&self, slot: u8) -> Option<&[u8]>
-        requires { slot < 128 }
+        requires { slot < page_entries }
     {
         body(&self.page, slot)
     }
 
     pub(crate) fn fits(&self, slot: u8, length: u16) -> bool
-        requires { slot < 128 }
+        requires { slot < page_entries }
     {
         fits(&self.page, slot, length)
     }
 
     /// Puts a body, where it fits.
     pub(crate) fn put(&mut self, slot: u8, body: &[u8]) -> bool
-        requires { slot < 128 }
+        requires { slot < page_entries }
     {
-        if body.is_empty() || body.len() > 4096 {
+        if body.is_empty() || body.len() > PAGE_BYTES {
             return false;
         }
         if !fits(&self.page, slot, body.len() as u16) {
@@ -75,17 +79,17 @@ impl Slotted {
         true
     }
 
-    /// Puts a forward to a slot below 128.
+    /// Puts a forward to a slot, where a page has it.
     pub(crate) fn forward(&mut self, slot: u8, to_page: u32, to_slot: u8)
-        requires { slot < 128 }
+        requires { slot < page_entries }
     {
-        if self.page[0] == 1 && to_slot < 128 {
+        if self.page[0] == 1 && to_slot < ENTRIES {
             forward_at(&mut self.page, slot, to_page, to_slot);
         }
     }
 
     pub(crate) fn remove(&mut self, slot: u8)
-        requires { slot < 128 }
+        requires { slot < page_entries }
     {
         remove(&mut self.page, slot);
     }

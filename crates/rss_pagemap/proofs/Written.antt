@@ -3,11 +3,18 @@ use Rattle.std.proofs.Common.{◌≡◌, ◌≢◌, inl, inr, ℕ, ◌+◌, ◌*
 use Rattle.std.proofs.lemmas.Bool.{cases_eq}
 use Rattle.std.proofs.lemmas.List.{get_or_past}
 use Rattle.std.proofs.lemmas.Nat.{row_fits}
-use Rattle.rss_base.specs.DiskRule.{Pages, page, SameOff, IsWithin}
+use Rattle.std.specs.Prelude.{Result}
+use Rattle.rss_base.specs.DiskRule.{Pages, Places, page, SameOff, IsWithin}
+use Rattle.rss_base.specs.Devices.{DeviceView, WritesPages}
+use Rattle.rss_base.specs.declared.fault.Failed.{Failed}
 use Rattle.rss_base.specs.Layout.{map_pages, map_at, log_at}
 use Rattle.rss_base.specs.PageMap.{IsTable, owner_of, entry_bytes, entry_at, HoldsMap}
 use Rattle.rss_base.specs.declared.key.PageKey.{PageKey}
 use Rattle.rss_pagemap.proofs.Entries.{zero_entry, entry_put, entry_kept}
+
+-- more writes are allowed
+pub wrote_within : {T : Type 0} {places : Places} {count more : ℕ} {old new : DeviceView} {result : Result T Failed} → count ≤ more → WritesPages places count old new result → WritesPages places more old new result
+wrote_within few wrote = record { only = wrote.only; size = wrote.size; writes = omega (arith, few, wrote.writes); cause = wrote.cause }
 
 entry_long : (owner : Option PageKey) → length (entry_bytes owner) ≡ 8
 entry_long None = refl

@@ -1,11 +1,11 @@
 -- A table while its entries are taken, one behind the other.
-use Rattle.std.specs.Prelude.{◌≡◌, ◌≢◌, ℕ, ◌+◌, ◌*◌, ◌<◌, ◌≤◌, List, [], ◌∷◌, ◌++◌, length, min, replicate, Option, Some}
+use Rattle.std.specs.Prelude.{◌≡◌, ◌≢◌, ℕ, ◌+◌, ◌*◌, ◌<◌, ◌≤◌, List, [], ◌∷◌, ◌++◌, length, min, Option, Some, None}
 use Rattle.std.specs.List.{Contains}
 use Rattle.std.specs.Vec.{vec_capacity}
 use Rattle.rss_base.specs.DiskRule.{Pages, page}
 use Rattle.rss_base.specs.Sizes.{map_entries, slots_least, slots_most}
 use Rattle.rss_base.specs.Layout.{map_pages}
-use Rattle.rss_base.specs.PageMap.{IsKey, AreDistinct, owner_of, entry_at, IsEntry, BeginsMap, IsOwned, IsMapFault}
+use Rattle.rss_base.specs.PageMap.{IsKey, AreDistinct, owner_of, entry_bytes, entry_at, IsEntry, BeginsMap, IsOwned, IsMapFault}
 use Rattle.rss_base.specs.declared.key.PageKey.{PageKey}
 use Rattle.rss_base.specs.declared.place.Place.TheVariants.{Slot}
 use Rattle.rss_base.specs.declared.fault.OpenFault.{OpenFault}
@@ -27,11 +27,15 @@ pub record IsReading (reading : Reading) : Type 0 where
   pub owned : (key : PageKey) → Contains reading.seen.keys key
       → IsOwned reading.owners.items (Some key)
 
+-- the entry of a free slot
+abbrev pub free_entry : List ℕ
+free_entry = entry_bytes None
+
 -- the entry gives the next slot its owner, or it is zeros behind the last one
 pub data TakesEntry (slots : ℕ) (entry : List ℕ) (old new : List (Option PageKey)) : Type 0 where
   next : (owner : Option PageKey) → length old < slots → IsEntry slots entry owner
       → new ≡ old ++ owner ∷ [] → TakesEntry slots entry old new
-  zeros : length old ≡ slots → entry ≡ replicate 8 0 → new ≡ old → TakesEntry slots entry old new
+  zeros : length old ≡ slots → entry ≡ free_entry → new ≡ old → TakesEntry slots entry old new
 
 -- Memory ran out, or the next slot has no entry here but that of a page which has a slot, or something
 -- else than zeros stands behind the last one.
@@ -40,14 +44,14 @@ pub data RefusesEntry (slots : ℕ) (entry : List ℕ) (owners : List (Option Pa
   no_entry : length owners < slots
       → ((owner : Option PageKey) → IsEntry slots entry owner → IsOwned owners owner)
       → RefusesEntry slots entry owners (NotAStore (Slot (length owners)))
-  no_zeros : length owners ≡ slots → entry ≢ replicate 8 0
+  no_zeros : length owners ≡ slots → entry ≢ free_entry
       → RefusesEntry slots entry owners (NotAStore (Slot slots))
 
 -- the first so many entries of a map area are those of these owners, and zeros behind the last slot's
 pub record BeginsArea (slots : ℕ) (pages : Pages) (first count : ℕ) (owners : List (Option PageKey)) : Type 0 where
   pub long : length owners ≡ min count slots
   pub begins : BeginsMap slots pages first owners
-  pub zeros : (s : ℕ) → slots ≤ s → s < count → entry_at pages first s ≡ replicate 8 0
+  pub zeros : (s : ℕ) → slots ≤ s → s < count → entry_at pages first s ≡ free_entry
 
 -- an area that begins with the old owners, and then has this page, begins with the new ones
 abbrev pub TakesPage : ℕ → List ℕ → List (Option PageKey) → List (Option PageKey) → Type 0

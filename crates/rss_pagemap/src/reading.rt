@@ -1,15 +1,19 @@
 // A table, read from a map area.
-ghost use Rattle.std.specs.Prelude.{◌≡◌, ◌⊎◌, ◌+◌, ◌≤◌, List, [], Option, length, min, Err, IfOk, IfErr, OnOk, IsErrOf};
-ghost use Rattle.rss_base.specs.DiskRule.{Told, OnlyReads};
-ghost use Rattle.rss_base.specs.Faults.{Rises};
+ghost use Rattle.std.specs.Prelude.{◌≡◌, ◌⊎◌, ◌+◌, ◌≤◌, List, [], Option, length, min, Err, IfOk};
+ghost use Rattle.std.specs.Prelude.{IfErr, OnOk};
+ghost use Rattle.rss_base.specs.DiskRule.{Told};
+ghost use Rattle.rss_base.specs.Devices.{ReadsStore};
 ghost use Rattle.rss_base.specs.Sizes.{map_entries, slots_least, slots_most};
 ghost use Rattle.rss_base.specs.Layout.{IsWellFormed, device_pages, IsLayoutFault};
 ghost use Rattle.rss_base.specs.PageMap.{IsTable, HasMap, HasMapFault};
 ghost use Rattle.rss_base.specs.declared.key.PageKey.{PageKey as Key};
 ghost use Rattle.rss_base.specs.declared.place.Place.{Place};
-ghost use Rattle.rss_base.specs.declared.fault.OpenFault.TheVariants.{Device as DeviceFailed, NoMemory as LacksMemory, NotAStore};
+ghost use Rattle.rss_base.specs.declared.fault.OpenFault.TheVariants.{Device as DeviceFailed};
+ghost use Rattle.rss_base.specs.declared.fault.OpenFault.TheVariants.{NoMemory as LacksMemory};
+ghost use Rattle.rss_base.specs.declared.fault.OpenFault.TheVariants.{NotAStore};
 ghost use Rattle.rss_pagemap.specs.Places.{IsSlotPlace};
-ghost use Rattle.rss_pagemap.specs.Taking.{IsReading, TakesEntry, RefusesEntry, TakesPage, RefusesPage};
+ghost use Rattle.rss_pagemap.specs.Taking.{IsReading, TakesEntry, RefusesEntry, TakesPage};
+ghost use Rattle.rss_pagemap.specs.Taking.{RefusesPage};
 
 use crate::SlotTable;
 use crate::entry::{ENTRY_BYTES, Entry, decode};
@@ -27,28 +31,25 @@ pub fn read_table<D: Device>(
     root: &Root,
 ) -> Result<SlotTable, OpenFault>
     requires formed { IsWellFormed root.now }
-    requires size { D.size_of device.old ≡ device_pages root.now }
+    requires size { (D.view device.old).size ≡ device_pages root.now }
     ensures count { IfOk result (λ table. length table ≡ root.now.slots) }
     ensures table { IfOk result IsTable }
     ensures layout { IfErr result IsLayoutFault }
 
     // It is what the bytes say, and else the place is named at which they are out of form.
-    ensures found { IfOk result (λ table. Told (D.disk device.old) (HasMap root.now table)) }
-    ensures only { (owners : List (Option Key)) → Told (D.disk device.old) (λ pages.
+    ensures found { IfOk result (λ table. Told (D.view device.old).disk (HasMap root.now table)) }
+    ensures only { (owners : List (Option Key)) → Told (D.view device.old).disk (λ pages.
         HasMap root.now owners pages → IfOk result (λ table. table ≡ owners)) }
     ensures fault { (place : Place) → result ≡ Err (NotAStore place)
-        → Told (D.disk device.old) (HasMapFault root.now place) }
-    ensures broken { (place : Place) → Told (D.disk device.old) (λ pages.
+        → Told (D.view device.old).disk (HasMapFault root.now place) }
+    ensures broken { (place : Place) → Told (D.view device.old).disk (λ pages.
         HasMapFault root.now place pages
         → (result ≡ Err (NotAStore place)) ⊎ (result ≡ Err DeviceFailed)
         ⊎ (result ≡ Err LacksMemory)) }
     ensures place { (place : Place) → result ≡ Err (NotAStore place)
         → IsSlotPlace root.now.slots place }
-    ensures cause { IsErrOf result OpenFault.Device
-        → Rises (D.faults device.old) (D.faults device.new) }
-    ensures reads { OnlyReads (D.disk device.old) (D.disk device.new) (D.writes device.old)
-        (D.writes device.new) (D.faults device.old) (D.faults device.new) }
-    ensures size { D.size_of device.new ≡ D.size_of device.old }
+    ensures did { ReadsStore (D.view device.old) (D.view device.new) result }
+    ensures size { (D.view device.new).size ≡ (D.view device.old).size }
 {
     let first = map_at(root.slots, root.area);
     let mut reading = Reading::new(alloc, root.slots)?;
@@ -115,7 +116,8 @@ impl Reading {
         ensures slots { OnOk result (self.new.slots ≡ self.old.slots) }
         ensures taken { OnOk result (TakesEntry self.old.slots entry.now
             self.old.owners.items self.new.owners.items) }
-        ensures refused { IfErr result (RefusesEntry self.old.slots entry.now self.old.owners.items) }
+        ensures refused { IfErr result
+            (RefusesEntry self.old.slots entry.now self.old.owners.items) }
     {
         let slot = self.owners.len() as u32;
         if slot == self.slots {

@@ -1,5 +1,6 @@
 // Which page each slot holds.
-ghost use Rattle.std.specs.Prelude.{◌≡◌, ◌<◌, ◌≤◌, ℕ, length, replicate, slice_set, Some, None, IfSome, IfOk};
+ghost use Rattle.std.specs.Prelude.{◌≡◌, ◌<◌, ◌≤◌, ℕ, length, replicate, slice_set, Some, None};
+ghost use Rattle.std.specs.Prelude.{IfSome, IfOk};
 ghost use Rattle.rss_base.specs.Sizes.{slots_least, slots_most};
 ghost use Rattle.rss_base.specs.PageMap.{IsKey, IsTable, owner_of};
 
@@ -7,8 +8,8 @@ use rss_base::PageKey;
 use std::alloc::{AllocError, Global};
 use std::marker::Model;
 
-/// The page that each slot of a store holds, where it isn't free. Every page is one that the map may
-/// name, and none has two slots.
+/// The page that each slot of a store holds, where it isn't free. Every page is one that the map
+/// may name, and none has two slots.
 #[derive(Drop)]
 pub struct SlotTable {
     owners: Vec<Option<PageKey>>,

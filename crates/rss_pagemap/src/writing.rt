@@ -1,7 +1,7 @@
 // A table, written to a map area.
 ghost use Rattle.std.specs.Prelude.{◌≡◌, ◌+◌, ◌*◌, ◌/◌, ◌<◌, ◌≤◌, ℕ, length, take, drop, OnOk};
-ghost use Rattle.rss_base.specs.DiskRule.{Told, WritesIn};
-ghost use Rattle.rss_base.specs.Faults.{HasCause};
+ghost use Rattle.rss_base.specs.DiskRule.{Told};
+ghost use Rattle.rss_base.specs.Devices.{WritesPages};
 ghost use Rattle.rss_base.specs.Sizes.{map_entries, slots_most};
 ghost use Rattle.rss_base.specs.Layout.{map_pages, map_at, log_at, IsAreaPage};
 ghost use Rattle.rss_base.specs.PageMap.{owner_of, entry_bytes, HoldsMap};
@@ -15,15 +15,12 @@ impl SlotTable {
     /// after the next sync: until then a stop may leave any bytes in the pages of the area.
     pub fn write_table<D: Device>(&self, device: &mut D, area: u8) -> Result<(), Failed>
         requires area { area < 2 }
-        requires size { log_at (length self.now) ≤ D.size_of device.old }
-        ensures written { OnOk result (Told (D.disk device.old) (λ pages.
+        requires size { log_at (length self.now) ≤ (D.view device.old).size }
+        ensures written { OnOk result (Told (D.view device.old).disk (λ pages.
             HoldsMap pages (map_at (length self.now) area) self.now
-            (D.disk device.new).contents)) }
-        ensures only { WritesIn (IsAreaPage (length self.now) area)
-            (D.disk device.old) (D.disk device.new) }
-        ensures size { D.size_of device.new ≡ D.size_of device.old }
-        ensures writes { D.writes device.new ≤ D.writes device.old + map_pages (length self.now) }
-        ensures cause { HasCause (D.faults device.old) (D.faults device.new) result }
+            (D.view device.new).disk.contents)) }
+        ensures did { WritesPages (IsAreaPage (length self.now) area) (map_pages (length self.now))
+            (D.view device.old) (D.view device.new) result }
     {
         let slots = self.slots();
         let first = map_at(slots, area);
@@ -37,7 +34,8 @@ impl SlotTable {
     fn page(&self, at: u32) -> Page
         requires { at < slots_most / map_entries }
         ensures { (k : ℕ) → k < map_entries
-            → take 8 (drop (8 * k) result) ≡ entry_bytes (owner_of self.now (map_entries * at + k)) }
+            → take ENTRY_BYTES (drop (ENTRY_BYTES * k) result)
+            ≡ entry_bytes (owner_of self.now (map_entries * at + k)) }
     {
         let mut page = [0u8; PAGE_BYTES];
         let first = at * ENTRIES_OF_PAGE;

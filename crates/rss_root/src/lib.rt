@@ -1,4 +1,5 @@
-//! The roots of a store: their pages, the one that is selected, and the change from one to the other.
+//! The roots of a store: their pages, the one that is selected, and the change from one to the
+//! other.
 #![tactic(auto)]
 
 mod loading;

@@ -1,10 +1,12 @@
 // The selected root of a device.
 ghost use Rattle.std.specs.Prelude.{◌≡◌, ◌⊎◌, ◌≤◌, Err, IfOk, IfErr, OnOk, IsErrOf};
-ghost use Rattle.rss_base.specs.DiskRule.{Told, LeavesOnly, OnlyReads};
-ghost use Rattle.rss_base.specs.Faults.{Rises};
-ghost use Rattle.rss_base.specs.Layout.{device_pages, IsWellFormed, HasRoot, IsRootFault, IsLayoutFault};
+ghost use Rattle.rss_base.specs.DiskRule.{Told, LeavesOnly};
+ghost use Rattle.rss_base.specs.Devices.{ReadsStore};
+ghost use Rattle.rss_base.specs.Layout.{device_pages, IsWellFormed, HasRoot, IsRootFault};
+ghost use Rattle.rss_base.specs.Layout.{IsLayoutFault};
 ghost use Rattle.rss_base.specs.declared.place.Place.{Place};
-ghost use Rattle.rss_base.specs.declared.fault.OpenFault.TheVariants.{Device as DeviceFailed, NotAStore};
+ghost use Rattle.rss_base.specs.declared.fault.OpenFault.TheVariants.{Device as DeviceFailed};
+ghost use Rattle.rss_base.specs.declared.fault.OpenFault.TheVariants.{NotAStore};
 ghost use Rattle.rss_root.specs.Roots.{IsRootPlace};
 
 use crate::root_page::decode;
@@ -15,24 +17,24 @@ use rss_base::{Device, HEAD_PAGES, OpenFault, PAGE_BYTES, Place, Root, device_pa
 pub fn load<D: Device>(device: &mut D) -> Result<(Root, u8), OpenFault>
     ensures formed { IfOk result (λ r. IsWellFormed r.0) }
     ensures number { IfOk result (λ r. (1 ≤ r.1) × (r.1 ≤ 2)) }
-    ensures size { IfOk result (λ r. D.size_of device.new ≡ device_pages r.0) }
+    ensures size { IfOk result (λ r. (D.view device.new).size ≡ device_pages r.0) }
 
     // It is what the bytes say, and else the place is named at which they are out of form.
-    ensures found { IfOk result (λ r. Told (D.disk device.old) (λ pages. HasRoot pages r.1 r.0)) }
+    ensures found { IfOk result (λ r. Told (D.view device.old).disk (λ pages.
+        HasRoot pages r.1 r.0)) }
     ensures fault { (place : Place) → result ≡ Err (NotAStore place)
-        → Told (D.disk device.old) (λ pages. IsRootFault pages place) }
-    ensures broken { (place : Place) → Told (D.disk device.old) (λ pages. IsRootFault pages place
+        → Told (D.view device.old).disk (λ pages. IsRootFault pages place) }
+    ensures broken { (place : Place) → Told (D.view device.old).disk (λ pages.
+        IsRootFault pages place
         → (result ≡ Err (NotAStore place)) ⊎ (result ≡ Err DeviceFailed)) }
     ensures place { (place : Place) → result ≡ Err (NotAStore place) → IsRootPlace place }
     ensures layout { IfErr result IsLayoutFault }
     ensures memory { IsErrOf result OpenFault.NoMemory → ⊥ }
-    ensures cause { IsErrOf result OpenFault.Device
-        → Rises (D.faults device.old) (D.faults device.new) }
 
     // A stop afterwards leaves what a read gives.
-    ensures synced { OnOk result (Told (D.disk device.old) (LeavesOnly (D.disk device.new))) }
-    ensures reads { OnlyReads (D.disk device.old) (D.disk device.new) (D.writes device.old)
-        (D.writes device.new) (D.faults device.old) (D.faults device.new) }
+    ensures synced { OnOk result
+        (Told (D.view device.old).disk (LeavesOnly (D.view device.new).disk)) }
+    ensures did { ReadsStore (D.view device.old) (D.view device.new) result }
 {
     device.sync()?;
     let size = device.size()?;

@@ -1,7 +1,7 @@
 // The change from one root to the other.
-ghost use Rattle.std.specs.Prelude.{◌≡◌, ◌+◌, ◌-◌, ◌<◌, ◌≤◌, List, ℕ, IfOk, OnOk};
-ghost use Rattle.rss_base.specs.DiskRule.{Told, IsTold, Passes, WritesIn};
-ghost use Rattle.rss_base.specs.Faults.{HasCause};
+ghost use Rattle.std.specs.Prelude.{◌≡◌, ◌-◌, ◌<◌, ◌≤◌, List, ℕ, IfOk, OnOk};
+ghost use Rattle.rss_base.specs.DiskRule.{Told, IsTold, Passes};
+ghost use Rattle.rss_base.specs.Devices.{WritesPages};
 ghost use Rattle.rss_base.specs.Sizes.{head_pages};
 ghost use Rattle.rss_base.specs.Layout.{IsHeadPage, root_page, selected_by};
 ghost use Rattle.rss_root.specs.Roots.{Selects, SelectsEither, IsSwitching, IsSwitched};
@@ -9,33 +9,31 @@ ghost use Rattle.rss_root.specs.Roots.{Selects, SelectsEither, IsSwitching, IsSw
 use crate::root_page::encode;
 use rss_base::{Device, Failed, PAGE_BYTES, Page, Root, put};
 
-/// Writes a root to the place of the other one, brings it to the disk, and then does the same with a
-/// selector that names it. Answers its number.
+/// Writes a root to the place of the other one, brings it to the disk, and then does the same with
+/// a selector that names it. Answers its number.
 ///
 /// All that was written before is synced with the root, so it stands before the root is selected.
 pub fn switch<D: Device>(device: &mut D, valid: u8, root: &Root) -> Result<u8, Failed>
     requires low { 0 < valid }
     requires high { valid < 3 }
-    requires size { head_pages ≤ D.size_of device.old }
+    requires size { head_pages ≤ (D.view device.old).size }
 
     // At each moment a stop leaves the root that was selected or the new one, and every other page
     // as it was.
     ensures phases { IsSwitching (3 - valid) (root_page root.now)
-        (D.disk device.old) (D.disk device.new) }
-    ensures switched { OnOk result (Told (D.disk device.old) (λ pages.
-        IsSwitched pages (3 - valid) (root_page root.now) (D.disk device.new))) }
-    ensures either { IsTold (D.disk device.old) → (before : List ℕ)
-        → Selects (D.disk device.old) valid before
-        → Passes (D.disk device.old) (D.disk device.new) (SelectsEither before (root_page root.now)) }
-    ensures selects { IfOk result (λ now. IsTold (D.disk device.old) → (before : List ℕ)
-        → Selects (D.disk device.old) valid before
-        → Selects (D.disk device.new) now (root_page root.now)) }
+        (D.view device.old).disk (D.view device.new).disk }
+    ensures switched { OnOk result (Told (D.view device.old).disk (λ pages.
+        IsSwitched pages (3 - valid) (root_page root.now) (D.view device.new).disk)) }
+    ensures either { IsTold (D.view device.old).disk → (before : List ℕ)
+        → Selects (D.view device.old).disk valid before
+        → Passes (D.view device.old).disk (D.view device.new).disk
+        (SelectsEither before (root_page root.now)) }
+    ensures selects { IfOk result (λ now. IsTold (D.view device.old).disk → (before : List ℕ)
+        → Selects (D.view device.old).disk valid before
+        → Selects (D.view device.new).disk now (root_page root.now)) }
 
     ensures number { IfOk result (λ now. now ≡ 3 - valid) }
-    ensures only { WritesIn IsHeadPage (D.disk device.old) (D.disk device.new) }
-    ensures size { D.size_of device.new ≡ D.size_of device.old }
-    ensures writes { D.writes device.new ≤ D.writes device.old + 2 }
-    ensures cause { HasCause (D.faults device.old) (D.faults device.new) result }
+    ensures did { WritesPages IsHeadPage 2 (D.view device.old) (D.view device.new) result }
 {
     let other = 3 - valid;
     put(device, u64::from(other), &encode(root))?;

@@ -68,8 +68,8 @@ fn page_full_of(byte: u8) -> Page {
 }
 
 fn is_full_of<D: Device>(device: &mut D, at: u64, byte: u8) -> Result<bool, Failed>
-    requires { at < D.size_of device.old }
-    ensures { D.size_of device.new ≡ D.size_of device.old }
+    requires { at < (D.view device.old).size }
+    ensures { (D.view device.new).size ≡ (D.view device.old).size }
 {
     let mut page = [!byte; 4096];
     device.read(at, &mut page)?;

@@ -9,14 +9,16 @@ use Rattle.rss_base.specs.PageMap.{IsKey, IsSegmentOf, number_limit, owner_of}
 use Rattle.rss_base.specs.declared.key.Space.{Space}
 use Rattle.rss_base.specs.declared.key.Space.TheVariants.{Home, Overflow, Image, System}
 use Rattle.rss_base.specs.declared.key.PageKey.{PageKey}
-use Rattle.rss_base.specs.Paged.{page_key, IsFirstFrom, NoneFrom}
-use Rattle.rss_shadow.specs.Maps.{Maps, IsFree, spare, HasPage, IsMapped, IsUnmapped, IsLeastLacking}
+use Rattle.rss_base.specs.Paged.{page_key, IsMappedAt, IsUnmappedAt, IsFirstFrom, NoneFrom}
+use Rattle.rss_base.specs.StoredPages.{mapped_by}
+use Rattle.rss_shadow.specs.Maps.{Maps, IsFree, spare, HasPage, LacksPage, IsLeastLacking}
 use Rattle.rss_shadow.specs.Index.{Columns, slot_in, numbers_of, IsIndexed, IsUnindexed}
 use Rattle.rss_shadow.specs.Numbers.{IsAbsent}
 use Rattle.rss_shadow.specs.Shadow.{IsShadow}
 use Rattle.rss_shadow.proofs.Counts.{owned_within, pages-cover, pages-cover_twice}
 use Rattle.rss_shadow.proofs.Firsts.{first_told, none_told}
 use Rattle.rss_shadow.proofs.Mapped.{none_at}
+use Rattle.rss_shadow.proofs.Owned.{mapped-has, mapped-lacks, HasPage-mapped, LacksPage-unmapped}
 use Rattle.rss_shadow.proofs.Slots.{lacks_unindexed, unused, Cover-used}
 
 -- a page has this slot
@@ -92,57 +94,72 @@ module _ {maps : Maps} {index : Columns} {used : List Bool} {pages heap shadow_p
     IsKey-number : (k : ℕ) → k < length maps.current → IsKey (length maps.current) (page_key segment space k)
     IsKey-number k below = record { segment = in_segment space apart; number = omega (arith, all_slots (length maps.current) space apart) }
 
-    indexed_mapped : (k : ℕ) → IsIndexed index segment space k → IsMapped maps.current segment space k
-    indexed_mapped k is =
+    -- the numbers whose pages are mapped, and those below the number of slots whose pages aren't
+    abbrev Mapped : ℕ → Type 0
+    Mapped = IsMappedAt (mapped_by maps.current) segment space
+
+    abbrev Unmapped : ℕ → Type 0
+    Unmapped = IsUnmappedAt (length maps.current) (mapped_by maps.current) segment space
+
+    indexed_has : (k : ℕ) → IsIndexed index segment space k → HasPage maps.current (page_key segment space k)
+    indexed_has k is =
         let below : k < length maps.current = omega (arith, is.within, holds.index_holds.numbers) in
         let some = some_from _ is.has in
         record { slot = some.0; owned = (holds.index_holds.indexed (page_key segment space k) some.0 (IsKey-number k below)).0 some.1 }
 
-    mapped_indexed : (k : ℕ) → IsMapped maps.current segment space k → IsIndexed index segment space k
+    indexed_mapped : (k : ℕ) → IsIndexed index segment space k → Mapped k
+    indexed_mapped k is = mapped-has maps.current (page_key segment space k) (indexed_has k is)
+
+    mapped_indexed : (k : ℕ) → Mapped k → IsIndexed index segment space k
     mapped_indexed k is =
         let key : PageKey = page_key segment space k in
-        let allowed : IsKey (length maps.current) key = holds.maps_hold.current.allowed is.slot key is.owned in
+        let has = HasPage-mapped maps.current key is in
+        let allowed : IsKey (length maps.current) key = holds.maps_hold.current.allowed has.slot key has.owned in
         record {
           within = omega (arith, allowed.number, all_slots (length maps.current) space apart, holds.index_holds.numbers);
-          has = ap is_some ((holds.index_holds.indexed key is.slot allowed).1 is.owned);
+          has = ap is_some ((holds.index_holds.indexed key has.slot allowed).1 has.owned);
         }
 
-    unindexed_unmapped : (k : ℕ) → IsUnindexed index segment space k → IsUnmapped maps.current segment space k
-    unindexed_unmapped k is =
+    unindexed_lacks : (k : ℕ) → IsUnindexed index segment space k → (k < length maps.current) × LacksPage maps.current (page_key segment space k)
+    unindexed_lacks k is =
         let below : k < length maps.current = omega (arith, is.within, holds.index_holds.numbers) in
+        (below, lacks_unindexed (length maps.current) maps.current index (page_key segment space k) holds.index_holds (IsKey-number k below) is.lacks)
+
+    unindexed_unmapped : (k : ℕ) → IsUnindexed index segment space k → Unmapped k
+    unindexed_unmapped k is =
+        let lacks = unindexed_lacks k is in
+        record { within = lacks.0; free = mapped-lacks maps.current (page_key segment space k) lacks.1 }
+
+    unmapped_unindexed : (k : ℕ) → Unmapped k → IsUnindexed index segment space k
+    unmapped_unindexed k is =
+        let lacks = LacksPage-unmapped maps.current (page_key segment space k) is.free in
         record {
-          within = below;
-          lacking = lacks_unindexed (length maps.current) maps.current index (page_key segment space k) holds.index_holds (IsKey-number k below) is.lacks;
+          within = omega (arith, is.within, holds.index_holds.numbers);
+          lacks = elim (cases_Bool (is_some (slot_in index (page_key segment space k)))) [
+            | inl some ↦
+                let found = some_from _ some in
+                absurd (lacks found.0 ((holds.index_holds.indexed (page_key segment space k) found.0 (IsKey-number k is.within)).0 found.1))
+            | inr none ↦ none_at _ none
+          ];
         }
 
-    unmapped_unindexed : (k : ℕ) → IsUnmapped maps.current segment space k → IsUnindexed index segment space k
-    unmapped_unindexed k is = record {
-      within = omega (arith, is.within, holds.index_holds.numbers);
-      lacks = elim (cases_Bool (is_some (slot_in index (page_key segment space k)))) [
-        | inl some ↦
-            let found = some_from _ some in
-            absurd (is.lacking found.0 ((holds.index_holds.indexed (page_key segment space k) found.0 (IsKey-number k is.within)).0 found.1))
-        | inr none ↦ none_at _ none
-      ];
-    }
-
-    pub first_mapped_told : (from : ℕ) (result : Option ℕ) → IfSome result (IsFirstFrom (IsIndexed index segment space) from) → IfSome result (IsFirstFrom (IsMapped maps.current segment space) from)
+    pub first_mapped_told : (from : ℕ) (result : Option ℕ) → IfSome result (IsFirstFrom (IsIndexed index segment space) from) → IfSome result (IsFirstFrom Mapped from)
     first_mapped_told from result = first_told from result indexed_mapped mapped_indexed
 
-    pub none_mapped_told : (from : ℕ) (result : Option ℕ) → IfNone result (NoneFrom (IsIndexed index segment space) from) → IfNone result (NoneFrom (IsMapped maps.current segment space) from)
-    none_mapped_told from result = none_told (IsIndexed index segment space) (IsMapped maps.current segment space) from result mapped_indexed
+    pub none_mapped_told : (from : ℕ) (result : Option ℕ) → IfNone result (NoneFrom (IsIndexed index segment space) from) → IfNone result (NoneFrom Mapped from)
+    none_mapped_told from result = none_told (IsIndexed index segment space) Mapped from result mapped_indexed
 
-    pub first_unmapped_told : (from : ℕ) (result : Option ℕ) → IfSome result (IsFirstFrom (IsUnindexed index segment space) from) → IfSome result (IsFirstFrom (IsUnmapped maps.current segment space) from)
+    pub first_unmapped_told : (from : ℕ) (result : Option ℕ) → IfSome result (IsFirstFrom (IsUnindexed index segment space) from) → IfSome result (IsFirstFrom Unmapped from)
     first_unmapped_told from result = first_told from result unindexed_unmapped unmapped_unindexed
 
-    pub none_unmapped_told : (from : ℕ) (result : Option ℕ) → IfNone result (NoneFrom (IsUnindexed index segment space) from) → IfNone result (NoneFrom (IsUnmapped maps.current segment space) from)
-    none_unmapped_told from result = none_told (IsUnindexed index segment space) (IsUnmapped maps.current segment space) from result unmapped_unindexed
+    pub none_unmapped_told : (from : ℕ) (result : Option ℕ) → IfNone result (NoneFrom (IsUnindexed index segment space) from) → IfNone result (NoneFrom Unmapped from)
+    none_unmapped_told from result = none_told (IsUnindexed index segment space) Unmapped from result unmapped_unindexed
 
     pub IsLeastLacking-free : {now : Maps} (number : ℕ) → maps ≡ now → number < numbers_of index → slot_in index (page_key segment space number) ≡ None → ((k : ℕ) → k < number → IsSome (slot_in index (page_key segment space k))) → IsLeastLacking now.current segment space number
     IsLeastLacking-free number view within free lesser =
-        let unmapped = unindexed_unmapped number (record { within = within; lacks = free }) in
+        let lacks = unindexed_lacks number (record { within = within; lacks = free }) in
         subst (λ (m : Maps). IsLeastLacking m.current segment space number) view (record {
-          within = unmapped.within;
-          lacking = unmapped.lacking;
-          lesser = λ k below. indexed_mapped k (record { within = omega arith; has = lesser k below });
+          within = lacks.0;
+          lacking = lacks.1;
+          lesser = λ k below. indexed_has k (record { within = omega arith; has = lesser k below });
         })

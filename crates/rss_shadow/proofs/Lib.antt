@@ -3,6 +3,7 @@ pub mod Counts
 pub mod Slots
 pub mod Kept
 pub mod Filled
+pub mod Owned
 pub mod Found
 pub mod Bits
 pub mod Mapped

@@ -78,14 +78,3 @@ pub record IsLeastLacking (owners : List (Option PageKey)) (segment : ℕ) (spac
   pub within : number < length owners
   pub lacking : LacksPage owners (page_key segment space number)
   pub lesser : (k : ℕ) → k < number → HasPage owners (page_key segment space k)
-
--- ---- the numbers of the pages of a segment and a space
-
--- the map has the page of this number
-abbrev pub IsMapped : List (Option PageKey) → ℕ → Space → ℕ → Type 0
-IsMapped owners segment space number = HasPage owners (page_key segment space number)
-
--- the number is below the number of slots, and no page of the map has it
-pub record IsUnmapped (owners : List (Option PageKey)) (segment : ℕ) (space : Space) (number : ℕ) : Type 0 where
-  pub within : number < length owners
-  pub lacking : LacksPage owners (page_key segment space number)

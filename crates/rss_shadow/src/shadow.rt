@@ -2,8 +2,9 @@
 ghost use Rattle.std.specs.Prelude.{◌≡◌, ◌≢◌, ◌+◌, ◌*◌, ◌<◌, ◌≤◌, ℕ, ◌&&◌, if◌then◌else◌, length, slice_index_or, true, None, Some, is_some, IfOk, IfSome, IfNone};
 ghost use Rattle.rss_base.specs.PageMap.{IsKey, owner_of, page_count};
 ghost use Rattle.rss_base.specs.declared.key.Space.TheVariants.{System};
-ghost use Rattle.rss_base.specs.Paged.{page_key, IsFirstFrom, NoneFrom};
-ghost use Rattle.rss_shadow.specs.Maps.{AreMaps, is_heap_space, heap_pages_of, spare, HasPage, LacksPage, GainsPage, LosesPage, MovesPage, IsMapped, IsUnmapped, IsLeastLacking};
+ghost use Rattle.rss_base.specs.Paged.{page_key, IsMappedAt, IsUnmappedAt, IsFirstFrom, NoneFrom};
+ghost use Rattle.rss_base.specs.StoredPages.{mapped_by};
+ghost use Rattle.rss_shadow.specs.Maps.{AreMaps, is_heap_space, heap_pages_of, spare, HasPage, LacksPage, GainsPage, LosesPage, MovesPage, IsLeastLacking};
 
 use crate::index::PageIndex;
 use crate::numbers::NumberSet;
@@ -119,8 +120,10 @@ impl Shadow {
         requires low { 1 ≤ segment }
         requires high { segment ≤ 8 }
         requires space { space ≢ System }
-        ensures some { IfSome result (IsFirstFrom (IsMapped self.now.current segment space) from) }
-        ensures none { IfNone result (NoneFrom (IsMapped self.now.current segment space) from) }
+        ensures some { IfSome result (IsFirstFrom
+            (IsMappedAt (mapped_by self.now.current) segment space) from) }
+        ensures none { IfNone result (NoneFrom
+            (IsMappedAt (mapped_by self.now.current) segment space) from) }
     {
         self.index.first_mapped(segment, space, from)
     }
@@ -130,8 +133,12 @@ impl Shadow {
         requires low { 1 ≤ segment }
         requires high { segment ≤ 8 }
         requires space { space ≢ System }
-        ensures some { IfSome result (IsFirstFrom (IsUnmapped self.now.current segment space) from) }
-        ensures none { IfNone result (NoneFrom (IsUnmapped self.now.current segment space) from) }
+        ensures some { IfSome result (IsFirstFrom
+            (IsUnmappedAt (length self.now.current) (mapped_by self.now.current) segment space)
+            from) }
+        ensures none { IfNone result (NoneFrom
+            (IsUnmappedAt (length self.now.current) (mapped_by self.now.current) segment space)
+            from) }
     {
         self.index.first_unmapped(segment, space, from)
     }

@@ -2,7 +2,14 @@
 use Rattle.std.proofs.Common.{◌≡◌, ◌≢◌, ◌⊎◌, inl, inr, ℕ, ◌+◌, ◌-◌, ◌*◌, ◌<◌, true, min, List, Option, Some, None, refl, sym, ◌∙◌, ap, subst, arith}
 use Rattle.std.proofs.lemmas.Bool.{cases_eq, and_parts, or_cases, eqb-true, ltb-true}
 use Rattle.std.proofs.lemmas.Option.{same_Some}
+use Rattle.std.specs.Prelude.{Result, Err}
+use Rattle.rss_base.specs.declared.place.Place.{Place}
+use Rattle.rss_base.specs.declared.fault.OpenFault.{OpenFault}
+use Rattle.rss_base.specs.declared.place.Place.TheVariants.{Room}
+use Rattle.rss_base.specs.declared.fault.OpenFault.TheVariants.{Device as DeviceFailed, NotAStore, Damaged, WrongSize}
+use Rattle.rss_base.specs.Devices.{DeviceView, OnlyReads, ReadsStore}
 use Rattle.rss_base.specs.DiskRule.{Pages, page}
+use Rattle.rss_base.proofs.Moments.{reads_then, rises_since}
 use Rattle.rss_base.specs.PageMap.{IsSegmentOf, number_limit, space_code, IsKey, owner_of, AreDistinct}
 use Rattle.rss_base.specs.Paged.{page_key}
 use Rattle.rss_base.specs.declared.key.Space.{Space}
@@ -10,7 +17,7 @@ use Rattle.rss_base.specs.declared.key.Space.TheVariants.{Home, Overflow, Image,
 use Rattle.rss_base.specs.declared.key.PageKey.{PageKey}
 use Rattle.rss_model.specs.Store.{home_pages, store_pages}
 use Rattle.rss_store.specs.HomePages.{IsHomePage}
-use Rattle.rss_store.specs.Opening.{MayHave, HasTuplesOn, AreStoreKeys, HoldStorePages}
+use Rattle.rss_store.specs.Opening.{MayHave, HasTuplesOn, AreStoreKeys, HoldStorePages, ChecksPages}
 
 -- ---- which pages a store has
 
@@ -65,6 +72,28 @@ system_key slots key is space = (subst (λ (s : Space). IsSegmentOf s key.segmen
 
 same_key : (a b : PageKey) → a.segment ≡ b.segment → a.space ≡ b.space → a.number ≡ b.number → a ≡ b
 same_key a b segment space number = λ i. record { segment = segment i; space = space i; number = number i }
+
+-- ---- what a check passes on
+
+-- a call of an opening, after others: another answer, which is no fault unless the first is
+pub opens_then : {T U : Type 0} {old mid new : DeviceView} {first : Result T OpenFault} {second : Result U OpenFault} → OnlyReads old mid → ReadsStore mid new first → ((fault : OpenFault) → second ≡ Err fault → first ≡ Err fault) → ReadsStore old new second
+opens_then before did is = record {
+  reads = reads_then before did.reads;
+  failed = λ failed. rises_since before.later (did.failed (is DeviceFailed failed));
+}
+
+-- it found damage
+pub finds_damage : {T : Type 0} {old new : DeviceView} (place : Place) → OnlyReads old new → ReadsStore {T = T} old new (Err (Damaged place))
+finds_damage place reads = record { reads = reads; failed = λ is. absurd (cc (is)) }
+
+pub checks_then : {T U : Type 0} {old mid new : DeviceView} {first : Result T OpenFault} {second : Result U OpenFault} → OnlyReads old mid → mid.size ≡ old.size → ChecksPages mid new first → ((fault : OpenFault) → second ≡ Err fault → first ≡ Err fault) → ChecksPages old new second
+checks_then before size did is = record {
+  store = opens_then before did.store is;
+  size = did.size ∙ size;
+  sound = λ place unsound. did.sound place (is (NotAStore place) unsound);
+  right_size = λ wrong. did.right_size (is WrongSize wrong);
+  elsewhere = λ room. did.elsewhere (is (Damaged Room) room);
+}
 
 -- ---- one slot more
 

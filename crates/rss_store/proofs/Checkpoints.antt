@@ -18,22 +18,24 @@ use Rattle.rss_buffer.specs.Saving.{SavingView, first_slot, AreSaveable, SavingS
 use Rattle.rss_buffer.specs.declared.stage.Stage.TheVariants.{Saved}
 use Rattle.rss_store.specs.Ready.{CanCommit, other_area}
 use Rattle.rss_store.proofs.Holding.{store_holds, holds_store, same_store}
-use Rattle.rss_model.specs.Store.{home_pages, store_pages, HoldsTuples, HasFirstLog, IsStore}
+use Rattle.rss_base.specs.Sizes.{system_pages}
+use Rattle.rss_model.specs.Fits.{tuple_limit}
+use Rattle.rss_model.specs.Store.{home_pages, store_pages, HoldsTuples, HasFirstLog, stored, IsStore}
 
 -- ---- while the pages are saved
 
-module _ {old mid : Disk} {slots log_pages area number : ℕ} {root : Root} {shadow : List (Option PageKey)} {before : List ℤ} (same_slots : slots ≡ root.slots) (same_log : log_pages ≡ root.log_pages) (two : area < 2) (other : area ≢ root.area) (left : (image : Pages) → Leaves old image → IsStore image number root shadow before)
+module _ {old mid : Disk} {slots log_pages area number : ℕ} {root : Root} {shadow : List (Option PageKey)} {before : List ℤ} (same_slots : slots ≡ root.slots) (same_log : log_pages ≡ root.log_pages) (two : area < 2) (other : area ≢ root.area) (left : (image : Pages) → Leaves old image → IsStore image (stored number root shadow before))
     (saves : Passes old mid (TornIn (IsSaveable (slots_at slots log_pages) area shadow) (Leaves old))) where
-  saving : (image : Pages) → TornIn (IsSaveable (slots_at slots log_pages) area shadow) (Leaves old) image → IsStore image number root shadow before
+  saving : (image : Pages) → TornIn (IsSaveable (slots_at slots log_pages) area shadow) (Leaves old) image → IsStore image (stored number root shadow before)
   saving image torn =
       let store = left torn.before torn.was in
       let place : slots_at slots log_pages ≡ slots_at root.slots root.log_pages = λ i. slots_at (same_slots i) (same_log i) in
       same_store store (saving_holds area (store_holds store) two other (subst (λ (n : ℕ). SameOff (IsSaveable n area shadow) torn.before image) place torn.same))
 
-  pub save_moments : Passes old mid (λ image. IsStore image number root shadow before)
+  pub save_moments : Passes old mid (λ image. IsStore image (stored number root shadow before))
   save_moments = widened saves saving
 
-  pub save_left : (image : Pages) → Leaves mid image → IsStore image number root shadow before
+  pub save_left : (image : Pages) → Leaves mid image → IsStore image (stored number root shadow before)
   save_left image leaves = ⊎_elim (left image) (saving image) (now saves image leaves)
 
 -- ---- while the root is switched
@@ -41,12 +43,12 @@ module _ {old mid : Disk} {slots log_pages area number : ℕ} {root : Root} {sha
 abbrev no_disk : Disk
 no_disk = record { contents = None; moment = 0; images = λ t image. ⊥ }
 
-pub switch_phase : (mid : Disk) {pages image : Pages} {number : ℕ} {root next : Root} {shadow owners : List (Option PageKey)} {before : List ℤ} (held : Held) (after : List ℤ) → ((left : Pages) → Leaves mid left → IsStore left number root shadow before) → IsStore pages number root shadow before → SavesPages root.log_pages next.area pages owners held → length owners ≡ root.slots
-    → next.slots ≡ root.slots → next.log_pages ≡ root.log_pages → IsWellFormed next → HasFirstLog next → ((key : PageKey) → mapped_by owners key ≡ store_pages (home_pages (length after)) key) → 2 * (home_pages (length after) + 10) ≤ next.slots → HoldsTuples held after → All (FitsSigned w64) after
-    → IsPhase mid pages (3 - number) (root_page next) image → IsStore image number root shadow before ⊎ IsStore image (3 - number) next owners after
-switch_phase mid held after left store saves count slots log_pages formed log mapped room tuples fit (inl torn) = let was = left torn.before torn.was in inl (same_store was (other_root (store_holds was) torn.same))
-switch_phase mid held after left store saves count slots log_pages formed log mapped room tuples fit (inr same) =
-    ⊎_elim (λ was. inl (same_store store was)) (λ is. inr (holds_store held after is log mapped room tuples fit)) (switching_holds no_disk (λ image none. absurd none) (store_holds store) saves count slots log_pages formed (inr same))
+pub switch_phase : (mid : Disk) {pages image : Pages} {number : ℕ} {root next : Root} {shadow owners : List (Option PageKey)} {before : List ℤ} (held : Held) (after : List ℤ) → ((left : Pages) → Leaves mid left → IsStore left (stored number root shadow before)) → IsStore pages (stored number root shadow before) → SavesPages root.log_pages next.area pages owners held → length owners ≡ root.slots
+    → next.slots ≡ root.slots → next.log_pages ≡ root.log_pages → IsWellFormed next → HasFirstLog next → ((key : PageKey) → mapped_by owners key ≡ store_pages (home_pages (length after)) key) → 2 * (home_pages (length after) + system_pages) ≤ next.slots → HoldsTuples held after → All (FitsSigned w64) after → length after ≤ tuple_limit
+    → IsPhase mid pages (3 - number) (root_page next) image → IsStore image (stored number root shadow before) ⊎ IsStore image (stored (3 - number) next owners after)
+switch_phase mid held after left store saves count slots log_pages formed log mapped room tuples fit few (inl torn) = let was = left torn.before torn.was in inl (same_store was (other_root (store_holds was) torn.same))
+switch_phase mid held after left store saves count slots log_pages formed log mapped room tuples fit few (inr same) =
+    ⊎_elim (λ was. inl (same_store store was)) (λ is. inr (holds_store held after is log mapped room tuples fit few)) (switching_holds no_disk (λ image none. absurd none) (store_holds store) saves count slots log_pages formed (inr same))
 
 -- ---- a checkpoint
 
@@ -101,35 +103,35 @@ module _ {pages : PagesView} {saving : SavingView} {number : ℕ} {root : Root} 
       saveable_last.fixed ∙ (λ i. fixed_by (slots_at (slots i) (log_pages i)) (shadow i) (told i))
 
   module _ {mid : Disk} (stays : pages.settled ≡ true → (image : Pages) → Leaves pages.disk image → HasFixed pages.fixed image) (saves : Passes pages.disk mid (TornIn (IsSaveable (first_slot pages) (1 - root.area) pages.backing.shadow) (Leaves pages.disk))) where
-    left_before : (image : Pages) → Leaves pages.disk image → IsStore image number root pages.backing.shadow before
+    left_before : (image : Pages) → Leaves pages.disk image → IsStore image (stored number root pages.backing.shadow before)
     left_before image leaves = commit.fixes image (stays commit.settled_now image leaves)
 
-    pub saved : Passes pages.disk mid (λ image. IsStore image number root pages.backing.shadow before)
+    pub saved : Passes pages.disk mid (λ image. IsStore image (stored number root pages.backing.shadow before))
     saved = save_moments commit.size commit.log_pages (omega arith) (omega (arith, formed.area)) left_before saves
 
-    pub left_saved : (image : Pages) → Leaves mid image → IsStore image number root pages.backing.shadow before
+    pub left_saved : (image : Pages) → Leaves mid image → IsStore image (stored number root pages.backing.shadow before)
     left_saved = save_left commit.size commit.log_pages (omega arith) (omega (arith, formed.area)) left_before saves
 
     module _ {new : Disk} (told : IsTold mid) (reads : Told mid (Leaves mid)) (held_mid : Told mid (λ image. SavesPages pages.backing.log_pages (1 - root.area) image saving.current pages.held)) (phases : Told mid (λ image. Passes mid new (IsPhase mid image (3 - number) (root_page (other_area root))))) where
       mapped_are : (key : PageKey) → mapped_by saving.current key ≡ store_pages (home_pages (length after)) key
       mapped_are key = ap (λ (m : Mapped). m key) (sym saveable.mapped) ∙ commit.mapped_are key
 
-      phase : (image : Pages) → IsPhase mid told.pages (3 - number) (root_page (other_area root)) image → IsStore image number root pages.backing.shadow before ⊎ IsStore image (3 - number) (other_area root) saving.current after
+      phase : (image : Pages) → IsPhase mid told.pages (3 - number) (root_page (other_area root)) image → IsStore image (stored number root pages.backing.shadow before) ⊎ IsStore image (stored (3 - number) (other_area root) saving.current after)
       phase image is =
           switch_phase mid pages.held after left_saved (left_saved told.pages (reads told.pages told.is)) (subst (λ (n : ℕ). SavesPages n (1 - root.area) told.pages saving.current pages.held) commit.log_pages (held_mid told.pages told.is)) (sym saveable.slots ∙ commit.size) refl refl (other_formed root formed)
-          (first_log root commit.log) mapped_are commit.room commit.tuples commit.fit is
+          (first_log root commit.log) mapped_are commit.room commit.tuples commit.fit commit.few is
 
-      pub switched : Passes pages.disk new (λ image. IsStore image number root pages.backing.shadow before ⊎ IsStore image (3 - number) (other_area root) saving.current after)
+      pub switched : Passes pages.disk new (λ image. IsStore image (stored number root pages.backing.shadow before) ⊎ IsStore image (stored (3 - number) (other_area root) saving.current after))
       switched = then (widened saved (λ image store. inl store)) (phases told.pages told.is) phase
 
       -- the pages are there under the new root
       module _ (holds : (image : Pages) → Leaves new image → HoldsPages image (3 - number) (other_area root) saving.current pages.held) where
-        pub left_switched : (image : Pages) → Leaves new image → IsStore image (3 - number) (other_area root) saving.current after
-        left_switched image leaves = holds_store pages.held after (holds image leaves) (first_log root commit.log) mapped_are commit.room commit.tuples commit.fit
+        pub left_switched : (image : Pages) → Leaves new image → IsStore image (stored (3 - number) (other_area root) saving.current after)
+        left_switched image leaves = holds_store pages.held after (holds image leaves) (first_log root commit.log) mapped_are commit.room commit.tuples commit.fit commit.few
 
-        pub adopted : {last : Disk} → Passes new last (Leaves new) → Passes pages.disk last (λ image. IsStore image number root pages.backing.shadow before ⊎ IsStore image (3 - number) (other_area root) saving.current after)
+        pub adopted : {last : Disk} → Passes new last (Leaves new) → Passes pages.disk last (λ image. IsStore image (stored number root pages.backing.shadow before) ⊎ IsStore image (stored (3 - number) (other_area root) saving.current after))
         adopted rests = then switched rests (λ image leaves. inr (left_switched image leaves))
 
-        pub fixes_after : (found : Pages) → Leaves new found → (fixed_now : Fixed) → fixed_now ≡ fixed_by (slots_at root.slots root.log_pages) saving.current (Some found) → (image : Pages) → HasFixed fixed_now image → IsStore image (3 - number) (other_area root) saving.current after
+        pub fixes_after : (found : Pages) → Leaves new found → (fixed_now : Fixed) → fixed_now ≡ fixed_by (slots_at root.slots root.log_pages) saving.current (Some found) → (image : Pages) → HasFixed fixed_now image → IsStore image (stored (3 - number) (other_area root) saving.current after)
         fixes_after found leaves fixed_now is image has =
-            holds_store pages.held after (fixed_holds (holds found leaves) (subst (λ (f : Fixed). HasFixed f image) is has)) (first_log root commit.log) mapped_are commit.room commit.tuples commit.fit
+            holds_store pages.held after (fixed_holds (holds found leaves) (subst (λ (f : Fixed). HasFixed f image) is has)) (first_log root commit.log) mapped_are commit.room commit.tuples commit.fit commit.few

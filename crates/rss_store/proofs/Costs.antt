@@ -13,13 +13,13 @@ use Rattle.rss_base.specs.Steps.{PagesView}
 use Rattle.rss_buffer.specs.Saving.{SavingView, AreSaveable, SavingStep}
 use Rattle.rss_base.proofs.Keys.{is_same-true, is_same-itself}
 use Rattle.rss_model.specs.Changes.{Change}
-use Rattle.rss_model.specs.Machine.{State}
+use Rattle.rss_model.specs.Machine.{StoreSize, State}
 use Rattle.rss_model.specs.Costs.{HasChanged, commit_writes}
 use Rattle.rss_model.specs.Calls.{GoesOn}
 use Rattle.rss_model.specs.Store.{relation_r, tid_at, item_at}
 use Rattle.rss_store.specs.Parts.{engine_view}
 use Rattle.rss_store.specs.Costs.{IsChangedPage, ChangesOnly}
-use Rattle.rss_store.specs.Held.{insertion, inserts, state_of}
+use Rattle.rss_store.specs.Held.{insertion_at, inserts, state_of}
 
 -- ---- which pages were changed
 
@@ -43,21 +43,21 @@ changes_inserted {committed = committed} {count = count} within among waits = λ
 
 -- ---- the pages that a transaction changed
 
-inserted_there : (transaction place : ℕ) (values : List ℤ) (k : ℕ) → k < length values → (z : ℤ) × Contains (inserts transaction place values) (insertion transaction (place + k) z)
+inserted_there : (transaction place : ℕ) (values : List ℤ) (k : ℕ) → k < length values → (z : ℤ) × Contains (inserts transaction place values) (insertion_at transaction (place + k) z)
 inserted_there transaction place [] k lt = absurd (omega (arith, lt))
 inserted_there transaction place (v ∷ values) zero lt =
-    (v, subst (λ (n : ℕ). Contains (inserts transaction (place + 1) values ++ insertion transaction place v ∷ []) (insertion transaction n v)) (sym (add-zero place)) (Contains-push (inserts transaction (place + 1) values) (insertion transaction place v)))
+    (v, subst (λ (n : ℕ). Contains (inserts transaction (place + 1) values ++ insertion_at transaction place v ∷ []) (insertion_at transaction n v)) (sym (add-zero place)) (Contains-push (inserts transaction (place + 1) values) (insertion_at transaction place v)))
 inserted_there transaction place (v ∷ values) (suc k) lt =
     let rest = inserted_there transaction (place + 1) values k (omega (arith, lt)) in
     let at : place + 1 + k ≡ place + suc k = omega arith in
-    (rest.0, Contains-append_left _ _ _ (subst (λ (n : ℕ). Contains (inserts transaction (place + 1) values) (insertion transaction n rest.0)) at rest.1))
+    (rest.0, Contains-append_left _ _ _ (subst (λ (n : ℕ). Contains (inserts transaction (place + 1) values) (insertion_at transaction n rest.0)) at rest.1))
 
 contains-map : (pages : List ℕ) (f : ℕ → PageKey) (number : ℕ) → Contains pages number → Contains (map f pages) (f number)
 contains-map pages f number there = (there.0, omega (arith, there.1, length-map pages f), get_or-map f pages there.0 number (f number) there.1 ∙ ap f there.2)
 
-changed_keys : (slots : ℕ) (transaction : Option ℕ) (committed : ℕ) (values : List ℤ) (waiting : Mapped) (pages : List ℕ) → (transaction ≡ None → committed ≡ length values) → HasChanged pages (state_of slots transaction committed values).changes → ChangesOnly waiting committed (length values) → HasEach (map (page_key 1 Home) pages) waiting
-changed_keys slots None committed values waiting pages rest has waits = λ key is. absurd (let page = waits key is in omega (arith, page.some, rest refl))
-changed_keys slots (Some transaction) committed values waiting pages rest has waits = λ key is.
+changed_keys : (size : StoreSize) (transaction : Option ℕ) (committed : ℕ) (values : List ℤ) (waiting : Mapped) (pages : List ℕ) → (transaction ≡ None → committed ≡ length values) → HasChanged pages (state_of size transaction committed values).changes → ChangesOnly waiting committed (length values) → HasEach (map (page_key 1 Home) pages) waiting
+changed_keys size None committed values waiting pages rest has waits = λ key is. absurd (let page = waits key is in omega (arith, page.some, rest refl))
+changed_keys size (Some transaction) committed values waiting pages rest has waits = λ key is.
     let page = waits key is in
     elim (cases_lt (128 * key.number) committed) [
       | inl before ↦ at key page committed (omega arith) page.some (omega (arith, page.first, before))
@@ -68,7 +68,7 @@ changed_keys slots (Some transaction) committed values waiting pages rest has wa
     at key page place from to number =
         let inserted = inserted_there transaction committed (drop committed values) (place - committed) (omega (arith, from, to, length-drop committed values)) in
         let same : committed + (place - committed) ≡ place = omega (arith, from) in
-        let there = has (insertion transaction (committed + (place - committed)) inserted.0) relation_r (tid_at place) inserted.1 (ap item_at same) in
+        let there = has (insertion_at transaction (committed + (place - committed)) inserted.0) relation_r (tid_at place) inserted.1 (ap item_at same) in
         let on : Contains pages key.number = subst (λ (n : ℕ). Contains pages n) number there in
         subst (λ (k : PageKey). Contains (map (page_key 1 Home) pages) k) (sym (is_same-true key (page_key 1 Home key.number) page.home)) (contains-map pages (page_key 1 Home) key.number on)
 
@@ -78,26 +78,26 @@ some_changed : (slots : ℕ) (changed : ℕ) (changes : List Change) (change : C
 some_changed slots changed [] change there = absurd (omega (arith, there.1))
 some_changed slots changed (c ∷ changes) change there = refl
 
-one_end : (slots transaction committed : ℕ) (values : List ℤ) (waiting : Mapped) (writes writes_now : ℕ) (pages : List ℕ) → committed < length values → HasChanged pages (state_of slots (Some transaction) committed values).changes → ChangesOnly waiting committed (length values) → WritesWaiting waiting (map_pages slots + 2) writes writes_now
-    → writes_now ≤ writes + commit_writes (length pages) slots (state_of slots (Some transaction) committed values).changes
-one_end slots transaction committed values waiting writes writes_now pages some has waits few =
+one_end : (size : StoreSize) (transaction committed : ℕ) (values : List ℤ) (waiting : Mapped) (writes writes_now : ℕ) (pages : List ℕ) → committed < length values → HasChanged pages (state_of size (Some transaction) committed values).changes → ChangesOnly waiting committed (length values) → WritesWaiting waiting (map_pages size.slots + 2) writes writes_now
+    → writes_now ≤ writes + commit_writes (length pages) size.slots (state_of size (Some transaction) committed values).changes
+one_end size transaction committed values waiting writes writes_now pages some has waits few =
     let inserted = inserted_there transaction committed (drop committed values) 0 (omega (arith, some, length-drop committed values)) in
-    let all = some_changed slots (length pages) (inserts transaction committed (drop committed values)) _ inserted.1 in
-    let keys = changed_keys slots (Some transaction) committed values waiting pages (λ none. absurd (cc)) has waits in
+    let all = some_changed size.slots (length pages) (inserts transaction committed (drop committed values)) _ inserted.1 in
+    let keys = changed_keys size (Some transaction) committed values waiting pages (λ none. absurd (cc)) has waits in
     omega (arith, few (map (page_key 1 Home) pages) keys, length-map pages (page_key 1 Home), all)
 
-end_writes : {slots slots_of committed count : ℕ} {current : Option ℕ} {waiting : Mapped} (values : List ℤ) (writes writes_now transaction : ℕ) → current ≡ Some transaction → length values ≡ count → slots_of ≡ slots → committed < count → ChangesOnly waiting committed count → WritesWaiting waiting (map_pages slots_of + 2) writes writes_now
-    → (pages : List ℕ) → HasChanged pages (state_of slots current committed values).changes → writes_now ≤ writes + commit_writes (length pages) slots (state_of slots current committed values).changes
-end_writes {slots = slots} {committed = committed} {waiting = waiting} values writes writes_now transaction is long same some waits few pages =
-    subst (λ (o : Option ℕ). HasChanged pages (state_of slots o committed values).changes → writes_now ≤ writes + commit_writes (length pages) slots (state_of slots o committed values).changes) (sym is)
-    (λ has. one_end slots transaction committed values waiting writes writes_now pages (omega (arith, some, long)) has (subst (λ (n : ℕ). ChangesOnly waiting committed n) (sym long) waits) (subst (λ (n : ℕ). WritesWaiting waiting (map_pages n + 2) writes writes_now) same few))
+end_writes : (size : StoreSize) {slots_of committed count : ℕ} {current : Option ℕ} {waiting : Mapped} (values : List ℤ) (writes writes_now transaction : ℕ) → current ≡ Some transaction → length values ≡ count → slots_of ≡ size.slots → committed < count → ChangesOnly waiting committed count → WritesWaiting waiting (map_pages slots_of + 2) writes writes_now
+    → (pages : List ℕ) → HasChanged pages (state_of size current committed values).changes → writes_now ≤ writes + commit_writes (length pages) size.slots (state_of size current committed values).changes
+end_writes size {committed = committed} {waiting = waiting} values writes writes_now transaction is long same some waits few pages =
+    subst (λ (o : Option ℕ). HasChanged pages (state_of size o committed values).changes → writes_now ≤ writes + commit_writes (length pages) size.slots (state_of size o committed values).changes) (sym is)
+    (λ has. one_end size transaction committed values waiting writes writes_now pages (omega (arith, some, long)) has (subst (λ (n : ℕ). ChangesOnly waiting committed n) (sym long) waits) (subst (λ (n : ℕ). WritesWaiting waiting (map_pages n + 2) writes writes_now) same few))
 
 -- what an end passes on
-pub end_goes : {pages now : PagesView} {saving saving_now : SavingView} {slots committed count transaction : ℕ} {current : Option ℕ} {next : State} {up up_now : Type 0} (values : List ℤ) → current ≡ Some transaction → length values ≡ count → pages.slots ≡ slots → committed < count → AreSaveable pages saving → ChangesOnly pages.changed committed count
-    → WritesWaiting saving.waiting (map_pages pages.slots + 2) pages.writes now.writes → SavingStep pages now saving saving_now → GoesOn (engine_view pages (state_of slots current committed values) up) (engine_view now next up_now) (End transaction)
-end_goes {pages = pages} {now = now} {transaction = transaction} values is long same some saveable changes few step = record {
+pub end_goes : {pages_view now : PagesView} {saving saving_now : SavingView} {size : StoreSize} {committed count transaction : ℕ} {current : Option ℕ} {next : State} {up up_now : Type 0} (values : List ℤ) → current ≡ Some transaction → length values ≡ count → pages_view.slots ≡ size.slots → committed < count → AreSaveable pages_view saving → ChangesOnly pages_view.changed committed count
+    → WritesWaiting saving.waiting (map_pages pages_view.slots + 2) pages_view.writes now.writes → SavingStep pages_view now saving saving_now → GoesOn (engine_view pages_view (state_of size current committed values) up) (engine_view now next up_now) (End transaction)
+end_goes {pages_view = pages_view} {now = now} {size = size} {transaction = transaction} values is long same some saveable changes few step = record {
   asks = omega (arith, step.asks);
-  writes = end_writes values pages.writes now.writes transaction is long same some (changes_among saveable.waiting changes) few;
+  writes = λ state shown pages has. subst (λ (s : State). HasChanged pages s.changes → now.writes ≤ pages_view.writes + commit_writes (length pages) s.size.slots s.changes) (sym shown) (end_writes size values pages_view.writes now.writes transaction is long same some (changes_among saveable.waiting changes) few pages) has;
   told = step.told.0;
   later = step.later;
 }

@@ -15,7 +15,10 @@ use Rattle.rss_base.specs.declared.key.PageKey.{PageKey}
 use Rattle.rss_base.proofs.Moments.{widened}
 use Rattle.rss_base.proofs.Counts.{mapped_pages-owners}
 use Rattle.rss_buffer.specs.Saving.{SavingView, AreSaveable, SavingStep}
-use Rattle.rss_model.specs.Store.{home_pages, store_pages, tables_of, HoldsTuples, HasFirstLog, IsStore, OpensTo, OpensToEither}
+use Rattle.rss_model.specs.Store.{home_pages, store_pages, tables_of, HoldsTuples, HasFirstLog, Stored, stored, size_of, IsStore, OpensTo, OpensToEither}
+use Rattle.rss_base.specs.Sizes.{system_pages}
+use Rattle.rss_model.specs.Fits.{tuple_limit}
+use Rattle.rss_model.specs.Machine.{StoreSize}
 use Rattle.rss_store.specs.HomePages.{value_at, values_in}
 use Rattle.rss_store.specs.Ready.{IsReady, CanCommit, HasSaved, other_area}
 use Rattle.rss_store.specs.TupleSteps.{CanAppend}
@@ -50,38 +53,41 @@ pub all_front : (held now : Held) (count committed last : ℕ) → committed ≡
 all_front held now count committed last is all same =
     (λ i. take (is i) (values_in (same i) (all i))) ∙ take_all count (values_in held count) (omega (arith, length_values held count))
 
+-- ---- the size of a store
+
+pub same_size : (root : Root) {slots : ℕ} → slots ≡ root.slots → record { slots = slots; log_pages = root.log_pages } ≡ size_of root
+same_size root same = λ i. record { slots = same i; log_pages = root.log_pages }
+
 -- ---- between two calls
 
 module _ {pages : PagesView} {number committed count : ℕ} {root : Root} (ready : IsReady pages number root committed count) where
   abbrev values : List ℤ
   values = values_in pages.held count
 
-  pub opened : {image : Pages} {state_slots : ℕ} → state_slots ≡ root.slots → IsTold pages.disk → HasFixed pages.fixed image → OpensTo image state_slots (tables_of (take committed values))
-  opened {image = image} size told has = record {
-    number = number;
-    root = root;
-    owners = pages.backing.shadow;
-    values = take committed values;
-    store = ready.fixes told image has;
-    size = size;
-    holds = refl;
-  }
+  abbrev before : Stored
+  before = stored number root pages.backing.shadow (take committed values)
 
-  pub calls_open : {touched : Keys} {asks writes : ℕ} {now : PagesView} {state_slots : ℕ} → state_slots ≡ root.slots → IsTold pages.disk → PagesStep touched asks writes pages now → Passes pages.disk now.disk (λ image. OpensTo image state_slots (tables_of (take committed values)))
-  calls_open size told step = widened (step.leaves.moments ready.settled_now told) (λ image has. opened size told has)
+  opens_before : {image : Pages} {size : StoreSize} → size ≡ size_of root → IsStore image before → OpensTo image size (tables_of (take committed values))
+  opens_before size store = record { stored = before; store = store; same_size = size; holds = refl }
+
+  pub opened : {image : Pages} {size : StoreSize} → size ≡ size_of root → IsTold pages.disk → HasFixed pages.fixed image → OpensTo image size (tables_of (take committed values))
+  opened {image = image} size told has = opens_before size (ready.fixes told image has)
+
+  pub calls_open : {touched : Keys} {asks writes : ℕ} {now : PagesView} {size : StoreSize} → size ≡ size_of root → IsTold pages.disk → PagesStep touched asks writes pages now → Passes pages.disk now.disk (λ image. OpensTo image size (tables_of (take committed values)))
+  calls_open size told step = widened (step.passes.leaves.moments ready.settled_now told) (λ image has. opened size told has)
 
   -- a stop within a checkpoint
-  pub stores_open : {new : Disk} {state_slots next : ℕ} {root_now : Root} {owners : List (Option PageKey)} → state_slots ≡ root.slots → root_now ≡ other_area root → Passes pages.disk new (λ image. IsStore image number root pages.backing.shadow (take committed values) ⊎ IsStore image next root_now owners values)
-      → Passes pages.disk new (OpensToEither state_slots (tables_of (take committed values)) (tables_of values))
-  stores_open {state_slots = state_slots} {next = next} {root_now = root_now} {owners = owners} size same passes = widened passes (λ image. ⊎_elim (λ before. inl (record { number = number; root = root; owners = pages.backing.shadow; values = take committed values; store = before; size = size; holds = refl }))
-      (λ after. inr (record { number = next; root = root_now; owners = owners; values = values; store = after; size = size ∙ ap (λ (r : Root). r.slots) (sym same); holds = refl })))
+  pub stores_open : {new : Disk} {size : StoreSize} {next : ℕ} {root_now : Root} {owners : List (Option PageKey)} → size ≡ size_of root → root_now ≡ other_area root → Passes pages.disk new (λ image. IsStore image before ⊎ IsStore image (stored next root_now owners values))
+      → Passes pages.disk new (OpensToEither size (tables_of (take committed values)) (tables_of values))
+  stores_open {next = next} {root_now = root_now} {owners = owners} size same passes = widened passes (λ image. ⊎_elim (λ store. inl (opens_before size store))
+      (λ store. inr (record { stored = stored next root_now owners values; store = store; same_size = size ∙ ap size_of (sym same); holds = refl })))
 
   module _ {touched : Keys} {asks writes : ℕ} {now : PagesView} (step : PagesStep touched asks writes pages now) where
-    fixes_now : (front : List ℤ) → IsTold now.disk → front ≡ take committed values → (image : Pages) → HasFixed now.fixed image → IsStore image number root now.backing.shadow front
+    fixes_now : (front : List ℤ) → IsTold now.disk → front ≡ take committed values → (image : Pages) → HasFixed now.fixed image → IsStore image (stored number root now.backing.shadow front)
     fixes_now front told is image has =
-        let before = step.leaves.told.1 told in
-        let store = ready.fixes before image (subst (λ (f : Fixed). HasFixed f image) (step.leaves.same ready.settled_now before) has) in
-        subst (λ (b : Backing). IsStore image number root b.shadow front) (sym step.backing) (subst (λ (l : List ℤ). IsStore image number root pages.backing.shadow l) (sym is) store)
+        let before = step.passes.leaves.told.1 told in
+        let store = ready.fixes before image (subst (λ (f : Fixed). HasFixed f image) (step.passes.leaves.same ready.settled_now before) has) in
+        subst (λ (b : Backing). IsStore image (stored number root b.shadow front)) (sym step.passes.backing) (subst (λ (l : List ℤ). IsStore image (stored number root pages.backing.shadow l)) (sym is) store)
 
     -- a page was read
     pub ready_read : now.mapped ≡ pages.mapped → (IsTold pages.disk → now.held ≡ pages.held) → IsReady now number root committed count
@@ -90,16 +96,17 @@ module _ {pages : PagesView} {number committed count : ℕ} {root : Root} (ready
       number_high = ready.number_high;
       formed = ready.formed;
       log = ready.log;
-      size = step.slots ∙ ready.size;
-      log_pages = ap (λ (b : Backing). b.log_pages) step.backing ∙ ready.log_pages;
-      area = ap (λ (b : Backing). b.area) step.backing ∙ ready.area;
+      size = step.passes.slots ∙ ready.size;
+      log_pages = ap (λ (b : Backing). b.log_pages) step.passes.backing ∙ ready.log_pages;
+      area = ap (λ (b : Backing). b.area) step.passes.backing ∙ ready.area;
       within = ready.within;
+      few = ready.few;
       mapped_are = λ key. ap (λ (m : Mapped). m key) same_mapped ∙ ready.mapped_are key;
-      saved_are = ap (λ (b : Backing). page_count b.shadow) step.backing ∙ ready.saved_are;
+      saved_are = ap (λ (b : Backing). page_count b.shadow) step.passes.backing ∙ ready.saved_are;
       room = ready.room;
-      settled_now = step.leaves.stays_settled ready.settled_now;
-      tuples = λ told. let same = same_held (step.leaves.told.1 told) in subst (λ (h : Held). HoldsTuples h (values_in h count)) (sym same) (ready.tuples (step.leaves.told.1 told));
-      fixes = λ told image has. fixes_now (take committed (values_in now.held count)) told (ap (λ (h : Held). take committed (values_in h count)) (same_held (step.leaves.told.1 told))) image has;
+      settled_now = step.passes.leaves.stays_settled ready.settled_now;
+      tuples = λ told. let same = same_held (step.passes.leaves.told.1 told) in subst (λ (h : Held). HoldsTuples h (values_in h count)) (sym same) (ready.tuples (step.passes.leaves.told.1 told));
+      fixes = λ told image has. fixes_now (take committed (values_in now.held count)) told (ap (λ (h : Held). take committed (values_in h count)) (same_held (step.passes.leaves.told.1 told))) image has;
     }
 
     -- a tuple was put behind the others
@@ -110,27 +117,28 @@ module _ {pages : PagesView} {number committed count : ℕ} {root : Root} (ready
       pub front_now : IsTold pages.disk → take committed (values_in now.held count_now) ≡ take committed values
       front_now told = front_put pages.held now.held count count_now committed z ready.within (values_now told)
 
-      pub ready_put : {committed_now : ℕ} → committed_now ≡ committed → needed committed count ≤ root.slots → ((key : PageKey) → now.mapped key ≡ store_pages (home_pages (count + 1)) key) → IsReady now number root committed_now count_now
-      ready_put same_committed room mapped_are = subst (λ (n : ℕ). IsReady now number root n count_now) (sym same_committed) (record {
+      pub ready_put : {committed_now : ℕ} → committed_now ≡ committed → count < tuple_limit → needed committed count ≤ root.slots → ((key : PageKey) → now.mapped key ≡ store_pages (home_pages (count + 1)) key) → IsReady now number root committed_now count_now
+      ready_put same_committed few room mapped_are = subst (λ (n : ℕ). IsReady now number root n count_now) (sym same_committed) (record {
         number_low = ready.number_low;
         number_high = ready.number_high;
         formed = ready.formed;
         log = ready.log;
-        size = step.slots ∙ ready.size;
-        log_pages = ap (λ (b : Backing). b.log_pages) step.backing ∙ ready.log_pages;
-        area = ap (λ (b : Backing). b.area) step.backing ∙ ready.area;
+        size = step.passes.slots ∙ ready.size;
+        log_pages = ap (λ (b : Backing). b.log_pages) step.passes.backing ∙ ready.log_pages;
+        area = ap (λ (b : Backing). b.area) step.passes.backing ∙ ready.area;
         within = omega (arith, ready.within, last);
+        few = omega (arith, last, few);
         mapped_are = λ key. mapped_are key ∙ ap (λ (n : ℕ). store_pages (home_pages n) key) (sym last);
-        saved_are = ap (λ (b : Backing). page_count b.shadow) step.backing ∙ ready.saved_are;
+        saved_are = ap (λ (b : Backing). page_count b.shadow) step.passes.backing ∙ ready.saved_are;
         room = omega (arith, last, room, ready.within);
-        settled_now = step.leaves.stays_settled ready.settled_now;
-        tuples = λ told. let before = step.leaves.told.1 told in subst (HoldsTuples now.held) (sym (values_now before)) (puts before);
-        fixes = λ told image has. fixes_now (take committed (values_in now.held count_now)) told (front_now (step.leaves.told.1 told)) image has;
+        settled_now = step.passes.leaves.stays_settled ready.settled_now;
+        tuples = λ told. let before = step.passes.leaves.told.1 told in subst (HoldsTuples now.held) (sym (values_now before)) (puts before);
+        fixes = λ told image has. fixes_now (take committed (values_in now.held count_now)) told (front_now (step.passes.leaves.told.1 told)) image has;
       })
 
   -- ---- a checkpoint
 
-  pub all_room : 2 * (home_pages count + 10) ≤ root.slots
+  pub all_room : 2 * (home_pages count + system_pages) ≤ root.slots
   all_room = omega (arith, ready.room, ready.within)
 
   pub can_commit : IsTold pages.disk → CanCommit pages number root (take committed values) values
@@ -139,10 +147,11 @@ module _ {pages : PagesView} {number committed count : ℕ} {root : Root} (ready
     size = ready.size;
     log_pages = ready.log_pages;
     mapped_are = λ key. ready.mapped_are key ∙ ap (λ (n : ℕ). store_pages (home_pages n) key) (sym (length_values pages.held count));
-    room = subst (λ (n : ℕ). 2 * (home_pages n + 10) ≤ root.slots) (sym (length_values pages.held count)) all_room;
+    room = subst (λ (n : ℕ). 2 * (home_pages n + system_pages) ≤ root.slots) (sym (length_values pages.held count)) all_room;
     settled_now = ready.settled_now;
     tuples = ready.tuples told;
     fit = fit_values pages.held count;
+    few = omega (arith, length_values pages.held count, ready.few);
     fixes = ready.fixes told;
   }
 
@@ -168,7 +177,7 @@ module _ {pages : PagesView} {number committed count : ℕ} {root : Root} (ready
 
     -- all were committed
     pub ready_saved : {now : PagesView} {saving_now : SavingView} {number_now committed_now count_now : ℕ} {root_now : Root} → SavingStep pages now saving saving_now → AreSaveable now saving_now → committed_now ≡ count → count_now ≡ count → root_now ≡ other_area root → number_now ≡ 3 - number → HasSaved root_now saving.current now
-        → (IsTold pages.disk → (image : Pages) → HasFixed now.fixed image → IsStore image (3 - number) root_now saving.current values) → IsReady now number_now root_now committed_now count_now
+        → (IsTold pages.disk → (image : Pages) → HasFixed now.fixed image → IsStore image (stored (3 - number) root_now saving.current values)) → IsReady now number_now root_now committed_now count_now
     ready_saved {now = now} {number_now = number_now} {count_now = count_now} {root_now = root_now} step saveable_now all_committed same_count root_is number_is saved fixes = subst (λ (n : ℕ). IsReady now number_now root_now n count_now) (sym all_committed) (subst (λ (n : ℕ). IsReady now number_now root_now count n) (sym same_count) (record {
       number_low = omega (arith, number_is, ready.number_high);
       number_high = omega (arith, number_is, ready.number_low);
@@ -178,6 +187,7 @@ module _ {pages : PagesView} {number committed count : ℕ} {root : Root} (ready
       log_pages = step.log_pages ∙ ready.log_pages ∙ ap (λ (r : Root). r.log_pages) (sym root_is);
       area = saved.area;
       within = omega arith;
+      few = ready.few;
       mapped_are = λ key. ap (λ (m : Mapped). m key) (mapped_now saveable step saveable_now) ∙ ready.mapped_are key;
       saved_are = ap page_count saved.shadow ∙ count_pages;
       room = omega (arith, all_room, slots_same);
@@ -185,8 +195,8 @@ module _ {pages : PagesView} {number committed count : ℕ} {root : Root} (ready
       tuples = λ is. subst (λ (h : Held). HoldsTuples h (values_in h count)) (sym (step.held (step.told.1 is))) (ready.tuples (step.told.1 is));
       fixes = λ is image has.
           let all : take count (values_in now.held count) ≡ values = take_all count (values_in now.held count) (omega (arith, length_values now.held count)) ∙ ap (λ (h : Held). values_in h count) (step.held (step.told.1 is)) in
-          subst (λ (owners : List (Option PageKey)). IsStore image number_now root_now owners (take count (values_in now.held count))) (sym saved.shadow)
-          (subst (λ (l : List ℤ). IsStore image number_now root_now saving.current l) (sym all) (subst (λ (n : ℕ). IsStore image n root_now saving.current values) (sym number_is) (fixes (step.told.1 is) image has)));
+          subst (λ (owners : List (Option PageKey)). IsStore image (stored number_now root_now owners (take count (values_in now.held count)))) (sym saved.shadow)
+          (subst (λ (l : List ℤ). IsStore image (stored number_now root_now saving.current l)) (sym all) (subst (λ (n : ℕ). IsStore image (stored n root_now saving.current values)) (sym number_is) (fixes (step.told.1 is) image has)));
     }))
       where
         slots_same : root.slots ≡ root_now.slots

@@ -13,9 +13,9 @@ use Rattle.rss_base.specs.declared.key.Space.TheVariants.{Home, System}
 use Rattle.rss_base.specs.declared.key.PageKey.{PageKey}
 use Rattle.rss_base.proofs.Keys.{is_same-true}
 use Rattle.rss_shadow.specs.Maps.{LacksPage}
-use Rattle.rss_buffer.proofs.Found.{slot_of-owned, mapped-owned, mapped-lacks}
+use Rattle.rss_shadow.proofs.Owned.{slot_of-owned, mapped-owned, mapped-lacks}
 use Rattle.rss_buffer.proofs.Saves.{saves_map, holds_pages}
-use Rattle.rss_model.specs.Store.{tables_of, is_page_of, store_pages, OpensTo}
+use Rattle.rss_model.specs.Store.{stored, tables_of, is_page_of, store_pages, OpensTo}
 use Rattle.rss_store.specs.Formatted.{AreSizes, first_root, first_owners, IsFormatted, HoldsZeros}
 use Rattle.rss_store.proofs.FirstOwners.{owners_length, owner_first, owner_is}
 
@@ -118,12 +118,9 @@ first_mapped slots key = elim (cases_Bool (is_page_of 0 System 10 key)) [
       ∙ sym (ap (λ (b : Bool). b || is_page_of 1 Home 0 key) other ∙ and_right ((key.segment == 1) && (space_code key.space == 1)) (nat_lt key.number 0) (le-ltb key.number 0 (omega arith)))
 ]
 
-pub opens_empty : (slots log_pages : ℕ) (pages : Pages) → IsFormatted slots log_pages pages → OpensTo pages slots (tables_of [])
+pub opens_empty : (slots log_pages : ℕ) (pages : Pages) → IsFormatted slots log_pages pages → OpensTo pages (record { slots = slots; log_pages = log_pages }) (tables_of [])
 opens_empty slots log_pages pages made = record {
-  number = 1;
-  root = first_root slots log_pages;
-  owners = first_owners slots;
-  values = [];
+  stored = stored 1 (first_root slots log_pages) (first_owners slots) [];
   store = record {
     root_there = made.root_there;
     log = record { head = refl; checkpoint = refl; end = refl; tail = refl };
@@ -137,7 +134,8 @@ opens_empty slots log_pages pages made = record {
       home = λ number lt. absurd (omega (arith, lt));
     };
     fit = λ k d lt. absurd (omega arith);
+    few = omega arith;
   };
-  size = refl;
+  same_size = refl;
   holds = refl;
 }

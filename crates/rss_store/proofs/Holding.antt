@@ -19,10 +19,12 @@ use Rattle.rss_buffer.specs.Buffered.{HoldsMapAt}
 use Rattle.rss_buffer.specs.Saving.{SavingView, AreSaveable, IsFresh}
 use Rattle.rss_base.proofs.Keys.{owner_of-slot_of, the_slot}
 use Rattle.rss_buffer.proofs.SavingSteps.{none_changed}
-use Rattle.rss_buffer.proofs.Found.{HasPage-mapped, slot_of-owned}
+use Rattle.rss_shadow.proofs.Owned.{HasPage-mapped, slot_of-owned}
 use Rattle.rss_buffer.proofs.Stops.{fixed_holds}
 use Rattle.rss_pagemap.proofs.Owners.{owned_within}
-use Rattle.rss_model.specs.Store.{home_pages, is_page_of, store_pages, HoldsTuples, HasFirstLog, IsStore}
+use Rattle.rss_base.specs.Sizes.{system_pages}
+use Rattle.rss_model.specs.Fits.{tuple_limit}
+use Rattle.rss_model.specs.Store.{home_pages, is_page_of, store_pages, HoldsTuples, HasFirstLog, stored, IsStore}
 use Rattle.rss_store.specs.HomePages.{values_in}
 use Rattle.rss_store.specs.Ready.{IsReady}
 use Rattle.rss_store.specs.Opening.{HasTuplesOn, AreStoreKeys, IsSound, HoldsSound}
@@ -32,7 +34,7 @@ use Rattle.rss_store.proofs.HomePages.{tuples_from_pages, fit_values, length_val
 -- ---- a store, and pages that are held
 
 -- what stands in the slots of a store
-pub store_holds : {pages : Pages} {number : ℕ} {root : Root} {owners : List (Option PageKey)} {values : List ℤ} → IsStore pages number root owners values → HoldsPages pages number root owners (held_at (slots_at root.slots root.log_pages) pages owners)
+pub store_holds : {pages : Pages} {number : ℕ} {root : Root} {owners : List (Option PageKey)} {values : List ℤ} → IsStore pages (stored number root owners values) → HoldsPages pages number root owners (held_at (slots_at root.slots root.log_pages) pages owners)
 store_holds {pages = pages} {root = root} {owners = owners} store = record {
   root_there = store.root_there;
   count = store.map.count;
@@ -58,9 +60,9 @@ is_home : (home number : ℕ) → number < home → store_pages home (page_key 1
 is_home home number low = lt-ltb number home low
 
 -- pages that hold tuples are a store
-pub holds_store : {pages : Pages} {number : ℕ} {root : Root} {owners : List (Option PageKey)} (held : Held) (values : List ℤ) → HoldsPages pages number root owners held → HasFirstLog root → ((key : PageKey) → mapped_by owners key ≡ store_pages (home_pages (length values)) key) → 2 * (home_pages (length values) + 10) ≤ root.slots → HoldsTuples held values → All (FitsSigned w64) values
-    → IsStore pages number root owners values
-holds_store {pages = pages} {root = root} {owners = owners} held values holds log mapped room tuples fit = record {
+pub holds_store : {pages : Pages} {number : ℕ} {root : Root} {owners : List (Option PageKey)} (held : Held) (values : List ℤ) → HoldsPages pages number root owners held → HasFirstLog root → ((key : PageKey) → mapped_by owners key ≡ store_pages (home_pages (length values)) key) → 2 * (home_pages (length values) + system_pages) ≤ root.slots → HoldsTuples held values → All (FitsSigned w64) values → length values ≤ tuple_limit
+    → IsStore pages (stored number root owners values)
+holds_store {pages = pages} {root = root} {owners = owners} held values holds log mapped room tuples fit few = record {
   root_there = holds.root_there;
   log = log;
   map = subst (λ (n : ℕ). IsMap n pages (map_at n root.area) owners) holds.count holds.saved.map;
@@ -71,11 +73,12 @@ holds_store {pages = pages} {root = root} {owners = owners} held values holds lo
     home = λ number low. held_slot holds _ (mapped _ ∙ is_home (home_pages (length values)) number low) ∙ tuples.home number low;
   };
   fit = fit;
+  few = few;
 }
 
 -- pages that hold what a store holds
-pub same_store : {before image : Pages} {number : ℕ} {root : Root} {owners : List (Option PageKey)} {values : List ℤ} → IsStore before number root owners values → HoldsPages image number root owners (held_at (slots_at root.slots root.log_pages) before owners) → IsStore image number root owners values
-same_store {values = values} store holds = holds_store _ values holds store.log store.mapped store.room store.tuples store.fit
+pub same_store : {before image : Pages} {number : ℕ} {root : Root} {owners : List (Option PageKey)} {values : List ℤ} → IsStore before (stored number root owners values) → HoldsPages image number root owners (held_at (slots_at root.slots root.log_pages) before owners) → IsStore image (stored number root owners values)
+same_store {values = values} store holds = holds_store _ values holds store.log store.mapped store.room store.tuples store.fit store.few
 
 -- ---- pages that were read
 
@@ -118,21 +121,21 @@ module _ {root : Root} {number : ℕ} {owners : List (Option PageKey)} {home cou
         let there = page_there (page_key 1 Home number) (or_right (is_page_of 0 System 10 (page_key 1 Home number)) _ (lt-ltb number home (omega (arith, sound.home_needed)))) in
         record { bytes = there.0; there = there.1; page = there.2.home refl })
 
-  sound_room : 2 * (home + 10) ≤ root.slots
+  sound_room : 2 * (home + system_pages) ≤ root.slots
   sound_room = omega (arith, sound.half, sound.slots, pages_counted owners home sound.table.distinct mapped)
 
   values_home : home ≡ home_pages (length (values_in held count))
   values_home = sym (ap home_pages (length_values held count) ∙ sound.home_needed)
 
-  store_of : {image : Pages} → HoldsPages image number root owners held → HoldsTuples held (values_in held count) → IsStore image number root owners (values_in held count)
-  store_of holds tuples = holds_store held (values_in held count) holds sound.log (λ key. mapped key ∙ ap (λ (n : ℕ). store_pages n key) values_home) (subst (λ (n : ℕ). 2 * (n + 10) ≤ root.slots) values_home sound_room) tuples (fit_values held count)
+  store_of : {image : Pages} → HoldsPages image number root owners held → HoldsTuples held (values_in held count) → IsStore image (stored number root owners (values_in held count))
+  store_of holds tuples = holds_store held (values_in held count) holds sound.log (λ key. mapped key ∙ ap (λ (n : ℕ). store_pages n key) values_home) (subst (λ (n : ℕ). 2 * (n + system_pages) ≤ root.slots) values_home sound_room) tuples (fit_values held count) (omega (arith, length_values held count, sound.few))
 
   -- the pages that were read are a store
-  pub sound_store : {pages : Pages} → HoldsSound pages root number owners count → StandInSlots (slots_at root.slots root.log_pages) pages owners held → IsStore pages number root owners (values_in held count)
+  pub sound_store : {pages : Pages} → HoldsSound pages root number owners count → StandInSlots (slots_at root.slots root.log_pages) pages owners held → IsStore pages (stored number root owners (values_in held count))
   sound_store holds stand = store_of (sound_pages holds stand) (sound_tuples holds stand)
 
   -- and so are those that have the same fixed
-  pub sound_fixes : {pages image : Pages} → HoldsSound pages root number owners count → StandInSlots (slots_at root.slots root.log_pages) pages owners held → HasFixed (fixed_by (slots_at root.slots root.log_pages) owners (Some pages)) image → IsStore image number root owners (values_in held count)
+  pub sound_fixes : {pages image : Pages} → HoldsSound pages root number owners count → StandInSlots (slots_at root.slots root.log_pages) pages owners held → HasFixed (fixed_by (slots_at root.slots root.log_pages) owners (Some pages)) image → IsStore image (stored number root owners (values_in held count))
   sound_fixes holds stand has = store_of (fixed_holds (sound_pages holds stand) has) (sound_tuples holds stand)
 
 -- the map of a root stands in its area
@@ -165,8 +168,8 @@ module _ {root : Root} {owners : List (Option PageKey)} {writes : ℕ} {pages : 
     fixed_is : (p : Pages) → pages.disk.contents ≡ Some p → pages.fixed ≡ fixed_by (slots_at root.slots root.log_pages) owners (Some p)
     fixed_is p told = saveable.fixed ∙ (λ i. fixed_by (slots_at (size_is i) (log_is i)) (shadow_is i) (told i))
 
-    pub fresh_store : Told pages.disk (λ p. IsStore p number root pages.backing.shadow (values_in pages.held count))
-    fresh_store p told = subst (λ (o : List (Option PageKey)). IsStore p number root o (values_in pages.held count)) (sym shadow_is) (sound_store pages.held sound all_mapped (holds p told) (stand p told))
+    pub fresh_store : Told pages.disk (λ p. IsStore p (stored number root pages.backing.shadow (values_in pages.held count)))
+    fresh_store p told = subst (λ (o : List (Option PageKey)). IsStore p (stored number root o (values_in pages.held count))) (sym shadow_is) (sound_store pages.held sound all_mapped (holds p told) (stand p told))
 
     pub fresh_ready : IsReady pages number root count count
     fresh_ready = record {
@@ -178,13 +181,14 @@ module _ {root : Root} {owners : List (Option PageKey)} {writes : ℕ} {pages : 
       log_pages = log_is;
       area = ap (λ (b : Backing). b.area) fresh.backing;
       within = omega arith;
+      few = sound.few;
       mapped_are = λ key. sym (fresh_mapped key) ∙ all_mapped key ∙ ap (λ (n : ℕ). store_pages n key) (sym sound.home_needed);
-      saved_are = ap page_count shadow_is ∙ pages_counted owners home sound.table.distinct all_mapped ∙ ap (λ (n : ℕ). n + 10) (sym sound.home_needed);
+      saved_are = ap page_count shadow_is ∙ pages_counted owners home sound.table.distinct all_mapped ∙ ap (λ (n : ℕ). n + system_pages) (sym sound.home_needed);
       room = omega (arith, sound_room pages.held sound all_mapped, sound.home_needed);
       settled_now = fresh.settled;
       tuples = λ is. sound_tuples pages.held sound all_mapped (holds is.pages is.is) (stand is.pages is.is);
       fixes = λ is image has.
           let store = sound_fixes pages.held sound all_mapped (holds is.pages is.is) (stand is.pages is.is) (subst (λ (f : Fixed). HasFixed f image) (fixed_is is.pages is.is) has) in
-          subst (λ (o : List (Option PageKey)). IsStore image number root o (take count (values_in pages.held count))) (sym shadow_is)
-          (subst (λ (values : List ℤ). IsStore image number root owners values) (sym (take_all count (values_in pages.held count) (omega (arith, length_values pages.held count)))) store);
+          subst (λ (o : List (Option PageKey)). IsStore image (stored number root o (take count (values_in pages.held count)))) (sym shadow_is)
+          (subst (λ (values : List ℤ). IsStore image (stored number root owners values)) (sym (take_all count (values_in pages.held count) (omega (arith, length_values pages.held count)))) store);
     }

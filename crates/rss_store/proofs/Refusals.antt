@@ -13,9 +13,9 @@ use Rattle.rss_base.specs.declared.key.PageKey.{PageKey}
 use Rattle.rss_base.specs.declared.place.Place.{Place}
 use Rattle.rss_base.specs.declared.place.Place.TheVariants.{Room}
 use Rattle.rss_base.specs.declared.root.Root.{Root}
-use Rattle.rss_model.specs.Store.{home_pages, store_pages, IsStore, IsBrokenAt, IsOverfull, IsNoStore}
-use Rattle.rss_buffer.proofs.Found.{mapped-owned, slot_of-owned}
-use Rattle.rss_store.specs.Opening.{is_home, IsPageOf, HoldsNoPage, LacksStore, IsRefused}
+use Rattle.rss_model.specs.Store.{home_pages, store_pages, stored, IsStore, IsBrokenAt, IsOverfull, IsNoStore}
+use Rattle.rss_shadow.proofs.Owned.{mapped-owned, slot_of-owned}
+use Rattle.rss_store.specs.Opening.{is_home, home_limit, IsPageOf, HoldsNoPage, LacksStore, IsRefused}
 use Rattle.rss_store.proofs.Counting.{pages_counted, home_counted}
 use Rattle.rss_store.proofs.Stores.{one_root, one_map, sound_unbroken, broken_once}
 use Rattle.rss_store.proofs.Checked.{system_page, home_key, one_of}
@@ -31,14 +31,15 @@ refused_broken {pages = pages} place broken = record {
   broken = λ other is. let same : place ≡ other = cc in subst (λ (p : Place). IsBrokenAt p pages) same broken;
   names = λ other there. inl (ap NotAStore (broken_once broken there));
   no_store = λ other is. absurd (cc);
+  only_overfull = λ is. absurd (cc);
   overfull = λ over. absurd (overfull_unbroken place over broken);
 }
 
 refused_device : (pages : Pages) → IsRefused pages DeviceFailed
-refused_device pages = record { broken = λ place is. absurd (cc); names = λ place there. inr (inl refl); no_store = λ place is. absurd (cc); overfull = λ over. inr (inl refl) }
+refused_device pages = record { broken = λ place is. absurd (cc); names = λ place there. inr (inl refl); no_store = λ place is. absurd (cc); only_overfull = λ is. absurd (cc); overfull = λ over. inr (inl refl) }
 
 pub refused_memory : (pages : Pages) → IsRefused pages LacksMemory
-refused_memory pages = record { broken = λ place is. absurd (cc); names = λ place there. inr (inr refl); no_store = λ place is. absurd (cc); overfull = λ over. inr (inr refl) }
+refused_memory pages = record { broken = λ place is. absurd (cc); names = λ place there. inr (inr refl); no_store = λ place is. absurd (cc); only_overfull = λ is. absurd (cc); overfull = λ over. inr (inr refl) }
 
 -- a fault of the layout that names the place
 pub refused_layout : {pages : Pages} (fault : OpenFault) → IsLayoutFault fault → ((place : Place) → fault ≡ NotAStore place → IsBrokenAt place pages) → IsRefused pages fault
@@ -51,18 +52,19 @@ refused_layout {pages = pages} LacksMemory is broken = refused_memory pages
 -- ---- a sound layout of no store
 
 no_store : {pages : Pages} {number : ℕ} {root : Root} {owners : List (Option PageKey)} → HasRoot pages number root → IsMap root.slots pages (map_at root.slots root.area) owners → LacksStore pages root owners → IsNoStore pages
-no_store {pages = pages} {root = root} {owners = owners} has map lacks slots tables opens =
-    let roots : root ≡ opens.root = (one_root has opens.store.root_there).1 in
-    let there : IsStore pages opens.number root opens.owners opens.values = subst (λ (r : Root). IsStore pages opens.number r opens.owners opens.values) (sym roots) opens.store in
-    let maps : owners ≡ opens.owners = one_map has.there.formed map there.map in
-    lacks opens.number opens.values (subst (λ (o : List (Option PageKey)). IsStore pages opens.number root o opens.values) (sym maps) there)
+no_store {pages = pages} {root = root} {owners = owners} has map lacks size tables opens =
+    let roots : root ≡ opens.stored.root = (one_root has opens.store.root_there).1 in
+    let there : IsStore pages (stored opens.stored.number root opens.stored.owners opens.stored.values) = subst (λ (r : Root). IsStore pages (stored opens.stored.number r opens.stored.owners opens.stored.values)) (sym roots) opens.store in
+    let maps : owners ≡ opens.stored.owners = one_map has.there.formed map there.map in
+    lacks opens.stored.number opens.stored.values (subst (λ (o : List (Option PageKey)). IsStore pages (stored opens.stored.number root o opens.stored.values)) (sym maps) there)
 
 -- where there isn't room for each page in two slots, that is why
-pub refused_damaged : {pages : Pages} {number : ℕ} {root : Root} {owners : List (Option PageKey)} (place : Place) → HasRoot pages number root → IsMap root.slots pages (map_at root.slots root.area) owners → LacksStore pages root owners → (root.slots < 2 * count_by is_some owners → place ≡ Room) → IsRefused pages (Damaged place)
-refused_damaged {root = root} {owners = owners} place has map lacks room = record {
+pub refused_damaged : {pages : Pages} {number : ℕ} {root : Root} {owners : List (Option PageKey)} (place : Place) → HasRoot pages number root → IsMap root.slots pages (map_at root.slots root.area) owners → LacksStore pages root owners → (root.slots < 2 * count_by is_some owners → place ≡ Room) → (place ≡ Room → root.slots < 2 * count_by is_some owners) → IsRefused pages (Damaged place)
+refused_damaged {number = number} {root = root} {owners = owners} place has map lacks room only = record {
   broken = λ other is. absurd (cc);
   names = λ other there. absurd (sound_unbroken has map other there);
   no_store = λ other is. no_store has map lacks;
+  only_overfull = λ is. let same : place ≡ Room = cc in record { number = number; root = root; owners = owners; root_there = has; map = map; over = only same };
   overfull = λ over.
       let roots : root ≡ over.root = (one_root has over.root_there).1 in
       let maps : owners ≡ over.owners = one_map has.there.formed map (subst (λ (r : Root). IsMap r.slots _ (map_at r.slots r.area) over.owners) (sym roots) over.map) in
@@ -74,8 +76,12 @@ refused_damaged {root = root} {owners = owners} place has map lacks room = recor
 pub lacks_room : (pages : Pages) (root : Root) (owners : List (Option PageKey)) → AreDistinct owners → root.slots < 2 * count_by is_some owners → LacksStore pages root owners
 lacks_room pages root owners distinct over number values store = omega (arith, store.room, pages_counted owners (home_pages (length values)) distinct store.mapped)
 
+-- a map of more home pages than a store has
+pub lacks_tuples : (pages : Pages) (root : Root) (owners : List (Option PageKey)) → AreDistinct owners → home_limit < count_by is_home owners → LacksStore pages root owners
+lacks_tuples pages root owners distinct over number values store = omega (arith, over, store.few, home_counted owners (home_pages (length values)) distinct store.mapped)
+
 -- each page of a store's map is one of its tuples, or zeros
-page_of : {pages : Pages} {number : ℕ} {root : Root} {owners : List (Option PageKey)} {values : List ℤ} → AreDistinct owners → IsStore pages number root owners values → (slot : ℕ) (key : PageKey) → owner_of owners slot ≡ Some key → IsPageOf values key (page pages (slots_at root.slots root.log_pages + slot))
+page_of : {pages : Pages} {number : ℕ} {root : Root} {owners : List (Option PageKey)} {values : List ℤ} → AreDistinct owners → IsStore pages (stored number root owners values) → (slot : ℕ) (key : PageKey) → owner_of owners slot ≡ Some key → IsPageOf values key (page pages (slots_at root.slots root.log_pages + slot))
 page_of {pages = pages} {root = root} {owners = owners} {values = values} distinct store slot key owned =
     let first = slots_at root.slots root.log_pages in
     let home = home_pages (length values) in
@@ -104,9 +110,9 @@ lacks_key pages root owners home key distinct counted is unmapped number values 
     cc
 
 -- a fault of the pages of a sound map that has room
-pub refused_pages : {pages : Pages} {number : ℕ} {root : Root} {owners : List (Option PageKey)} (fault : OpenFault) → HasRoot pages number root → IsMap root.slots pages (map_at root.slots root.area) owners → 2 * count_by is_some owners ≤ root.slots → ((place : Place) → fault ≡ NotAStore place → ⊥) → (fault ≡ NoSize → ⊥) → ((place : Place) → fault ≡ Damaged place → LacksStore pages root owners) → IsRefused pages fault
-refused_pages (NotAStore place) has map room sound sized lacks = absurd (sound place refl)
-refused_pages {pages = pages} DeviceFailed has map room sound sized lacks = refused_device pages
-refused_pages (Damaged place) has map room sound sized lacks = refused_damaged place has map (lacks place refl) (λ over. absurd (omega arith))
-refused_pages NoSize has map room sound sized lacks = absurd (sized refl)
-refused_pages {pages = pages} LacksMemory has map room sound sized lacks = refused_memory pages
+pub refused_pages : {pages : Pages} {number : ℕ} {root : Root} {owners : List (Option PageKey)} (fault : OpenFault) → HasRoot pages number root → IsMap root.slots pages (map_at root.slots root.area) owners → 2 * count_by is_some owners ≤ root.slots → ((place : Place) → fault ≡ NotAStore place → ⊥) → (fault ≡ NoSize → ⊥) → ((place : Place) → fault ≡ Damaged place → LacksStore pages root owners) → (fault ≡ Damaged Room → ⊥) → IsRefused pages fault
+refused_pages (NotAStore place) has map room sound sized lacks other = absurd (sound place refl)
+refused_pages {pages = pages} DeviceFailed has map room sound sized lacks other = refused_device pages
+refused_pages (Damaged place) has map room sound sized lacks other = refused_damaged place has map (lacks place refl) (λ over. absurd (omega arith)) (λ is. absurd (other (ap Damaged is)))
+refused_pages NoSize has map room sound sized lacks other = absurd (sized refl)
+refused_pages {pages = pages} LacksMemory has map room sound sized lacks other = refused_memory pages

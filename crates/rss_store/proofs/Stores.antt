@@ -4,7 +4,8 @@ use Rattle.std.specs.Prelude.{All, FitsSigned, count_by, is_some}
 use Rattle.std.specs.Int.{w64}
 use Rattle.std.proofs.lemmas.Bool.{cases_eq}
 use Rattle.std.proofs.lemmas.Option.{same_Some}
-use Rattle.rss_base.specs.DiskRule.{Disk, Pages}
+use Rattle.rss_base.specs.DiskRule.{Pages}
+use Rattle.rss_base.specs.Devices.{DeviceView, OnlyReads}
 use Rattle.rss_base.specs.Layout.{map_at, slots_at, IsWellFormed, HasRoot, root_of}
 use Rattle.rss_base.specs.PageMap.{IsMap, IsMapFault}
 use Rattle.rss_base.specs.Paged.{Held}
@@ -16,8 +17,10 @@ use Rattle.rss_root.proofs.Reading.{same_root}
 use Rattle.rss_root.proofs.Faults.{fault_once, root_no_fault}
 use Rattle.rss_pagemap.proofs.Maps.{same_map, no_fault, one_fault}
 use Rattle.rss_model.specs.Calls.{EngineView}
+use Rattle.rss_model.specs.Machine.{StoreSize, State, IsAtRest}
+use Rattle.rss_model.specs.Meter.{IsCheckpointed}
 use Rattle.rss_model.specs.Tables.{Tables}
-use Rattle.rss_model.specs.Store.{tables_of, home_pages, home_page, values_on, HoldsTuples, IsStore, OpensTo, IsBrokenAt, IsOverfull, at_root, at_map}
+use Rattle.rss_model.specs.Store.{tables_of, home_pages, home_page, values_on, HoldsTuples, stored, size_of, IsStore, OpensTo, IsBrokenAt, IsOverfull, at_root, at_map}
 use Rattle.rss_store.proofs.Counting.{pages_counted}
 use Rattle.rss_store.specs.HomePages.{values_in}
 use Rattle.rss_store.specs.Opening.{IsOpened}
@@ -50,19 +53,21 @@ same_count held xs ys pages first second = elim (cases_eq (home_pages (length xs
 pub one_list : (held : Held) (xs ys : List ℤ) → home_pages (length xs) ≡ home_pages (length ys) → HoldsTuples held xs → HoldsTuples held ys → All (FitsSigned w64) xs → All (FitsSigned w64) ys → xs ≡ ys
 one_list held xs ys pages first second fit_xs fit_ys = sym (values_held held xs first fit_xs) ∙ ap (values_in held) (same_count held xs ys pages first second) ∙ values_held held ys second fit_ys
 
-same_values : {pages : Pages} {m n : ℕ} {root : Root} {owners : List (Option PageKey)} (xs ys : List ℤ) → IsStore pages m root owners xs → IsStore pages n root owners ys → xs ≡ ys
+same_values : {pages : Pages} {m n : ℕ} {root : Root} {owners : List (Option PageKey)} (xs ys : List ℤ) → IsStore pages (stored m root owners xs) → IsStore pages (stored n root owners ys) → xs ≡ ys
 same_values {pages = pages} {root = root} {owners = owners} xs ys first second =
     let distinct = first.map.begins.distinct in
     let as_many : home_pages (length xs) ≡ home_pages (length ys) = omega (arith, pages_counted owners (home_pages (length xs)) distinct first.mapped, pages_counted owners (home_pages (length ys)) distinct second.mapped) in
     one_list (held_at (slots_at root.slots root.log_pages) pages owners) xs ys as_many first.tuples second.tuples first.fit second.fit
 
-pub one_store : {pages : Pages} {s t : ℕ} {tables other : Tables} → OpensTo pages s tables → OpensTo pages t other → (s ≡ t) × (tables ≡ other)
+pub one_store : {pages : Pages} {s t : StoreSize} {tables other : Tables} → OpensTo pages s tables → OpensTo pages t other → (s ≡ t) × (tables ≡ other)
 one_store {pages = pages} first second =
-    let roots : first.root ≡ second.root = (one_root first.store.root_there second.store.root_there).1 in
-    let there : IsStore pages second.number first.root second.owners second.values = subst (λ (root : Root). IsStore pages second.number root second.owners second.values) (sym roots) second.store in
-    let maps : first.owners ≡ second.owners = one_map first.store.root_there.there.formed first.store.map there.map in
-    let values : first.values ≡ second.values = same_values first.values second.values first.store (subst (λ (owners : List (Option PageKey)). IsStore pages second.number first.root owners second.values) (sym maps) there) in
-    (first.size ∙ ap (λ (root : Root). root.slots) roots ∙ sym second.size, first.holds ∙ ap tables_of values ∙ sym second.holds)
+    let one = first.stored in
+    let two = second.stored in
+    let roots : one.root ≡ two.root = (one_root first.store.root_there second.store.root_there).1 in
+    let there : IsStore pages (stored two.number one.root two.owners two.values) = subst (λ (root : Root). IsStore pages (stored two.number root two.owners two.values)) (sym roots) second.store in
+    let maps : one.owners ≡ two.owners = one_map first.store.root_there.there.formed first.store.map there.map in
+    let values : one.values ≡ two.values = same_values one.values two.values first.store (subst (λ (owners : List (Option PageKey)). IsStore pages (stored two.number one.root owners two.values)) (sym maps) there) in
+    (first.same_size ∙ ap size_of roots ∙ sym second.same_size, first.holds ∙ ap tables_of values ∙ sym second.holds)
 
 -- ---- pages that are out of form
 
@@ -73,7 +78,7 @@ sound_unbroken {pages = pages} {root = root} has map place (at_map {root = other
     let roots : root ≡ other = (one_root has there).1 in
     no_fault has.there.formed.slots_most map (subst (λ (r : Root). IsMapFault r.slots pages (map_at r.slots r.area) place) (sym roots) fault)
 
-pub store_unbroken : {pages : Pages} {slots : ℕ} {tables : Tables} → OpensTo pages slots tables → (place : Place) → IsBrokenAt place pages → ⊥
+pub store_unbroken : {pages : Pages} {size : StoreSize} {tables : Tables} → OpensTo pages size tables → (place : Place) → IsBrokenAt place pages → ⊥
 store_unbroken opens place broken = sound_unbroken opens.store.root_there opens.store.map place broken
 
 -- there is one such place at most
@@ -85,19 +90,31 @@ broken_once {pages = pages} {q = q} (at_map {root = root} has first) (at_map {ro
     let roots : root ≡ other = (one_root has there).1 in
     one_fault has.there.formed.slots_most first (subst (λ (r : Root). IsMapFault r.slots pages (map_at r.slots r.area) q) (sym roots) second)
 
+-- a state at rest, by its own size and tables
+pub rest_itself : {size : StoreSize} {tables : Tables} {state : State} → IsAtRest size tables state → IsAtRest state.size state.base state
+rest_itself {size = size} {tables = tables} {state = state} rest = record {
+  same_size = refl;
+  committed = refl;
+  none_changed = rest.none_changed;
+  none_open = rest.none_open;
+  meter = subst (λ (t : Tables). IsCheckpointed state.size.slots t state.meter) (sym rest.committed) (subst (λ (s : StoreSize). IsCheckpointed s.slots tables state.meter) (sym rest.same_size) rest.meter);
+}
+
 -- what was opened, seen from an earlier moment
-pub opened_before : {old mid : Disk} {new : EngineView} → mid.contents ≡ old.contents → IsOpened mid new → IsOpened old new
-opened_before same is = record {
-  reads = λ pages told. is.reads pages (same ∙ told);
+pub opened_before : {old mid : DeviceView} {new : EngineView} → OnlyReads old mid → IsOpened mid new → IsOpened old new
+opened_before reads is = record {
+  state = is.state;
+  shows = is.shows;
+  reads = λ pages told. is.reads pages (reads.contents ∙ told);
   rest = is.rest;
   opens = is.opens;
   up = is.up;
-  unbroken = λ place pages told. is.unbroken place pages (same ∙ told);
-  not_overfull = λ pages told. is.not_overfull pages (same ∙ told);
+  unbroken = λ place pages told. is.unbroken place pages (reads.contents ∙ told);
+  not_overfull = λ pages told. is.not_overfull pages (reads.contents ∙ told);
 }
 
 -- a store has room
-pub not_overfull : {pages : Pages} {number : ℕ} {root : Root} {owners : List (Option PageKey)} {values : List ℤ} → IsStore pages number root owners values → IsOverfull pages → ⊥
+pub not_overfull : {pages : Pages} {number : ℕ} {root : Root} {owners : List (Option PageKey)} {values : List ℤ} → IsStore pages (stored number root owners values) → IsOverfull pages → ⊥
 not_overfull {root = root} {owners = owners} {values = values} store over =
     let roots : root ≡ over.root = (one_root store.root_there over.root_there).1 in
     let maps : owners ≡ over.owners = one_map store.root_there.there.formed store.map (subst (λ (r : Root). IsMap r.slots _ (map_at r.slots r.area) over.owners) (sym roots) over.map) in

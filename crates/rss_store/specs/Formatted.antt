@@ -2,7 +2,7 @@
 use Rattle.std.specs.Prelude.{◌≡◌, ℕ, ◌+◌, ◌-◌, ◌<◌, ◌≤◌, List, [], ◌∷◌, ◌++◌, map, replicate, Option, Some, None}
 use Rattle.std.specs.List.{range_with_len}
 use Rattle.rss_base.specs.Sizes.{zero_page, slots_least, slots_most, log_pages_least, log_pages_most, system_pages}
-use Rattle.rss_base.specs.DiskRule.{Pages, page, SameOff, IsWithin}
+use Rattle.rss_base.specs.DiskRule.{Disk, Pages, page, Told, LeavesOnly, SameOff, IsWithin}
 use Rattle.rss_base.specs.Layout.{map_at, slots_at, HasRoot}
 use Rattle.rss_base.specs.PageMap.{IsMap}
 use Rattle.rss_base.specs.Paged.{page_key}
@@ -46,6 +46,11 @@ pub record IsFormatted (slots log_pages : ℕ) (pages : Pages) : Type 0 where
   pub map : IsMap slots pages (map_at slots 0) (first_owners slots)
   pub system : (number : ℕ) → number < system_pages
       → page pages (slots_at slots log_pages + number) ≡ zero_page
+
+-- a device that holds such a store, and a stop leaves what a read gives
+pub record HoldsFormatted (slots log_pages : ℕ) (disk : Disk) : Type 0 where
+  pub formatted : Told disk (IsFormatted slots log_pages)
+  pub synced : Told disk (LeavesOnly disk)
 
 -- ---- as it is made
 

@@ -6,21 +6,23 @@ use Rattle.std.specs.FinMap.{FinMap}
 use Rattle.rss_base.specs.declared.value.Value.TheVariants.{Int}
 use Rattle.rss_model.specs.Items.{Content, Values}
 use Rattle.rss_model.specs.Changes.{Change}
-use Rattle.rss_model.specs.Machine.{State}
-use Rattle.rss_model.specs.Store.{item_at, tables_of, home_pages}
+use Rattle.rss_model.specs.Machine.{StoreSize, State}
+use Rattle.rss_model.specs.Steps.{insertion}
+use Rattle.rss_base.specs.Sizes.{system_pages}
+use Rattle.rss_model.specs.Store.{relation_r, tid_at, tables_of, home_pages}
 
 -- what a tuple item holds
 abbrev pub held : ℤ → Content
 held z = Values (Int z ∷ [])
 
 -- a transaction inserts a value at a place
-abbrev pub insertion : ℕ → ℕ → ℤ → Change
-insertion transaction place z = record { by = transaction; item = item_at place; old = None; new = Some (held z) }
+abbrev pub insertion_at : ℕ → ℕ → ℤ → Change
+insertion_at transaction place z = insertion transaction relation_r (tid_at place) (Int z ∷ [])
 
 -- what a transaction inserts where its values stand from a place on, the newest first
 abbrev pub inserts : ℕ → ℕ → List ℤ → List Change
 inserts transaction place [] = []
-inserts transaction place (z ∷ values) = inserts transaction (place + 1) values ++ insertion transaction place z ∷ []
+inserts transaction place (z ∷ values) = inserts transaction (place + 1) values ++ insertion_at transaction place z ∷ []
 
 abbrev pub changes_of : Option ℕ → ℕ → List ℤ → List Change
 changes_of None place values = []
@@ -30,10 +32,10 @@ abbrev pub marks_of : Option ℕ → FinMap nat_cmp (List ℕ)
 marks_of None = map.empty
 marks_of (Some transaction) = map.insert map.empty transaction []
 
--- The state of a store of so many slots where this transaction is open, if any, and the first values are committed. Each end that commits is a checkpoint.
-abbrev pub state_of : ℕ → Option ℕ → ℕ → List ℤ → State
-state_of slots transaction committed values = record {
-  slots = slots;
+-- The state of a store of this size where this transaction is open, if any, and the first values are committed. Each end that commits is a checkpoint.
+abbrev pub state_of : StoreSize → Option ℕ → ℕ → List ℤ → State
+state_of size transaction committed values = record {
+  size = size;
   base = tables_of (take committed values);
   changes = changes_of transaction committed (drop committed values);
   marks = marks_of transaction;
@@ -42,4 +44,4 @@ state_of slots transaction committed values = record {
 
 -- how many slots one more tuple may need, where so many of these are committed
 abbrev pub needed : ℕ → ℕ → ℕ
-needed committed count = 2 * (home_pages committed + 4 * (count - committed + 1) + 10)
+needed committed count = 2 * (home_pages committed + 4 * (count - committed + 1) + system_pages)

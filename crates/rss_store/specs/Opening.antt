@@ -1,20 +1,22 @@
 -- What an opening finds in the pages of a device.
-use Rattle.std.specs.Prelude.{◌≡◌, ◌⊎◌, ℕ, ℤ, ◌+◌, ◌-◌, ◌*◌, ◌<◌, ◌≤◌, min, Bool, true, false, ◌&&◌, ◌==◌, List, length, count_by, Option, Some, None, is_some, All, FitsSigned}
+use Rattle.std.specs.Prelude.{◌≡◌, ◌⊎◌, ℕ, ℤ, ◌+◌, ◌-◌, ◌*◌, ◌/◌, ◌<◌, ◌≤◌, min, Bool, true, false, ◌&&◌, ◌==◌, List, length, count_by, Option, Some, None, is_some, Result, Err, IsErrOf, All, FitsSigned}
 use Rattle.std.specs.Int.{w64}
 use Rattle.rss_base.specs.declared.fault.OpenFault.{OpenFault}
-use Rattle.rss_base.specs.declared.fault.OpenFault.TheVariants.{Device as DeviceFailed, NotAStore, Damaged, NoMemory as LacksMemory}
+use Rattle.rss_base.specs.declared.fault.OpenFault.TheVariants.{Device as DeviceFailed, NotAStore, Damaged, WrongSize, NoMemory as LacksMemory}
 use Rattle.rss_base.specs.declared.root.Root.{Root}
 use Rattle.rss_base.specs.declared.key.Space.TheVariants.{Home, System}
 use Rattle.rss_base.specs.declared.key.PageKey.{PageKey}
 use Rattle.rss_base.specs.declared.place.Place.{Place}
 use Rattle.rss_base.specs.declared.place.Place.TheVariants.{Room}
-use Rattle.rss_base.specs.DiskRule.{Disk, Pages, page, Told, IsTold}
-use Rattle.rss_base.specs.Sizes.{zero_page}
+use Rattle.rss_base.specs.DiskRule.{Pages, page, Told, IsTold}
+use Rattle.rss_base.specs.Devices.{DeviceView, ReadsStore}
+use Rattle.rss_base.specs.Sizes.{zero_page, page_entries, system_pages}
 use Rattle.rss_base.specs.Layout.{map_at, slots_at, IsWellFormed, HasRoot}
 use Rattle.rss_base.specs.PageMap.{space_code, owner_of, IsTable, IsMap}
 use Rattle.rss_model.specs.Calls.{EngineView}
-use Rattle.rss_model.specs.Machine.{at_rest}
-use Rattle.rss_model.specs.Store.{home_pages, values_on, home_page, store_pages, HasFirstLog, IsStore, OpensTo, Opens, IsBrokenAt, IsOverfull, IsNoStore}
+use Rattle.rss_model.specs.Machine.{State, IsAtRest}
+use Rattle.rss_model.specs.Fits.{tuple_limit}
+use Rattle.rss_model.specs.Store.{home_pages, values_on, home_page, store_pages, HasFirstLog, stored, IsStore, OpensTo, Opens, IsBrokenAt, IsOverfull, IsNoStore}
 use Rattle.rss_store.specs.HomePages.{IsHomePage}
 
 -- ---- the pages of slots
@@ -24,13 +26,17 @@ abbrev pub is_home : Option PageKey → Bool
 is_home None = false
 is_home (Some key) = (key.segment == 1) && (space_code key.space == space_code Home)
 
+-- a page of the system space is one of those that this has
+abbrev pub MaySystem : PageKey → Type 0
+MaySystem key = key.space ≡ System → (key.segment ≡ 0) × (key.number < system_pages)
+
 -- a page of a store with so many home pages, and how many tuples it may have: each home page but the
 -- last is full
 pub record MayHave (home : ℕ) (key : PageKey) (tuples : ℕ) : Type 0 where
   pub mapped : store_pages home key ≡ true
-  pub full : key.space ≡ Home → key.number + 1 < home → tuples ≡ 128
+  pub full : key.space ≡ Home → key.number + 1 < home → tuples ≡ page_entries
   pub some : key.space ≡ Home → 1 ≤ tuples
-  pub few : key.space ≡ Home → tuples ≤ 128
+  pub few : key.space ≡ Home → tuples ≤ page_entries
 
 -- the bytes are those of a page with so many tuples
 pub record HasTuplesOn (bytes : List ℕ) (key : PageKey) (tuples : ℕ) : Type 0 where
@@ -59,7 +65,7 @@ AreStoreKeys home owners done =
 abbrev pub HoldStorePages : ℕ → ℕ → Pages → List (Option PageKey) → ℕ → Type 0
 HoldStorePages count first pages owners done =
     (slot : ℕ) (key : PageKey) → slot < done → owner_of owners slot ≡ Some key
-    → HasTuplesOn (page pages (first + slot)) key (min 128 (count - 128 * key.number))
+    → HasTuplesOn (page pages (first + slot)) key (min page_entries (count - page_entries * key.number))
 
 -- some slot holds no page of a store with so many home pages
 pub record HoldsNoPage (home first : ℕ) (pages : Pages) (owners : List (Option PageKey)) : Type 0 where
@@ -68,12 +74,24 @@ pub record HoldsNoPage (home first : ℕ) (pages : Pages) (owners : List (Option
   pub owned : owner_of owners slot ≡ Some key
   pub none : IsNoPageOf home key (page pages (first + slot))
 
+-- What the reading of a map's pages passes on, by its result: the layout was found sound before, and the map to have room.
+pub record ChecksPages {T : Type 0} (old new : DeviceView) (result : Result T OpenFault) : Type 0 where
+  pub store : ReadsStore old new result
+  pub size : new.size ≡ old.size
+  pub sound : (place : Place) → result ≡ Err (NotAStore place) → ⊥
+  pub right_size : IsErrOf result WrongSize → ⊥
+  pub elsewhere : IsErrOf result (Damaged Room) → ⊥
+
 -- ---- pages that don't open
+
+-- a store has no more home pages than this
+abbrev pub home_limit : ℕ
+home_limit = tuple_limit / page_entries
 
 -- the map with its root is that of no store
 abbrev pub LacksStore : Pages → Root → List (Option PageKey) → Type 0
 LacksStore pages root owners =
-    (number : ℕ) (values : List ℤ) → IsStore pages number root owners values → ⊥
+    (number : ℕ) (values : List ℤ) → IsStore pages (stored number root owners values) → ⊥
 
 -- why the pages don't open
 pub record IsRefused (pages : Pages) (fault : OpenFault) : Type 0 where
@@ -81,6 +99,7 @@ pub record IsRefused (pages : Pages) (fault : OpenFault) : Type 0 where
   pub names : (place : Place) → IsBrokenAt place pages
       → (fault ≡ NotAStore place) ⊎ (fault ≡ DeviceFailed) ⊎ (fault ≡ LacksMemory)
   pub no_store : (place : Place) → fault ≡ Damaged place → IsNoStore pages
+  pub only_overfull : fault ≡ Damaged Room → IsOverfull pages
   pub overfull : IsOverfull pages
       → (fault ≡ Damaged Room) ⊎ (fault ≡ DeviceFailed) ⊎ (fault ≡ LacksMemory)
 
@@ -97,6 +116,7 @@ pub record IsSound (root : Root) (number : ℕ) (owners : List (Option PageKey))
   pub half : 2 * count_by is_some owners ≤ length owners
   pub home_counted : home ≡ count_by is_home owners
   pub home_needed : home_pages count ≡ home
+  pub few : count ≤ tuple_limit
   pub keys : AreStoreKeys home owners (length owners)
 
 -- the pages have this root, this map, and pages of so many tuples
@@ -107,10 +127,12 @@ pub record HoldsSound (pages : Pages) (root : Root) (number : ℕ) (owners : Lis
 
 -- The engine over the pages that were opened: at rest with the tables that they hold, which a stop
 -- leaves. They are out of form nowhere.
-pub record IsOpened (old : Disk) (new : EngineView) : Type 0 where
-  pub reads : Told old (λ pages. OpensTo pages new.state.slots new.state.base)
-  pub rest : new.state ≡ at_rest new.state.slots new.state.base
-  pub opens : IsTold new.disk → Opens new.disk new.state.slots new.state.base
+pub record IsOpened (old : DeviceView) (new : EngineView) : Type 0 where
+  pub state : State
+  pub shows : new.shows state
+  pub reads : Told old.disk (λ pages. OpensTo pages state.size state.base)
+  pub rest : IsAtRest state.size state.base state
+  pub opens : IsTold new.disk → Opens new.disk state.size state.base
   pub up : new.is_up
-  pub unbroken : (place : Place) → Told old (λ pages. IsBrokenAt place pages → ⊥)
-  pub not_overfull : Told old (λ pages. IsOverfull pages → ⊥)
+  pub unbroken : (place : Place) → Told old.disk (λ pages. IsBrokenAt place pages → ⊥)
+  pub not_overfull : Told old.disk (λ pages. IsOverfull pages → ⊥)

@@ -9,9 +9,16 @@ use Rattle.rss_store.specs.declared.engine.Store.{Store}
 use Rattle.rss_store.specs.HomePages.{values_in}
 use Rattle.rss_store.specs.Sessions.{state}
 
--- what there is to see of an engine over these pages
+-- what there is to see of an engine over these pages, which shows one state
 abbrev pub engine_view : PagesView → State → Type 0 → EngineView
-engine_view pages state is_up = record { disk = pages.disk; state = state; is_up = is_up; asks = pages.asks; writes = pages.writes; faults = pages.faults }
+engine_view pages one is_up = record {
+  disk = pages.disk;
+  shows = λ state. state ≡ one;
+  is_up = is_up;
+  asks = pages.asks;
+  writes = pages.writes;
+  faults = pages.faults;
+}
 
 module _ {S : Type 0} {g : Ghosts S} {h : PagesGhosts S} where
   -- the pages under the store
@@ -20,7 +27,7 @@ module _ {S : Type 0} {g : Ghosts S} {h : PagesGhosts S} where
 
   -- the machine's state, over the values that stand in the pages
   abbrev pub machine : Store S g h → State
-  machine store = state store.session (values_in (h.view store.pages).held store.session.count)
+  machine store = state store.session store.root.log_pages (values_in (h.view store.pages).held store.session.count)
 
   -- what there is to see of a store
   abbrev pub view : Store S g h → EngineView

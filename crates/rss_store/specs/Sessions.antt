@@ -1,24 +1,32 @@
 -- The machine's state of a session over the values of the tuples, and how the machine answers there.
-use Rattle.std.specs.Prelude.{◌≡◌, ℤ, List, length, Err}
+use Rattle.std.specs.Prelude.{◌≡◌, ℕ, ℤ, List, length, Some, Err}
 use Rattle.rss_base.specs.declared.call.Call.{Call}
 use Rattle.rss_base.specs.declared.refusal.Refusal.{Refusal}
-use Rattle.rss_model.specs.Machine.{State}
-use Rattle.rss_model.specs.Steps.{Answer, Step}
+use Rattle.rss_model.specs.Machine.{StoreSize, State}
+use Rattle.rss_model.specs.Steps.{Answer, Step, refusal}
 use Rattle.rss_model.specs.ReplyText.{IsShort}
 use Rattle.rss_store.specs.Held.{state_of}
 use Rattle.rss_store.specs.declared.session.Session.{Session}
 
-abbrev pub state : Session → List ℤ → State
-state session values = state_of session.slots session.transaction session.committed values
+-- the size of the store, where it has so many log pages
+abbrev pub size_with : Session → ℕ → StoreSize
+size_with session log_pages = record { slots = session.slots; log_pages = log_pages }
 
--- Whatever the values are, the machine may answer the call so, and none of them changes.
+abbrev pub state : Session → ℕ → List ℤ → State
+state session log_pages values =
+    state_of (size_with session log_pages) session.transaction session.committed values
+
+-- Whatever the values and the log's pages are, the machine may answer the call so, and none of them changes.
 pub record Answers (old new : Session) (call : Call) (answer : Answer) : Type 0 where
-  pub step : (values : List ℤ) → length values ≡ old.count → Step (state old values) call answer (state new values)
+  pub step : (log_pages : ℕ) (values : List ℤ) → length values ≡ old.count
+      → Step (state old log_pages values) call answer (state new log_pages values)
   pub short : IsShort answer
 
--- The machine refuses the call, and nothing changes.
-abbrev pub Refuses : Session → Call → Refusal → Type 0
-Refuses session call why = Answers session session call (Err why)
+-- Whatever they are, the machine refuses the call.
+pub record Refuses (session : Session) (call : Call) (why : Refusal) : Type 0 where
+  pub refused : (log_pages : ℕ) (values : List ℤ) → length values ≡ session.count
+      → refusal (state session log_pages values) call ≡ Some why
+  pub short : IsShort (Err why)
 
 -- as many tuples, and as many of them committed
 pub record KeepsCounts (old new : Session) : Type 0 where

@@ -1,19 +1,22 @@
 // The pages that the map of a store names.
-ghost use Rattle.std.specs.Prelude.{◌≡◌, ◌≢◌, ◌↔◌, ◌+◌, ◌^◌, ◌<◌, ◌≤◌, ℤ, List, length, count_by, true, false, Err, All, FitsSigned, IsTrue, IfSome, IfNone, IfOk, IsErrOf};
+ghost use Rattle.std.specs.Prelude.{◌≡◌, ◌≢◌, ◌↔◌, ◌+◌, ◌^◌, ◌<◌, ◌≤◌, ℤ, List, length, count_by};
+ghost use Rattle.std.specs.Prelude.{true, false, Err, All, FitsSigned, IsTrue, IfSome, IfNone};
+ghost use Rattle.std.specs.Prelude.{IfOk};
 ghost use Rattle.std.specs.Int.{w64};
-ghost use Rattle.rss_base.specs.DiskRule.{page as page_at, Told, OnlyReads};
-ghost use Rattle.rss_base.specs.Faults.{Rises};
-ghost use Rattle.rss_base.specs.Sizes.{slots_most, system_pages};
+ghost use Rattle.rss_base.specs.DiskRule.{page as page_at, Told};
+ghost use Rattle.rss_base.specs.Sizes.{slots_most, system_pages, page_entries};
 ghost use Rattle.rss_base.specs.Layout.{device_pages, slots_at, IsWellFormed};
 ghost use Rattle.rss_base.specs.PageMap.{IsTable, page_count};
-ghost use Rattle.rss_base.specs.declared.fault.OpenFault.TheVariants.{NotAStore as Unsound, Damaged as IsDamaged};
+ghost use Rattle.rss_base.specs.declared.fault.OpenFault.TheVariants.{Damaged as IsDamaged};
 ghost use Rattle.rss_base.specs.declared.key.PageKey.{PageKey as Key};
 ghost use Rattle.rss_base.specs.declared.key.Space.TheVariants.{Home, System};
 ghost use Rattle.rss_base.specs.declared.place.Place.{Place as AnyPlace};
-ghost use Rattle.rss_base.specs.declared.place.Place.TheVariants.{Catalog as CatalogPlace, Page as PagePlace};
+ghost use Rattle.rss_base.specs.declared.place.Place.TheVariants.{Catalog as CatalogPlace};
+ghost use Rattle.rss_base.specs.declared.place.Place.TheVariants.{Page as PagePlace, Room as NoRoom};
 ghost use Rattle.rss_model.specs.Store.{home_pages, values_on, home_page, is_page_of};
 ghost use Rattle.rss_store.specs.HomePages.{IsHomePage};
-ghost use Rattle.rss_store.specs.Opening.{is_home, MayHave, HasTuplesOn, IsNoPageOf, AreStoreKeys, HoldStorePages, HoldsNoPage};
+ghost use Rattle.rss_store.specs.Opening.{is_home, MaySystem, MayHave, HasTuplesOn, IsNoPageOf};
+ghost use Rattle.rss_store.specs.Opening.{AreStoreKeys, HoldStorePages, HoldsNoPage, ChecksPages};
 
 use crate::home_page::{PAGE_ENTRIES, tuples_of};
 use rss_base::{Device, OpenFault, PAGE_BYTES, Page, PageKey, Pages, Place, Root, Space, slots_at};
@@ -60,6 +63,7 @@ pub(crate) fn place_of(key: PageKey) -> Place
     requires { key.space ≡ System → key.number < system_pages }
     ensures catalog { key.space ≡ System → result ≡ CatalogPlace key.number }
     ensures page { key.space ≢ System → result ≡ PagePlace key }
+    ensures elsewhere { result ≢ NoRoom }
 {
     match key.space {
         Space::System => Place::Catalog(key.number as u8),
@@ -76,24 +80,18 @@ pub(crate) fn check_pages<D: Device>(
     home: u32,
 ) -> Result<u32, OpenFault>
     requires formed { IsWellFormed root.now }
-    requires size { D.size_of device.old ≡ device_pages root.now }
+    requires size { (D.view device.old).size ≡ device_pages root.now }
     requires count { length table.now ≡ root.now.slots }
     requires few { home ≤ slots_most }
     ensures home { IfOk result (λ count. home_pages count ≡ home) }
     ensures keys { IfOk result (λ _. AreStoreKeys home table.now (length table.now)) }
-    ensures pages { IfOk result (λ count. Told (D.disk device.old) (λ pages.
+    ensures pages { IfOk result (λ count. Told (D.view device.old).disk (λ pages.
         HoldStorePages count (slots_at root.now.slots root.now.log_pages) pages table.now
         (length table.now))) }
     ensures damaged { (place : AnyPlace) → result ≡ Err (IsDamaged place)
-        → Told (D.disk device.old) (λ pages.
+        → Told (D.view device.old).disk (λ pages.
         HoldsNoPage home (slots_at root.now.slots root.now.log_pages) pages table.now) }
-    ensures sound { (place : AnyPlace) → result ≡ Err (Unsound place) → ⊥ }
-    ensures wrong_size { IsErrOf result OpenFault.WrongSize → ⊥ }
-    ensures cause { IsErrOf result OpenFault.Device
-        → Rises (D.faults device.old) (D.faults device.new) }
-    ensures reads { OnlyReads (D.disk device.old) (D.disk device.new) (D.writes device.old)
-        (D.writes device.new) (D.faults device.old) (D.faults device.new) }
-    ensures size { D.size_of device.new ≡ D.size_of device.old }
+    ensures did { ChecksPages (D.view device.old) (D.view device.new) result }
 {
     let first = slots_at(root.slots, root.log_pages);
     let mut count = FULL * home;
@@ -103,8 +101,9 @@ pub(crate) fn check_pages<D: Device>(
     Ok(count)
 }
 
-/// Reads the page of a slot, where it has one. The pages of the slots before it have so many tuples,
-/// where the last home page is full or among them; answers the same of those up to this slot.
+/// Reads the page of a slot, where it has one. The pages of the slots before it have so many
+/// tuples, where the last home page is full or among them; answers the same of those up to this
+/// slot.
 fn check_slot<D: Device>(
     device: &mut D,
     first: u64,
@@ -116,25 +115,19 @@ fn check_slot<D: Device>(
     requires table { IsTable table.now }
     requires within { slot < length table.now }
     requires low { first < 2 ^ 32 }
-    requires room { first + length table.now ≤ D.size_of device.old }
+    requires room { first + length table.now ≤ (D.view device.old).size }
     requires few { home ≤ slots_most }
     requires home { home_pages count ≡ home }
     ensures home { IfOk result (λ now. home_pages now ≡ home) }
     ensures keys { IfOk result (λ _.
         AreStoreKeys home table.now slot → AreStoreKeys home table.now (slot + 1)) }
-    ensures pages { IfOk result (λ now. Told (D.disk device.old) (λ pages.
+    ensures pages { IfOk result (λ now. Told (D.view device.old).disk (λ pages.
         AreStoreKeys home table.now slot
         → HoldStorePages count first pages table.now slot
         → HoldStorePages now first pages table.now (slot + 1))) }
     ensures damaged { (place : AnyPlace) → result ≡ Err (IsDamaged place)
-        → Told (D.disk device.old) (λ pages. HoldsNoPage home first pages table.now) }
-    ensures sound { (place : AnyPlace) → result ≡ Err (Unsound place) → ⊥ }
-    ensures wrong_size { IsErrOf result OpenFault.WrongSize → ⊥ }
-    ensures cause { IsErrOf result OpenFault.Device
-        → Rises (D.faults device.old) (D.faults device.new) }
-    ensures reads { OnlyReads (D.disk device.old) (D.disk device.new) (D.writes device.old)
-        (D.writes device.new) (D.faults device.old) (D.faults device.new) }
-    ensures size { D.size_of device.new ≡ D.size_of device.old }
+        → Told (D.view device.old).disk (λ pages. HoldsNoPage home first pages table.now) }
+    ensures did { ChecksPages (D.view device.old) (D.view device.new) result }
 {
     let Some(key) = table.owner(slot) else {
         return Ok(count);
@@ -155,21 +148,14 @@ fn is_last(key: PageKey, home: u32) -> bool
 
 /// Reads a page, and answers how many tuples it has.
 fn check_page<D: Device>(device: &mut D, at: u64, key: PageKey, home: u32) -> Result<u32, OpenFault>
-    requires within { at < D.size_of device.old }
-    requires segment { key.space ≡ System → key.segment ≡ 0 }
-    requires number { key.space ≡ System → key.number < system_pages }
+    requires within { at < (D.view device.old).size }
+    requires system { MaySystem key }
     ensures may { IfOk result (MayHave home key) }
-    ensures page { IfOk result (λ tuples. Told (D.disk device.old) (λ pages.
+    ensures page { IfOk result (λ tuples. Told (D.view device.old).disk (λ pages.
         HasTuplesOn (page_at pages at) key tuples)) }
     ensures damaged { (place : AnyPlace) → result ≡ Err (IsDamaged place)
-        → Told (D.disk device.old) (λ pages. IsNoPageOf home key (page_at pages at)) }
-    ensures sound { (place : AnyPlace) → result ≡ Err (Unsound place) → ⊥ }
-    ensures wrong_size { IsErrOf result OpenFault.WrongSize → ⊥ }
-    ensures cause { IsErrOf result OpenFault.Device
-        → Rises (D.faults device.old) (D.faults device.new) }
-    ensures reads { OnlyReads (D.disk device.old) (D.disk device.new) (D.writes device.old)
-        (D.writes device.new) (D.faults device.old) (D.faults device.new) }
-    ensures size { D.size_of device.new ≡ D.size_of device.old }
+        → Told (D.view device.old).disk (λ pages. IsNoPageOf home key (page_at pages at)) }
+    ensures did { ChecksPages (D.view device.old) (D.view device.new) result }
 {
     let mut page = [0u8; PAGE_BYTES];
     device.read(at, &mut page)?;
@@ -181,8 +167,7 @@ fn check_page<D: Device>(device: &mut D, at: u64, key: PageKey, home: u32) -> Re
 
 /// How many tuples a page has, where it is one of a store with so many home pages.
 fn tuples_on(page: &Page, key: PageKey, home: u32) -> Option<u32>
-    requires segment { key.space ≡ System → key.segment ≡ 0 }
-    requires number { key.space ≡ System → key.number < system_pages }
+    requires { MaySystem key }
     ensures may { IfSome result (MayHave home key) }
     ensures page { IfSome result (HasTuplesOn page.now key) }
     ensures none { IfNone result (IsNoPageOf home key page.now) }
@@ -200,7 +185,7 @@ fn tuples_on(page: &Page, key: PageKey, home: u32) -> Option<u32>
 /// them: each but the last is full.
 fn tuples_of_home(page: &Page, number: u32, home: u32) -> Option<u32>
     requires { number < home }
-    ensures full { IfSome result (λ tuples. number + 1 < home → tuples ≡ 128) }
+    ensures full { IfSome result (λ tuples. number + 1 < home → tuples ≡ page_entries) }
     ensures some { IfSome result (λ tuples. 1 ≤ tuples) }
     ensures page { IfSome result (IsHomePage page.now number) }
     ensures none { IfNone result ((values : List ℤ) → home ≡ home_pages (length values)
@@ -219,7 +204,7 @@ fn tuples_of_home(page: &Page, number: u32, home: u32) -> Option<u32>
 /// How many tuples a home page has at least.
 fn least_tuples(number: u32, home: u32) -> u32
     requires { number < home }
-    ensures full { number + 1 < home → result ≡ 128 }
+    ensures full { number + 1 < home → result ≡ page_entries }
     ensures last { home ≤ number + 1 → result ≡ 1 }
 {
     if number + 1 < home { FULL } else { 1 }

@@ -4,7 +4,7 @@ ghost use Rattle.rss_base.specs.DiskRule.{Pages as DevicePages, IsTold, Passes};
 ghost use Rattle.rss_base.specs.Layout.{map_pages, IsWellFormed};
 ghost use Rattle.rss_base.specs.PageMap.{page_count};
 ghost use Rattle.rss_base.specs.Paged.{WritesWaiting, HasFixed};
-ghost use Rattle.rss_model.specs.Store.{IsStore};
+ghost use Rattle.rss_model.specs.Store.{stored, IsStore};
 ghost use Rattle.rss_buffer.specs.Saving.{SavingCall};
 ghost use Rattle.rss_store.specs.Ready.{CanCommit, IsEither, HasSaved, other_area};
 
@@ -30,11 +30,11 @@ pub(crate) fn checkpoint<S: Saving>(
         → (before after : List ℤ) → CanCommit (S.view pages.old) number root.old before after
         → Passes (S.view pages.old).disk (S.view pages.new).disk
         (IsEither number root.old (S.view pages.old) before
-        (λ image. IsStore image (3 - number) root.new (S.saving pages.old).current after)) }
+        (λ image. IsStore image (stored (3 - number) root.new (S.saving pages.old).current after))) }
     ensures fixes { OnOk result (IsTold (S.view pages.old).disk
         → (before after : List ℤ) → CanCommit (S.view pages.old) number root.old before after
         → (image : DevicePages) → HasFixed (S.view pages.new).fixed image
-        → IsStore image (3 - number) root.new (S.saving pages.old).current after) }
+        → IsStore image (stored (3 - number) root.new (S.saving pages.old).current after)) }
     ensures saved { OnOk result
         (HasSaved root.new (S.saving pages.old).current (S.view pages.new)) }
     ensures root { root.new ≡ other_area root.old }

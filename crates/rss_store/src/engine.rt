@@ -4,8 +4,8 @@ ghost use Rattle.rss_base.proofs.Props.{IsSegmentOf-prop};
 ghost use Rattle.std.specs.Prelude.{◌≡◌, ◌<◌, true, false, Ok, Err};
 ghost use Rattle.rss_base.specs.declared.call.Call.TheVariants.{End, Insert, Fetch};
 ghost use Rattle.rss_base.specs.declared.answer.CallError.TheVariants.{Refused};
-ghost use Rattle.rss_model.specs.Machine.{at_rest};
-ghost use Rattle.rss_model.specs.Store.{tables_of};
+ghost use Rattle.rss_model.specs.Machine.{IsAtRest};
+ghost use Rattle.rss_model.specs.Store.{tables_of, size_of};
 ghost use Rattle.rss_store.specs.Ready.{IsReady};
 ghost use Rattle.rss_store.specs.HomePages.{values_in};
 ghost use Rattle.rss_store.specs.Costs.{ChangesOnly};
@@ -47,8 +47,8 @@ impl<S: Saving> Store<S> {
         requires ready { IsReady (S.view pages) number root count count }
         requires unchanged { (key : Key) → (S.view pages).changed key ≡ false }
         ensures pages { result.pages ≡ pages }
-        ensures state { machine result
-            ≡ at_rest root.slots (tables_of (values_in (S.view pages).held count)) }
+        ensures rest { IsAtRest (size_of root)
+            (tables_of (values_in (S.view pages).held count)) (machine result) }
         ensures up { result.down ≡ false }
     {
         let session = Session::new(root.slots, count);
@@ -144,12 +144,16 @@ impl<S: Saving> Store<S> {
 
 impl<S: Saving> Engine for Store<S> {
     ghost use Rattle.std.specs.Prelude.{◌≡◌, false};
-    ghost use Rattle.rss_store.specs.Parts.{view};
-    ghost use Rattle.rss_store.specs.StoreLaws.{opens_ready};
+    ghost use Rattle.std.proofs.Common.{refl};
+    ghost use Rattle.rss_store.specs.Parts.{machine, view};
+    ghost use Rattle.rss_store.specs.StoreLaws.{opens_shown};
 
     ghost view = { λ e. view e };
 
-    ghost opens = { λ e up told. opens_ready (e.ready up) e.size told
+    ghost shown = { λ e up. record { state = machine e; shows = refl } };
+
+    ghost opens = { λ e up told state shown. opens_shown e.session.transaction shown
+        (e.ready up) e.size told
         (λ settled. S.stays e.pages settled told) };
 
     fn call(&mut self, call: &Call) -> Result<Reply, CallError> {

@@ -1,12 +1,16 @@
 // An empty store, made on a device.
-ghost use Rattle.std.specs.Prelude.{◌≡◌, ◌↔◌, ◌+◌, ◌^◌, ◌<◌, ◌≤◌, [], IsTrue, Err, IfOk, OnOk, IsErrOf};
-ghost use Rattle.rss_base.specs.DiskRule.{Told, LeavesOnly, GoesOn};
+ghost use Rattle.std.specs.Prelude.{◌≡◌, ◌↔◌, ◌+◌, ◌^◌, ◌<◌, ◌≤◌, [], IsTrue, Err, IfOk, OnOk};
+ghost use Rattle.std.specs.Prelude.{IsErrOf};
+ghost use Rattle.rss_base.specs.DiskRule.{Told, IsWithin, GoesOn};
+ghost use Rattle.rss_base.specs.Devices.{WritesPages};
 ghost use Rattle.rss_base.specs.Faults.{HasCause, Rises};
 ghost use Rattle.rss_base.specs.Sizes.{slots_least, slots_most};
 ghost use Rattle.rss_base.specs.declared.place.Place.{Place};
-ghost use Rattle.rss_base.specs.declared.fault.OpenFault.TheVariants.{NotAStore, Damaged, WrongSize};
+ghost use Rattle.rss_base.specs.declared.fault.OpenFault.TheVariants.{NotAStore, Damaged};
+ghost use Rattle.rss_base.specs.declared.fault.OpenFault.TheVariants.{WrongSize};
 ghost use Rattle.rss_model.specs.Store.{tables_of, OpensTo};
-ghost use Rattle.rss_store.specs.Formatted.{AreSizes, first_root, first_owners, IsFormatted, HoldsZeros};
+ghost use Rattle.rss_store.specs.Formatted.{AreSizes, first_root, first_owners, HoldsZeros};
+ghost use Rattle.rss_store.specs.Formatted.{HoldsFormatted};
 
 use rss_base::{
     Device, Failed, LOG_PAGES_LEAST, LOG_PAGES_MOST, OpenFault, PAGE_BYTES, PageKey, Root,
@@ -18,22 +22,21 @@ use std::alloc::{AllocError, Global};
 
 /// Makes a device an empty store of so many data slots and log pages, whatever the device held.
 ///
-/// It sets the size of the device, and writes the selector, root 1, a map area, and the ten pages of
-/// the system space, which are zeros. Then it syncs. Memory is taken in proportion to the slots.
+/// It sets the size of the device, and writes the selector, root 1, a map area, and the ten pages
+/// of the system space, which are zeros. Then it syncs. Memory is taken in proportion to the slots.
 ///
 /// A store has 64 to 65,536 slots and 8 to 4096 log pages: at other sizes the error is `WrongSize`,
-/// and at want of memory `NoMemory`, and the device isn't touched. After any other failure, and after
-/// a stop within, nothing is known of what the device holds.
+/// and at want of memory `NoMemory`, and the device isn't touched. After any other failure, and
+/// after a stop within, nothing is known of what the device holds.
 pub fn format<D: Device>(
     alloc: Global,
     device: &mut D,
     slots: u32,
     log_pages: u32,
 ) -> Result<(), OpenFault>
-    ensures made { OnOk result (Told (D.disk device.new) (IsFormatted slots log_pages)) }
-    ensures opens { OnOk result (Told (D.disk device.new) (λ pages.
-        OpensTo pages slots (tables_of []))) }
-    ensures synced { OnOk result (Told (D.disk device.new) (LeavesOnly (D.disk device.new))) }
+    ensures made { OnOk result (HoldsFormatted slots log_pages (D.view device.new).disk) }
+    ensures opens { OnOk result (Told (D.view device.new).disk (λ pages.
+        OpensTo pages (record { slots = slots; log_pages = log_pages }) (tables_of []))) }
 
     // The sizes are tested before anything is done.
     ensures sizes { OnOk result (AreSizes slots log_pages) }
@@ -42,12 +45,12 @@ pub fn format<D: Device>(
     ensures untouched { result ≡ Err WrongSize → device.new ≡ device.old }
     ensures memory { IsErrOf result OpenFault.NoMemory → device.new ≡ device.old }
 
-    ensures goes_on { GoesOn (D.disk device.old) (D.disk device.new) }
+    ensures goes_on { GoesOn (D.view device.old).disk (D.view device.new).disk }
     ensures not_broken { (place : Place) → result ≡ Err (NotAStore place) → ⊥ }
     ensures not_damaged { (place : Place) → result ≡ Err (Damaged place) → ⊥ }
-    ensures later { D.faults device.old ≤ D.faults device.new }
+    ensures later { (D.view device.old).faults ≤ (D.view device.new).faults }
     ensures cause { IsErrOf result OpenFault.Device
-        → Rises (D.faults device.old) (D.faults device.new) }
+        → Rises (D.view device.old).faults (D.view device.new).faults }
 {
     if !are_sizes(slots, log_pages) {
         return Err(OpenFault::WrongSize);
@@ -111,10 +114,9 @@ fn write_store<D: Device>(
 ) -> Result<(), Failed>
     requires sizes { AreSizes slots log_pages }
     requires table { table.now ≡ first_owners slots }
-    ensures made { OnOk result (Told (D.disk device.new) (IsFormatted slots log_pages)) }
-    ensures synced { OnOk result (Told (D.disk device.new) (LeavesOnly (D.disk device.new))) }
-    ensures goes_on { GoesOn (D.disk device.old) (D.disk device.new) }
-    ensures cause { HasCause (D.faults device.old) (D.faults device.new) result }
+    ensures made { OnOk result (HoldsFormatted slots log_pages (D.view device.new).disk) }
+    ensures goes_on { GoesOn (D.view device.old).disk (D.view device.new).disk }
+    ensures cause { HasCause (D.view device.old).faults (D.view device.new).faults result }
 {
     let root = first_root(slots, log_pages);
     device.set_size(device_pages(&root))?;
@@ -127,13 +129,12 @@ fn write_store<D: Device>(
 
 /// Writes zeros to so many pages.
 fn write_zeros<D: Device>(device: &mut D, first: u64, count: u64) -> Result<(), Failed>
-    requires size { first + count ≤ D.size_of device.old }
+    requires size { first + count ≤ (D.view device.old).size }
     requires fits { first + count < 2 ^ 64 }
-    ensures zeros { OnOk result (Told (D.disk device.old) (λ pages.
-        HoldsZeros pages first count (D.disk device.new).contents)) }
-    ensures goes_on { GoesOn (D.disk device.old) (D.disk device.new) }
-    ensures size { D.size_of device.new ≡ D.size_of device.old }
-    ensures cause { HasCause (D.faults device.old) (D.faults device.new) result }
+    ensures zeros { OnOk result (Told (D.view device.old).disk (λ pages.
+        HoldsZeros pages first count (D.view device.new).disk.contents)) }
+    ensures did { WritesPages (IsWithin first count) count
+        (D.view device.old) (D.view device.new) result }
 {
     for at in 0..count {
         device.write(first + at, &[0u8; PAGE_BYTES])?;

@@ -1,6 +1,8 @@
 // The bytes of a home page.
-ghost use Rattle.std.specs.Prelude.{◌≡◌, ◌<◌, ◌≤◌, ◌++◌, ℕ, ℤ, List, [], ◌∷◌, length, All, FitsSigned, IfSome, IfNone};
+ghost use Rattle.std.specs.Prelude.{◌≡◌, ◌<◌, ◌≤◌, ◌++◌, ℕ, ℤ, List, [], ◌∷◌, length, All};
+ghost use Rattle.std.specs.Prelude.{FitsSigned, IfSome, IfNone};
 ghost use Rattle.std.specs.Int.{w64};
+ghost use Rattle.rss_base.specs.Sizes.{page_entries};
 ghost use Rattle.rss_model.specs.Store.{home_page};
 ghost use Rattle.rss_store.specs.HomePages.{value_in, IsHomePage};
 
@@ -33,7 +35,7 @@ pub(crate) fn blank(number: u32) -> Page
 
 /// Puts one more tuple into a home page that has so many.
 pub(crate) fn put_value(page: &mut Page, count: usize, value: i64)
-    requires { count < 128 }
+    requires { count < page_entries }
     ensures { (number : ℕ) (values : List ℤ) → length values ≡ count
         → page.old ≡ home_page number values → page.new ≡ home_page number (values ++ value ∷ []) }
 {
@@ -43,7 +45,7 @@ pub(crate) fn put_value(page: &mut Page, count: usize, value: i64)
 
 /// What reads as the value in a slot.
 pub(crate) fn value_at(page: &Page, slot: usize) -> i64
-    requires { slot < 128 }
+    requires { slot < page_entries }
     ensures { result ≡ value_in page.now slot }
 {
     let at = VALUES_AT + VALUE_BYTES * slot;
@@ -56,9 +58,9 @@ pub(crate) fn value_at(page: &Page, slot: usize) -> i64
 pub(crate) fn tuples_of(page: &Page, number: u32) -> Option<u32>
     ensures some { IfSome result (IsHomePage page.now number) }
     ensures none { IfNone result
-        ((values : List ℤ) → length values ≤ 128 → All (FitsSigned w64) values
+        ((values : List ℤ) → length values ≤ page_entries → All (FitsSigned w64) values
         → page.now ≡ home_page number values → ⊥) }
-    ensures exact { (values : List ℤ) → length values ≤ 128 → All (FitsSigned w64) values
+    ensures exact { (values : List ℤ) → length values ≤ page_entries → All (FitsSigned w64) values
         → page.now ≡ home_page number values → IfSome result (λ count. count ≡ length values) }
 {
     let count = u16::from_be_bytes([page[COUNT_AT], page[COUNT_AT + 1]]);

@@ -1,17 +1,22 @@
 // The opening of a store.
-ghost use Rattle.std.specs.Prelude.{◌≡◌, ◌↔◌, ◌*◌, ◌<◌, ◌≤◌, length, false, IsTrue, IfSome, IfNone, IfOk, IfErr, OnOk, IsErrOf, Some};
-ghost use Rattle.rss_base.specs.DiskRule.{Pages as DevicePages, Told, LeavesOnly, OnlyReads};
+ghost use Rattle.std.specs.Prelude.{◌≡◌, ◌↔◌, ◌*◌, ◌<◌, ◌≤◌, length, count_by, false, IsTrue, IfSome, IfNone};
+ghost use Rattle.std.specs.Prelude.{IfOk, IfErr, OnOk, IsErrOf, Some};
+ghost use Rattle.rss_base.specs.DiskRule.{Pages as DevicePages, Told, LeavesOnly};
+ghost use Rattle.rss_base.specs.Devices.{OnlyReads, ReadsStore};
 ghost use Rattle.rss_base.specs.Faults.{Rises};
 ghost use Rattle.rss_base.specs.Layout.{device_pages};
-ghost use Rattle.rss_base.specs.PageMap.{page_count};
-ghost use Rattle.rss_base.specs.declared.fault.OpenFault.TheVariants.{Device as DeviceFailed, WrongSize as NoSize};
+ghost use Rattle.rss_base.specs.PageMap.{IsTable, page_count};
+ghost use Rattle.rss_base.specs.declared.fault.OpenFault.TheVariants.{Device as DeviceFailed};
+ghost use Rattle.rss_base.specs.declared.fault.OpenFault.TheVariants.{WrongSize as NoSize};
 ghost use Rattle.rss_base.specs.declared.place.Place.TheVariants.{Room as NoRoom};
 ghost use Rattle.rss_model.specs.Store.{HasFirstLog};
-ghost use Rattle.rss_store.specs.Opening.{LacksStore, IsRefused, IsSound, HoldsSound, IsOpened};
+ghost use Rattle.rss_buffer.specs.Devices.{device_of};
+ghost use Rattle.rss_store.specs.Parts.{pages_below};
+ghost use Rattle.rss_store.specs.Opening.{is_home, home_limit, LacksStore, IsRefused, IsSound, HoldsSound, IsOpened};
 
 use crate::Store;
 use crate::checking::{check_pages, first_unmapped, home_pages_in, pages_in, place_of};
-use rss_base::{Device, OpenFault, Place, Root, SYSTEM_PAGES, Space, Unopened};
+use rss_base::{Device, OpenFault, PageKey, Place, Root, SYSTEM_PAGES, Space, Unopened};
 use rss_buffer::Buffer;
 use rss_model::Engine;
 use rss_pagemap::{SlotTable, read_table};
@@ -20,6 +25,9 @@ use std::alloc::Global;
 
 /// How many pages are kept in memory.
 const FRAMES: u32 = 256;
+
+/// How many home pages hold as many tuples as a relation may have.
+const HOME_PAGES_MOST: u32 = 8192;
 
 /// What is read before the pages are put together: the selected root with its number, the map that
 /// it names, and how many home pages and tuples there are.
@@ -32,18 +40,28 @@ struct Found {
     count: u32,
 }
 
-/// Where a root with its map is that of no store: the map has too many pages, or the log isn't as it
-/// is made.
+/// Where a root with its map is that of no store: the map has too many pages, or more home pages
+/// than hold the tuples of a relation, or the log isn't as it is made.
 fn damage_of(root: &Root, table: &SlotTable) -> Option<Place>
-    requires { length table.now ≡ root.now.slots }
+    requires slots { length table.now ≡ root.now.slots }
+    requires table { IsTable table.now }
     ensures half { IfNone result (2 * page_count table.now ≤ length table.now) }
     ensures log { IfNone result (HasFirstLog root.now) }
     ensures some { IfSome result (λ place. (pages : DevicePages)
         → LacksStore pages root.now table.now) }
+    ensures few { IfNone result (count_by is_home table.now ≤ home_limit) }
     ensures room { root.now.slots < 2 * page_count table.now → result ≡ Some NoRoom }
+    ensures only_room { result ≡ Some NoRoom → root.now.slots < 2 * page_count table.now }
 {
     if 2 * pages_in(table) > root.slots {
         return Some(Place::Room);
+    }
+    if home_pages_in(table) > HOME_PAGES_MOST {
+        return Some(place_of(PageKey {
+            segment: 1,
+            space: Space::Home,
+            number: HOME_PAGES_MOST,
+        }));
     }
     if !has_first_log(root) {
         return Some(Place::Log(root.head));
@@ -64,17 +82,15 @@ fn has_first_log(root: &Root) -> bool
 /// Reads a store: its layout, and each page of its map. Where it is refused the fault says why.
 fn read_store<D: Device>(alloc: Global, device: &mut D) -> Result<Found, OpenFault>
     ensures sound { IfOk result (λ f. IsSound f.root f.number f.table f.home f.count) }
-    ensures size { IfOk result (λ f. D.size_of device.new ≡ device_pages f.root) }
-    ensures holds { IfOk result (λ f. Told (D.disk device.old) (λ pages.
+    ensures size { IfOk result (λ f. (D.view device.new).size ≡ device_pages f.root) }
+    ensures holds { IfOk result (λ f. Told (D.view device.old).disk (λ pages.
         HoldsSound pages f.root f.number f.table f.count)) }
-    ensures synced { OnOk result (Told (D.disk device.old) (LeavesOnly (D.disk device.new))) }
-    ensures refused { IfErr result (λ fault. Told (D.disk device.old) (λ pages.
+    ensures synced { OnOk result
+        (Told (D.view device.old).disk (LeavesOnly (D.view device.new).disk)) }
+    ensures refused { IfErr result (λ fault. Told (D.view device.old).disk (λ pages.
         IsRefused pages fault)) }
     ensures wrong_size { IsErrOf result OpenFault.WrongSize → ⊥ }
-    ensures cause { IsErrOf result OpenFault.Device
-        → Rises (D.faults device.old) (D.faults device.new) }
-    ensures reads { OnlyReads (D.disk device.old) (D.disk device.new) (D.writes device.old)
-        (D.writes device.new) (D.faults device.old) (D.faults device.new) }
+    ensures did { ReadsStore (D.view device.old) (D.view device.new) result }
 {
     let (root, number) = load(device)?;
     let table = read_table(alloc, device, &root)?;
@@ -99,14 +115,14 @@ fn store_of<D: Device>(
     found: Found,
 ) -> Result<Store<Buffer<D>>, Unopened<D>>
     requires sound { IsSound found.root found.number found.table found.home found.count }
-    requires size { D.size_of device ≡ device_pages found.root }
-    requires holds { Told (D.disk device) (λ pages.
+    requires size { (D.view device).size ≡ device_pages found.root }
+    requires holds { Told (D.view device).disk (λ pages.
         HoldsSound pages found.root found.number found.table found.count) }
-    requires synced { Told (D.disk device) (LeavesOnly (D.disk device)) }
+    requires synced { Told (D.view device).disk (LeavesOnly (D.view device).disk) }
     ensures opened { IfOk result (λ store.
-        IsOpened (D.disk device) (⟦<Store<Buffer<D>> as Engine>⟧.view store)) }
-    ensures same { IfOk result (λ store. store.pages.device ≡ device) }
-    ensures refused { IfErr result (λ e. Told (D.disk device) (λ pages.
+        IsOpened (D.view device) (⟦<Store<Buffer<D>> as Engine>⟧.view store)) }
+    ensures same { IfOk result (λ store. device_of (pages_below store) ≡ device) }
+    ensures refused { IfErr result (λ e. Told (D.view device).disk (λ pages.
         IsRefused pages e.fault)) }
     ensures wrong_size { IfErr result (λ e. e.fault ≡ NoSize → ⊥) }
     ensures cause { IfErr result (λ e. e.fault ≡ DeviceFailed → ⊥) }
@@ -137,26 +153,23 @@ fn store_of<D: Device>(
 
 /// Opens the store that a device holds, with 256 of its pages in memory.
 ///
-/// It syncs the device, reads the whole store, and writes nothing. The device is handed back where it
-/// holds none: `NotAStore` names the first place at which the layout of the device, of its root or of
-/// its map is out of form. Where the layout is sound it is `Damaged`, at `Room` where the map has too
-/// many pages, and else at a page, or at the log, that is not one of a store.
+/// It syncs the device, reads the whole store, and writes nothing. The device is handed back where
+/// it holds none: `NotAStore` names the first place at which the layout of the device, of its root
+/// or of its map is out of form. Where the layout is sound it is `Damaged`, at `Room` where the map
+/// has too many pages, and else at a page, or at the log, that is not one of a store.
 pub fn open<D: Device>(alloc: Global, device: D) -> Result<Store<Buffer<D>>, Unopened<D>>
     ensures opened { IfOk result (λ store.
-        IsOpened (D.disk device) (⟦<Store<Buffer<D>> as Engine>⟧.view store)) }
-    ensures reads { IfOk result (λ store. OnlyReads
-        (D.disk device) (⟦<Store<Buffer<D>> as Engine>⟧.view store).disk
-        (D.writes device) (⟦<Store<Buffer<D>> as Engine>⟧.view store).writes
-        (D.faults device) (⟦<Store<Buffer<D>> as Engine>⟧.view store).faults) }
+        IsOpened (D.view device) (⟦<Store<Buffer<D>> as Engine>⟧.view store)) }
+    ensures reads { IfOk result (λ store.
+        OnlyReads (D.view device) (D.view (device_of (pages_below store)))) }
 
     // A device that is handed back.
-    ensures refused { IfErr result (λ e. Told (D.disk device) (λ pages.
+    ensures refused { IfErr result (λ e. Told (D.view device).disk (λ pages.
         IsRefused pages e.fault)) }
     ensures wrong_size { IfErr result (λ e. e.fault ≡ NoSize → ⊥) }
     ensures cause { IfErr result (λ e. e.fault ≡ DeviceFailed
-        → Rises (D.faults device) (D.faults e.device)) }
-    ensures back { IfErr result (λ e. OnlyReads (D.disk device) (D.disk e.device)
-        (D.writes device) (D.writes e.device) (D.faults device) (D.faults e.device)) }
+        → Rises (D.view device).faults (D.view e.device).faults) }
+    ensures back { IfErr result (λ e. OnlyReads (D.view device) (D.view e.device)) }
 {
     let mut device = device;
     let found = match read_store(alloc, &mut device) {

@@ -6,18 +6,22 @@ ghost use Rattle.rss_base.specs.declared.value.Value.TheVariants.{Int};
 ghost use Rattle.rss_base.specs.declared.value.FieldKind.TheVariants.{Int as IntField};
 ghost use Rattle.rss_base.specs.declared.answer.Reply.TheVariants.{Ok as Done, Tid as Identifier, Tuple as TupleReply};
 ghost use Rattle.rss_base.specs.declared.refusal.Refusal.TheVariants.{NoTuple};
-ghost use Rattle.rss_base.specs.declared.tid.Tid.{Tid as AnyTid};
 ghost use Rattle.rss_base.specs.declared.name.Name.{Name as AnyName};
-ghost use Rattle.rss_model.specs.Steps.{Step, misfit_of, refusal};
+ghost use Rattle.rss_base.specs.Sizes.{slots_most, system_pages};
+ghost use Rattle.rss_model.specs.Fits.{tuple_limit};
+ghost use Rattle.rss_model.specs.Steps.{Step, misfit_of, admission};
 ghost use Rattle.rss_model.specs.ReplyText.{IsShort};
 ghost use Rattle.rss_model.specs.Store.{relation_r, tid_at, home_pages};
 ghost use Rattle.rss_store.specs.Held.{needed};
 
 use crate::home_page::PAGE_ENTRIES;
-use rss_base::{Kind, Name, RELATION_R, Refusal, Reply, Tid, Tuple, Value};
+use rss_base::{Kind, LimitKind, Name, RELATION_R, Refusal, Reply, Tid, Tuple, Value};
 
 /// How many pages the catalog has.
 const CATALOG_PAGES: u64 = 10;
+
+/// How many tuples a relation has at most.
+const TUPLES_MOST: u32 = 1 << 20;
 
 /// The transaction that is open, and how many tuples there are.
 #[derive(Drop)]
@@ -28,10 +32,11 @@ pub(crate) struct Session {
     pub(crate) count: u32,
     pub(crate) committed: u32,
     pub(crate) transaction: Option<u32>,
-    ghost few: { slots ≤ 65536 },
+    ghost few: { slots ≤ slots_most },
     ghost within: { committed ≤ count },
+    ghost few_tuples: { count ≤ tuple_limit },
     ghost rest: { transaction ≡ None → committed ≡ count },
-    ghost room: { 2 * (home_pages committed + 4 * (count - committed) + 10) ≤ slots },
+    ghost room: { 2 * (home_pages committed + 4 * (count - committed) + system_pages) ≤ slots },
 }
 
 impl Session {
@@ -39,8 +44,9 @@ impl Session {
 
     /// A store of so many tuples, with no transaction.
     pub(crate) fn new(slots: u32, count: u32) -> Self
-        requires few { slots ≤ 65536 }
-        requires room { 2 * (home_pages count + 10) ≤ slots }
+        requires few { slots ≤ slots_most }
+        requires few_tuples { count ≤ tuple_limit }
+        requires room { 2 * (home_pages count + system_pages) ≤ slots }
         ensures slots { result.slots ≡ slots }
         ensures count { result.count ≡ count }
         ensures committed { result.committed ≡ count }
@@ -73,8 +79,8 @@ impl Session {
     pub(crate) fn admit(&self, transaction: u32, relation: &Name) -> Result<(), Refusal>
         ensures open { OnOk result (self.now.transaction ≡ Some transaction) }
         ensures known { OnOk result (relation.now ≡ relation_r) }
-        ensures refused { IfErr result (λ why. (values : List ℤ) (tid : AnyTid)
-            → refusal (state self.now values) (Fetch transaction relation.now tid) ≡ Some why) }
+        ensures refused { IfErr result (λ why. (log_pages : ℕ) (values : List ℤ)
+            → admission (state self.now log_pages values) transaction relation.now ≡ Some why) }
         ensures short { IfErr result (λ why. IsShort (Err why)) }
     {
         if self.transaction != Some(transaction) {
@@ -96,12 +102,16 @@ impl Session {
         ensures open { OnOk result (self.now.transaction ≡ Some transaction) }
         ensures known { OnOk result (relation.now ≡ relation_r) }
         ensures one { IfOk result (λ z. tuple.now ≡ Int z ∷ []) }
+        ensures few { OnOk result (self.now.count < tuple_limit) }
         ensures room { OnOk result (needed self.now.committed self.now.count ≤ self.now.slots) }
         ensures refused { IfErr result
             (Refuses self.now (Insert transaction relation.now tuple.now)) }
     {
         self.admit(transaction, relation)?;
         let value = only_int(tuple)?;
+        if self.count >= TUPLES_MOST {
+            return Err(Refusal::Limit(LimitKind::Tuples));
+        }
         let needed = self.needed();
         if needed > u64::from(self.slots) {
             return Err(Refusal::Full {
@@ -124,13 +134,15 @@ impl Session {
     /// Counts a tuple that was inserted behind the others, and answers its identifier.
     pub(crate) fn inserted(&mut self) -> Tid
         requires open { self.old.transaction ≢ None }
+        requires few { self.old.count < tuple_limit }
         requires room { needed self.old.committed self.old.count ≤ self.old.slots }
-        ensures step { (transaction : ℕ) (relation : AnyName) (z : ℤ) (values : List ℤ)
+        ensures step { (transaction : ℕ) (relation : AnyName) (z : ℤ)
+            (log_pages : ℕ) (values : List ℤ)
             → self.old.transaction ≡ Some transaction → relation ≡ relation_r
             → length values ≡ self.old.count
-            → Step (state self.old values) (Insert transaction relation (Int z ∷ []))
+            → Step (state self.old log_pages values) (Insert transaction relation (Int z ∷ []))
             (Ok (Identifier result))
-            (state self.new (values ++ z ∷ [])) }
+            (state self.new log_pages (values ++ z ∷ [])) }
         ensures short { IsShort (Ok (Identifier result)) }
         ensures slots { self.new.slots ≡ self.old.slots }
         ensures count { self.new.count ≡ self.old.count + 1 }
@@ -144,11 +156,11 @@ impl Session {
     /// The place of the tuple that a transaction may fetch.
     pub(crate) fn place(&self, transaction: u32, relation: &Name, tid: Tid) -> Result<u32, Refusal>
         ensures within { IfOk result (λ place. place < self.now.count) }
-        ensures step { IfOk result (λ place. (values : List ℤ) (z : ℤ)
+        ensures step { IfOk result (λ place. (log_pages : ℕ) (values : List ℤ) (z : ℤ)
             → length values ≡ self.now.count → z ≡ slice_index_or values place z
-            → Step (state self.now values) (Fetch transaction relation.now tid)
+            → Step (state self.now log_pages values) (Fetch transaction relation.now tid)
             (Ok (TupleReply (Int z ∷ [])))
-            (state self.now values)) }
+            (state self.now log_pages values)) }
         ensures refused { IfErr result (Refuses self.now (Fetch transaction relation.now tid)) }
     {
         self.admit(transaction, relation)?;

@@ -11,36 +11,36 @@ use Rattle.rss_model.specs.Script.{Spells}
 use Rattle.rss_model.specs.ReplyText.{answer_line}
 use Rattle.rss_model.specs.Plays.{plain, one_turn}
 use Rattle.rss_model.specs.Plays.LineStep.{call}
-use Rattle.rss_model.specs.Store.{Opens}
-use Rattle.rss_model.specs.Calls.{EngineView}
+use Rattle.rss_model.specs.Machine.{State}
+use Rattle.rss_model.specs.Calls.{EngineView, ShowsState, OpensShown}
 use Rattle.rss_top.specs.Run.{Stream}
-use Rattle.rss_top.specs.Lines.{world, seen, PassesOn, IsOutcome, IsAsked, LineStopped, IsLineEnd, RunsCall}
+use Rattle.rss_top.specs.Lines.{world, seen, PassesOn, IsCallEnd, IsAsked, LineStopped, IsLineEnd, RunsCall}
 use Rattle.rss_top.specs.Says.{IsWritten, Writes}
 use Rattle.rss_top.specs.declared.status.Status.{Status}
 use Rattle.rss_top.specs.declared.status.Status.TheVariants.{Ok as Done, Words, ReadFault, WriteFault, DeviceFault, NotAStore, Damaged, NoMemory, TooLong, WrongSize}
 use Rattle.rss_top.proofs.Ways.{passed_on, by_cut}
 
 module _ (old new : EngineView) (made : Call) where
-  history_of : (result : Result (Result Reply Refusal) Status) → IsOutcome old new made result → IsTold old.disk → Continues old.disk new.disk
-  history_of (Ok answer) outcome told = continues (outcome.answered told).moments
-  history_of (Err DeviceFault) outcome told = continues (outcome.stopped told).answered.moments
-  history_of (Err (Damaged place)) outcome told = absurd (outcome.sound told)
-  history_of (Err NoMemory) outcome told = continues (outcome.unmade told)
-  history_of (Err Done) outcome told = absurd outcome
-  history_of (Err Words) outcome told = absurd outcome
-  history_of (Err ReadFault) outcome told = absurd outcome
-  history_of (Err WriteFault) outcome told = absurd outcome
-  history_of (Err (NotAStore place)) outcome told = absurd outcome
-  history_of (Err TooLong) outcome told = absurd outcome
-  history_of (Err WrongSize) outcome told = absurd outcome
+  history_of : ShowsState old → (result : Result (Result Reply Refusal) Status) → IsCallEnd old new made result → IsTold old.disk → Continues old.disk new.disk
+  history_of some (Ok answer) outcome told = continues (outcome.answered told some.state some.shows).answered.moments
+  history_of some (Err DeviceFault) outcome told = continues (outcome.stopped told some.state some.shows).answered.moments
+  history_of some (Err (Damaged place)) outcome told = absurd (outcome.sound told)
+  history_of some (Err NoMemory) outcome told = continues (outcome.unmade told some.state some.shows)
+  history_of some (Err Done) outcome told = absurd outcome
+  history_of some (Err Words) outcome told = absurd outcome
+  history_of some (Err ReadFault) outcome told = absurd outcome
+  history_of some (Err WriteFault) outcome told = absurd outcome
+  history_of some (Err (NotAStore place)) outcome told = absurd outcome
+  history_of some (Err TooLong) outcome told = absurd outcome
+  history_of some (Err WrongSize) outcome told = absurd outcome
 
   -- the engine answered with a status
-  stops_with : (sink : Stream) (status : Status) → IsOutcome old new made (Err status)
-      → IsLineEnd (world old sink) (world new sink) status × (IsTold old.disk → (line : List ℕ) → Spells line made → LineStopped (seen old sink) (seen new sink) line status)
+  stops_with : (sink : Stream) (status : Status) → IsCallEnd old new made (Err status)
+      → IsLineEnd (world old sink) (world new sink) status × (IsTold old.disk → (state : State) → old.shows state → (line : List ℕ) → Spells line made → LineStopped (seen old sink) (seen new sink) state line status)
   stops_with sink DeviceFault fault = (
     fault.cause,
-    λ told line spells.
-        let stop = fault.stopped told in
+    λ told state shown line spells.
+        let stop = fault.stopped told state shown in
         record {
           made = one_turn made stop.answer;
           next = plain stop.next;
@@ -49,7 +49,7 @@ module _ (old new : EngineView) (made : Call) where
         },
   )
   stops_with sink (Damaged place) damaged = (damaged.sound, λ told. absurd (damaged.sound told))
-  stops_with sink NoMemory lacked = (tt, λ told line spells. record { moments = lacked.unmade told; same = refl })
+  stops_with sink NoMemory lacked = (tt, λ told state shown line spells. record { moments = lacked.unmade told state shown; same = refl })
   stops_with sink Done never = absurd never
   stops_with sink Words never = absurd never
   stops_with sink ReadFault never = absurd never
@@ -58,9 +58,9 @@ module _ (old new : EngineView) (made : Call) where
   stops_with sink TooLong never = absurd never
   stops_with sink WrongSize never = absurd never
 
-module _ {old new : EngineView} {made : Call} where
+module _ {old new : EngineView} {made : Call} (some : ShowsState old) where
   asked_passes : {before after : Stream} {result : Result (Result Reply Refusal) Status} → IsAsked old new made result → before.faults ≤ after.faults → PassesOn (world old before) (world new after)
-  asked_passes {result = result} asked later = record { told = asked.goes.told; history = history_of old new made result asked.outcome; device = asked.goes.later; sink = later }
+  asked_passes {result = result} asked later = record { told = asked.goes.told; history = history_of old new made some result asked.outcome; device = asked.goes.later; sink = later }
 
   pub call_stopped : {T : Type 0} {sink : Stream} {status : Status} (result : Result T Status) → IsErrAnd result (λ why. why ≡ status) → IsAsked old new made (Err status) → RunsCall (seen old sink) (seen new sink) made result
   call_stopped {sink = sink} {status = status} result is asked = passed_on {S = ℕ} result is (record {
@@ -69,35 +69,38 @@ module _ {old new : EngineView} {made : Call} where
   })
 
   -- it answered, and its law says what a stop leaves
-  module _ (before after : Stream) {answer : Answer} (asked : IsAsked old new made (Ok answer)) (opens : new.is_up → IsTold new.disk → Opens new.disk new.state.slots new.state.base) where
+  module _ (before after : Stream) {answer : Answer} (asked : IsAsked old new made (Ok answer)) (opens : new.is_up → IsTold new.disk → OpensShown new) where
     pub call_ran : {T : Type 0} {said : T} → Writes {T = T} (answer_line answer) before after (Ok said) → (done : T) → RunsCall (seen old before) (seen new after) made (Ok done)
     call_ran wrote done = record {
       passes = asked_passes asked wrote.later;
       outcome = (
         asked.outcome.up,
-        λ told line spells.
-            let turn = asked.outcome.answered told in
+        λ told state shown line spells.
+            let turn = asked.outcome.answered told state shown in
             record {
               made = one_turn made answer;
-              done = record { step = call spells turn.step; moments = turn.moments };
-              opens = opens asked.outcome.up (asked.goes.told told);
+              next = turn.next;
+              shows = turn.shows;
+              done = record { step = call spells turn.answered.step; moments = turn.answered.moments };
+              opens = opens asked.outcome.up (asked.goes.told told) turn.next turn.shows;
               takes = wrote.outcome;
             },
       );
     }
 
     cut_with : (T : Type 0) (status : Status) → IsWritten {T = T} (answer_line answer) before after (Err status)
-        → IsLineEnd (world old before) (world new after) status × (IsTold old.disk → (line : List ℕ) → Spells line made → LineStopped (seen old before) (seen new after) line status)
+        → IsLineEnd (world old before) (world new after) status × (IsTold old.disk → (state : State) → old.shows state → (line : List ℕ) → Spells line made → LineStopped (seen old before) (seen new after) state line status)
     cut_with T status wrote =
-        by_cut T (answer_line answer) before after (λ s. IsLineEnd (world old before) (world new after) s × (IsTold old.disk → (line : List ℕ) → Spells line made → LineStopped (seen old before) (seen new after) line s)) status
+        by_cut T (answer_line answer) before after (λ s. IsLineEnd (world old before) (world new after) s × (IsTold old.disk → (state : State) → old.shows state → (line : List ℕ) → Spells line made → LineStopped (seen old before) (seen new after) state line s)) status
         (λ front rises. (
           rises,
-          λ told line spells.
-              let turn = asked.outcome.answered told in
+          λ told state shown line spells.
+              let turn = asked.outcome.answered told state shown in
               record {
                 made = one_turn made answer;
-                done = record { step = call spells turn.step; moments = turn.moments };
-                opens = opens asked.outcome.up (asked.goes.told told);
+                next = plain turn.next;
+                done = record { step = call spells turn.answered.step; moments = turn.answered.moments };
+                opens = opens asked.outcome.up (asked.goes.told told) turn.next turn.shows;
                 takes = front;
               },
         )) wrote

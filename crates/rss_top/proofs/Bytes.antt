@@ -70,13 +70,13 @@ module _ {old new : View} {front : List ℕ} (bytes line next : List ℕ) (unbro
   pub bytes_line : {S T : Type 0} {said : S} (done : T) → next ≡ [] → RunsLine old new line (Ok said) → RunsBytes old new front (bytes ++ 10 ∷ []) next (Ok done)
   bytes_line done empty ran = record {
     passes = ran.passes;
-    outcome = (ran.outcome.0, λ told begin given kept. kept_line kept bytes unbroken {new = new} next empty (run_as begin given kept) (ran.outcome.1 told));
+    outcome = (ran.outcome.0, λ told begin given kept. kept_line kept bytes unbroken {new = new} next empty (run_as begin given kept) (ran.outcome.1 told kept.state kept.shows));
   }
 
   pub bytes_cut : {T : Type 0} {status : Status} → RunsLine {T = T} old new line (Err status) → RunsBytes {T = T} old new front (bytes ++ 10 ∷ []) next (Err status)
   bytes_cut {status = status} stop = record {
     passes = stop.passes;
-    outcome = (stop.outcome.0, λ told begin given kept. kept_stopped kept bytes unbroken new (run_as begin given kept) status (stop.outcome.1 told));
+    outcome = (stop.outcome.0, λ told begin given kept. kept_stopped kept bytes unbroken new (run_as begin given kept) status (stop.outcome.1 told kept.state kept.shows));
   }
 
 -- the same last line

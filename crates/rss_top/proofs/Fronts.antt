@@ -4,6 +4,7 @@ use Rattle.std.specs.Prelude.{⊤}
 use Rattle.std.proofs.lemmas.List.{take_all, append-nil}
 use Rattle.std.proofs.lemmas.Bool.{cases_lt}
 use Rattle.rss_model.specs.Script.{IsWords, IsUnbroken}
+use Rattle.rss_model.specs.Machine.{State}
 use Rattle.rss_model.specs.Plays.{Scene, Made, plain, LineStep}
 use Rattle.rss_model.specs.Plays.LineStep.{blank, words, call}
 use Rattle.rss_top.specs.Run.{Beginning, Story, Stopped, Whole}
@@ -47,14 +48,14 @@ step_whole {old = old} {new = new} {made = made} left line (inr is) step = elim 
   | inr long ↦ as_words long (subst (λ (l : List ℕ). kept_limit ≤ length l) (sym is) (kept_long left long)) step
 ]
 
-module _ (old new : View) {left line : List ℕ} (run_as : IsRunAs left line) where
-  pub ran_whole : LineRan old new line → LineRan old new left
-  ran_whole ran = record { made = ran.made; done = record { step = step_whole left line run_as ran.done.step; moments = ran.done.moments }; opens = ran.opens; takes = ran.takes }
+module _ (old new : View) (state : State) {left line : List ℕ} (run_as : IsRunAs left line) where
+  pub ran_whole : LineRan old new state line → LineRan old new state left
+  ran_whole ran = record { made = ran.made; next = ran.next; shows = ran.shows; done = record { step = step_whole left line run_as ran.done.step; moments = ran.done.moments }; opens = ran.opens; takes = ran.takes }
 
-  pub stopped_whole : (status : Status) → LineStopped old new line status → LineStopped old new left status
-  stopped_whole status stop = by_stop (LineStopped old new left) status
+  pub stopped_whole : (status : Status) → LineStopped old new state line status → LineStopped old new state left status
+  stopped_whole status stop = by_stop (LineStopped old new state left) status
       (λ stop. record { made = stop.made; next = stop.next; done = record { step = step_whole left line run_as stop.done.step; moments = stop.done.moments }; same = stop.same })
-      (λ stop. record { made = stop.made; done = record { step = step_whole left line run_as stop.done.step; moments = stop.done.moments }; opens = stop.opens; takes = stop.takes })
+      (λ stop. record { made = stop.made; next = stop.next; done = record { step = step_whole left line run_as stop.done.step; moments = stop.done.moments }; opens = stop.opens; takes = stop.takes })
       (λ stop. stop)
       stop
 
@@ -85,36 +86,44 @@ module _ {begin : Beginning} {old : View} {given front : List ℕ} (kept : Kept 
   module _ (bytes : List ℕ) (unbroken : IsUnbroken bytes) where
     pub kept_bytes : (next : List ℕ) → next ≡ take kept_limit (front ++ bytes) → Kept begin old (given ++ bytes) next
     kept_bytes next is = record {
+      state = kept.state;
+      shows = kept.shows;
       left = kept.left ++ bytes;
       kept = is ∙ ap (λ (l : List ℕ). take kept_limit (l ++ bytes)) kept.kept ∙ take-take_append kept_limit kept.left bytes;
       story = story_bytes bytes unbroken kept.story;
     }
 
-    pub kept_line : {new : View} {line : List ℕ} (next : List ℕ) → next ≡ [] → IsRunAs (kept.left ++ bytes) line → LineRan old new line → Kept begin new (given ++ (bytes ++ 10 ∷ [])) next
+    pub kept_line : {new : View} {line : List ℕ} (next : List ℕ) → next ≡ [] → IsRunAs (kept.left ++ bytes) line → LineRan old new kept.state line → Kept begin new (given ++ (bytes ++ 10 ∷ [])) next
     kept_line {new = new} next empty run_as ran =
-        let on : Story begin new.world (plain new.state) ((given ++ bytes) ++ 10 ∷ []) [] = story_line {old = old} {new = new} (story_bytes bytes unbroken kept.story) (ran_whole old new run_as ran) in
-        record { left = []; kept = empty; story = subst (λ (l : List ℕ). Story begin new.world (plain new.state) l []) (append_assoc given bytes (10 ∷ [])) on }
+        let whole = ran_whole old new kept.state run_as ran in
+        record {
+          state = whole.next;
+          shows = whole.shows;
+          left = [];
+          kept = empty;
+          story = subst (λ (l : List ℕ). Story begin new.world (plain whole.next) l []) (append_assoc given bytes (10 ∷ [])) (story_line {old = old} {new = new} (story_bytes bytes unbroken kept.story) whole);
+        }
 
-    pub kept_stopped : (new : View) {line : List ℕ} → IsRunAs (kept.left ++ bytes) line → (status : Status) → LineStopped old new line status → Stopped status begin new.world (given ++ (bytes ++ 10 ∷ [])) ⊥
+    pub kept_stopped : (new : View) {line : List ℕ} → IsRunAs (kept.left ++ bytes) line → (status : Status) → LineStopped old new kept.state line status → Stopped status begin new.world (given ++ (bytes ++ 10 ∷ [])) ⊥
     kept_stopped new run_as status stop =
         subst (λ (l : List ℕ). Stopped status begin new.world l ⊥) (append_assoc given bytes (10 ∷ []))
-        (stopped_by_line old ⊥ (10 ∷ []) (story_bytes bytes unbroken kept.story) new refl status (stopped_whole old new run_as status stop))
+        (stopped_by_line old kept.state ⊥ (10 ∷ []) (story_bytes bytes unbroken kept.story) new refl status (stopped_whole old new kept.state run_as status stop))
 
   -- memory ran out before the line was run
   pub kept_unread : (over : Type 0) (rest : List ℕ) → Stopped NoMemory begin old.world (given ++ rest) over
-  kept_unread over rest = stopped_unread old over rest kept.story
+  kept_unread over rest = stopped_unread old kept.state over rest kept.story
 
   -- the last line, which has no end
   pub kept_ended : front ≡ [] → Whole begin old.world given
   kept_ended empty = whole_ended kept.story (none_kept empty)
 
-  pub kept_last : {new : View} → (front ≡ [] → ⊥) → LineRan old new front → Whole begin new.world given
-  kept_last {new = new} some ran = whole_line {old = old} {new = new} kept.story (λ empty. some (kept.kept ∙ ap (λ (l : List ℕ). take kept_limit l) empty)) (ran_whole old new (inr kept.kept) ran)
+  pub kept_last : {new : View} → (front ≡ [] → ⊥) → LineRan old new kept.state front → Whole begin new.world given
+  kept_last {new = new} some ran = whole_line {old = old} {new = new} kept.story (λ empty. some (kept.kept ∙ ap (λ (l : List ℕ). take kept_limit l) empty)) (ran_whole old new kept.state (inr kept.kept) ran)
 
-  pub last_stopped : (new : View) (status : Status) → LineStopped old new front status → Stopped status begin new.world given ⊤
+  pub last_stopped : (new : View) (status : Status) → LineStopped old new kept.state front status → Stopped status begin new.world given ⊤
   last_stopped new status stop =
       subst (λ (l : List ℕ). Stopped status begin new.world l ⊤) (append-nil given)
-      (stopped_by_line old ⊤ [] kept.story new tt status (stopped_whole old new (inr kept.kept) status stop))
+      (stopped_by_line old kept.state ⊤ [] kept.story new tt status (stopped_whole old new kept.state (inr kept.kept) status stop))
 
 pub empty_is : (xs : List ℕ) → length xs ≡ 0 → xs ≡ []
 empty_is [] none = refl

@@ -76,11 +76,11 @@ story_bytes {left = left} bytes unbroken story = record {
 
 -- ---- one line more
 
-module _ {begin : Beginning} {old new : View} {given left : List ℕ} (story : Story begin old.world (plain old.state) given left) where
-  played_line : (ran : LineRan old new left) → Played new.world.disk begin.point (story.lines ++ left ∷ []) (record { turns = story.made.turns ++ ran.made.turns; text = story.made.text ++ ran.made.text }) (point_now (plain new.state) new.world.disk)
+module _ {begin : Beginning} {old new : View} {state : State} {given left : List ℕ} (story : Story begin old.world (plain state) given left) where
+  played_line : (ran : LineRan old new state left) → Played new.world.disk begin.point (story.lines ++ left ∷ []) (record { turns = story.made.turns ++ ran.made.turns; text = story.made.text ++ ran.made.text }) (point_now (plain ran.next) new.world.disk)
   played_line ran = more (played_later ran.done.moments (omega arith) story.played) (turn_of ran.done ran.opens)
 
-  pub story_line : LineRan old new left → Story begin new.world (plain new.state) (given ++ 10 ∷ []) []
+  pub story_line : (ran : LineRan old new state left) → Story begin new.world (plain ran.next) (given ++ 10 ∷ []) []
   story_line ran = record {
     lines = story.lines ++ left ∷ [];
     made = record { turns = story.made.turns ++ ran.made.turns; text = story.made.text ++ ran.made.text };
@@ -96,11 +96,11 @@ module _ {begin : Beginning} {old new : View} {given left : List ℕ} (story : S
   }
 
   -- the last line, which has no end
-  pub whole_line : (left ≡ [] → ⊥) → LineRan old new left → Whole begin new.world given
+  pub whole_line : (left ≡ [] → ⊥) → LineRan old new state left → Whole begin new.world given
   whole_line some ran = record {
     lines = story.lines ++ left ∷ [];
     made = record { turns = story.made.turns ++ ran.made.turns; text = story.made.text ++ ran.made.text };
-    last = plain new.state;
+    last = plain ran.next;
     run = play_is_run (played_is_play (played_line ran));
     play = played_is_play (played_line ran);
     played = played_line ran;
@@ -133,15 +133,15 @@ no_line_fault : IsLineFault NoMemory → ⊥
 no_line_fault (inl is) = cc
 no_line_fault (inr is) = cc
 
-module _ (old : View) {begin : Beginning} {given left : List ℕ} (over : Type 0) (rest : List ℕ) (story : Story begin old.world (plain old.state) given left) where
+module _ (old : View) (state : State) {begin : Beginning} {given left : List ℕ} (over : Type 0) (rest : List ℕ) (story : Story begin old.world (plain state) given left) where
   -- with what was written of its reply
   stopped_in : (new : View) {P : Pages → Type 0} (status : Status) (said : List ℕ) → Passes old.world.disk new.world.disk P → (IsLineFault status → EndsLine over rest)
-      → Takes begin.written (story.made.text ++ said) new.world.sink.bytes → IsStoppedBy status new.world.disk (point_now (plain old.state) old.world.disk) left said
+      → Takes begin.written (story.made.text ++ said) new.world.sink.bytes → IsStoppedBy status new.world.disk (point_now (plain state) old.world.disk) left said
       → Stopped status begin new.world (given ++ rest) over
   stopped_in new {P = P} status said passes ends takes stopped = record {
     lines = story.lines;
     made = story.made;
-    from = point_now (plain old.state) old.world.disk;
+    from = point_now (plain state) old.world.disk;
     line = left;
     rest = rest;
     said = said;
@@ -158,14 +158,14 @@ module _ (old : View) {begin : Beginning} {given left : List ℕ} (over : Type 0
   silent : {after : Option (List ℕ)} → after ≡ old.world.sink.bytes → Takes begin.written (story.made.text ++ []) after
   silent same = subst (λ (o : Option (List ℕ)). Takes begin.written (story.made.text ++ []) o) (sym same) (subst (λ (l : List ℕ). Takes begin.written l old.world.sink.bytes) (sym (append-nil story.made.text)) story.takes)
 
-  pub stopped_by_memory : {new : View} → MemoryStopped old new → Stopped NoMemory begin new.world (given ++ rest) over
+  pub stopped_by_memory : {new : View} → MemoryStopped old new state → Stopped NoMemory begin new.world (given ++ rest) over
   stopped_by_memory {new = new} stop = stopped_in new NoMemory [] stop.moments (λ is. absurd (no_line_fault is)) (silent stop.same) (record {
     moments = record { later = stop.moments.later; each = stop.moments.each };
     opens = λ image left. ⊎_elim (λ earlier. story.opens image earlier) (λ within. within) (now stop.moments image left);
     silent = refl;
   })
 
-  pub stopped_by_line : (new : View) → EndsLine over rest → (status : Status) → LineStopped old new left status → Stopped status begin new.world (given ++ rest) over
+  pub stopped_by_line : (new : View) → EndsLine over rest → (status : Status) → LineStopped old new state left status → Stopped status begin new.world (given ++ rest) over
   stopped_by_line new ends status stop = by_stop (λ s. Stopped s begin new.world (given ++ rest) over) status
       (λ stop. stopped_in new DeviceFault [] stop.done.moments (λ _. ends) (silent stop.same) (record {
         made = stop.made;
@@ -177,7 +177,7 @@ module _ (old : View) {begin : Beginning} {given left : List ℕ} (over : Type 0
       }))
       (λ stop. stopped_in new WriteFault stop.takes.front stop.done.moments (λ _. ends) (takes_then _ _ _ story.made.text stop.takes.front story.takes stop.takes.takes) (record {
         made = stop.made;
-        next = plain new.state;
+        next = stop.next;
         turn = turn_of stop.done stop.opens;
         unsaid = stop.takes.back;
         reply = stop.takes.parts;
@@ -186,8 +186,8 @@ module _ (old : View) {begin : Beginning} {given left : List ℕ} (over : Type 0
       stop
 
 -- memory ran out before the line was run
-pub stopped_unread : (view : View) {begin : Beginning} {given left : List ℕ} (over : Type 0) (rest : List ℕ) → Story begin view.world (plain view.state) given left → Stopped NoMemory begin view.world (given ++ rest) over
-stopped_unread view over rest story = stopped_by_memory view over rest story {new = view} (record { moments = started _ _; same = refl })
+pub stopped_unread : (view : View) (state : State) {begin : Beginning} {given left : List ℕ} (over : Type 0) (rest : List ℕ) → Story begin view.world (plain state) given left → Stopped NoMemory begin view.world (given ++ rest) over
+stopped_unread view state over rest story = stopped_by_memory view state over rest story {new = view} (record { moments = started _ _; same = refl })
 
 -- that all of the script was given may be known from less, and more may have been given behind a line's end
 pub stopped_over : {status : Status} {begin : Beginning} {now : World} {given : List ℕ} {P Q : Type 0} (behind : List ℕ) → ((rest : List ℕ) → EndsLine P rest → EndsLine Q (rest ++ behind)) → Stopped status begin now given P → Stopped status begin now (given ++ behind) Q

@@ -7,10 +7,10 @@ use Rattle.rss_base.proofs.Flows.{takes_none}
 use Rattle.rss_base.specs.declared.refusal.Refusal.TheVariants.{Words as NoWords}
 use Rattle.rss_model.specs.Script.{IsBlank, IsWords}
 use Rattle.rss_model.specs.ReplyText.{answer_line}
-use Rattle.rss_model.specs.Plays.{nothing, only_text}
+use Rattle.rss_model.specs.Plays.{plain, nothing, only_text}
 use Rattle.rss_model.specs.Plays.LineStep.{blank, words}
-use Rattle.rss_model.specs.Store.{Opens}
-use Rattle.rss_model.specs.Calls.{EngineView}
+use Rattle.rss_model.specs.Machine.{State}
+use Rattle.rss_model.specs.Calls.{EngineView, OpensShown}
 use Rattle.rss_top.specs.Run.{Stream}
 use Rattle.rss_top.specs.Lines.{View, world, seen, PassesOn, LineStopped, IsLineEnd, RunsLine}
 use Rattle.rss_top.specs.Says.{IsWritten, Writes}
@@ -20,13 +20,13 @@ use Rattle.rss_top.proofs.Ways.{idles, passed_on, by_cut}
 
 -- memory ran out before it was read
 pub line_unread : {T : Type 0} (view : View) (line : List ℕ) → RunsLine {T = T} view view line (Err NoMemory)
-line_unread view line = record { passes = idles view.world; outcome = (tt, λ told. record { moments = started _ _; same = refl }) }
+line_unread view line = record { passes = idles view.world; outcome = (tt, λ told state shown. record { moments = started _ _; same = refl }) }
 
-module _ (engine : EngineView) (up : engine.is_up) (opens : engine.is_up → IsTold engine.disk → Opens engine.disk engine.state.slots engine.state.base) where
+module _ (engine : EngineView) (up : engine.is_up) (opens : engine.is_up → IsTold engine.disk → OpensShown engine) where
   pub line_blank : {T : Type 0} {sink : Stream} {line : List ℕ} (done : T) → IsBlank line → RunsLine (seen engine sink) (seen engine sink) line (Ok done)
   line_blank {sink = sink} done is = record {
     passes = idles (world engine sink);
-    outcome = (up, λ told. record { made = nothing; done = record { step = blank is; moments = started _ _ }; opens = opens up told; takes = takes_none _ });
+    outcome = (up, λ told state shown. record { made = nothing; next = state; shows = shown; done = record { step = blank is; moments = started _ _ }; opens = opens up told state shown; takes = takes_none _ });
   }
 
   module _ (before after : Stream) {line : List ℕ} (is : IsWords line) where
@@ -38,25 +38,28 @@ module _ (engine : EngineView) (up : engine.is_up) (opens : engine.is_up → IsT
       passes = writes_on wrote;
       outcome = (
         up,
-        λ told. record {
+        λ told state shown. record {
           made = only_text (answer_line (Err NoWords));
+          next = state;
+          shows = shown;
           done = record { step = words is; moments = started _ _ };
-          opens = opens up told;
+          opens = opens up told state shown;
           takes = wrote.outcome;
         },
       );
     }
 
     cut_in : (S : Type 0) (status : Status) → IsWritten {T = S} (answer_line (Err NoWords)) before after (Err status)
-        → IsLineEnd (world engine before) (world engine after) status × (IsTold engine.disk → LineStopped (seen engine before) (seen engine after) line status)
+        → IsLineEnd (world engine before) (world engine after) status × (IsTold engine.disk → (state : State) → engine.shows state → LineStopped (seen engine before) (seen engine after) state line status)
     cut_in S status wrote =
-        by_cut S (answer_line (Err NoWords)) before after (λ s. IsLineEnd (world engine before) (world engine after) s × (IsTold engine.disk → LineStopped (seen engine before) (seen engine after) line s)) status
+        by_cut S (answer_line (Err NoWords)) before after (λ s. IsLineEnd (world engine before) (world engine after) s × (IsTold engine.disk → (state : State) → engine.shows state → LineStopped (seen engine before) (seen engine after) state line s)) status
         (λ front rises. (
           rises,
-          λ told. record {
+          λ told state shown. record {
             made = only_text (answer_line (Err NoWords));
+            next = plain state;
             done = record { step = words is; moments = started _ _ };
-            opens = opens up told;
+            opens = opens up told state shown;
             takes = front;
           },
         )) wrote

@@ -1,10 +1,11 @@
 -- The ways in which a function that runs lines ends.
-use Rattle.std.proofs.Common.{◌≡◌, ℕ, ◌≤◌, List, sym, ◌∙◌, ap, subst, arith}
+use Rattle.std.proofs.Common.{◌≡◌, ℕ, List, sym, ◌∙◌, ap, subst, arith}
 use Rattle.std.specs.Prelude.{Result, Ok, Err, IsErrAnd}
 use Rattle.std.proofs.lemmas.Result.{err_from_is_err_and}
 use Rattle.rss_base.specs.Faults.{Rises}
-use Rattle.rss_base.proofs.Moments.{started, continues_then}
+use Rattle.rss_base.proofs.Moments.{started, continues_then, rises_since}
 use Rattle.rss_base.specs.Streams.{TakesFront}
+use Rattle.rss_model.specs.Machine.{State}
 use Rattle.rss_top.specs.Run.{Stream, World}
 use Rattle.rss_top.specs.Says.{IsWritten}
 use Rattle.rss_top.specs.Lines.{View, PassesOn, IsLineEnd, Runs, DeviceStopped, SinkStopped, MemoryStopped, LineStopped}
@@ -23,10 +24,6 @@ passes_then first second = record {
   sink = omega (arith, first.sink, second.sink);
 }
 
--- a count that has risen since later has risen since before
-pub rises_since : {before mid now : ℕ} → before ≤ mid → Rises mid now → Rises before now
-rises_since later rises = omega (arith, later, rises)
-
 -- the cause of a status, seen from before
 pub end_since : {old mid : World} (new : World) (status : Status) → PassesOn old mid → IsLineEnd mid new status → IsLineEnd old new status
 end_since new DeviceFault passes cause = rises_since passes.device cause
@@ -41,8 +38,8 @@ end_since new TooLong passes cause = cause
 end_since new WrongSize passes cause = cause
 
 -- a line stops a run in three ways
-pub by_stop : {old new : View} {line : List ℕ} (P : Status → Type 0) (status : Status) → (DeviceStopped old new line → P DeviceFault) → (SinkStopped old new line → P WriteFault) → (MemoryStopped old new → P NoMemory)
-    → LineStopped old new line status → P status
+pub by_stop : {old new : View} {state : State} {line : List ℕ} (P : Status → Type 0) (status : Status) → (DeviceStopped old new state line → P DeviceFault) → (SinkStopped old new state line → P WriteFault) → (MemoryStopped old new state → P NoMemory)
+    → LineStopped old new state line status → P status
 by_stop P DeviceFault device sink memory stop = device stop
 by_stop P WriteFault device sink memory stop = sink stop
 by_stop P NoMemory device sink memory stop = memory stop

@@ -14,7 +14,7 @@ use Rattle.rss_top.specs.declared.status.Status.TheVariants.{Ok as Made, WriteFa
 -- the pages are an empty store of these sizes, and a stop leaves no others
 pub record IsMade (disk : Disk) (slots log_pages : ℕ) (pages : Pages) : Type 0 where
   pub formatted : IsFormatted slots log_pages pages
-  pub opens : OpensTo pages slots (tables_of [])
+  pub opens : OpensTo pages (record { slots = slots; log_pages = log_pages }) (tables_of [])
   pub only : LeavesOnly disk pages
 
 -- How a format ends, by its status. A device that was made a store is so after a fault of the sink

@@ -1,6 +1,7 @@
 -- What the functions that run lines say, each of what it runs.
 use Rattle.std.specs.Prelude.{◌≡◌, ℕ, ◌+◌, ◌≤◌, List, ◌++◌, length, take, Option, Result, Ok, Err, ⊤}
 use Rattle.rss_base.specs.DiskRule.{Disk, IsTold, Passes, Continues}
+use Rattle.rss_base.specs.Devices.{DeviceView}
 use Rattle.rss_base.specs.Faults.{Rises}
 use Rattle.rss_base.specs.Streams.{Gives, Takes, TakesFront}
 use Rattle.rss_base.specs.declared.call.Call.{Call}
@@ -8,7 +9,7 @@ use Rattle.rss_model.specs.Machine.{State}
 use Rattle.rss_model.specs.Steps.{Answer}
 use Rattle.rss_model.specs.Script.{Spells, line_limit}
 use Rattle.rss_model.specs.Plays.{Scene, Made, plain, LineStep}
-use Rattle.rss_model.specs.Calls.{EngineView, GoesOn, IsAnswer, IsFault, IsDamaged, IsUnanswered}
+use Rattle.rss_model.specs.Calls.{States, EngineView, GoesOn, IsAnswer, IsFault, IsDamaged, IsUnanswered}
 use Rattle.rss_top.specs.Run.{Stream, World, Beginning, point_now, OpensAt, OpensAtEither, ImagesNow, Story, Stopped, Whole, Ended, script_limit}
 use Rattle.rss_top.specs.declared.status.Status.{Status}
 use Rattle.rss_top.specs.declared.status.Status.TheVariants.{Ok as Done, ReadFault, TooLong, WriteFault, DeviceFault, Damaged, NoMemory}
@@ -18,22 +19,32 @@ use Rattle.rss_top.specs.declared.status.Status.TheVariants.{Ok as Done, ReadFau
 abbrev pub stream : Option (List ℕ) → ℕ → Stream
 stream bytes faults = record { bytes = bytes; faults = faults }
 
-abbrev pub on : Disk → ℕ → ℕ → Stream → World
-on disk writes faults sink = record { disk = disk; writes = writes; faults = faults; sink = sink }
+abbrev pub on : DeviceView → Stream → World
+on device sink = record {
+  disk = device.disk;
+  writes = device.writes;
+  faults = device.faults;
+  sink = sink;
+}
 
 abbrev pub world : EngineView → Stream → World
-world engine sink = on engine.disk engine.writes engine.faults sink
+world engine sink = record {
+  disk = engine.disk;
+  writes = engine.writes;
+  faults = engine.faults;
+  sink = sink;
+}
 
 -- an engine and a sink
 pub record View : Type 1 where
   pub world : World
-  pub state : State
+  pub shows : States
   pub is_up : Type 0
 
 abbrev pub seen : EngineView → Stream → View
 seen engine sink = record {
   world = world engine sink;
-  state = engine.state;
+  shows = engine.shows;
   is_up = engine.is_up;
 }
 
@@ -47,17 +58,17 @@ pub record PassesOn (old new : World) : Type 0 where
 -- ---- a call
 
 -- A call that an engine was asked for while it was up, by the answer or the status.
-abbrev pub IsOutcome : EngineView → EngineView → Call → Result Answer Status → Type 0
-IsOutcome old new call (Ok answer) = IsAnswer old new call answer
-IsOutcome old new call (Err DeviceFault) = IsFault old new call
-IsOutcome old new call (Err (Damaged place)) = IsDamaged old new
-IsOutcome old new call (Err NoMemory) = IsUnanswered old new call
-IsOutcome old new call (Err status) = ⊥
+abbrev pub IsCallEnd : EngineView → EngineView → Call → Result Answer Status → Type 0
+IsCallEnd old new call (Ok answer) = IsAnswer old new call answer
+IsCallEnd old new call (Err DeviceFault) = IsFault old new call
+IsCallEnd old new call (Err (Damaged place)) = IsDamaged old new
+IsCallEnd old new call (Err NoMemory) = IsUnanswered old new call
+IsCallEnd old new call (Err status) = ⊥
 
 pub record IsAsked (old new : EngineView) (call : Call) (result : Result Answer Status)
     : Type 0 where
   pub goes : GoesOn old new call
-  pub outcome : IsOutcome old new call result
+  pub outcome : IsCallEnd old new call result
 
 -- ---- a line
 
@@ -68,38 +79,41 @@ pub record LineDone (earlier later : Disk) (old : Scene) (line : List ℕ) (made
   pub step : LineStep old line made new
   pub moments : Passes earlier later (OpensAtEither old new)
 
--- the line was run, and its reply written
-pub record LineRan (old new : View) (line : List ℕ) : Type 0 where
+-- From a state, the line was run, and its reply written.
+pub record LineRan (old new : View) (state : State) (line : List ℕ) : Type 0 where
   pub made : Made
-  pub done : LineDone old.world.disk new.world.disk (plain old.state) line made (plain new.state)
-  pub opens : ImagesNow new.world.disk (OpensAt (plain new.state))
+  pub next : State
+  pub shows : new.shows next
+  pub done : LineDone old.world.disk new.world.disk (plain state) line made (plain next)
+  pub opens : ImagesNow new.world.disk (OpensAt (plain next))
   pub takes : Takes old.world.sink.bytes made.text new.world.sink.bytes
 
 -- the device failed within the line
-pub record DeviceStopped (old new : View) (line : List ℕ) : Type 0 where
+pub record DeviceStopped (old new : View) (state : State) (line : List ℕ) : Type 0 where
   pub made : Made
   pub next : Scene
-  pub done : LineDone old.world.disk new.world.disk (plain old.state) line made next
+  pub done : LineDone old.world.disk new.world.disk (plain state) line made next
   pub same : new.world.sink.bytes ≡ old.world.sink.bytes
 
 -- the line was run, and the front of its reply written
-pub record SinkStopped (old new : View) (line : List ℕ) : Type 0 where
+pub record SinkStopped (old new : View) (state : State) (line : List ℕ) : Type 0 where
   pub made : Made
-  pub done : LineDone old.world.disk new.world.disk (plain old.state) line made (plain new.state)
-  pub opens : ImagesNow new.world.disk (OpensAt (plain new.state))
+  pub next : Scene
+  pub done : LineDone old.world.disk new.world.disk (plain state) line made next
+  pub opens : ImagesNow new.world.disk (OpensAt next)
   pub takes : TakesFront old.world.sink.bytes made.text new.world.sink.bytes
 
 -- memory ran out in the line, and no table has changed
-pub record MemoryStopped (old new : View) : Type 0 where
-  pub moments : Passes old.world.disk new.world.disk (OpensAt (plain old.state))
+pub record MemoryStopped (old new : View) (state : State) : Type 0 where
+  pub moments : Passes old.world.disk new.world.disk (OpensAt (plain state))
   pub same : new.world.sink.bytes ≡ old.world.sink.bytes
 
 -- the run ended within the line, by its status
-abbrev pub LineStopped : View → View → List ℕ → Status → Type 0
-LineStopped old new line DeviceFault = DeviceStopped old new line
-LineStopped old new line WriteFault = SinkStopped old new line
-LineStopped old new line NoMemory = MemoryStopped old new
-LineStopped old new line status = ⊥
+abbrev pub LineStopped : View → View → State → List ℕ → Status → Type 0
+LineStopped old new state line DeviceFault = DeviceStopped old new state line
+LineStopped old new state line WriteFault = SinkStopped old new state line
+LineStopped old new state line NoMemory = MemoryStopped old new state
+LineStopped old new state line status = ⊥
 
 -- ---- how a function that runs lines ends
 
@@ -124,16 +138,25 @@ pub record Runs {T : Type 0} (old new : View) (on : Type 0) (stopped : Status �
   pub passes : PassesOn old.world new.world
   pub outcome : RunsTo old new on stopped result
 
+-- whatever state is shown
+abbrev pub FromEach : View → (State → Type 0) → Type 0
+FromEach view P = (state : State) → view.shows state → P state
+
 -- the line of a call, and its reply
 abbrev pub RunsCall : {T : Type 0} → View → View → Call → Result T Status → Type 0
 RunsCall old new call result =
     Runs old new
-    ((line : List ℕ) → Spells line call → LineRan old new line)
-    (λ status. (line : List ℕ) → Spells line call → LineStopped old new line status)
+    (FromEach old (λ state. (line : List ℕ) → Spells line call → LineRan old new state line))
+    (λ status. FromEach old (λ state.
+    (line : List ℕ) → Spells line call → LineStopped old new state line status))
     result
 
 abbrev pub RunsLine : {T : Type 0} → View → View → List ℕ → Result T Status → Type 0
-RunsLine old new line result = Runs old new (LineRan old new line) (LineStopped old new line) result
+RunsLine old new line result =
+    Runs old new
+    (FromEach old (λ state. LineRan old new state line))
+    (λ status. FromEach old (λ state. LineStopped old new state line status))
+    result
 
 -- ---- bytes of a script
 
@@ -141,11 +164,13 @@ RunsLine old new line result = Runs old new (LineRan old new line) (LineStopped 
 abbrev pub kept_limit : ℕ
 kept_limit = line_limit + 1
 
--- the run so far, where this much of the last line's front is kept
+-- the run so far, up to a state that is shown, where this much of the last line's front is kept
 pub record Kept (begin : Beginning) (now : View) (given front : List ℕ) : Type 0 where
+  pub state : State
+  pub shows : now.shows state
   pub left : List ℕ
   pub kept : front ≡ take kept_limit left
-  pub story : Story begin now.world (plain now.state) given left
+  pub story : Story begin now.world (plain state) given left
 
 -- Whatever was run so far, with this front kept: these bytes are run too, and then the next front
 -- is kept; or the run has stopped within them.
@@ -192,11 +217,11 @@ beginning state now source = record {
   written = now.sink.bytes;
 }
 
--- a script was run over an engine, from this state
-pub record RunsScript (state : State) (old new : World) (source_old source_new : Stream)
+-- a script was run over an engine, from each of these states
+pub record RunsScript (shown : States) (old new : World) (source_old source_new : Stream)
     (status : Status) : Type 0 where
   pub passes : PassesOn old new
   pub cause : IsScriptEnd old new source_old source_new status
   pub taken : IsTaken source_old.bytes source_new.bytes
-  pub ended : IsTold old.disk
+  pub ended : IsTold old.disk → (state : State) → shown state
       → Ended status (beginning state old source_old) new source_new.bytes

@@ -1,11 +1,11 @@
 -- What the program does, by the words of its command line.
-use Rattle.std.specs.Prelude.{◌≡◌, ◌⊎◌, ℕ, ◌<◌, List, [], length, Some}
-use Rattle.rss_base.specs.DiskRule.{Told, IsTold, Leaves, Passes}
+use Rattle.std.specs.Prelude.{◌≡◌, ◌⊎◌, ℕ, ◌<◌, List, [], length, Option, Some}
+use Rattle.rss_base.specs.DiskRule.{Pages, Told, IsTold, Leaves, Passes}
 use Rattle.rss_base.specs.Faults.{Rises}
 use Rattle.rss_base.specs.declared.place.Place.{Place}
 use Rattle.rss_base.specs.declared.place.Place.TheVariants.{Room}
 use Rattle.rss_model.specs.Tables.{Tables}
-use Rattle.rss_model.specs.Machine.{at_rest}
+use Rattle.rss_model.specs.Machine.{StoreSize, State, IsAtRest}
 use Rattle.rss_model.specs.Plays.{plain}
 use Rattle.rss_model.specs.ReplyText.{not_a_store_line, damaged_line}
 use Rattle.rss_model.specs.Store.{OpensTo, IsBrokenAt, IsOverfull, IsNoStore}
@@ -54,13 +54,25 @@ pub record IsTurnedAway (status : Status) (old new : World) (source_old source_n
 
 -- ---- a script, run over a device
 
+-- One run, from a state of the machine that begins so.
+pub record IsRunFrom (Begins : State → Type 0) (status : Status) (old new : World)
+    (left_old left_new : Option (List ℕ)) : Type 0 where
+  pub first : State
+  pub begins : Begins first
+  pub run : IsRun status (plain first) old new left_old left_new
+
+-- The pages are no store, and it is their map that leaves no room where they are damaged there.
+pub record IsDamagedAt (place : Place) (pages : Pages) : Type 0 where
+  pub none : IsNoStore pages
+  pub over : place ≡ Room → IsOverfull pages
+
 -- The cause of a status. A layout is refused by the place at which it is out of form, and only
 -- pages that are no store are called damaged.
 abbrev pub IsRunEnd : World → World → Stream → Stream → Status → Type 0
 IsRunEnd old new source_old source_new (NotAStore place) =
     Told old.disk (IsBrokenAt place)
     × IsRefused (NotAStore place) (NotAStore place) old new source_old source_new
-IsRunEnd old new source_old source_new (Damaged place) = Told old.disk IsNoStore
+IsRunEnd old new source_old source_new (Damaged place) = Told old.disk (IsDamagedAt place)
 IsRunEnd old new source_old source_new status =
     IsScriptEnd old new source_old source_new status
 
@@ -73,12 +85,12 @@ pub record IsFaultless (old new : World) (source_old source_new : Stream) : Type
 pub record IsScriptRun (status : Status) (old new : World) (source_old source_new : Stream)
     : Type 0 where
   -- Over a store of these tables: a run of the machine from these tables with nothing open.
-  pub run : (slots : ℕ) (tables : Tables)
-      → Told old.disk (λ pages. OpensTo pages slots tables
-      → IsRun status (plain (at_rest slots tables)) old new source_old.bytes source_new.bytes)
+  pub run : (size : StoreSize) (tables : Tables)
+      → Told old.disk (λ pages. OpensTo pages size tables
+      → IsRunFrom (IsAtRest size tables) status old new source_old.bytes source_new.bytes)
   -- Where nothing fails, the script is run to its end, or memory ran out.
-  pub complete : (slots : ℕ) (tables : Tables)
-      → Told old.disk (λ pages. OpensTo pages slots tables
+  pub complete : (size : StoreSize) (tables : Tables)
+      → Told old.disk (λ pages. OpensTo pages size tables
       → (script : List ℕ) → source_old.bytes ≡ Some script → length script < script_limit
       → IsFaultless old new source_old source_new
       → (status ≡ Ok) ⊎ (status ≡ NoMemory))

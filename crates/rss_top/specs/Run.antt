@@ -43,11 +43,11 @@ pub record Beginning : Type 0 where
 
 -- the pages open to a scene's committed tables
 abbrev pub OpensAt : Scene → Pages → Type 0
-OpensAt scene pages = OpensTo pages scene.state.slots scene.state.base
+OpensAt scene pages = OpensTo pages scene.state.size scene.state.base
 
 -- to those of one of two scenes
 abbrev pub OpensAtEither : Scene → Scene → Pages → Type 0
-OpensAtEither old new = OpensToEither old.state.slots old.state.base new.state.base
+OpensAtEither old new = OpensToEither old.state.size old.state.base new.state.base
 
 -- each stop at a moment leaves pages that have P
 abbrev pub ImagesAt : ℕ → Disk → (Pages → Type 0) → Type 0

@@ -1,5 +1,6 @@
 // A piece of a script.
-ghost use Rattle.std.specs.Prelude.{◌≡◌, ◌<◌, ◌≤◌, [], ◌∷◌, ◌++◌, slice_index, length, take, IfSome, IfNone, OnOk};
+ghost use Rattle.std.specs.Prelude.{◌≡◌, ◌<◌, ◌≤◌, [], ◌∷◌, ◌++◌, slice_index, length, take};
+ghost use Rattle.std.specs.Prelude.{IfSome, IfNone, OnOk};
 ghost use Rattle.rss_model.specs.Script.{IsUnbroken};
 ghost use Rattle.rss_top.specs.Run.{line_end};
 ghost use Rattle.rss_top.specs.Lines.{stream, seen, kept_limit, RunsBytes};

@@ -35,10 +35,8 @@ pub fn make_store<K: Sink, D: Device>(
     sink: &mut K,
 ) -> Status
     ensures format { IsFormat slots log_pages result
-        (on (D.disk device.old) (D.writes device.old) (D.faults device.old)
-        (stream (K.written sink.old) (K.faults sink.old)))
-        (on (D.disk device.new) (D.writes device.new) (D.faults device.new)
-        (stream (K.written sink.new) (K.faults sink.new))) }
+        (on (D.view device.old) (stream (K.written sink.old) (K.faults sink.old)))
+        (on (D.view device.new) (stream (K.written sink.new) (K.faults sink.new))) }
     ensures untouched { result ≡ Status.WrongSize → device.new ≡ device.old }
 {
     let (Ok(slots), Ok(log_pages)) = (u32::try_from(slots), u32::try_from(log_pages)) else {

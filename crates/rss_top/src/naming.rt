@@ -6,7 +6,8 @@ use crate::command::read_command;
 
 /// The file of these words, the program's own name first. Words that are no command name none.
 pub fn device_word(words: &[String]) -> Option<&str>
-    ensures word { IfSome result (λ word. word.now ≡ slice_index_or (map string_bytes words.now) 2 []) }
+    ensures word { IfSome result (λ word.
+        word.now ≡ slice_index_or (map string_bytes words.now) 2 []) }
     ensures named { IsCommand (map string_bytes words.now) → IsSome result }
     ensures only { IsSome result → IsCommand (map string_bytes words.now) }
 {

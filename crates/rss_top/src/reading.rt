@@ -1,5 +1,6 @@
 // A script, read and run.
-ghost use Rattle.std.specs.Prelude.{◌≡◌, ◌<◌, ◌≤◌, [], List, ℕ, Some, Ok, length, take, vec_len, IfOk, OnErr};
+ghost use Rattle.std.specs.Prelude.{◌≡◌, ◌<◌, ◌≤◌, [], List, ℕ, Some, Ok, length, take, vec_len};
+ghost use Rattle.std.specs.Prelude.{IfOk, OnErr};
 ghost use Rattle.rss_base.specs.Faults.{HasCause};
 ghost use Rattle.rss_base.specs.Streams.{Gives};
 ghost use Rattle.rss_top.specs.Lines.{stream, seen, world, RunsLast, RunsScript};
@@ -70,7 +71,7 @@ pub fn run_lines<O: Source, K: Sink, E: Engine>(
     sink: &mut K,
 ) -> Status
     requires { (E.view engine.old).is_up }
-    ensures { RunsScript (E.view engine.old).state
+    ensures { RunsScript (E.view engine.old).shows
         (world (E.view engine.old) (stream (K.written sink.old) (K.faults sink.old)))
         (world (E.view engine.new) (stream (K.written sink.new) (K.faults sink.new)))
         (stream (O.left source.old) (O.faults source.old))

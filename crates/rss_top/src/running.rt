@@ -30,10 +30,8 @@ pub fn run<O: Source, K: Sink, D: Device>(
     // A device that holds no store is refused. One that is formatted reads as an empty store, and a
     // stop leaves nothing else.
     ensures program { IsProgram (map string_bytes words.now) result.0
-        (on (D.disk device) (D.writes device) (D.faults device)
-        (stream (K.written sink.old) (K.faults sink.old)))
-        (on (D.disk result.1) (D.writes result.1) (D.faults result.1)
-        (stream (K.written sink.new) (K.faults sink.new)))
+        (on (D.view device) (stream (K.written sink.old) (K.faults sink.old)))
+        (on (D.view result.1) (stream (K.written sink.new) (K.faults sink.new)))
         (stream (O.left source.old) (O.faults source.old))
         (stream (O.left source.new) (O.faults source.new)) }
 

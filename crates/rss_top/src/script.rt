@@ -18,7 +18,7 @@ fn run_store<O: Source, K: Sink, E: Engine>(
     sink: &mut K,
 ) -> Status
     requires { (E.view store.old).is_up }
-    ensures { RunsScript (E.view store.old).state
+    ensures { RunsScript (E.view store.old).shows
         (world (E.view store.old) (stream (K.written sink.old) (K.faults sink.old)))
         (world (E.view store.new) (stream (K.written sink.new) (K.faults sink.new)))
         (stream (O.left source.old) (O.faults source.old))
@@ -39,10 +39,8 @@ pub fn run_script<O: Source, K: Sink, D: Device>(
     device: D,
 ) -> (Status, D)
     ensures { IsScriptRun result.0
-        (on (D.disk device) (D.writes device) (D.faults device)
-        (stream (K.written sink.old) (K.faults sink.old)))
-        (on (D.disk result.1) (D.writes result.1) (D.faults result.1)
-        (stream (K.written sink.new) (K.faults sink.new)))
+        (on (D.view device) (stream (K.written sink.old) (K.faults sink.old)))
+        (on (D.view result.1) (stream (K.written sink.new) (K.faults sink.new)))
         (stream (O.left source.old) (O.faults source.old))
         (stream (O.left source.new) (O.faults source.new)) }
 {

@@ -1,5 +1,6 @@
 use Rattle.std.proofs.Common.{◌≡◌}
-use Rattle.rss_base.specs.DiskRule.{Told, OnlyReads}
+use Rattle.rss_base.specs.DiskRule.{Told}
+use Rattle.rss_base.specs.Devices.{OnlyReads}
 use Rattle.rss_base.specs.Layout.{slots_at}
 use Rattle.rss_model.specs.Store.{home_pages}
 use Rattle.rss_store.specs.Opening.{AreStoreKeys, HoldStorePages}
@@ -10,7 +11,7 @@ invariant-loop-slot g l = record {
   first : l.first ≡ slots_at l.root.slots l.root.log_pages;
   home : home_pages l.count ≡ l.home;
   keys : AreStoreKeys l.home l.table l.slot;
-  pages : Told (g.D.Device.disk l.initial.device) (λ pages. HoldStorePages l.count l.first pages l.table l.slot);
-  reads : OnlyReads (g.D.Device.disk l.initial.device) (g.D.Device.disk l.device) (g.D.Device.writes l.initial.device) (g.D.Device.writes l.device) (g.D.Device.faults l.initial.device) (g.D.Device.faults l.device);
-  size : g.D.Device.size_of l.device ≡ g.D.Device.size_of l.initial.device;
+  pages : Told (g.D.Device.view l.initial.device).disk (λ pages. HoldStorePages l.count l.first pages l.table l.slot);
+  reads : OnlyReads (g.D.Device.view l.initial.device) (g.D.Device.view l.device);
+  size : (g.D.Device.view l.device).size ≡ (g.D.Device.view l.initial.device).size;
 }

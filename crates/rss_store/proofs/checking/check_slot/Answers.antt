@@ -1,18 +1,18 @@
-use Rattle.std.proofs.Common.{ℕ, ◌+◌, sym, ◌∙◌, subst}
+use Rattle.std.proofs.Common.{ℕ, ◌+◌, Err, refl, sym, ◌∙◌, ap, subst}
 use Rattle.std.proofs.lemmas.Bool.{iff_false}
 use Rattle.rss_base.specs.DiskRule.{page}
 use Rattle.rss_store.specs.Opening.{HasTuplesOn}
-use Rattle.rss_store.proofs.Checked.{system_key, keys_more, hold_free, hold_more, hold_last}
+use Rattle.std.proofs.lemmas.Result.{err_from_is_err_and}
+use Rattle.rss_base.proofs.Moments.{reads_none}
+use Rattle.rss_pagemap.proofs.Areas.{one_answer}
+use Rattle.rss_store.proofs.Checked.{checks_then, system_key, keys_more, hold_free, hold_more, hold_last}
 use Rattle.rss_store.proofs.checking.check_slot.Goals as goal
 
 pub returns-in_default-clause-pages : goal.returns-in_default-clause-pages
 returns-in_default-clause-pages g c = λ pages told keys hold. hold_free c.args.home c.args.first c.args.count c.args.slot pages c.args.table.now c.requires.home (sym c.owner.ensures ∙ c.in_default.is) hold
 
-pub check_page-requires-clause-segment : goal.check_page-requires-clause-segment
-check_page-requires-clause-segment g c = λ space. (system_key _ c.in-Some.key (c.requires.table.allowed c.args.slot c.in-Some.key (sym c.owner.ensures ∙ c.in-Some.is)) space).0
-
-pub check_page-requires-clause-number : goal.check_page-requires-clause-number
-check_page-requires-clause-number g c = λ space. (system_key _ c.in-Some.key (c.requires.table.allowed c.args.slot c.in-Some.key (sym c.owner.ensures ∙ c.in-Some.is)) space).1
+pub check_page-requires-clause-system : goal.check_page-requires-clause-system
+check_page-requires-clause-system g c = system_key _ c.in-Some.key (c.requires.table.allowed c.args.slot c.in-Some.key (sym c.owner.ensures ∙ c.in-Some.is))
 
 pub returns-then-is_last-clause-pages : goal.returns-then-is_last-clause-pages
 returns-then-is_last-clause-pages g c = λ pages told keys hold.
@@ -28,3 +28,14 @@ returns-then-is_last-clause-keys g c = keys_more c.args.home c.args.slot c.args.
 
 pub returns-clause-keys : goal.returns-clause-keys
 returns-clause-keys g c = keys_more c.args.home c.args.slot c.args.table.now c.in-Some.key (sym c.owner.ensures ∙ c.in-Some.is) c.in_ok-tuples.ensures.may.mapped
+
+pub returns-in_err-tuples-clause-did : goal.returns-in_err-tuples-clause-did
+returns-in_err-tuples-clause-did g c =
+    let p = err_from_is_err_and c.from_residual.result c.from_residual.ensures.1 in
+    checks_then (reads_none _) refl c.in_err-tuples.ensures.did (λ fault is. ap Err (one_answer p.1 p.2 is))
+
+pub returns-then-is_last-clause-did : goal.returns-then-is_last-clause-did
+returns-then-is_last-clause-did g c = checks_then (reads_none _) refl c.check_page.ensures.did (λ fault is. absurd (cc (is)))
+
+pub returns-clause-did : goal.returns-clause-did
+returns-clause-did g c = checks_then (reads_none _) refl c.check_page.ensures.did (λ fault is. absurd (cc (is)))

@@ -20,7 +20,7 @@ returns g c =
             let full : length values % 128 ≡ 0 = omega (arith, long, c.requires.full) in
             let at : number ≡ length values / 128 = omega (arith, long, c.page_number-number.ensures) in
             let page : c.put_value.new.page ≡ home_page number (c.args.value ∷ []) = subst (λ (z : ℤ). c.put_value.new.page ≡ home_page number (z ∷ [])) (to_z-of_z w64 c.args.value c.ranges.value) (c.put_value.ensures number [] refl c.blank-page.ensures) in
-            put_on_taken _ _ _ _ _ _ _ values c.args.value number holds full at c.home-key.ensures c.home-key.ensures (taken.taken.held told) (wrote.written.held (taken.did.step.leaves.told.0 told)) page;
+            put_on_taken _ _ _ _ _ _ _ values c.args.value number holds full at c.home-key.ensures c.home-key.ensures (taken.taken.held told) (wrote.written.held (taken.did.step.passes.leaves.told.0 told)) page;
       };
       did = widens (λ key is. is ∙ c.home-key.ensures ∙ ap (page_key 1 Home) c.page_number-number.ensures) (omega arith) (omega arith) (then_call taken.did.step wrote.did);
     }

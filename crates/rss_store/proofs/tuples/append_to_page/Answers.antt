@@ -20,7 +20,7 @@ returns g c =
         held = λ told values long holds.
             let put : (n : ℕ) (vs : List ℤ) → length vs ≡ c.entry.result → c.read.new.into ≡ home_page n vs → c.put_value.new.page ≡ home_page n (vs ++ c.args.value ∷ []) =
             λ n vs long is. subst (λ (z : ℤ). c.put_value.new.page ≡ home_page n (vs ++ z ∷ [])) (to_z-of_z w64 c.args.value c.ranges.value) (c.put_value.ensures n vs long is) in
-            put_on_last _ _ _ _ _ _ values c.args.value c.args.count _ _ holds long c.page_number.ensures c.entry.ensures c.requires.some c.home-key.ensures (all_held read.did.step told) (read.page told) put (wrote.written.held (read.did.step.leaves.told.0 told));
+            put_on_last _ _ _ _ _ _ values c.args.value c.args.count _ _ holds long c.page_number.ensures c.entry.ensures c.requires.some c.home-key.ensures (all_held read.did.step told) (read.page told) put (wrote.written.held (read.did.step.passes.leaves.told.0 told));
       };
       did = widens (λ key is. is ∙ c.home-key.ensures ∙ ap (page_key 1 Home) c.page_number.ensures) (omega arith) (omega arith) (then_call (untouched read.did.step) wrote.did);
     }
@@ -32,3 +32,9 @@ returns-in_err-write g c =
       ok = search rules;
       did = fails _ c.from_residual-in_err-write.ensures.1 (λ key none. absurd none) (omega arith) (omega arith) call;
     }
+
+pub returns-in_err-read : goal.returns-in_err-read
+returns-in_err-read g c = record {
+  ok = search rules;
+  did = fails _ c.from_residual.ensures.1 (λ key none. absurd none) (omega arith) (omega arith) c.in_err-read.ensures.did;
+}

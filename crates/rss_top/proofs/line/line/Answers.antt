@@ -23,9 +23,9 @@ returns-in-Err-NoMemory g c = line_unread _ _
 pub returns-in_err-make_call-in-Ok-Call : goal.returns-in_err-make_call-in-Ok-Call
 returns-in_err-make_call-in-Ok-Call g c =
     let spells = c.read_line.ensures.call _ (c.in-Ok-Call.is ∙ ap Ok c.in-Ok-Call.field-0-is) in
-    passed_on _ c.from_residual.ensures.1 (runs_as (Err _) (λ ran. ran _ spells) (λ status stop. stop _ spells) c.in_err-make_call-in-Ok-Call.ensures)
+    passed_on _ c.from_residual.ensures.1 (runs_as (Err _) (λ ran state shown. ran state shown _ spells) (λ status stop state shown. stop state shown _ spells) c.in_err-make_call-in-Ok-Call.ensures)
 
 pub returns-in_ok-make_call-in-Ok-Call : goal.returns-in_ok-make_call-in-Ok-Call
 returns-in_ok-make_call-in-Ok-Call g c =
     let spells = c.read_line.ensures.call _ (c.in-Ok-Call.is ∙ ap Ok c.in-Ok-Call.field-0-is) in
-    runs_as (Ok _) (λ ran. ran _ spells) (λ status stop. stop _ spells) c.in_ok-make_call-in-Ok-Call.ensures
+    runs_as (Ok _) (λ ran state shown. ran state shown _ spells) (λ status stop state shown. stop state shown _ spells) c.in_ok-make_call-in-Ok-Call.ensures

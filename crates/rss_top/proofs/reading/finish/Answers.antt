@@ -13,9 +13,9 @@ returns-then-is_empty g c =
 pub returns-in_err-line : goal.returns-in_err-line
 returns-in_err-line g c =
     let some : c.args.front.now ≡ [] → ⊥ = λ none. let zero : length c.args.front.now ≡ 0 = ap length none in grind (arith, nat_tests) in
-    passed_on _ c.from_residual.ensures.1 (runs_as (Err _) (λ ran begin given kept. kept_last kept some ran) (λ status stop begin given kept. last_stopped kept _ status stop) c.in_err-line.ensures)
+    passed_on _ c.from_residual.ensures.1 (runs_as (Err _) (λ ran begin given kept. kept_last kept some (ran kept.state kept.shows)) (λ status stop begin given kept. last_stopped kept _ status (stop kept.state kept.shows)) c.in_err-line.ensures)
 
 pub returns : goal.returns
 returns g c =
     let some : c.args.front.now ≡ [] → ⊥ = λ none. let zero : length c.args.front.now ≡ 0 = ap length none in grind (arith, nat_tests) in
-    runs_as (Ok _) (λ ran begin given kept. kept_last kept some ran) (λ status stop begin given kept. last_stopped kept _ status stop) c.in_ok-line.ensures
+    runs_as (Ok _) (λ ran begin given kept. kept_last kept some (ran kept.state kept.shows)) (λ status stop begin given kept. last_stopped kept _ status (stop kept.state kept.shows)) c.in_ok-line.ensures

@@ -8,7 +8,7 @@ use Rattle.rss_top.specs.declared.status.Status.TheVariants.{ReadFault, TooLong}
 use Rattle.rss_top.proofs.Bytes.{bytes_as, last_as}
 use Rattle.rss_top.proofs.Endings.{not_through}
 use Rattle.rss_top.proofs.Scripts.{reads_none, reads_piece, script_unread, script_halted, script_stopped, script_whole, script_cut}
-use Rattle.rss_top.proofs.Ways.{rises_since}
+use Rattle.rss_base.proofs.Moments.{rises_since}
 use Rattle.rss_top.proofs.reading.run_lines.Goals as goal
 
 -- what was read into the buffer is what the buffer holds

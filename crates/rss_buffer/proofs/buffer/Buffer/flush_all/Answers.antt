@@ -1,4 +1,5 @@
 use Rattle.std.proofs.Common.{◌≡◌, ◌+◌, Some, true, length, List, Option, refl, ap, subst, arith}
+use Rattle.std.specs.Prelude.{Ok}
 use Rattle.rss_base.specs.declared.key.PageKey.{PageKey}
 use Rattle.rss_base.specs.StoredPages.{mapped_by}
 use Rattle.rss_shadow.specs.Maps.{Maps}
@@ -22,7 +23,7 @@ loop-slot-preserved g c =
     let frames_now = frame_in c.flush_slot.new.self.frames.cache.entries in
     record {
       written = subst (λ (m : Maps). AreWritten m.current frames c.loop-slot.slot → AreWritten m.current frames_now (c.loop-slot.slot + 1)) so_far.did.keeps.maps c.in_ok-flush_slot.ensures.written so_far.written;
-      did = WritesPages-then so_far.did c.in_ok-flush_slot.ensures.did;
+      did = WritesPages-then {result = Ok tt} so_far.did c.in_ok-flush_slot.ensures.did;
     }
 
 pub returns-in_err-flush_slot-clause-did : goal.returns-in_err-flush_slot-clause-did

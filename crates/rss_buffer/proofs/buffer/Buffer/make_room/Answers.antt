@@ -1,6 +1,6 @@
 use Rattle.std.proofs.Common.{◌∙◌, ap, arith}
 use Rattle.rss_buffer.specs.Frames.{FrameOf, frame_in}
-use Rattle.rss_buffer.proofs.Found.{HasPage-mapped}
+use Rattle.rss_shadow.proofs.Owned.{HasPage-mapped}
 use Rattle.rss_buffer.proofs.Turns.{mapped_there, none_more-unchanged, none_more-removed, unchanged-clean_at, unchanged-there, KeepsPages-rests, KeepsPages-then, KeepsPages-removed, IsBuffer-removed, MovesPages-keeps, cause_fails}
 use Rattle.rss_buffer.proofs.buffer.Buffer.make_room.Goals as goal
 

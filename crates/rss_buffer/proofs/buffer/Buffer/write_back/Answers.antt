@@ -53,7 +53,7 @@ invariant_of-self-in-Break-1 g c =
     let owned = ap (owner_of self.shadow.current) c.from.ensures ∙ c.requires in
     record {
       saved_area = self.saved_area;
-      holds = IsBuffer-failed self.holds c.args.key c.in-Some.frame.now.value c.from.result at changed owned (g.D.Device.disk c.write.new.self) c.write.ensures.only (frame_in-set_same entries c.args.key c.in-Some.frame.now at) c.write.ensures.size;
+      holds = IsBuffer-failed self.holds c.args.key c.in-Some.frame.now.value c.from.result at changed owned (g.D.Device.view c.write.new.self) c.write.ensures.did.only (frame_in-set_same entries c.args.key c.in-Some.frame.now at) c.write.ensures.did.size;
     }
 
 pub returns-in_err-write-clause-err : goal.returns-in_err-write-clause-err
@@ -71,10 +71,10 @@ returns-in_err-write-clause-did g c =
     let owned = ap (owner_of self.shadow.current) c.from.ensures ∙ c.requires in
     let waits = changed-waits (frame_in entries) c.args.key c.in-Some.frame.now.value at changed in
     record {
-      keeps = KeepsPages-failed self.holds c.args.key c.in-Some.frame.now.value c.from.result at changed owned (g.D.Device.disk c.write.new.self) c.write.ensures.only (frame_in-set_same entries c.args.key c.in-Some.frame.now at) (omega (arith, g.met.D.Device.counts self.device, c.write.ensures.writes)) c.write.ensures.cause.later;
-      loose = loose-back self.holds c.args.key c.in-Some.frame.now.value c.from.result at changed owned (g.D.Device.disk c.write.new.self) c.write.ensures.only;
+      keeps = KeepsPages-failed self.holds c.args.key c.in-Some.frame.now.value c.from.result at changed owned (g.D.Device.view c.write.new.self) c.write.ensures.did.only (frame_in-set_same entries c.args.key c.in-Some.frame.now at) (omega (arith, g.met.D.Device.limited self.device, c.write.ensures.counts)) c.write.ensures.did.cause.later;
+      loose = loose-back self.holds c.args.key c.in-Some.frame.now.value c.from.result at changed owned (g.D.Device.view c.write.new.self) c.write.ensures.did.only;
       settles = search rules;
-      few = writes-one _ c.args.key _ _ waits (omega (arith, c.write.ensures.writes));
+      few = writes-one _ c.args.key _ _ waits c.write.ensures.did.writes;
       fault = search rules;
       cause = search rules;
     }
@@ -92,7 +92,7 @@ invariant_of-self-2 g c =
     let now = settled_now entries c.args.key box c.deref_mut.result.now at c.deref_mut.ensures.value in
     record {
       saved_area = self.saved_area;
-      holds = IsBuffer-written self.holds c.args.key box.value c.from.result at changed owned (g.D.Device.disk c.write.new.self) c.write.ensures.only now c.write.ensures.size (ap (λ (f : Frame). f.page) c.deref-2.ensures) (g.met.D.Device.sized self.device) c.in_ok-write.ensures.written;
+      holds = IsBuffer-written self.holds c.args.key box.value c.from.result at changed owned (g.D.Device.view c.write.new.self) c.write.ensures.did.only now c.write.ensures.did.size (ap (λ (f : Frame). f.page) c.deref-2.ensures) (g.met.D.Device.sized self.device) c.in_ok-write.ensures.written;
     }
 
 pub returns-clause-written : goal.returns-clause-written
@@ -114,10 +114,10 @@ returns-clause-did g c =
     let now = settled_now entries c.args.key box c.deref_mut.result.now at c.deref_mut.ensures.value in
     let waits = changed-waits (frame_in entries) c.args.key box.value at changed in
     record {
-      keeps = KeepsPages-written self.holds c.args.key box.value c.from.result at changed owned (g.D.Device.disk c.write.new.self) c.write.ensures.only now (omega (arith, g.met.D.Device.counts self.device, c.write.ensures.writes)) c.write.ensures.cause.later;
-      loose = loose-back self.holds c.args.key box.value c.from.result at changed owned (g.D.Device.disk c.write.new.self) c.write.ensures.only;
-      settles = settles-one (frame_in entries) _ c.args.key _ _ _ waits now refl (omega (arith, c.write.ensures.writes));
-      few = writes-one _ c.args.key _ _ waits (omega (arith, c.write.ensures.writes));
+      keeps = KeepsPages-written self.holds c.args.key box.value c.from.result at changed owned (g.D.Device.view c.write.new.self) c.write.ensures.did.only now (omega (arith, g.met.D.Device.limited self.device, c.write.ensures.counts)) c.write.ensures.did.cause.later;
+      loose = loose-back self.holds c.args.key box.value c.from.result at changed owned (g.D.Device.view c.write.new.self) c.write.ensures.did.only;
+      settles = settles-one (frame_in entries) _ c.args.key _ _ _ waits now refl c.write.ensures.did.writes;
+      few = writes-one _ c.args.key _ _ waits c.write.ensures.did.writes;
       fault = tt;
       cause = search rules;
     }

@@ -1,9 +1,9 @@
-use Rattle.std.proofs.Common.{None, arith}
+use Rattle.std.proofs.Common.{None, refl, arith}
 use Rattle.rss_base.proofs.Steps.{gave}
 use Rattle.rss_buffer.specs.Devices.{buffer_view}
-use Rattle.rss_buffer.proofs.Found.{HasPage-mapped}
+use Rattle.rss_shadow.proofs.Owned.{HasPage-mapped}
 use Rattle.rss_buffer.proofs.Turns.{KeepsPages-rests}
-use Rattle.rss_buffer.proofs.Changed.{Reslots-loses, IsBuffer-reslots, passes_on, changed-off, gives_page}
+use Rattle.rss_buffer.proofs.Changed.{Reslots-loses, changes_page, IsBuffer-changes, passes_on, changed-off, gives_page}
 use Rattle.rss_buffer.proofs.pages.BufferPages.give.Goals as goal
 
 pub give-requires : goal.give-requires
@@ -12,18 +12,20 @@ give-requires g c = HasPage-mapped c.args.self.now.shadow.current c.args.key c.r
 pub invariant_of-self : goal.invariant_of-self
 invariant_of-self g c =
     let self = c.args.self.now in
-    let re = Reslots-loses self.shadow c.give.new.self c.args.key self.holds.table self.holds.room c.give.ensures.loses in
-    record { saved_area = λ area is. absurd (cc); holds = IsBuffer-reslots {b = buffer_view self} re None c.remove.ensures.gone self.holds (λ f is. absurd (cc)) }
+    let re = Reslots-loses self.shadow c.give.new.self c.args.key self.holds.laid_out.table self.holds.laid_out.room c.give.ensures.loses in
+    let change = changes_page (buffer_view self) None self.holds re c.remove.ensures.gone c.unmap.ensures (λ space. refl) in
+    record { saved_area = λ area is. absurd (cc); holds = IsBuffer-changes change self.holds (λ f is. absurd (cc)) }
 
 pub returns-clause-given : goal.returns-clause-given
 returns-clause-given g c =
     let self = c.args.self.now in
-    let re = Reslots-loses self.shadow c.give.new.self c.args.key self.holds.table self.holds.room c.give.ensures.loses in
-    gives_page {b = buffer_view self} re c.remove.ensures.gone (KeepsPages-rests (buffer_view self))
+    let re = Reslots-loses self.shadow c.give.new.self c.args.key self.holds.laid_out.table self.holds.laid_out.room c.give.ensures.loses in
+    gives_page (KeepsPages-rests (buffer_view self)) (changes_page (buffer_view self) None self.holds re c.remove.ensures.gone c.unmap.ensures (λ space. refl))
 
 pub returns-clause-did : goal.returns-clause-did
 returns-clause-did g c =
     let self = c.args.self.now in
-    let re = Reslots-loses self.shadow c.give.new.self c.args.key self.holds.table self.holds.room c.give.ensures.loses in
+    let re = Reslots-loses self.shadow c.give.new.self c.args.key self.holds.laid_out.table self.holds.laid_out.room c.give.ensures.loses in
+    let change = changes_page (buffer_view self) None self.holds re c.remove.ensures.gone c.unmap.ensures (λ space. refl) in
     let rests = KeepsPages-rests (buffer_view self) in
-    gave _ (passes_on {b = buffer_view self} re None c.remove.ensures.gone rests (omega arith)) (changed-off {b = buffer_view self} re None c.remove.ensures.gone rests) (gives_page {b = buffer_view self} re c.remove.ensures.gone rests)
+    gave _ (passes_on change rests (omega arith)) (changed-off change rests) (gives_page rests change)

@@ -1,5 +1,5 @@
 use Rattle.std.proofs.Common.{◌∙◌}
-use Rattle.rss_buffer.proofs.Found.{mapped-answer}
+use Rattle.rss_shadow.proofs.Owned.{mapped-answer}
 use Rattle.rss_buffer.proofs.pages.BufferPages.has.Goals as goal
 
 pub returns : goal.returns

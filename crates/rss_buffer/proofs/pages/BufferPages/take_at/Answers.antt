@@ -1,13 +1,13 @@
-use Rattle.std.proofs.Common.{◌∙◌, true, replicate, Some, refl, ap, sym}
+use Rattle.std.proofs.Common.{◌∙◌, refl, ap, sym}
 use Rattle.rss_base.specs.StoredPages.{mapped_by}
 use Rattle.rss_shadow.specs.Maps.{Maps}
 use Rattle.rss_base.proofs.Steps.{took, lacks_memory, fails_by}
 use Rattle.rss_buffer.specs.declared.frames.Frames.{Frames}
 use Rattle.rss_buffer.specs.Frames.{frame_in}
 use Rattle.rss_buffer.specs.Devices.{buffer_view}
-use Rattle.rss_buffer.proofs.Found.{LacksPage-unmapped}
+use Rattle.rss_shadow.proofs.Owned.{LacksPage-unmapped}
 use Rattle.rss_buffer.proofs.Turns.{ok_then, err_then, IsBuffer-same, KeepsPages-same, KeepsPages-then}
-use Rattle.rss_buffer.proofs.Changed.{Reslots-gained, Fits-changed, IsBuffer-reslots, passes_on, changed-off, takes_page, keeps_step}
+use Rattle.rss_buffer.proofs.Changed.{Reslots-gained, Fits-changed, changes_page, IsBuffer-changes, passes_on, changed-off, takes_page, keeps_step}
 use Rattle.rss_buffer.proofs.pages.BufferPages.take_at.Goals as goal
 
 pub take_at-requires-clause-lacking : goal.take_at-requires-clause-lacking
@@ -39,23 +39,24 @@ pub invariant_of-self-2 : goal.invariant_of-self-2
 invariant_of-self-2 g c =
     let mid = c.make_room.new.self in
     let gains = c.take_at.ensures.gains in
-    let re = Reslots-gained mid.holds.table c.make_room.ensures.did.keeps.maps c.requires.room c.requires.allowed c.requires.unmapped gains in
+    let re = Reslots-gained mid.holds.laid_out.table c.make_room.ensures.did.keeps.maps c.requires.room c.requires.allowed c.requires.unmapped gains in
     let now = ok_then c.put.result (sym c.is_err.ensures.value ∙ c.if-is_err.false) c.put.ensures.ok in
-    record { saved_area = λ area is. absurd (cc); holds = IsBuffer-reslots {b = buffer_view mid} re (Some (record { page = replicate 4096 0; changed = true })) now mid.holds (Fits-changed mid.shadow.shadow gains.slot _ refl gains.free.shadow) }
+    let change = changes_page (buffer_view mid) _ mid.holds re now c.map.ensures (λ space. space) in
+    record { saved_area = λ area is. absurd (cc); holds = IsBuffer-changes change mid.holds (Fits-changed mid.shadow.shadow gains.slot _ refl gains.free.shadow) }
 
 pub returns-clause-taken : goal.returns-clause-taken
 returns-clause-taken g c =
     let mid = c.make_room.new.self in
     let keeps = c.make_room.ensures.did.keeps in
-    let re = Reslots-gained mid.holds.table keeps.maps c.requires.room c.requires.allowed c.requires.unmapped c.take_at.ensures.gains in
+    let re = Reslots-gained mid.holds.laid_out.table keeps.maps c.requires.room c.requires.allowed c.requires.unmapped c.take_at.ensures.gains in
     let now = ok_then c.put.result (sym c.is_err.ensures.value ∙ c.if-is_err.false) c.put.ensures.ok in
-    takes_page {b = buffer_view mid} re now keeps
+    takes_page keeps (changes_page (buffer_view mid) _ mid.holds re now c.map.ensures (λ space. space))
 
 pub returns-clause-did : goal.returns-clause-did
 returns-clause-did g c =
     let mid = c.make_room.new.self in
     let room = c.make_room.ensures.did in
-    let re = Reslots-gained mid.holds.table room.keeps.maps c.requires.room c.requires.allowed c.requires.unmapped c.take_at.ensures.gains in
+    let re = Reslots-gained mid.holds.laid_out.table room.keeps.maps c.requires.room c.requires.allowed c.requires.unmapped c.take_at.ensures.gains in
     let now = ok_then c.put.result (sym c.is_err.ensures.value ∙ c.if-is_err.false) c.put.ensures.ok in
-    let frame = Some (record { page = replicate 4096 0; changed = true }) in
-    took _ (passes_on {b = buffer_view mid} re frame now room.keeps room.few) (changed-off {b = buffer_view mid} re frame now room.keeps) (takes_page {b = buffer_view mid} re now room.keeps)
+    let change = changes_page (buffer_view mid) _ mid.holds re now c.map.ensures (λ space. space) in
+    took _ (passes_on change room.keeps room.few) (changed-off change room.keeps) (takes_page room.keeps change)

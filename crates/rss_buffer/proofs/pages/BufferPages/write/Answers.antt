@@ -1,4 +1,4 @@
-use Rattle.std.proofs.Common.{◌≡◌, ◌∙◌, true, List, Option, Some, None, refl, ap, sym}
+use Rattle.std.proofs.Common.{◌≡◌, ◌∙◌, List, Option, None, refl, ap, sym}
 use Rattle.rss_base.specs.PageMap.{owner_of}
 use Rattle.rss_base.specs.StoredPages.{mapped_by}
 use Rattle.rss_base.specs.declared.key.PageKey.{PageKey}
@@ -7,9 +7,9 @@ use Rattle.rss_base.proofs.Steps.{wrote, lacks_memory, fails_by}
 use Rattle.rss_buffer.specs.declared.frames.Frames.{Frames}
 use Rattle.rss_buffer.specs.Frames.{frame_in}
 use Rattle.rss_buffer.specs.Devices.{buffer_view}
-use Rattle.rss_buffer.proofs.Found.{HasPage-mapped}
+use Rattle.rss_shadow.proofs.Owned.{HasPage-mapped}
 use Rattle.rss_buffer.proofs.Turns.{ok_then, err_then, IsBuffer-same, KeepsPages-same, KeepsPages-then}
-use Rattle.rss_buffer.proofs.Changed.{Reslots-moves, Fits-changed, IsBuffer-reslots, passes_on, changed-off, writes_page, keeps_step}
+use Rattle.rss_buffer.proofs.Changed.{Reslots-moves, Fits-changed, changes_page, IsBuffer-changes, passes_on, changed-off, writes_page, keeps_step}
 use Rattle.rss_buffer.proofs.pages.BufferPages.write.Goals as goal
 
 pub first_write-requires : goal.first_write-requires
@@ -41,23 +41,28 @@ pub invariant_of-self-2 : goal.invariant_of-self-2
 invariant_of-self-2 g c =
     let mid = c.make_room_for.new.self in
     let moves = c.first_write.ensures.moves in
-    let re = Reslots-moves mid.shadow c.first_write.new.self c.args.key c.first_write.result mid.holds.table mid.holds.room moves in
+    let re = Reslots-moves mid.shadow c.first_write.new.self c.args.key c.first_write.result mid.holds.laid_out.table mid.holds.laid_out.room moves in
     let outside : owner_of mid.shadow.shadow c.first_write.result ≡ None = ap (λ (owners : List (Option PageKey)). owner_of owners c.first_write.result) (sym moves.shadow) ∙ c.first_write.ensures.outside in
     let now = ok_then c.put.result (sym c.is_err.ensures.value ∙ c.if-is_err.false) c.put.ensures.ok in
-    record { saved_area = λ area is. absurd (cc); holds = IsBuffer-reslots {b = buffer_view mid} re (Some (record { page = c.args.from.now; changed = true })) now mid.holds (Fits-changed mid.shadow.shadow c.first_write.result _ refl outside) }
+    let is = ap (λ (m : Maps). mapped_by m.current c.args.key) c.make_room_for.ensures.did.keeps.maps ∙ c.requires in
+    let change = changes_page (buffer_view mid) _ mid.holds re now c.forget.ensures (λ space. mid.holds.noted.mapped c.args.key space ∙ is) in
+    record { saved_area = λ area is. absurd (cc); holds = IsBuffer-changes change mid.holds (Fits-changed mid.shadow.shadow c.first_write.result _ refl outside) }
 
 pub returns-clause-written : goal.returns-clause-written
 returns-clause-written g c =
     let mid = c.make_room_for.new.self in
-    let re = Reslots-moves mid.shadow c.first_write.new.self c.args.key c.first_write.result mid.holds.table mid.holds.room c.first_write.ensures.moves in
+    let re = Reslots-moves mid.shadow c.first_write.new.self c.args.key c.first_write.result mid.holds.laid_out.table mid.holds.laid_out.room c.first_write.ensures.moves in
     let now = ok_then c.put.result (sym c.is_err.ensures.value ∙ c.if-is_err.false) c.put.ensures.ok in
-    writes_page {b = buffer_view mid} re c.args.from.now now c.make_room_for.ensures.did.keeps c.requires
+    let is = ap (λ (m : Maps). mapped_by m.current c.args.key) c.make_room_for.ensures.did.keeps.maps ∙ c.requires in
+    let change = changes_page (buffer_view mid) _ mid.holds re now c.forget.ensures (λ space. mid.holds.noted.mapped c.args.key space ∙ is) in
+    writes_page c.make_room_for.ensures.did.keeps change c.requires
 
 pub returns-clause-did : goal.returns-clause-did
 returns-clause-did g c =
     let mid = c.make_room_for.new.self in
     let room = c.make_room_for.ensures.did in
-    let re = Reslots-moves mid.shadow c.first_write.new.self c.args.key c.first_write.result mid.holds.table mid.holds.room c.first_write.ensures.moves in
+    let re = Reslots-moves mid.shadow c.first_write.new.self c.args.key c.first_write.result mid.holds.laid_out.table mid.holds.laid_out.room c.first_write.ensures.moves in
     let now = ok_then c.put.result (sym c.is_err.ensures.value ∙ c.if-is_err.false) c.put.ensures.ok in
-    let frame = Some (record { page = c.args.from.now; changed = true }) in
-    wrote _ (passes_on {b = buffer_view mid} re frame now room.keeps room.few) (changed-off {b = buffer_view mid} re frame now room.keeps) (writes_page {b = buffer_view mid} re c.args.from.now now room.keeps c.requires)
+    let is = ap (λ (m : Maps). mapped_by m.current c.args.key) c.make_room_for.ensures.did.keeps.maps ∙ c.requires in
+    let change = changes_page (buffer_view mid) _ mid.holds re now c.forget.ensures (λ space. mid.holds.noted.mapped c.args.key space ∙ is) in
+    wrote _ (passes_on change room.keeps room.few) (changed-off change room.keeps) (writes_page room.keeps change c.requires)

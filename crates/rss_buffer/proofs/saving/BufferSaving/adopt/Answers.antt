@@ -12,7 +12,7 @@ invariant_of-self g c = record {
 
 pub returns-clause-adopted : goal.returns-clause-adopted
 returns-clause-adopted g c =
-    let disk = g.D.Device.disk c.args.self.now.device in
+    let disk = (g.D.Device.view c.args.self.now.device).disk in
     rw c.adopt.ensures (record {
       shadow = refl;
       area = refl;
@@ -29,6 +29,7 @@ returns-clause-did g c =
       current = refl;
       waiting = λ key is. is;
       held = λ told. refl;
+      notes = refl;
       log_pages = refl;
       asks = refl;
       told = (λ is. is, λ is. is);

@@ -1,12 +1,12 @@
-use Rattle.std.proofs.Common.{rules, ◌≡◌, ℕ, length, ◌∙◌, ap, refl, arith}
+use Rattle.std.proofs.Common.{rules, ◌≡◌, length, ◌∙◌, ap, refl, arith}
 use Rattle.rss_base.specs.Layout.{slots_at}
 use Rattle.rss_base.specs.StoredPages.{StandInSlots}
 use Rattle.rss_shadow.specs.Maps.{Maps}
 use Rattle.rss_buffer.specs.Frames.{frame_in}
 use Rattle.rss_buffer.specs.Slots.{held_by}
-use Rattle.rss_buffer.proofs.Elsewhere.{below_slots, held_after, buffer_after, changing}
+use Rattle.rss_buffer.proofs.Elsewhere.{area_below, buffer_after, changing}
 use Rattle.rss_buffer.proofs.Waits.{none-waits}
-use Rattle.rss_buffer.proofs.Saves.{flushed_from, saves_map, at_saved, flush_writes, save_writes, backing_kept, saving_flushed, saving_after}
+use Rattle.rss_buffer.proofs.Saves.{flushed_from, saves_map, at_saved, flush_writes, save_writes, backing_kept, saving_flushed, saving_wrote}
 use Rattle.rss_buffer.proofs.Turns.{WritesPages-fails}
 use Rattle.rss_buffer.proofs.saving.BufferSaving.save.Goals as goal
 
@@ -16,7 +16,7 @@ pub returns-in_err-flush_all-clause-backing : goal.returns-in_err-flush_all-clau
 returns-in_err-flush_all-clause-backing g c = backing_kept c.flush_all.ensures.did.keeps
 
 pub returns-in_err-flush_all-clause-only : goal.returns-in_err-flush_all-clause-only
-returns-in_err-flush_all-clause-only g c = flush_writes c.args.self.now.shadow c.args.area c.args.self.now.holds.place c.args.self.now.holds.count c.flush_all.ensures.did.loose
+returns-in_err-flush_all-clause-only g c = flush_writes c.args.self.now.shadow c.args.area c.args.self.now.holds.laid_out.place c.args.self.now.holds.laid_out.count c.flush_all.ensures.did.loose
 
 pub returns-in_err-flush_all-clause-writes : goal.returns-in_err-flush_all-clause-writes
 returns-in_err-flush_all-clause-writes g c = λ keys has. omega (arith, c.flush_all.ensures.did.few keys has)
@@ -29,11 +29,10 @@ returns-in_err-flush_all-clause-did g c = saving_flushed _ (WritesPages-fails _ 
 pub invariant_of-self : goal.invariant_of-self
 invariant_of-self g c =
     let mid = c.flush_all.new.self in
-    let only = rw c.current.ensures.current at c.write_table.ensures.only in
-    let below = λ (q : ℕ). below_slots (length mid.shadow.current) mid.log_pages c.args.area mid.first_slot q c.requires.area mid.holds.place in
+    let only = rw c.current.ensures.current at c.write_table.ensures.did.only in
     record {
       saved_area = λ area is. absurd (cc);
-      holds = buffer_after mid.holds c.write_table.ensures.size below only.told only.kept (changing _ refl);
+      holds = buffer_after mid.holds c.write_table.ensures.did.size (area_below mid.holds c.requires.area) only (changing _ refl);
     }
 
 pub returns-in_err-write_table-clause-backing : goal.returns-in_err-write_table-clause-backing
@@ -42,28 +41,27 @@ returns-in_err-write_table-clause-backing g c = backing_kept c.flush_all.ensures
 pub returns-in_err-write_table-clause-only : goal.returns-in_err-write_table-clause-only
 returns-in_err-write_table-clause-only g c =
     let flush = c.flush_all.ensures.did in
-    let only = rw (c.current.ensures.current, flush.keeps.maps) at c.write_table.ensures.only in
-    save_writes c.args.self.now.shadow c.args.area c.args.self.now.holds.place c.args.self.now.holds.count flush.loose only
+    let only = rw (c.current.ensures.current, flush.keeps.maps) at c.write_table.ensures.did.only in
+    save_writes c.args.self.now.shadow c.args.area c.args.self.now.holds.laid_out.place c.args.self.now.holds.laid_out.count flush.loose only
 
 pub returns-in_err-write_table-clause-writes : goal.returns-in_err-write_table-clause-writes
 returns-in_err-write_table-clause-writes g c = λ keys has.
     let flush = c.flush_all.ensures.did in
-    let table = rw (c.current.ensures.current, flush.keeps.maps) at c.write_table.ensures.writes in
+    let table = rw (c.current.ensures.current, flush.keeps.maps) at c.write_table.ensures.did.writes in
     omega (arith, flush.few keys has, table)
 
 pub invariant_of-self-2-clause-holds : goal.invariant_of-self-2-clause-holds
 invariant_of-self-2-clause-holds g c =
     let mid = c.flush_all.new.self in
-    let only = rw c.current.ensures.current at c.write_table.ensures.only in
+    let only = rw c.current.ensures.current at c.write_table.ensures.did.only in
     let written = rw c.current.ensures.current at c.in_ok-write_table.ensures.written in
-    let below = λ (q : ℕ). below_slots (length mid.shadow.current) mid.log_pages c.args.area mid.first_slot q c.requires.area mid.holds.place in
-    buffer_after mid.holds c.write_table.ensures.size below only.told only.kept (at_saved _ c.args.area refl c.in_ok-flush_all.ensures.none_changed only.told written)
+    buffer_after mid.holds c.write_table.ensures.did.size (area_below mid.holds c.requires.area) only (at_saved _ c.args.area refl c.in_ok-flush_all.ensures.none_changed only written)
 
 pub returns-clause-saved : goal.returns-clause-saved
 returns-clause-saved g c = λ told pages is.
     let old = c.args.self.now in
     let flush = c.flush_all.ensures.did in
-    let held = held_by old.first_slot old.shadow.current (frame_in old.frames.cache.entries) (g.D.Device.disk old.device).contents in
+    let held = held_by old.first_slot old.shadow.current (frame_in old.frames.cache.entries) (g.D.Device.view old.device).disk.contents in
     let mid = flush.loose.told.0 told in
     let stand : StandInSlots (slots_at (length old.shadow.current) old.log_pages) mid.pages old.shadow.current held = flushed_from c.flush_all.new.self.holds flush.keeps c.in_ok-flush_all.ensures.none_changed told mid.pages mid.is in
     let table : c.current.result.now ≡ old.shadow.current = c.current.ensures.current ∙ ap (λ (m : Maps). m.current) flush.keeps.maps in
@@ -79,39 +77,23 @@ returns-clause-backing g c = backing_kept c.flush_all.ensures.did.keeps
 pub returns-clause-only : goal.returns-clause-only
 returns-clause-only g c =
     let flush = c.flush_all.ensures.did in
-    let only = rw (c.current.ensures.current, flush.keeps.maps) at c.write_table.ensures.only in
-    save_writes c.args.self.now.shadow c.args.area c.args.self.now.holds.place c.args.self.now.holds.count flush.loose only
+    let only = rw (c.current.ensures.current, flush.keeps.maps) at c.write_table.ensures.did.only in
+    save_writes c.args.self.now.shadow c.args.area c.args.self.now.holds.laid_out.place c.args.self.now.holds.laid_out.count flush.loose only
 
 pub returns-clause-writes : goal.returns-clause-writes
 returns-clause-writes g c = λ keys has.
     let flush = c.flush_all.ensures.did in
-    let table = rw (c.current.ensures.current, flush.keeps.maps) at c.write_table.ensures.writes in
+    let table = rw (c.current.ensures.current, flush.keeps.maps) at c.write_table.ensures.did.writes in
     omega (arith, flush.few keys has, table)
 
 pub returns-in_err-write_table-clause-did : goal.returns-in_err-write_table-clause-did
 returns-in_err-write_table-clause-did g c =
     let mid = c.flush_all.new.self in
-    let flush = c.flush_all.ensures.did in
-    let only = rw c.current.ensures.current at c.write_table.ensures.only in
-    let below = λ (q : ℕ). below_slots (length mid.shadow.current) mid.log_pages c.args.area mid.first_slot q c.requires.area mid.holds.place in
-    record {
-      step = saving_after (g.D.Device.disk c.write_table.new.device) flush.keeps only.told
-          (held_after (g.D.Device.disk mid.device) (g.D.Device.disk c.write_table.new.device) mid.first_slot mid.shadow.current (frame_in mid.frames.cache.entries) below only.kept)
-          c.write_table.ensures.cause.later;
-      fault = search rules;
-      cause = search rules;
-    }
+    let only = rw c.current.ensures.current at c.write_table.ensures.did.only in
+    saving_wrote (g.D.Device.view c.write_table.new.device) c.flush_all.ensures.did.keeps (area_below mid.holds c.requires.area) only c.write_table.ensures.did.cause (search rules) (search rules)
 
 pub returns-clause-did : goal.returns-clause-did
 returns-clause-did g c =
     let mid = c.flush_all.new.self in
-    let flush = c.flush_all.ensures.did in
-    let only = rw c.current.ensures.current at c.write_table.ensures.only in
-    let below = λ (q : ℕ). below_slots (length mid.shadow.current) mid.log_pages c.args.area mid.first_slot q c.requires.area mid.holds.place in
-    record {
-      step = saving_after (g.D.Device.disk c.write_table.new.device) flush.keeps only.told
-          (held_after (g.D.Device.disk mid.device) (g.D.Device.disk c.write_table.new.device) mid.first_slot mid.shadow.current (frame_in mid.frames.cache.entries) below only.kept)
-          c.write_table.ensures.cause.later;
-      fault = tt;
-      cause = λ is. absurd (cc);
-    }
+    let only = rw c.current.ensures.current at c.write_table.ensures.did.only in
+    saving_wrote (g.D.Device.view c.write_table.new.device) c.flush_all.ensures.did.keeps (area_below mid.holds c.requires.area) only c.write_table.ensures.did.cause (search rules) (search rules)

@@ -1,11 +1,19 @@
-use Rattle.std.proofs.Common.{rules, refl, arith, inl, Some, replicate}
+use Rattle.std.proofs.Common.{rules, refl, arith, inl}
 use Rattle.rss_base.proofs.Calls.{leaves_rests}
 use Rattle.rss_base.proofs.Steps.{took}
-use Rattle.rss_device.proofs.Places.{mapped_after}
+use Rattle.rss_device.proofs.Places.{follows, least_first, some_unmapped}
 use Rattle.rss_device.proofs.mem_pages.MemPagesPages.take.Goals as goal
 
+pub unreachable-requires : goal.unreachable-requires
+unreachable-requires c = some_unmapped c.args.self.now.places.items c.args.segment c.args.space c.requires.room c.in_default.ensures.none
+
+pub returns-clause-least : goal.returns-clause-least
+returns-clause-least c = least_first c.args.self.now.places.items c.args.segment c.args.space c.in-Some.number c.in-Some.ensures.some
+
 pub returns-clause-taken : goal.returns-clause-taken
-returns-clause-taken c = record { mapped = mapped_after _ _ _ (Some (replicate 4096 0)) c.map.ensures.held; held = λ told. c.map.ensures.held }
+returns-clause-taken c =
+    let follows = follows c.args.self.now.places.items c.map.new.self.places.items _ _ c.map.ensures.stored in
+    record { mapped = follows.mapped; held = λ told. follows.held; notes = follows.notes }
 
 pub returns-clause-did : goal.returns-clause-did
 returns-clause-did c = took _ (record { slots = search rules; backing = refl; leaves = leaves_rests _ _ _; later = omega arith; asks_low = omega (arith, c.map.ensures.reads); asks_high = omega (arith, c.map.ensures.reads); writes_low = omega arith; writes_high = omega arith }) (λ other is. inl is) (returns-clause-taken c)

@@ -1,6 +1,6 @@
-use Rattle.std.proofs.Common.{rules, refl, arith, inl, ◌≡◌, All, true, false}
+use Rattle.std.proofs.Common.{rules, refl, arith, inl, ◌≡◌, ◌∙◌, All, true, false, None}
 use Rattle.rss_device.specs.MemPages.{has_key, place_at}
-use Rattle.rss_device.proofs.Places.{none_has, changes_own, held_put, stays_mapped, placed_after}
+use Rattle.rss_device.proofs.Places.{none_has, changes_own, stored_put, follows, stays_mapped, placed_after}
 use Rattle.rss_base.proofs.Calls.{leaves_rests}
 use Rattle.rss_base.proofs.Steps.{wrote}
 use Rattle.rss_device.proofs.mem_pages.MemPagesPages.write.Goals as goal
@@ -19,8 +19,9 @@ invariant_of-self c =
 pub returns-clause-written : goal.returns-clause-written
 returns-clause-written c =
     let has : has_key c.args.key (place_at c.args.self.now.places.items c.in-Some.at) ≡ true = search rules in
-    let put = held_put _ _ _ c.args.from.now (changes_own _ _ _ _ c.args.self.now.placed has (λ other differs. differs)) in
-    record { mapped = stays_mapped _ _ _ c.args.from.now put c.requires; held = λ told. put }
+    let put = stored_put _ _ _ c.args.from.now None (changes_own _ _ _ _ c.args.self.now.placed has (λ other differs. differs)) in
+    let follows = follows c.args.self.now.places.items _ _ _ put in
+    record { mapped = follows.mapped ∙ stays_mapped _ c.args.key c.requires; held = λ told. follows.held; notes = follows.notes }
 
 pub returns-clause-did : goal.returns-clause-did
 returns-clause-did c = wrote _ (record { slots = search rules; backing = refl; leaves = leaves_rests _ _ _; later = omega arith; asks_low = omega arith; asks_high = omega arith; writes_low = omega arith; writes_high = omega arith }) (λ other is. inl is) (returns-clause-written c)

@@ -16,7 +16,11 @@ returns-clause-synced c = λ pages told.
     let pushed : c.push.new.self.items ≡ c.args.self.now.events.items ++ Synced ∷ [] = search rules in
     subst (λ (p : Pages). LeavesOnly (disk_of c.args.self.now.first.items c.push.new.self.items c.args.self.now.pages.items) p) (same_some told) (synced _ _ _ c.args.self.now.kept _ c.args.self.now.pages.items pushed)
 
-pub returns-clause-reads : goal.returns-clause-reads
-returns-clause-reads c =
+pub returns-clause-did : goal.returns-clause-did
+returns-clause-did c =
     let pushed : c.push.new.self.items ≡ c.args.self.now.events.items ++ Synced ∷ [] = search rules in
-    record { contents = refl; moments = λ told. syncs _ _ _ c.args.self.now.kept _ pushed; same_writes = refl; later = omega arith }
+    record {
+      reads = record { contents = refl; moments = λ told. syncs _ _ _ c.args.self.now.kept _ pushed; same_writes = refl; later = omega arith };
+      size = refl;
+      failed = λ is. search rules;
+    }

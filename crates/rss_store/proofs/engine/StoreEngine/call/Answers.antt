@@ -1,6 +1,7 @@
 use Rattle.std.proofs.Common.{refl, arith}
 use Rattle.rss_base.proofs.Moments.{started}
 use Rattle.rss_model.proofs.Endings.{comes_to, costs_nothing}
+use Rattle.rss_store.proofs.Ways.{leads}
 use Rattle.rss_store.specs.HomePages.{values_in}
 use Rattle.rss_store.proofs.HomePages.{length_values}
 use Rattle.rss_store.proofs.engine.StoreEngine.call.Goals as goal
@@ -22,10 +23,10 @@ returns-in-Ok-clause-done g c =
     comes_to c.if-self.false (costs_nothing _ refl refl (λ told. told) (omega arith)) (record {
       up = c.if-self.false;
       short = begun.answers.short;
-      answered = λ told. record {
-        step = rw (c.in-Begin.is, begun.keeps.count) (begun.answers.step values (length_values (g.S.Pages.view store.pages).held store.session.count));
+      answered = λ told state shown. leads state shown (record {
+        step = rw (c.in-Begin.is, begun.keeps.count) (begun.answers.step store.root.log_pages values (length_values (g.S.Pages.view store.pages).held store.session.count));
         moments = started _ _;
-      };
+      });
     })
 
 pub returns-in-Err-clause-done : goal.returns-in-Err-clause-done
@@ -36,8 +37,8 @@ returns-in-Err-clause-done g c =
     comes_to c.if-self.false (costs_nothing _ refl refl (λ told. told) (omega arith)) (record {
       up = c.if-self.false;
       short = begun.answers.short;
-      answered = λ told. record {
-        step = rw (c.in-Begin.is, begun.keeps.count) (begun.answers.step values (length_values (g.S.Pages.view store.pages).held store.session.count));
+      answered = λ told state shown. leads state shown (record {
+        step = rw (c.in-Begin.is, begun.keeps.count) (begun.answers.step store.root.log_pages values (length_values (g.S.Pages.view store.pages).held store.session.count));
         moments = started _ _;
-      };
+      });
     })

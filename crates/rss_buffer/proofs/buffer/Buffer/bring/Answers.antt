@@ -5,9 +5,9 @@ use Rattle.rss_shadow.specs.Maps.{Maps}
 use Rattle.rss_buffer.specs.declared.frames.Frames.{Frames}
 use Rattle.rss_buffer.specs.Frames.{frame_in, FrameOf}
 use Rattle.rss_buffer.proofs.Lookups.{with_frame-same}
-use Rattle.rss_buffer.proofs.Found.{HasPage-mapped}
+use Rattle.rss_shadow.proofs.Owned.{HasPage-mapped}
 use Rattle.rss_buffer.proofs.Turns.{none_from, ok_then, either, IsBuffer-same, KeepsPages-same, IsBuffer-rests, KeepsPages-read, IsBuffer-loads, KeepsPages-loads, KeepsPages-then, MovesPages-keeps, MovesPages-fails}
-use Rattle.rss_buffer.proofs.buffer.Buffer.load.Goals as goal
+use Rattle.rss_buffer.proofs.buffer.Buffer.bring.Goals as goal
 
 -- ---- it is in memory
 
@@ -33,14 +33,14 @@ unreachable-requires g c =
 -- ---- it can't be read
 
 pub invariant_of-self-in-Break-branch-2 : goal.invariant_of-self-in-Break-branch-2
-invariant_of-self-in-Break-branch-2 g c = record { saved_area = c.make_room.new.self.saved_area; holds = IsBuffer-rests c.make_room.new.self.holds c.read.ensures.reads c.read.ensures.size }
+invariant_of-self-in-Break-branch-2 g c = record { saved_area = c.make_room.new.self.saved_area; holds = IsBuffer-rests c.make_room.new.self.holds c.read.ensures.did.reads c.read.ensures.did.size }
 
 pub returns-in_err-read-clause-did : goal.returns-in_err-read-clause-did
 returns-in_err-read-clause-did g c =
     let room = c.make_room.ensures.did in
     record {
-      keeps = KeepsPages-then room.keeps (KeepsPages-read c.make_room.new.self.holds c.read.ensures.reads (omega (arith, c.read.ensures.reads.same_writes)) c.read.ensures.cause.later);
-      few = omega (arith, room.few, c.read.ensures.reads.same_writes);
+      keeps = KeepsPages-then room.keeps (KeepsPages-read c.make_room.new.self.holds c.read.ensures.did.reads);
+      few = omega (arith, room.few, c.read.ensures.did.reads.same_writes);
       cause = search rules;
     }
 
@@ -51,7 +51,7 @@ invariant_of-self-2 g c =
     let self = c.make_room.new.self in
     let owned : owner_of self.shadow.current c.from.result ≡ Some c.args.key = ap (owner_of self.shadow.current) c.from.ensures ∙ c.in-Some.ensures.some in
     let none = c.make_room.ensures.none_more c.args.key (none_from _ (sym c.has.ensures ∙ c.if-has.false)) in
-    record { saved_area = self.saved_area; holds = IsBuffer-loads self.holds c.read.ensures.reads c.args.key c.from.result c.read.new.into none owned c.in_ok-read.ensures.page c.read.ensures.size (either c.put.result c.put.ensures.ok c.put.ensures.err (ap (λ (f : Frames). frame_in f.cache.entries))) }
+    record { saved_area = self.saved_area; holds = IsBuffer-loads self.holds c.read.ensures.did.reads c.args.key c.from.result c.read.new.into none owned c.in_ok-read.ensures.page c.read.ensures.did.size (either c.put.result c.put.ensures.ok c.put.ensures.err (ap (λ (f : Frames). frame_in f.cache.entries))) }
 
 pub returns-then-is_err-clause-did : goal.returns-then-is_err-clause-did
 returns-then-is_err-clause-did g c =
@@ -60,8 +60,8 @@ returns-then-is_err-clause-did g c =
     let owned : owner_of self.shadow.current c.from.result ≡ Some c.args.key = ap (owner_of self.shadow.current) c.from.ensures ∙ c.in-Some.ensures.some in
     let none = c.make_room.ensures.none_more c.args.key (none_from _ (sym c.has.ensures ∙ c.if-has.false)) in
     record {
-      keeps = KeepsPages-then room.keeps (KeepsPages-loads self.holds c.read.ensures.reads c.args.key c.from.result c.read.new.into none owned c.in_ok-read.ensures.page (omega (arith, c.read.ensures.reads.same_writes)) c.read.ensures.cause.later (either c.put.result c.put.ensures.ok c.put.ensures.err (ap (λ (f : Frames). frame_in f.cache.entries))));
-      few = omega (arith, room.few, c.read.ensures.reads.same_writes);
+      keeps = KeepsPages-then room.keeps (KeepsPages-loads self.holds c.read.ensures.did.reads c.args.key c.from.result c.read.new.into none owned c.in_ok-read.ensures.page (either c.put.result c.put.ensures.ok c.put.ensures.err (ap (λ (f : Frames). frame_in f.cache.entries))));
+      few = omega (arith, room.few, c.read.ensures.did.reads.same_writes);
       cause = search rules;
     }
 
@@ -77,5 +77,5 @@ returns-clause-did g c =
     let owned : owner_of self.shadow.current c.from.result ≡ Some c.args.key = ap (owner_of self.shadow.current) c.from.ensures ∙ c.in-Some.ensures.some in
     let none = c.make_room.ensures.none_more c.args.key (none_from _ (sym c.has.ensures ∙ c.if-has.false)) in
     MovesPages-keeps _
-    (KeepsPages-then room.keeps (KeepsPages-loads self.holds c.read.ensures.reads c.args.key c.from.result c.read.new.into none owned c.in_ok-read.ensures.page (omega (arith, c.read.ensures.reads.same_writes)) c.read.ensures.cause.later (either c.put.result c.put.ensures.ok c.put.ensures.err (ap (λ (f : Frames). frame_in f.cache.entries)))))
-    (omega (arith, room.few, c.read.ensures.reads.same_writes))
+    (KeepsPages-then room.keeps (KeepsPages-loads self.holds c.read.ensures.did.reads c.args.key c.from.result c.read.new.into none owned c.in_ok-read.ensures.page (either c.put.result c.put.ensures.ok c.put.ensures.err (ap (λ (f : Frames). frame_in f.cache.entries)))))
+    (omega (arith, room.few, c.read.ensures.did.reads.same_writes))

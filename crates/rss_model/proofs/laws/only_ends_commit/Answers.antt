@@ -4,19 +4,18 @@ use Rattle.std.proofs.lemmas.List.{get_or_append_left, length-append}
 use Rattle.std.proofs.Math.Seq.{get_or-append_seam}
 use Rattle.rss_model.specs.Machine.{State}
 use Rattle.rss_model.specs.Steps.{Step}
-use Rattle.rss_model.specs.Steps.Step.{refuses, begins, inserts, fetches, finds_none, ends}
+use Rattle.rss_model.specs.Steps.Step.{refuses, begins, inserts, fetches, ends}
 use Rattle.rss_model.specs.Runs.{Turn, Run}
 use Rattle.rss_model.specs.Runs.Run.{stays, turns}
 use Rattle.rss_model.specs.Commits.{IsNoEnd}
-use Rattle.rss_model.proofs.commits.only_ends_commit.Goals as goal
+use Rattle.rss_model.proofs.laws.only_ends_commit.Goals as goal
 
 step_keeps : {old new : State} (turn : Turn) → Step old turn.call turn.answer new → IsNoEnd turn → new.base ≡ old.base
 step_keeps turn (refuses call why is) no_end = refl
 step_keeps turn (begins t fits) no_end = refl
-step_keeps turn (inserts t relation values tid fits free) no_end = refl
+step_keeps turn (inserts t relation values tid meter fits free counted) no_end = refl
 step_keeps turn (fetches t relation tid values fits is) no_end = refl
-step_keeps turn (finds_none t relation tid fits is) no_end = refl
-step_keeps turn (ends t fits) no_end = absurd (no_end t refl refl)
+step_keeps turn (ends t meter fits after) no_end = absurd (no_end t refl refl)
 
 module _ (made : List Turn) (turn : Turn) (all : All IsNoEnd (made ++ turn ∷ [])) where
   earlier : All IsNoEnd made

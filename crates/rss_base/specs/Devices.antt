@@ -1,0 +1,43 @@
+-- What there is to see of a device, and what a call on it passes on, whatever it does.
+use Rattle.std.specs.Prelude.{◌≡◌, ℕ, ◌+◌, ◌≤◌, Result, IsErr, IsErrOf}
+use Rattle.rss_base.specs.DiskRule.{Disk, IsTold, Passes, Leaves, Places, WritesIn}
+use Rattle.rss_base.specs.Faults.{HasCause, Rises}
+use Rattle.rss_base.specs.declared.fault.Failed.{Failed}
+use Rattle.rss_base.specs.declared.fault.OpenFault.{OpenFault}
+use Rattle.rss_base.specs.declared.fault.OpenFault.TheVariants.{Device as DeviceFailed}
+
+-- disk: what it tells of its pages: what a read gives, and what a stop at each moment may leave.
+-- size: how many pages there are. A device that tells nothing has as many as its last `size` or
+-- `set_size` said.
+-- writes, faults: how many writes there were, and how often it failed, counted up to 2 ^ 64 - 1.
+pub record DeviceView : Type 1 where
+  pub disk : Disk
+  pub size : ℕ
+  pub writes : ℕ
+  pub faults : ℕ
+
+-- The device tells what it told, a stop leaves what was left before, no write is counted, and the
+-- count of the faults never falls.
+pub record OnlyReads (old new : DeviceView) : Type 0 where
+  pub contents : new.disk.contents ≡ old.disk.contents
+  pub moments : IsTold old.disk → Passes old.disk new.disk (Leaves old.disk)
+  pub same_writes : new.writes ≡ old.writes
+  pub later : old.faults ≤ new.faults
+
+-- A call that reads pages, by its result.
+pub record ReadsPages {T : Type 0} (old new : DeviceView) (result : Result T Failed) : Type 0 where
+  pub reads : OnlyReads old new
+  pub size : new.size ≡ old.size
+  pub failed : IsErr result → Rises old.faults new.faults
+
+-- A call of an opening, by its result.
+pub record ReadsStore {T : Type 0} (old new : DeviceView) (result : Result T OpenFault) : Type 0 where
+  pub reads : OnlyReads old new
+  pub failed : IsErrOf result DeviceFailed → Rises old.faults new.faults
+
+-- A call that makes so many writes at most, and only in these places, by its result.
+pub record WritesPages {T : Type 0} (places : Places) (count : ℕ) (old new : DeviceView) (result : Result T Failed) : Type 0 where
+  pub only : WritesIn places old.disk new.disk
+  pub size : new.size ≡ old.size
+  pub writes : new.writes ≤ old.writes + count
+  pub cause : HasCause old.faults new.faults result

@@ -1,0 +1,262 @@
+-- What each step of the machine keeps.
+use Rattle.std.proofs.Common.{◌≡◌, ◌≢◌, ◌⊎◌, inl, inr, ℕ, zero, suc, ◌+◌, ◌-◌, ◌<◌, ◌≤◌, Bool, true, false, cond, List, [], ◌∷◌, ◌++◌, length, refl, sym, ◌∙◌, ap, subst, arith, rules}
+use Rattle.std.specs.Prelude.{Option, Some, None, is_some, All, filter, count_by, ◌==◌, not, nat_le, nat_lt, Err, option_map}
+use Rattle.std.specs.Ordering.{nat_cmp, eq_by_cmp}
+use Rattle.std.specs.Cmp.{Equal-is, nat_cmp_total}
+use Rattle.std.specs.FinMap as map
+use Rattle.std.specs.FinMap.{get-insert, len-insert, len-remove, len-empty}
+use Rattle.std.proofs.lemmas.Bool.{cases_Bool, cases_eq, ne_eqb, cond-true, cond-false, leb-false}
+use Rattle.std.proofs.lemmas.List.{append-nil}
+use Rattle.std.proofs.lemmas.List.Sums.{sum_by-cons}
+use Rattle.std.proofs.Math.Dec.{T, eqb_refl}
+use Rattle.rss_base.specs.declared.name.Name.{Name}
+use Rattle.rss_base.specs.declared.tid.Tid.{Tid}
+use Rattle.rss_base.specs.declared.value.Value.{Value}
+use Rattle.rss_base.specs.declared.value.FieldKind.{FieldKind}
+use Rattle.rss_base.specs.declared.item.Item.TheVariants.{Tuple}
+use Rattle.rss_base.specs.declared.call.Call.{Call}
+use Rattle.rss_base.specs.declared.call.Call.TheVariants.{Begin, End, Insert}
+use Rattle.rss_base.specs.declared.refusal.Refusal.{Refusal}
+use Rattle.rss_base.specs.declared.refusal.Refusal.TheVariants.{BadTuple}
+use Rattle.rss_base.specs.TupleTypes.{misfit}
+use Rattle.rss_model.specs.Items.{Values, name_cmp}
+use Rattle.rss_model.specs.Tables.{Contents, Tables, fields_of, tuple_count, put, is_tuple_of}
+use Rattle.rss_model.specs.Changes.{Change, IsTupleChange, is_delete_of, own, others, after, Chained}
+use Rattle.rss_model.specs.Changes.IsTupleChange.{insert}
+use Rattle.rss_model.specs.Fits.{Fits, tuple_limit}
+use Rattle.rss_model.specs.Machine.{StoreSize, State, with_changes, now}
+use Rattle.rss_model.specs.Meter.{Meter}
+use Rattle.rss_model.specs.Steps.{Answer, Step, first_of, refused_unless, refused_if, misfit_of, tests, refusal, is_open, transaction_limit, used_tuples, IsFree, begun, changed, insertion, ended}
+use Rattle.rss_model.specs.Steps.Step.{refuses, begins, inserts, fetches, ends}
+use Rattle.rss_model.specs.Kept.{FitOnTheWay, Kept, StepsKeep, RestKeeps, KeptFit}
+use Rattle.rss_model.proofs.Codes.{name_apart}
+use Rattle.rss_model.proofs.Putting.{fits_insert}
+use Rattle.rss_model.proofs.Counts.{the_only, counts_same, counts_more}
+
+-- ---- a call that isn't refused
+
+all_none : (options : List (Option Refusal)) → first_of options ≡ None → All (λ o. o ≡ None) options
+all_none [] is k d lt = absurd (omega arith)
+all_none (None ∷ rest) is zero d lt = refl
+all_none (None ∷ rest) is (suc k) d lt = all_none rest is k d (omega (arith, lt))
+all_none (Some why ∷ rest) is k d lt = absurd (cc)
+
+holds : (b : Bool) (why : Refusal) → refused_unless b why ≡ None → b ≡ true
+holds true why is = refl
+holds false why is = absurd (cc)
+
+holds_not : (b : Bool) (why : Refusal) → refused_if b why ≡ None → b ≡ false
+holds_not true why is = absurd (cc)
+holds_not false why is = refl
+
+-- the tuple fits the fields of its relation
+fits_of : (fields : Option (List FieldKind)) (values : List Value) → is_some fields ≡ true → misfit_of fields values ≡ None → (of : List FieldKind) × (fields ≡ Some of) × (misfit of values ≡ None)
+fits_of None values some is = absurd (cc)
+fits_of (Some fields) values some is = (fields, refl, none (misfit fields values) is)
+  where
+    none : (o : Option ℕ) → option_map BadTuple o ≡ None → o ≡ None
+    none None is = refl
+    none (Some k) is = absurd (cc)
+
+-- ---- the changes of a transaction that is alone
+
+by_itself : (t : ℕ) → (t == t) ≡ true
+by_itself t = elim (cases_Bool (t == t)) [
+  | inl is ↦ is
+  | inr not_is ↦ absurd (subst T not_is (eqb_refl t))
+]
+
+alone : (t : ℕ) (changes : List Change) → All (λ change. change.by ≡ t) changes → (own t changes ≡ changes) × (others t changes ≡ [])
+alone t [] all = (refl, refl)
+alone t (change ∷ changes) all =
+    let rest = alone t changes (λ k d lt. all (suc k) d (omega (arith, lt))) in
+    let same : (change.by == t) ≡ true = ap (λ (n : ℕ). n == t) (all 0 change (omega arith)) ∙ by_itself t in (
+      cond-true (change.by == t) (change ∷ own t changes) (own t changes) same ∙ ap (λ (l : List Change). change ∷ l) rest.0,
+      cond-false (not (change.by == t)) (change ∷ others t changes) (others t changes) (ap not same) ∙ rest.1,
+    )
+
+none_own : (t : ℕ) (changes : List Change) → All (λ change. change.by ≢ t) changes → own t changes ≡ []
+none_own t [] all = refl
+none_own t (change ∷ changes) all =
+    cond-false (change.by == t) (change ∷ own t changes) (own t changes) (ne_eqb change.by t (all 0 change (omega arith)))
+    ∙ none_own t changes (λ k d lt. all (suc k) d (omega (arith, lt)))
+
+-- a front of a list with one more in front
+parts_of : (c : Change) (list newer older : List Change) → c ∷ list ≡ newer ++ older → (older ≡ c ∷ list) ⊎ ((rest : List Change) × (list ≡ rest ++ older))
+parts_of c list [] older is = inl (sym is)
+parts_of c list (d ∷ newer) older is = let rest : list ≡ newer ++ older = cc in inr (newer, rest)
+
+module _ {state : State} (kept : Kept state) (t : ℕ) (has : is_open state t ≡ true) where
+  mine : All (λ change. change.by ≡ t) state.changes
+  mine k d lt = the_only state.marks t _ kept.few has (kept.opened k d lt)
+
+  -- all changes are its own
+  pub own_all : own t state.changes ≡ state.changes
+  own_all = (alone t state.changes mine).0
+
+  pub others_none : others t state.changes ≡ []
+  others_none = (alone t state.changes mine).1
+
+  pub now_fits : Fits state.size.slots (now state)
+  now_fits = kept.fit t [] state.changes own_all
+
+  -- another transaction has made none
+  pub others_own : (other : ℕ) → other ≢ t → own other state.changes ≡ []
+  others_own other off = none_own other state.changes (λ k d lt is. off (sym is ∙ mine k d lt))
+
+-- where it has made none, the committed tables fit
+on_the_way_none : (state : State) (t : ℕ) → own t state.changes ≡ [] → Fits state.size.slots state.base → FitOnTheWay state t
+on_the_way_none state t none fit newer older is =
+    let gone : older ≡ [] = nothing_behind newer older (sym none ∙ is) in
+    subst (λ (l : List Change). Fits state.size.slots (with_changes state.base l)) (sym gone) fit
+  where
+    nothing_behind : (newer older : List Change) → [] ≡ newer ++ older → older ≡ []
+    nothing_behind [] older is = sym is
+    nothing_behind (d ∷ newer) older is = absurd (cc)
+
+-- ---- begin
+
+keeps_begin : (old : State) (t : ℕ) → refusal old (Begin t) ≡ None → Kept old → Kept (begun t old)
+keeps_begin old t is kept =
+    let passed = all_none (tests old (Begin t)) is in
+    let closed : is_open old t ≡ false = holds_not (is_open old t) _ (passed 0 None (omega arith)) in
+    let few : nat_le transaction_limit (map.len old.marks) ≡ false = holds_not (nat_le transaction_limit (map.len old.marks)) _ (passed 1 None (omega arith)) in
+    let more = len-insert nat_cmp_total old.marks t [] ∙ cond-false _ _ _ closed in
+    record {
+      few = omega (arith, more, leb-false transaction_limit (map.len old.marks) few);
+      opened = λ k d lt. still _ (kept.opened k d lt);
+      kinds = kept.kinds;
+      chained = kept.chained;
+      fit = kept.fit;
+      counted = kept.counted;
+    }
+  where
+    still : (u : ℕ) → is_open old u ≡ true → is_open (begun t old) u ≡ true
+    still u was = elim (cases_Bool (eq_by_cmp nat_cmp u t)) [
+      | inl same ↦ ap is_some (get-insert nat_cmp_total old.marks t [] u ∙ cond-true _ _ _ same)
+      | inr apart ↦ ap is_some (get-insert nat_cmp_total old.marks t [] u ∙ cond-false _ _ _ apart) ∙ was
+    ]
+
+-- ---- insert
+
+module _ {old : State} (kept : Kept old) (t : ℕ) (relation : Name) (values : List Value) (tid : Tid) (meter : Meter) (is : refusal old (Insert t relation values) ≡ None) (free : IsFree old t relation tid) where
+  abbrev change : Change
+  change = insertion t relation tid values
+
+  abbrev new : State
+  new = changed change meter old
+
+  passed : All (λ o. o ≡ None) (tests old (Insert t relation values))
+  passed = all_none (tests old (Insert t relation values)) is
+
+  has : is_open old t ≡ true
+  has = holds (is_open old t) _ (passed 0 None (omega arith))
+
+  fields : (of : List FieldKind) × (fields_of old.base relation ≡ Some of) × (misfit of values ≡ None)
+  fields = fits_of (fields_of old.base relation) values (holds (is_some (fields_of old.base relation)) _ (passed 1 None (omega arith))) (passed 2 None (omega arith))
+
+  room : used_tuples old relation + 1 ≤ tuple_limit
+  room =
+      let few : nat_le tuple_limit (used_tuples old relation) ≡ false = holds_not (nat_le tuple_limit (used_tuples old relation)) _ (passed 3 None (omega arith)) in
+      omega (arith, leb-false tuple_limit (used_tuples old relation) few)
+
+  fit_now : Fits old.size.slots (with_changes old.base (change ∷ old.changes))
+  fit_now = fits_insert (now_fits kept t has) relation tid fields.0 values fields.1 fields.2 free.within free.absent (omega (arith, room))
+
+  own_now : own t (change ∷ old.changes) ≡ change ∷ old.changes
+  own_now = cond-true (t == t) (change ∷ own t old.changes) (own t old.changes) (by_itself t) ∙ ap (λ (l : List Change). change ∷ l) (own_all kept t has)
+
+  fit_on_the_way : (other : ℕ) → FitOnTheWay new other
+  fit_on_the_way other = elim (cases_eq other t) [
+    | inl same ↦ subst (FitOnTheWay new) (sym same) (λ newer older parts. elim (parts_of change old.changes newer older (sym own_now ∙ parts)) [
+      | inl all ↦ subst (λ (l : List Change). Fits old.size.slots (with_changes old.base l)) (sym all) fit_now
+      | inr rest ↦ kept.fit t rest.0 older (own_all kept t has ∙ rest.1)
+    ])
+    | inr apart ↦ on_the_way_none new other (cond-false (t == other) (change ∷ own other old.changes) (own other old.changes) (ne_eqb t other (λ e. apart (sym e))) ∙ others_own kept t has other apart) (kept.fit t old.changes [] (own_all kept t has ∙ sym (append-nil old.changes)))
+  ]
+
+  counted_now : (other : Name) → used_tuples new other ≤ tuple_limit
+  unfolding put
+  counted_now other =
+      let one : Change → ℕ = λ c. cond (is_delete_of other c) 1 0 in
+      let more = sum_by-cons one change old.changes in
+      let count : Bool → ℕ = λ b. cond b 1 0 in
+      let none : is_delete_of other change ≡ false = search rules in
+      elim (cases_Bool (is_tuple_of other (Tuple relation tid))) [
+        | inl on ↦
+            let same : other ≡ relation = name_apart other relation ((Equal-is (name_cmp other relation)).0 on) in
+            omega (arith, counts_more (now old).contents (Tuple relation tid) (Values values) other on, more, ap count none, room, ap (used_tuples old) same)
+        | inr off ↦ omega (arith, counts_same (now old).contents (Tuple relation tid) (Values values) other off, more, ap count none, kept.counted other)
+      ]
+
+  keeps_insert : Kept new
+  keeps_insert = record {
+    few = kept.few;
+    opened = λ k d lt. opened_now k d lt;
+    kinds = λ k d lt. kinds_now k d lt;
+    chained = (sym (free.absent relation refl), kept.chained);
+    fit = fit_on_the_way;
+    counted = counted_now;
+  }
+    where
+      opened_now : All (λ c. is_open old c.by ≡ true) (change ∷ old.changes)
+      opened_now zero d lt = has
+      opened_now (suc k) d lt = kept.opened k d (omega (arith, lt))
+
+      kinds_now : All IsTupleChange (change ∷ old.changes)
+      kinds_now zero d lt = insert refl refl
+      kinds_now (suc k) d lt = kept.kinds k d (omega (arith, lt))
+
+-- ---- end
+
+keeps_end : (old : State) (t : ℕ) (meter : Meter) → refusal old (End t) ≡ None → Kept old → Kept (ended t meter old)
+keeps_end old t meter is kept =
+    let has : is_open old t ≡ true = holds (is_open old t) _ (all_none (tests old (End t)) is 0 None (omega arith)) in
+    let none = others_none kept t has in
+    let all = own_all kept t has in
+    let shorter = len-remove nat_cmp_total old.marks t ∙ cond-true _ _ _ has in
+    let fit : Fits old.size.slots (with_changes old.base (own t old.changes)) = kept.fit t [] (own t old.changes) refl in
+    let left : (other : ℕ) → own other (others t old.changes) ≡ [] = λ other. ap (own other) none in
+    record {
+      few = omega (arith, shorter, kept.few);
+      opened = λ k d lt. absurd (omega (arith, lt, ap length none));
+      kinds = λ k d lt. absurd (omega (arith, lt, ap length none));
+      chained = subst (Chained (with_changes old.base (own t old.changes)).contents) (sym none) (tt {0});
+      fit = λ other. on_the_way_none (ended t meter old) other (left other) fit;
+      counted = λ relation.
+          let before = kept.counted relation in
+          let same : tuple_count (after (after old.base.contents (own t old.changes)) (others t old.changes)) relation ≡ tuple_count (now old).contents relation = ap (λ (l : List Change). tuple_count (after (after old.base.contents (own t old.changes)) l) relation) none ∙ ap (λ (l : List Change). tuple_count (after old.base.contents l) relation) all in
+          omega (arith, same, before, ap (count_by (is_delete_of relation)) none);
+    }
+
+pub steps_keep : StepsKeep
+steps_keep old _ _ _ (refuses _ why is) kept = kept
+steps_keep old _ _ _ (begins t is) kept = keeps_begin old t is kept
+steps_keep old _ _ _ (inserts t relation values tid meter is free counted) kept = keeps_insert kept t relation values tid meter is free
+steps_keep old _ _ _ (fetches t relation tid values is found) kept = kept
+steps_keep old _ _ _ (ends t meter is after) kept = keeps_end old t meter is kept
+
+-- ---- at rest
+
+pub rest_keeps : RestKeeps
+rest_keeps size tables state rest fit =
+    let none = rest.none_changed in
+    let fits : Fits state.size.slots state.base = subst (λ (s : StoreSize). Fits s.slots state.base) (sym rest.same_size) (subst (Fits size.slots) (sym rest.committed) fit) in
+    record {
+      few = omega (arith, ap map.len rest.none_open, len-empty nat_cmp (List ℕ));
+      opened = λ k d lt. absurd (omega (arith, lt, ap length none));
+      kinds = λ k d lt. absurd (omega (arith, lt, ap length none));
+      chained = subst (Chained state.base.contents) (sym none) (tt {0});
+      fit = λ t. on_the_way_none state t (ap (own t) none) fits;
+      counted = λ relation. omega (arith, fits.few relation, ap (λ (l : List Change). tuple_count (after state.base.contents l) relation) none, ap (count_by (is_delete_of relation)) none);
+    }
+
+pub kept_fit : KeptFit
+kept_fit state kept = (kept.fit 0 (own 0 state.changes) [] (sym (append-nil (own 0 state.changes))), now_fit state.changes refl)
+  where
+    now_fit : (changes : List Change) → state.changes ≡ changes → Fits state.size.slots (now state)
+    now_fit [] is = subst (λ (l : List Change). Fits state.size.slots (with_changes state.base l)) (sym is) (kept.fit 0 (own 0 state.changes) [] (sym (append-nil (own 0 state.changes))))
+    now_fit (c ∷ rest) is = now_fits kept c.by (first_open c rest is)
+      where
+        first_open : (c : Change) (rest : List Change) → state.changes ≡ c ∷ rest → is_open state c.by ≡ true
+        first_open c rest is = (subst (All (λ (d : Change). is_open state d.by ≡ true)) is kept.opened) 0 c (omega arith)
