@@ -53,7 +53,6 @@ printf 'begin 1\nfetch 1 r 0.0\nfetch 1 r 0.1\n' >probe
 
 # Files: an empty store, the store after one commit and after a second one, that after one commit formatted
 # again, whose free slots hold what they held, and files that are no store.
-"$rss" >replies 2>errors
 "$rss" format empty 64 8 >replies
 cp empty one && "$rss" run one <commit >replies
 cp one two && "$rss" run two <commit >replies

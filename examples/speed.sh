@@ -18,8 +18,8 @@ trap 'rm -rf "$folder"' EXIT
 cd "$folder"
 
 # How many slots and tuples the stores have, and the commits that are measured on each.
-stores=("64 0" "64 2000" "4096 0" "4096 200000" "65536 0" "65536 3000000")
-databases=(0 2000 200000 3000000)
+stores=("64 0" "64 2000" "4096 0" "4096 200000" "65536 0" "65536 1000000")
+databases=(0 2000 200000 1000000)
 modes=(delete wal)
 commits=200
 
@@ -171,7 +171,7 @@ measure_all() {
         scripts=(nothing commits)
         case "$store" in
             "65536 0") scripts+=(open ended) ;;
-            "65536 3000000") scripts+=(one less near far) ;;
+            "65536 1000000") scripts+=(one less near far) ;;
         esac
         measure_on "store.$slots.$tuples" "$slots.$tuples" run_store "${scripts[@]}"
         for mode in "${modes[@]}"; do
@@ -278,7 +278,7 @@ transactions "$commits" >commits.script
 fetches 1000000 1 >one.script
 fetches 100000 1 >less.script
 fetches 200000 20000 >near.script
-fetches 200000 3000000 >far.script
+fetches 200000 1000000 >far.script
 for script in nothing open ended commits one less near far; do to_sql "$script"; done
 for store in "${stores[@]}"; do make_store ${store/ / }; done
 for mode in "${modes[@]}"; do
@@ -288,9 +288,9 @@ dd if=/dev/zero of=pages bs=4096 count=$((130 * commits)) 2>errors
 sync
 
 # Both give the same values.
-copy store.65536.3000000
+copy store.65536.1000000
 run_store far | sed -n 's/^ok \([0-9]\)/\1/p' >values
-copy delete.3000000
+copy delete.1000000
 run_sqlite far | tail -n +2 | cmp - values
 [ "$(wc -l <values)" = 200000 ]
 
@@ -313,10 +313,10 @@ for store in "${stores[@]}"; do
     slots="${store% *}" tuples="${store#* }"
     rates "commits of one insert" "$commits" commits "$slots" "$tuples" "$(rate "$commits" commits "pages.$slots.$tuples")"
 done
-rates "fetches of one tuple, 100,000" 100000 less 65536 3000000 "$lines"
-rates "fetches of one tuple, 1,000,000" 1000000 one 65536 3000000 "$lines"
-rates "fetches among 20,000 tuples" 200000 near 65536 3000000 "$lines"
-rates "fetches among 3,000,000 tuples" 200000 far 65536 3000000 "$lines"
+rates "fetches of one tuple, 100,000" 100000 less 65536 1000000 "$lines"
+rates "fetches of one tuple, 1,000,000" 1000000 one 65536 1000000 "$lines"
+rates "fetches among 20,000 tuples" 200000 near 65536 1000000 "$lines"
+rates "fetches among 1,000,000 tuples" 200000 far 65536 1000000 "$lines"
 echo
 row "Milliseconds" slots tuples rss "sqlite, DELETE" "sqlite, WAL"
 row --- ---: ---: ---: ---: ---:
@@ -336,4 +336,4 @@ row "Peak memory, MiB" slots tuples rss
 row --- ---: ---: ---:
 row "100,000 fetches" 64 2,000 "$(peak 64 2000 less)"
 row "1,000,000 fetches" 64 2,000 "$(peak 64 2000 one)"
-row "200,000 fetches among 3,000,000 tuples" 65,536 3,000,000 "$(peak 65536 3000000 far)"
+row "200,000 fetches among 1,000,000 tuples" 65,536 1,000,000 "$(peak 65536 1000000 far)"

@@ -86,14 +86,16 @@ pub trait Pages {
 
     fn read(&mut self, key: PageKey, into: &mut Page) -> Result<(), PageFault>
         requires { (view self.old).mapped key ≡ true }
-        ensures page { OnOk result (IsTold (view self.old).disk → (view self.old).held key ≡ Some into.new) }
+        ensures page { OnOk result (IsTold (view self.old).disk
+            → (view self.old).held key ≡ Some into.new) }
         ensures asks { (view self.new).asks ≡ counted (view self.old).asks }
         ensures did { PagesCall no_page 1 1 (view self.old) (view self.new) result };
 
     fn write(&mut self, key: PageKey, from: &Page) -> Result<(), PageFault>
         requires { (view self.old).mapped key ≡ true }
         ensures written { OnOk result (WritesPage key from.now (view self.old) (view self.new)) }
-        ensures did { PagesCall (only_on_ok key result) 0 1 (view self.old) (view self.new) result };
+        ensures did { PagesCall (only_on_ok key result) 0 1
+            (view self.old) (view self.new) result };
 
     /// Maps the least page of a segment and a space that isn't mapped, to a page of zeros, and
     /// answers its number.
@@ -104,8 +106,10 @@ pub trait Pages {
         requires room { 0 < (view self.old).spare }
         ensures least { IfOk result (IsLeastUnmapped (view self.old).mapped segment space) }
         ensures within { IfOk result (λ number. number < (view self.old).slots) }
-        ensures taken { IfOk result (λ number. TakesPage (page_key segment space number) (view self.old) (view self.new)) }
-        ensures did { PagesCall (taken segment space result) 0 1 (view self.old) (view self.new) result };
+        ensures taken { IfOk result (λ number.
+            TakesPage (page_key segment space number) (view self.old) (view self.new)) }
+        ensures did { PagesCall (taken segment space result) 0 1
+            (view self.old) (view self.new) result };
 
     /// Maps this page, to a page of zeros.
     fn take_at(&mut self, key: PageKey) -> Result<(), PageFault>
@@ -113,27 +117,31 @@ pub trait Pages {
         requires unmapped { (view self.old).mapped key ≡ false }
         requires room { 0 < (view self.old).spare }
         ensures taken { OnOk result (TakesPage key (view self.old) (view self.new)) }
-        ensures did { PagesCall (only_on_ok key result) 0 1 (view self.old) (view self.new) result };
+        ensures did { PagesCall (only_on_ok key result) 0 1
+            (view self.old) (view self.new) result };
 
     /// Unmaps a page.
     fn give(&mut self, key: PageKey) -> Result<(), PageFault>
         requires { (view self.old).mapped key ≡ true }
         ensures given { OnOk result (GivesPage key (view self.old) (view self.new)) }
-        ensures did { PagesCall (only_on_ok key result) 0 0 (view self.old) (view self.new) result };
+        ensures did { PagesCall (only_on_ok key result) 0 0
+            (view self.old) (view self.new) result };
 
     /// A device as it reads is one of its images.
     ghost reads_as_image: { (pages : Self) → Told (view pages).disk (Leaves (view pages).disk) };
 
     /// A stop between two calls leaves what is fixed.
     ghost stays: { (pages : Self) → (view pages).settled ≡ true → IsTold (view pages).disk
-        → (image : DevicePages) → Leaves (view pages).disk image → HasFixed (view pages).fixed image };
+        → (image : DevicePages) → Leaves (view pages).disk image
+        → HasFixed (view pages).fixed image };
 
     /// The mapped pages are those that hold something.
     ghost holds: { (pages : Self) → IsTold (view pages).disk
         → (key : Key) → is_some ((view pages).held key) ≡ (view pages).mapped key };
 
     /// The map may name each of them, so they are finitely many.
-    ghost allowed: { (pages : Self) (key : Key) → (view pages).mapped key ≡ true → IsKey (view pages).slots key };
+    ghost allowed: { (pages : Self) (key : Key) → (view pages).mapped key ≡ true
+        → IsKey (view pages).slots key };
 
     /// Each slot is spare or one page's, and so `spare` follows from what is mapped.
     ghost are_counted: { (pages : Self) → AreCounted (view pages) };
@@ -143,5 +151,6 @@ pub trait Pages {
         → (view pages).mapped key ≡ true };
 
     /// What was changed is mapped.
-    ghost changed_are: { (pages : Self) (key : Key) → (view pages).changed key ≡ true → (view pages).mapped key ≡ true };
+    ghost changed_are: { (pages : Self) (key : Key) → (view pages).changed key ≡ true
+        → (view pages).mapped key ≡ true };
 }

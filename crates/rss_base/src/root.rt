@@ -11,7 +11,8 @@ pub const LOG_PAGES_LEAST: u32 = 8;
 
 pub const LOG_PAGES_MOST: u32 = 4096;
 
-/// A root of a store: the sizes of the device's parts, the map area in use, and where the log stands.
+/// A root of a store: the sizes of the device's parts, the map area in use, and where the log
+/// stands.
 /// Positions in the log count its bytes from 0.
 #[derive(Drop)]
 pub struct Root {

@@ -18,7 +18,8 @@ pub trait Sink {
     fn write(&mut self, from: &[u8]) -> Result<usize, Failed>
         ensures within { IfOk result (λ n. n ≤ length from.now) }
         ensures some { IfOk result (λ n. 0 < length from.now → 0 < n) }
-        ensures takes { IfOk result (λ n. Takes (written self.old) (take n from.now) (written self.new)) }
+        ensures takes { IfOk result (λ n.
+            Takes (written self.old) (take n from.now) (written self.new)) }
         ensures failed { OnErr result (Takes (written self.old) [] (written self.new)) }
         ensures cause { HasCause (faults self.old) (faults self.new) result };
 }

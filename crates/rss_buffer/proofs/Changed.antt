@@ -210,20 +210,6 @@ pub AreNotesOf-noted : {owners : Owners} {notes notes_now : NotesView} {key : Pa
 AreNotesOf-noted {owners = owners} {key = key} is noted marks =
     AreNotesOf-marked refl (sym (with_mapped-same (mapped_by owners) key is)) noted marks (λ space. noted.mapped key space ∙ is)
 
-pub IsBuffer-noted : {b : BufferView} {notes : NotesView} → IsBuffer b → AreNotesOf b.maps.current notes → IsBuffer (record b { notes = notes })
-IsBuffer-noted buffer noted = record {
-  laid_out = buffer.laid_out;
-  noted = noted;
-  frames_hold = buffer.frames_hold;
-  clean = buffer.clean;
-  fixed = buffer.fixed;
-  at_stage = record {
-    none_changed = buffer.at_stage.none_changed;
-    saved = buffer.at_stage.saved;
-    synced = buffer.at_stage.synced;
-  };
-}
-
 -- ---- the whole
 
 -- a frame that the page may have, with this slot

@@ -5,11 +5,10 @@ use Rattle.std.proofs.lemmas.Bool.{cases_Bool, cases_eq, cond-true, cond-false, 
 use Rattle.rss_base.specs.Notes.{Noted, is_noted_space, with_note, MayDo}
 use Rattle.rss_base.specs.PageMap.{owner_of}
 use Rattle.rss_base.specs.Paged.{Mapped, is_same, page_key, IsFirstFrom, NoneFrom}
-use Rattle.rss_base.specs.Steps.{PassesOn, NotesPage}
+use Rattle.rss_base.specs.Steps.{NotesPage}
 use Rattle.rss_base.specs.StoredPages.{mapped_by}
 use Rattle.rss_base.specs.declared.key.PageKey.{PageKey}
 use Rattle.rss_base.specs.declared.key.Space.{Space}
-use Rattle.rss_base.proofs.Calls.{leaves_rests}
 use Rattle.rss_base.proofs.Keys.{is_same-true, is_same-itself}
 use Rattle.rss_notes.specs.Notes.{NotesView, Marks, noted_on}
 use Rattle.rss_shadow.proofs.Counts.{Owners, owned_within}
@@ -87,26 +86,13 @@ all_put {owners = owners} {notes = notes} all are = record {
 
 -- ---- a number is noted
 
-module _ (b : BufferView) (notes : NotesView) where
-  pub notes_page : {key : PageKey} {number : ℕ} → AreNotesOf b.maps.current b.notes → mapped_by b.maps.current key ≡ true → is_noted_space key.space ≡ true → Marks b.notes notes key (b.notes.mapped key) (noted_on b.notes key number) → NotesPage key number (pages_view b) (pages_view (record b { notes = notes }))
-  notes_page {key = key} {number = number} noted is space marks = record {
-    mapped = refl;
-    held = refl;
-    changed = refl;
-    notes = marks.notes ∙ ap (with_note b.notes.notes key) (cond-true (b.notes.mapped key) (Some number) None (noted.mapped key space ∙ is));
-  }
-
-  pub passes_noting : PassesOn 0 0 (pages_view b) (pages_view (record b { notes = notes }))
-  passes_noting = record {
-    slots = refl;
-    backing = refl;
-    leaves = leaves_rests _ _ _;
-    later = omega arith;
-    asks_low = omega arith;
-    asks_high = omega arith;
-    writes_low = omega arith;
-    writes_high = omega arith;
-  }
+pub notes_page : (b : BufferView) (notes : NotesView) {key : PageKey} {number : ℕ} → AreNotesOf b.maps.current b.notes → mapped_by b.maps.current key ≡ true → is_noted_space key.space ≡ true → Marks b.notes notes key (b.notes.mapped key) (noted_on b.notes key number) → NotesPage key number (pages_view b) (pages_view (record b { notes = notes }))
+notes_page b notes {key = key} {number = number} noted is space marks = record {
+  mapped = refl;
+  held = refl;
+  changed = refl;
+  notes = marks.notes ∙ ap (with_note b.notes.notes key) (cond-true (b.notes.mapped key) (Some number) None (noted.mapped key space ∙ is));
+}
 
 -- ---- the first page that may do
 

@@ -13,6 +13,7 @@ use Rattle.rss_base.specs.PageMap.{owner_of}
 use Rattle.rss_base.specs.Paged.{is_same, AreAmong, HasPageCause}
 use Rattle.rss_base.specs.declared.key.PageKey.{PageKey}
 use Rattle.rss_base.proofs.Moments.{only_stays, reads_none, writes_none, writes_nothing, writes_one, writes_then}
+use Rattle.rss_notes.specs.Notes.{NotesView}
 use Rattle.rss_shadow.specs.Maps.{Maps}
 use Rattle.rss_shadow.proofs.Counts.{owned_within}
 use Rattle.rss_buffer.specs.declared.frames.Frame.{Frame}
@@ -21,7 +22,7 @@ use Rattle.rss_buffer.specs.declared.stage.Stage.TheVariants.{Changing, Saved, S
 use Rattle.rss_buffer.specs.Frames.{FrameOf, with_frame, waiting_in}
 use Rattle.rss_buffer.specs.Slots.{held_in, held_by}
 use Rattle.rss_base.specs.StoredPages.{slot_of, mapped_by}
-use Rattle.rss_buffer.specs.Buffered.{BufferView, NoneChanged, AreFrames, AreClean, StaysFixed, IsAtStage, AreLaidOut, IsBuffer, IsLoose, held_of, unchanged, with_unchanged, WritesLoose, KeepsPages, MovesPages, WritesPages}
+use Rattle.rss_buffer.specs.Buffered.{BufferView, NoneChanged, AreFrames, AreClean, StaysFixed, IsAtStage, AreLaidOut, AreNotesOf, IsBuffer, IsLoose, held_of, unchanged, with_unchanged, WritesLoose, KeepsPages, MovesPages, WritesPages}
 use Rattle.rss_base.proofs.Calls.{leaves_then, leaves_rests}
 use Rattle.rss_base.proofs.Keys.{is_same-true, is_same-itself, owner_of-slot_of}
 use Rattle.rss_buffer.proofs.Lookups.{with_frame-same}
@@ -158,11 +159,11 @@ NoneChanged-removed frames key none = λ other f is. elim (with_frame-cases fram
 
 -- ---- a buffer
 
--- what the selected root names and the count say nothing of its pages
-pub IsBuffer-counts : {b : BufferView} {area asks : ℕ} → IsBuffer b → IsBuffer (record b { area = area; asks = asks })
-IsBuffer-counts buffer = record {
+-- other notes, and what says nothing of its pages: the area of the selected root, and the count
+pub IsBuffer-beside : {b : BufferView} {notes : NotesView} {area asks : ℕ} → IsBuffer b → AreNotesOf b.maps.current notes → IsBuffer (record b { notes = notes; area = area; asks = asks })
+IsBuffer-beside buffer noted = record {
   laid_out = buffer.laid_out;
-  noted = buffer.noted;
+  noted = noted;
   frames_hold = buffer.frames_hold;
   clean = buffer.clean;
   fixed = buffer.fixed;

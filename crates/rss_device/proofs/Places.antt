@@ -12,7 +12,7 @@ use Rattle.rss_base.specs.Paged.{Held, with_page, with_mapped, page_key, is_same
 use Rattle.rss_base.specs.declared.key.Space.{Space}
 use Rattle.rss_base.specs.declared.key.PageKey.{PageKey}
 use Rattle.rss_base.proofs.Keys.{is_same-true, is_same-itself}
-use Rattle.rss_device.specs.MemPages.{has_key, place_at, StoredOf, stored_in, with_stored, page_in, held_in, note_in, noted_in, mapped_in, free_in, ArePlaces}
+use Rattle.rss_device.specs.MemPages.{has_key, place_at, StoredOf, stored_in, with_stored, page_in, held_in, note_in, noted_in, placed_in, free_in, ArePlaces}
 use Rattle.rss_device.specs.MemPagesLaws.{mapped_at}
 use Rattle.rss_device.specs.declared.stored.Stored.{Stored}
 
@@ -73,8 +73,8 @@ stored-set (place ∷ places) zero new key same =
 stored-set (place ∷ places) (suc at) new key same =
     stored-cons place (set places at new) key ∙ ap (option_or (own key place)) (stored-set places at new key same) ∙ sym (stored-cons place places key)
 
-mapped_by : (places : List (Option Stored)) (at : ℕ) (key : PageKey) → has_key key (place_at places at) ≡ true → mapped_in places key ≡ true
-unfolding mapped_in
+mapped_by : (places : List (Option Stored)) (at : ℕ) (key : PageKey) → has_key key (place_at places at) ≡ true → placed_in places key ≡ true
+unfolding placed_in
 mapped_by [] at key is = cc
 mapped_by (None ∷ places) zero key is = cc
 mapped_by (None ∷ places) (suc at) key is = mapped_by places at key is
@@ -89,8 +89,8 @@ within [] at key is = cc
 within (place ∷ places) zero key is = omega arith
 within (place ∷ places) (suc at) key is = let below = within places at key is in omega arith
 
-pub none_has : (places : List (Option Stored)) (key : PageKey) → All (λ place. has_key key place ≡ false) places → mapped_in places key ≡ false
-unfolding mapped_in
+pub none_has : (places : List (Option Stored)) (key : PageKey) → All (λ place. has_key key place ≡ false) places → placed_in places key ≡ false
+unfolding placed_in
 none_has places key none = rw (none_stored places key none)
 
 -- ---- one place changes
@@ -128,12 +128,12 @@ stored_at places at key placed has =
 
 -- what this tells of the pages
 pub record Follows (places now : List (Option Stored)) (key : PageKey) (stored : Option Stored) : Type 0 where
-  pub mapped : mapped_in now ≡ with_mapped (mapped_in places) key (is_some stored)
+  pub mapped : placed_in now ≡ with_mapped (placed_in places) key (is_some stored)
   pub held : held_in now ≡ with_page (held_in places) key (page_in stored)
   pub notes : noted_in now ≡ with_note (noted_in places) key (note_in stored)
 
 pub follows : (places now : List (Option Stored)) (key : PageKey) (stored : Option Stored) → stored_in now ≡ with_stored (stored_in places) key stored → Follows places now key stored
-unfolding mapped_in
+unfolding placed_in
 follows places now key stored is = record {
   mapped = fun_ext (λ other. ap (λ (all : StoredOf). is_some (all other)) is ∙ through (λ s. is_some s) (is_same other key) (stored_in places other));
   held = fun_ext (λ other. ap (λ (all : StoredOf). page_in (all other)) is ∙ through page_in (is_same other key) (stored_in places other));
@@ -145,10 +145,10 @@ follows places now key stored is = record {
     through f false was = refl
 
 -- a page that was mapped still is
-pub stays_mapped : (places : List (Option Stored)) (key : PageKey) → mapped_in places key ≡ true → with_mapped (mapped_in places) key true ≡ mapped_in places
+pub stays_mapped : (places : List (Option Stored)) (key : PageKey) → placed_in places key ≡ true → with_mapped (placed_in places) key true ≡ placed_in places
 stays_mapped places key mapped = fun_ext (λ other. elim (cases_Bool (is_same other key)) [
-  | inl same ↦ cond-true (is_same other key) true (mapped_in places other) same ∙ sym (ap (mapped_in places) (is_same-true other key same) ∙ mapped)
-  | inr differs ↦ cond-false (is_same other key) true (mapped_in places other) differs
+  | inl same ↦ cond-true (is_same other key) true (placed_in places other) same ∙ sym (ap (placed_in places) (is_same-true other key same) ∙ mapped)
+  | inr differs ↦ cond-false (is_same other key) true (placed_in places other) differs
 ])
 
 -- a page that keeps what it holds
@@ -165,8 +165,8 @@ none_at (suc n) key = none_at n key
 pub none_noted : (n : ℕ) (key : PageKey) → noted_in (replicate n None) key ≡ None
 none_noted n key = ap note_in (none_at n key)
 
-pub none_mapped : (n : ℕ) (key : PageKey) → mapped_in (replicate n None) key ≡ false
-unfolding mapped_in
+pub none_mapped : (n : ℕ) (key : PageKey) → placed_in (replicate n None) key ≡ false
+unfolding placed_in
 none_mapped n key = ap is_some (none_at n key)
 
 -- the places stay sound if the new place's page is allowed
@@ -211,10 +211,10 @@ changes_own places at key new placed has after = record {
 }
 
 -- a page that isn't mapped gets a place that is free
-pub changes_free : (places : List (Option Stored)) (at : ℕ) (key : PageKey) (page : List ℕ) (noted : Option ℕ) → at < length places → place_at places at ≡ None → mapped_in places key ≡ false → Changes places at key (Some (record { key = key; page = page; note = noted }))
+pub changes_free : (places : List (Option Stored)) (at : ℕ) (key : PageKey) (page : List ℕ) (noted : Option ℕ) → at < length places → place_at places at ≡ None → placed_in places key ≡ false → Changes places at key (Some (record { key = key; page = page; note = noted }))
 changes_free places at key page noted inside free unmapped = record {
   inside = inside;
-  alone = λ k has. absurd (both_ways (mapped_in places key) unmapped (mapped_by places k key has));
+  alone = λ k has. absurd (both_ways (placed_in places key) unmapped (mapped_by places k key has));
   before = λ other differs. rw free;
   after = λ other differs. differs;
 }
@@ -235,8 +235,8 @@ other_number : (segment : ℕ) (space : Space) (k n : ℕ) → k < n → is_same
 other_number segment space k n less = and_right ((segment == segment) && (space_code space == space_code space)) (k == n) (ne_eqb k n (λ e. omega arith))
 
 -- Where so many pages of a segment and a space are mapped, as many places are used.
-pub filled : (n : ℕ) (places : List (Option Stored)) (segment : ℕ) (space : Space) → ((k : ℕ) → k < n → mapped_in places (page_key segment space k) ≡ true) → n + free_in places ≤ length places
-unfolding mapped_in
+pub filled : (n : ℕ) (places : List (Option Stored)) (segment : ℕ) (space : Space) → ((k : ℕ) → k < n → placed_in places (page_key segment space k) ≡ true) → n + free_in places ≤ length places
+unfolding placed_in
 filled zero places segment space all = let few = count_by-le-length is_none places in omega arith
 filled (suc n) places segment space all =
     let found = mapped_at places (page_key segment space n) (all n (omega arith)) in
@@ -252,32 +252,32 @@ filled (suc n) places segment space all =
 
 module _ (places : List (Option Stored)) (key : PageKey) (least : ℕ) where
   abbrev May : Type 0
-  May = MayDo (mapped_in places) (noted_in places) least key.segment key.space key.number
+  May = MayDo (placed_in places) (noted_in places) least key.segment key.space key.number
 
   abbrev IsGreat : Option ℕ → Type 0
   IsGreat note = IfSome note (λ note. least ≤ note)
 
   pub may_do_by : (stored : Stored) (note : Option ℕ) → stored_in places key ≡ Some stored → stored.note ≡ note → May ↔ IsGreat note
-  unfolding mapped_in
+  unfolding placed_in
   may_do_by stored note is noted =
       let noted_is : noted_in places key ≡ note = ap note_in is ∙ noted in
       (λ may. subst IsGreat noted_is may.note, λ great. record { mapped = ap (λ (o : Option Stored). is_some o) is; note = subst IsGreat (sym noted_is) great })
 
   pub may_not : stored_in places key ≡ None → May → ⊥
-  unfolding mapped_in
+  unfolding placed_in
   may_not is may = true≢false (sym may.mapped ∙ ap (λ (o : Option Stored). is_some o) is)
 
 -- ---- the first page that isn't mapped
 
 -- so it is the least one
-pub least_first : (places : List (Option Stored)) (segment : ℕ) (space : Space) (number : ℕ) → IsFirstFrom (IsUnmappedAt (length places) (mapped_in places) segment space) 0 number → IsLeastUnmapped (mapped_in places) segment space number
+pub least_first : (places : List (Option Stored)) (segment : ℕ) (space : Space) (number : ℕ) → IsFirstFrom (IsUnmappedAt (length places) (placed_in places) segment space) 0 number → IsLeastUnmapped (placed_in places) segment space number
 least_first places segment space number first = record {
   free = first.has.free;
-  lesser = λ k less. true_from_ne_false (mapped_in places (page_key segment space k)) (λ free. first.none_before k (omega arith) less (record { within = omega (arith, less, first.has.within); free = free }));
+  lesser = λ k less. true_from_ne_false (placed_in places (page_key segment space k)) (λ free. first.none_before k (omega arith) less (record { within = omega (arith, less, first.has.within); free = free }));
 }
 
 -- and there is one where a place is free
-pub some_unmapped : (places : List (Option Stored)) (segment : ℕ) (space : Space) → 0 < free_in places → NoneFrom (IsUnmappedAt (length places) (mapped_in places) segment space) 0 → ⊥
+pub some_unmapped : (places : List (Option Stored)) (segment : ℕ) (space : Space) → 0 < free_in places → NoneFrom (IsUnmappedAt (length places) (placed_in places) segment space) 0 → ⊥
 some_unmapped places segment space room none =
-    let used = filled (length places) places segment space (λ k less. true_from_ne_false (mapped_in places (page_key segment space k)) (λ free. none k (omega arith) (record { within = less; free = free }))) in
+    let used = filled (length places) places segment space (λ k less. true_from_ne_false (placed_in places (page_key segment space k)) (λ free. none k (omega arith) (record { within = less; free = free }))) in
     omega (arith, used, room)

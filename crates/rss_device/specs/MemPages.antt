@@ -1,5 +1,6 @@
 -- Pages in memory, each in a place of its own.
 use Rattle.std.specs.Prelude.{◌≡◌, ℕ, ◌≤◌, Bool, true, false, if◌then◌else◌, List, [], ◌∷◌, length, slice_index_or, count_by, Option, Some, None, option_map, is_some, is_none}
+use Rattle.rss_base.specs.Sizes.{slots_least, slots_most}
 use Rattle.rss_base.specs.DiskRule.{Disk}
 use Rattle.rss_base.specs.PageMap.{IsKey}
 use Rattle.rss_base.specs.Notes.{Noted}
@@ -45,8 +46,8 @@ abbrev pub noted_in : List (Option Stored) → Noted
 noted_in places key = note_in (stored_in places key)
 
 -- the pages that have a place
-unfoldable pub mapped_in : List (Option Stored) → Mapped
-mapped_in places key = is_some (stored_in places key)
+unfoldable pub placed_in : List (Option Stored) → Mapped
+placed_in places key = is_some (stored_in places key)
 
 -- how many places are free
 abbrev pub free_in : List (Option Stored) → ℕ
@@ -54,8 +55,8 @@ free_in places = count_by is_none places
 
 -- Each place is free or has a page that no other place has, and a map of so many slots may name it.
 pub record ArePlaces (places : List (Option Stored)) : Type 0 where
-  pub least : 64 ≤ length places
-  pub most : length places ≤ 65536
+  pub least : slots_least ≤ length places
+  pub most : length places ≤ slots_most
   pub distinct : (s t : ℕ) (key : PageKey) → has_key key (place_at places s) ≡ true → has_key key (place_at places t) ≡ true → s ≡ t
   pub allowed : (s : ℕ) (key : PageKey) → has_key key (place_at places s) ≡ true → IsKey (length places) key
 

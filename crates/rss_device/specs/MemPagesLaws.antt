@@ -11,7 +11,7 @@ use Rattle.rss_base.specs.StoredPages.{slot_from}
 use Rattle.rss_base.specs.declared.key.Space.{Space}
 use Rattle.rss_base.specs.declared.key.Space.TheVariants.{Home, Overflow, Image, System}
 use Rattle.rss_base.specs.declared.key.PageKey.{PageKey}
-use Rattle.rss_device.specs.MemPages.{has_key, place_at, stored_in, page_in, held_in, note_in, noted_in, mapped_in, free_in, ArePlaces, none_fixed, no_backing}
+use Rattle.rss_device.specs.MemPages.{has_key, place_at, stored_in, page_in, held_in, note_in, noted_in, placed_in, free_in, ArePlaces, none_fixed, no_backing}
 use Rattle.rss_base.proofs.Counts.{mapped_pages-owners}
 use Rattle.rss_base.proofs.Keys.{is_same-true, is_same-itself, is_same-other}
 use Rattle.rss_device.specs.declared.stored.Stored.{Stored}
@@ -22,8 +22,8 @@ none_left pages told = cc
 pub none_stays : (image : Pages) → image ≡ [] → HasFixed none_fixed image
 none_stays image is = record { size = ap length is; pages = λ q bytes none. cc }
 
-pub some_mapped : (places : List (Option Stored)) (key : PageKey) → is_some (held_in places key) ≡ mapped_in places key
-unfolding mapped_in
+pub some_mapped : (places : List (Option Stored)) (key : PageKey) → is_some (held_in places key) ≡ placed_in places key
+unfolding placed_in
 some_mapped places key = at (stored_in places key)
   where
     at : (place : Option Stored) → is_some (page_in place) ≡ is_some place
@@ -31,8 +31,8 @@ some_mapped places key = at (stored_in places key)
     at (Some stored) = refl
 
 -- what is noted is mapped
-pub noted_mapped : (places : List (Option Stored)) (key : PageKey) → is_some (noted_in places key) ≡ true → mapped_in places key ≡ true
-unfolding mapped_in
+pub noted_mapped : (places : List (Option Stored)) (key : PageKey) → is_some (noted_in places key) ≡ true → placed_in places key ≡ true
+unfolding placed_in
 noted_mapped places key is = at (stored_in places key) is
   where
     at : (place : Option Stored) → is_some (note_in place) ≡ true → is_some place ≡ true
@@ -40,8 +40,8 @@ noted_mapped places key is = at (stored_in places key) is
     at (Some stored) is = refl
 
 -- a page that is mapped has a place
-pub mapped_at : (places : List (Option Stored)) (key : PageKey) → mapped_in places key ≡ true → (at : ℕ) × (has_key key (place_at places at) ≡ true)
-unfolding mapped_in
+pub mapped_at : (places : List (Option Stored)) (key : PageKey) → placed_in places key ≡ true → (at : ℕ) × (has_key key (place_at places at) ≡ true)
+unfolding placed_in
 mapped_at [] key is = cc
 mapped_at (None ∷ places) key is = let found = mapped_at places key is in (suc found.0, found.1)
 mapped_at (Some stored ∷ places) key is = elim (cases_Bool (is_same key stored.key)) [
@@ -81,8 +81,8 @@ free_and_used [] = refl
 free_and_used (None ∷ places) = omega (arith, free_and_used places, sum_by-cons (λ (o : Option Stored). cond (is_none o) 1 0) None places)
 free_and_used (Some stored ∷ places) = omega (arith, free_and_used places, sum_by-cons (λ (o : Option PageKey). cond (is_some o) 1 0) (Some stored.key) (owners_of places))
 
-pub counted_in : {places : List (Option Stored)} → ArePlaces places → free_in places + mapped_pages (length places) (mapped_in places) + page_count no_backing.shadow ≡ length places
-unfolding mapped_in
+pub counted_in : {places : List (Option Stored)} → ArePlaces places → free_in places + mapped_pages (length places) (placed_in places) + page_count no_backing.shadow ≡ length places
+unfolding placed_in
 counted_in {places} placed =
     let pages = mapped_pages-owners (length places) (owners_of places) (λ key. is_some (stored_in places key))
     (λ s key is. placed.allowed s key (owner_at places s key is))
@@ -94,11 +94,11 @@ counted_in {places} placed =
 pub never : {P : Type 0} → false ≡ true → P
 never is = cc
 
-pub allowed_in : {places : List (Option Stored)} → ArePlaces places → (key : PageKey) → mapped_in places key ≡ true → IsKey (length places) key
+pub allowed_in : {places : List (Option Stored)} → ArePlaces places → (key : PageKey) → placed_in places key ≡ true → IsKey (length places) key
 allowed_in {places} placed key is = let found = mapped_at places key is in placed.allowed found.0 key found.1
 
 -- and its number is below the number of places, but in the system space
-pub number_below : {places : List (Option Stored)} (segment : ℕ) (space : Space) → ArePlaces places → space ≢ System → (k : ℕ) → mapped_in places (page_key segment space k) ≡ true → k < length places
+pub number_below : {places : List (Option Stored)} (segment : ℕ) (space : Space) → ArePlaces places → space ≢ System → (k : ℕ) → placed_in places (page_key segment space k) ≡ true → k < length places
 number_below {places} segment space placed apart k is = at space apart (allowed_in placed (page_key segment space k) is).number
   where
     at : (space : Space) → space ≢ System → k < number_limit (length places) space → k < length places

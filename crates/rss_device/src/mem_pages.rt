@@ -1,15 +1,18 @@
 // Pages in memory.
 ghost use Rattle.std.proofs.Props.{props};
 ghost use Rattle.rss_base.proofs.Props.{IsSegmentOf-prop};
-ghost use Rattle.std.specs.Prelude.{◌≡◌, ◌↔◌, ◌+◌, ◌<◌, ◌≤◌, length, true, false, Some, None, IsTrue, IfOk};
+ghost use Rattle.std.specs.Prelude.{◌≡◌, ◌↔◌, ◌+◌, ◌<◌, ◌≤◌, length, true, false, Some, None};
+ghost use Rattle.std.specs.Prelude.{IsTrue, IfOk};
 ghost use Rattle.rss_base.specs.DiskRule.{IsTold};
 ghost use Rattle.rss_base.specs.Notes.{MayDo};
 ghost use Rattle.rss_base.specs.PageMap.{IsKey};
-ghost use Rattle.rss_base.specs.Sizes.{zero_page};
+ghost use Rattle.rss_base.specs.Sizes.{zero_page, slots_least, slots_most};
 ghost use Rattle.rss_base.specs.Paged.{page_key};
 ghost use Rattle.rss_base.specs.declared.key.PageKey.{PageKey as Key};
-ghost use Rattle.rss_device.specs.MemPages.{ArePlaces, stored_in, with_stored, held_in, noted_in, mapped_in, free_in, no_device, none_fixed, no_backing};
-ghost use Rattle.rss_device.specs.MemPagesLaws.{none_left, none_stays, some_mapped, noted_mapped, allowed_in, counted_in, never};
+ghost use Rattle.rss_device.specs.MemPages.{ArePlaces, has_key, place_at, stored_in, with_stored, held_in, noted_in};
+ghost use Rattle.rss_device.specs.MemPages.{placed_in, free_in, no_device, none_fixed, no_backing};
+ghost use Rattle.rss_device.specs.MemPagesLaws.{none_left, none_stays, some_mapped, noted_mapped};
+ghost use Rattle.rss_device.specs.MemPagesLaws.{allowed_in, counted_in, never};
 
 use crate::stored::{Stored, free_place, free_places, place_of, stored_of};
 use rss_base::{PAGE_BYTES, Page, PageFault, PageKey, Pages, Space};
@@ -27,9 +30,10 @@ pub struct MemPages {
 impl MemPages {
     /// Room for so many pages, of which none is mapped.
     pub fn new(alloc: Global, slots: u32) -> Result<Self, AllocError>
-        requires least { 64 ≤ slots }
-        requires most { slots ≤ 65536 }
-        ensures mapped { IfOk result (λ pages. (key : Key) → (⟦<MemPages as Pages>⟧.view pages).mapped key ≡ false) }
+        requires least { slots_least ≤ slots }
+        requires most { slots ≤ slots_most }
+        ensures mapped { IfOk result (λ pages. (key : Key)
+            → (⟦<MemPages as Pages>⟧.view pages).mapped key ≡ false) }
         ensures notes { IfOk result (λ pages. (key : Key)
             → (⟦<MemPages as Pages>⟧.view pages).notes key ≡ None) }
         ensures spare { IfOk result (λ pages. (⟦<MemPages as Pages>⟧.view pages).spare ≡ slots) }
@@ -47,7 +51,7 @@ impl MemPages {
     /// Gives a free place to a page, with zeros and no note.
     fn map(&mut self, key: PageKey)
         requires allowed { IsKey (length self.old.places.items) key }
-        requires unmapped { mapped_in self.old.places.items key ≡ false }
+        requires unmapped { placed_in self.old.places.items key ≡ false }
         requires room { 0 < free_in self.old.places.items }
         ensures stored { stored_in self.new.places.items
             ≡ with_stored (stored_in self.old.places.items) key
@@ -66,9 +70,21 @@ impl MemPages {
         });
     }
 
+    /// The place of a page.
+    fn place(&self, key: PageKey) -> usize
+        requires { placed_in self.now.places.items key ≡ true }
+        ensures has { has_key key (place_at self.now.places.items result) ≡ true }
+        ensures within { result < length self.now.places.items }
+    {
+        let Some(at) = place_of(self.places.as_slice(), key) else {
+            unreachable!()
+        };
+        at
+    }
+
     /// Whether the page is mapped, and has no note or one of at least `least`.
     fn may_do(&self, key: PageKey, least: u16) -> bool
-        ensures { IsTrue result ↔ MayDo (mapped_in self.now.places.items)
+        ensures { IsTrue result ↔ MayDo (placed_in self.now.places.items)
             (noted_in self.now.places.items) least key.segment key.space key.number }
     {
         let Some(stored) = stored_of(self.places.as_slice(), key) else {
@@ -85,11 +101,11 @@ impl Pages for MemPages {
     ghost view = { λ m. record {
       disk = no_device;
       slots = length m.places.items;
-      mapped = mapped_in m.places.items;
+      mapped = placed_in m.places.items;
       held = held_in m.places.items;
       notes = noted_in m.places.items;
       changed = λ _. false;
-      in_memory = mapped_in m.places.items;
+      in_memory = placed_in m.places.items;
       spare = free_in m.places.items;
       asks = m.reads;
       writes = 0;
@@ -121,7 +137,7 @@ impl Pages for MemPages {
         free_places(self.places.as_slice()) as u32
     }
 
-    #[tactic(auto, unfolding(crate::specs::MemPages::mapped_in))]
+    #[tactic(auto, unfolding(crate::specs::MemPages::placed_in))]
     fn has(&self, key: PageKey) -> bool {
         stored_of(self.places.as_slice(), key).is_some()
     }
@@ -153,9 +169,7 @@ impl Pages for MemPages {
     }
 
     fn note(&mut self, key: PageKey, number: u16) {
-        let Some(at) = place_of(self.places.as_slice(), key) else {
-            unreachable!()
-        };
+        let at = self.place(key);
         let Some(stored) = self.places[at] else {
             unreachable!()
         };
@@ -186,7 +200,7 @@ impl Pages for MemPages {
         Ok(())
     }
 
-    #[tactic(auto, unfolding(crate::specs::MemPages::mapped_in))]
+    #[tactic(auto, unfolding(crate::specs::MemPages::placed_in))]
     fn loaded(&self, key: PageKey) -> &Page {
         let Some(stored) = stored_of(self.places.as_slice(), key) else {
             unreachable!()
@@ -201,9 +215,7 @@ impl Pages for MemPages {
     }
 
     fn write(&mut self, key: PageKey, from: &Page) -> Result<(), PageFault> {
-        let Some(at) = place_of(self.places.as_slice(), key) else {
-            unreachable!()
-        };
+        let at = self.place(key);
         self.places[at] = Some(Stored {
             key,
             page: *from,
@@ -230,9 +242,7 @@ impl Pages for MemPages {
     }
 
     fn give(&mut self, key: PageKey) -> Result<(), PageFault> {
-        let Some(at) = place_of(self.places.as_slice(), key) else {
-            unreachable!()
-        };
+        let at = self.place(key);
         self.places[at] = None;
         Ok(())
     }

@@ -1,5 +1,6 @@
 // Places for pages.
-ghost use Rattle.std.specs.Prelude.{◌≡◌, ◌<◌, length, true, false, None, is_none, IfSome, IfNone, All};
+ghost use Rattle.std.specs.Prelude.{◌≡◌, ◌<◌, length, true, false, None, is_none, IfSome, IfNone};
+ghost use Rattle.std.specs.Prelude.{All};
 ghost use Rattle.std.specs.Option.{option_copied};
 ghost use Rattle.rss_device.specs.MemPages.{has_key, place_at, stored_in, free_in};
 

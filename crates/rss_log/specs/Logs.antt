@@ -1,5 +1,5 @@
 -- The log as its callers see it.
-use Rattle.std.specs.Prelude.{◌≡◌, ℕ, ◌+◌, ◌-◌, ◌*◌, ◌/◌, ◌^◌, ◌<◌, ◌≤◌, List, ◌++◌, length, take, drop}
+use Rattle.std.specs.Prelude.{◌≡◌, ℕ, ◌+◌, ◌-◌, ◌*◌, ◌/◌, ◌%◌, ◌^◌, ◌<◌, ◌≤◌, List, ◌++◌, length, take, drop}
 use Rattle.rss_base.specs.declared.log_record.LogRecord.{LogRecord}
 use Rattle.rss_base.specs.Sizes.{log_pages_most}
 use Rattle.rss_base.specs.LogPages.{piece_length}
@@ -31,6 +31,13 @@ pub record IsRing (pages head end : ℕ) : Type 0 where
   pub order : head ≤ end
   pub room : end < room_end pages head
   pub limit : end < 2 ^ 64
+
+-- A log of these positions can be read from a device of this size, a number of 64 bits: the log pages stand there from the first one on, and the tail are the bytes behind the last full piece.
+pub record CanLoad (first_page log_pages head end : ℕ) (tail : List ℕ) (size : ℕ) : Type 0 where
+  pub ring : IsRing log_pages head end
+  pub tail_long : length tail ≡ end % piece_length
+  pub within : first_page + log_pages ≤ size
+  pub limit : first_page + log_pages < 2 ^ 64
 
 -- what holds of every log
 pub record IsLog (log : LogView) : Type 0 where

@@ -12,7 +12,7 @@ ghost use Rattle.rss_base.specs.declared.fault.OpenFault.TheVariants.{Device as 
 ghost use Rattle.rss_base.specs.declared.fault.OpenFault.TheVariants.{NoMemory as LacksMemory};
 ghost use Rattle.rss_base.specs.declared.log_record.LogRecord.{LogRecord as SomeRecord};
 ghost use Rattle.rss_log.specs.Rings.{ring_bytes};
-ghost use Rattle.rss_log.specs.Logs.{IsRing, IsLog, piece_start, room_end, free_of, bytes_from};
+ghost use Rattle.rss_log.specs.Logs.{CanLoad, IsLog, piece_start, room_end, free_of, bytes_from};
 ghost use Rattle.rss_log.specs.Logs.{piece_of, tail_of, HasRecords, HasRecordAt, with_bytes};
 ghost use Rattle.rss_log.specs.Logs.{with_head};
 
@@ -63,11 +63,7 @@ impl Log {
         end: u64,
         tail: &Tail,
     ) -> Result<Log, OpenFault>
-        requires ring { IsRing log_pages head end }
-        requires tail { length tail.now ≡ end % piece_length }
-        requires size { first_page + log_pages ≤ (D.view device.old).size }
-        // The size of a device is a number of 64 bits.
-        requires limit { first_page + log_pages < 2 ^ 64 }
+        requires { CanLoad first_page log_pages head end tail.now (D.view device.old).size }
         ensures numbers { IfOk result (λ log.
             (log.pages ≡ log_pages) × (log.head ≡ head) × (log.end ≡ end)) }
         ensures kept { IfOk result (λ log. Told (D.view device.old).disk (λ pages.
@@ -221,10 +217,7 @@ fn read_log<D: Device>(
     tail: &[u8],
     ring: &mut [u8],
 ) -> Result<(), Failed>
-    requires ring { IsRing log_pages head end }
-    requires tail { length tail.now ≡ end % piece_length }
-    requires size { first_page + log_pages ≤ (D.view device.old).size }
-    requires limit { first_page + log_pages < 2 ^ 64 }
+    requires log { CanLoad first_page log_pages head end tail.now (D.view device.old).size }
     requires room { length ring.old ≡ (log_pages + 1) * piece_length }
     ensures kept { OnOk result (Told (D.view device.old).disk (λ pages.
         ring_bytes ring.new (piece_start head) (end - piece_start head)

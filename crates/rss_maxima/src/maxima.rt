@@ -110,7 +110,8 @@ impl Maxima {
     fn greatest_at(&self, at: usize, bits: u32) -> u16
         requires within { at < length self.now }
         requires level { IsLevel bits }
-        ensures bounds { (k : ℕ) → k < length self.now → Shares bits at k → slice_index self.now k ≤ result }
+        ensures bounds { (k : ℕ) → k < length self.now → Shares bits at k
+            → slice_index self.now k ≤ result }
         ensures number { bits ≡ 0 → result ≡ slice_index self.now at }
     {
         self.tree[start_of(bits) + (at >> bits)]

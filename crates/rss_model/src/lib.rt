@@ -1,4 +1,5 @@
-//! The relation machine: what a store is to do, with no pages, maps or log. `specs/` has the definitions.
+//! The relation machine: what a store is to do, with no pages, maps or log. `specs/` has the
+//! definitions.
 #![tactic(auto)]
 
 mod engine;

@@ -35,7 +35,8 @@ pub fn body(page: &Page, slot: u8) -> Option<&[u8]>
     requires slotted { IsSlotted page.now }
     requires slot { slot < slot_count }
     ensures some { IfSome result (λ body. held_at (entries page.now) slot ≡ Here body.now) }
-    ensures none { IfNone result ((body : List ℕ) → held_at (entries page.now) slot ≡ Here body → ⊥) }
+    ensures none { IfNone result ((body : List ℕ)
+        → held_at (entries page.now) slot ≡ Here body → ⊥) }
 {
     let Entry::Here { place, length } = entry(page, slot) else {
         return None;

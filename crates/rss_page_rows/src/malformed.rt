@@ -1,5 +1,5 @@
 // Pages that are not as they should be, each of one kind.
-use crate::asserts::assert_same;
+use rss_asserts::assert_same;
 use rss_base::{PAGE_BYTES, Page, PageKey, Space};
 use rss_page::well_formed;
 use std::test::Fail;
@@ -76,7 +76,7 @@ fn each_kind_of_malformed_page_is_told(rt: HostRuntime) -> Result<(), Fail> {
     for (at, bytes, want) in CASES {
         let mut page = sound();
         patch(&mut page, at, &bytes)?;
-        assert_same(&rt, &well_formed(&page, HOME), &want, (at, bytes));
+        assert_same(&well_formed(&page, HOME), &want, (at, bytes))?;
     }
     Ok(())
 }
@@ -85,9 +85,9 @@ fn each_kind_of_malformed_page_is_told(rt: HostRuntime) -> Result<(), Fail> {
 fn a_body_in_the_midst_of_another_is_told(rt: HostRuntime) -> Result<(), Fail> {
     let mut page = sound();
     patch(&mut page, 32, &[1, 0, 8, 0, 0, 5, 0, 0])?;
-    assert_same(&rt, &well_formed(&page, HOME), &false, "two bodies");
+    assert_same(&well_formed(&page, HOME), &false, "two bodies")?;
     patch(&mut page, 24, &[0; 8])?;
-    assert_same(&rt, &well_formed(&page, HOME), &true, "one of them");
+    assert_same(&well_formed(&page, HOME), &true, "one of them")?;
     Ok(())
 }
 
@@ -95,16 +95,16 @@ fn a_body_in_the_midst_of_another_is_told(rt: HostRuntime) -> Result<(), Fail> {
 fn an_overflow_page_has_no_forward(rt: HostRuntime) -> Result<(), Fail> {
     let mut page = sound();
     patch(&mut page, 0, &[2])?;
-    assert_same(&rt, &well_formed(&page, OVERFLOW), &false, "a forward");
+    assert_same(&well_formed(&page, OVERFLOW), &false, "a forward")?;
     patch(&mut page, 1032, &[0; 8])?;
-    assert_same(&rt, &well_formed(&page, OVERFLOW), &true, "no forward");
-    assert_same(&rt, &well_formed(&page, HOME), &false, "another space");
+    assert_same(&well_formed(&page, OVERFLOW), &true, "no forward")?;
+    assert_same(&well_formed(&page, HOME), &false, "another space")?;
     patch(&mut page, 0, &[3])?;
     let image = PageKey {
         segment: 1,
         space: Space::Image,
         number: 5,
     };
-    assert_same(&rt, &well_formed(&page, image), &false, "an image page");
+    assert_same(&well_formed(&page, image), &false, "an image page")?;
     Ok(())
 }

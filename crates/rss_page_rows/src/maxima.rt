@@ -1,8 +1,7 @@
 // Numbers that are found by their size, against a plain scan.
-use crate::asserts::assert_same;
 use crate::draws::Draws;
+use rss_asserts::assert_same;
 use rss_maxima::{Maxima, NUMBERS_MOST};
-use std::process::Abort;
 use std::test::Fail;
 
 /// How many numbers there are in each case: none, few, those of a whole group, and the most.
@@ -29,12 +28,7 @@ fn set(numbers: &mut Maxima, place: usize, number: u16) {
 }
 
 /// Sets a number, where there is such a place, and then looks for one.
-fn change(
-    rt: &impl Abort,
-    draws: &mut Draws,
-    numbers: &mut Maxima,
-    plain: &mut Vec<u16>,
-) -> Result<(), Fail> {
+fn change(draws: &mut Draws, numbers: &mut Maxima, plain: &mut Vec<u16>) -> Result<(), Fail> {
     let len = numbers.len();
     let place = draws.below(len as u32) as usize;
     let number = if draws.below(2) == 0 {
@@ -46,12 +40,12 @@ fn change(
         numbers.set(place, number);
         let there = plain.get_mut(place).ok_or("a place that isn't there")?;
         *there = number;
-        assert_same(rt, &numbers.get(place), &number, place);
+        assert_same(&numbers.get(place), &number, place)?;
     }
     let from = draws.below(len as u32 + 2) as usize;
     let least = draws.below(3058) as u16;
     let want = scan(plain.as_slice(), from, least);
-    assert_same(rt, &numbers.first(from, least), &want, (from, least));
+    assert_same(&numbers.first(from, least), &want, (from, least))?;
     Ok(())
 }
 
@@ -61,9 +55,9 @@ fn the_first_number_is_that_of_a_scan(rt: HostRuntime) -> Result<(), Fail> {
     for len in LENGTHS {
         let mut numbers = Maxima::new(rt.alloc(), len)?;
         let mut plain = vec![in rt.alloc(); 0u16; len]?;
-        assert_same(&rt, &numbers.first(0, 1), &None, len);
+        assert_same(&numbers.first(0, 1), &None, len)?;
         for _ in 0..CHANGES {
-            change(&rt, &mut draws, &mut numbers, &mut plain)?;
+            change(&mut draws, &mut numbers, &mut plain)?;
         }
     }
     Ok(())
@@ -75,10 +69,10 @@ fn one_number_is_found_wherever_it_stands(rt: HostRuntime) -> Result<(), Fail> {
     for step in 0..63usize {
         let place = step * 1041;
         set(&mut numbers, place, 7);
-        assert_same(&rt, &numbers.first(0, 7), &Some(place), place);
-        assert_same(&rt, &numbers.first(place, 7), &Some(place), place);
-        assert_same(&rt, &numbers.first(place + 1, 1), &None, place);
-        assert_same(&rt, &numbers.first(0, 8), &None, place);
+        assert_same(&numbers.first(0, 7), &Some(place), place)?;
+        assert_same(&numbers.first(place, 7), &Some(place), place)?;
+        assert_same(&numbers.first(place + 1, 1), &None, place)?;
+        assert_same(&numbers.first(0, 8), &None, place)?;
         set(&mut numbers, place, 0);
     }
     Ok(())

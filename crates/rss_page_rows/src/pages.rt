@@ -1,9 +1,8 @@
 // Pages that are filled, emptied and filled again, against a plain list.
-use crate::asserts::assert_same;
 use crate::draws::Draws;
 use crate::plain::{Held, Plain, assert_holds, byte_at, bytes_of, has_room};
 use crate::slotted::{ENTRIES, Slotted};
-use std::process::Abort;
+use rss_asserts::assert_same;
 use std::test::Fail;
 
 /// The bytes of the longest body.
@@ -16,33 +15,44 @@ fn fill(buffer: &mut Buffer, first: u8) {
 }
 
 /// Puts a body into the page and into the list, exactly where it fits.
-fn put(rt: &impl Abort, page: &mut Slotted, plain: &mut Plain, slot: u8, length: u16, first: u8) {
+fn put(
+    page: &mut Slotted,
+    plain: &mut Plain,
+    slot: u8,
+    length: u16,
+    first: u8,
+) -> Result<(), Fail> {
     let mut buffer = [0u8; 3056];
     fill(&mut buffer, first);
     if slot >= ENTRIES || length == 0 || length > 3056 {
-        return;
+        return Ok(());
     }
     let fits = has_room(plain, slot, usize::from(length));
-    assert_same(rt, &page.fits(slot, length), &fits, (slot, length));
+    assert_same(&page.fits(slot, length), &fits, (slot, length))?;
     assert_same(
-        rt,
         &page.put(slot, &buffer[..usize::from(length)]),
         &fits,
         (slot, length),
-    );
+    )?;
     if fits {
         plain[usize::from(slot)] = Held::Here { length, first };
     }
+    Ok(())
 }
 
 /// One change: a body at five of eight, else a forward, an empty entry, or bodies moved together.
-fn step(rt: &impl Abort, draws: &mut Draws, page: &mut Slotted, plain: &mut Plain, longest: u16) {
+fn step(
+    draws: &mut Draws,
+    page: &mut Slotted,
+    plain: &mut Plain,
+    longest: u16,
+) -> Result<(), Fail> {
     let slot = draws.below(u32::from(ENTRIES)) as u8;
     let first = draws.below(256) as u8;
     let length = draws.below(u32::from(longest)) as u16;
     let kind = draws.below(8);
     if slot >= ENTRIES {
-        return;
+        return Ok(());
     }
     match kind {
         0 => {
@@ -57,8 +67,9 @@ fn step(rt: &impl Abort, draws: &mut Draws, page: &mut Slotted, plain: &mut Plai
             plain[usize::from(slot)] = Held::Empty;
         }
         2 => page.compact(),
-        _ => put(rt, page, plain, slot, length, first),
+        _ => put(page, plain, slot, length, first)?,
     }
+    Ok(())
 }
 
 #[test]
@@ -67,10 +78,10 @@ fn a_page_holds_what_a_plain_list_holds(rt: HostRuntime) -> Result<(), Fail> {
     for longest in [10, 60, 400, 3058] {
         let mut page = Slotted::new();
         let mut plain: Plain = [Held::Empty; ENTRIES as usize];
-        assert_holds(&rt, &page, &plain, 0);
+        assert_holds(&page, &plain, 0)?;
         for case in 0..250u32 {
-            step(&rt, &mut draws, &mut page, &mut plain, longest);
-            assert_holds(&rt, &page, &plain, case);
+            step(&mut draws, &mut page, &mut plain, longest)?;
+            assert_holds(&page, &plain, case)?;
         }
     }
     Ok(())
@@ -81,14 +92,14 @@ fn a_body_of_each_length_fits_alone(rt: HostRuntime) -> Result<(), Fail> {
     let mut page = Slotted::new();
     let mut plain: Plain = [Held::Empty; ENTRIES as usize];
     for length in 1..3057u16 {
-        put(&rt, &mut page, &mut plain, 5, length, (length % 256) as u8);
-        assert_same(&rt, &bytes_of(&plain), &u32::from(length), length);
+        put(&mut page, &mut plain, 5, length, (length % 256) as u8)?;
+        assert_same(&bytes_of(&plain), &u32::from(length), length)?;
     }
-    assert_holds(&rt, &page, &plain, 3056);
-    assert_same(&rt, &page.fits(6, 0), &true, 0);
-    assert_same(&rt, &page.fits(6, 1), &false, 1);
-    assert_same(&rt, &page.fits(5, 3056), &true, 3056);
-    assert_same(&rt, &page.fits(5, 3057), &false, 3057);
+    assert_holds(&page, &plain, 3056)?;
+    assert_same(&page.fits(6, 0), &true, 0)?;
+    assert_same(&page.fits(6, 1), &false, 1)?;
+    assert_same(&page.fits(5, 3056), &true, 3056)?;
+    assert_same(&page.fits(5, 3057), &false, 3057)?;
     Ok(())
 }
 
@@ -97,17 +108,17 @@ fn holes_are_closed_where_a_body_needs_them(rt: HostRuntime) -> Result<(), Fail>
     let mut page = Slotted::new();
     let mut plain: Plain = [Held::Empty; ENTRIES as usize];
     for slot in 0..ENTRIES {
-        put(&rt, &mut page, &mut plain, slot, 23, slot);
+        put(&mut page, &mut plain, slot, 23, slot)?;
     }
-    assert_same(&rt, &bytes_of(&plain), &2944, 0);
+    assert_same(&bytes_of(&plain), &2944, 0)?;
     for slot in 0..ENTRIES {
         if slot % 2 == 0 {
             page.remove(slot);
             plain[usize::from(slot)] = Held::Empty;
         }
     }
-    put(&rt, &mut page, &mut plain, 64, 1584, 200);
-    assert_same(&rt, &bytes_of(&plain), &3056, 1);
-    assert_holds(&rt, &page, &plain, 2);
+    put(&mut page, &mut plain, 64, 1584, 200)?;
+    assert_same(&bytes_of(&plain), &3056, 1)?;
+    assert_holds(&page, &plain, 2)?;
     Ok(())
 }

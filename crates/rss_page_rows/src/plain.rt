@@ -1,8 +1,8 @@
 // What a page holds, as a plain list.
-use crate::asserts::assert_same;
 use crate::slotted::{ENTRIES, KEY, Slotted};
+use rss_asserts::assert_same;
 use rss_page::{Entry, well_formed};
-use std::process::Abort;
+use std::test::Fail;
 
 /// What an entry holds. The bytes of a body count up from the first one.
 #[derive(Clone, Copy, Debug, PartialEq)]
@@ -81,17 +81,18 @@ fn is_vacant(plain: &Plain) -> bool {
 }
 
 /// The page holds this, is well-formed, and tells how much room it has.
-pub(crate) fn assert_holds(rt: &impl Abort, page: &Slotted, plain: &Plain, case: u32) {
+pub(crate) fn assert_holds(page: &Slotted, plain: &Plain, case: u32) -> Result<(), Fail> {
     for slot in 0..ENTRIES {
         let held = plain[usize::from(slot)];
-        assert_same(rt, &holds(page, slot, held), &true, (case, slot));
+        assert_same(&holds(page, slot, held), &true, (case, slot))?;
     }
-    assert_same(rt, &well_formed(page.page(), KEY), &true, case);
+    assert_same(&well_formed(page.page(), KEY), &true, case)?;
     let survey = page.survey();
     let free = 3056u32.saturating_sub(bytes_of(plain));
-    assert_same(rt, &u32::from(survey.free), &free, case);
-    assert_same(rt, &survey.first_empty, &first_empty(plain), case);
-    assert_same(rt, &survey.is_vacant, &is_vacant(plain), case);
+    assert_same(&u32::from(survey.free), &free, case)?;
+    assert_same(&survey.first_empty, &first_empty(plain), case)?;
+    assert_same(&survey.is_vacant, &is_vacant(plain), case)?;
+    Ok(())
 }
 
 /// Whether a body of this length fits at a slot beside the others.

@@ -14,7 +14,7 @@ use std::process::Abort;
 use std::test::Fail;
 
 /// A store of 128 slots, and how many pages its device has.
-const SLOTS: u32 = 128;
+pub(crate) const SLOTS: u32 = 128;
 
 const DEVICE_PAGES: usize = 141;
 
@@ -29,7 +29,7 @@ const FRAMES: u32 = 8;
 /// How many calls of the device an opening takes, and how many there are when the second round is
 /// done: after the opening's, 25 reads, 32 writes of pages, one of the map, and the four calls of a
 /// switch.
-const OPENING: u64 = 5;
+pub(crate) const OPENING: u64 = 5;
 
 const DONE: u64 = 67;
 
@@ -49,7 +49,7 @@ const UNSYNCED: [Unsynced; 4] = [
 
 /// Why something wasn't done to pages.
 #[derive(Clone, Copy, Debug, PartialEq)]
-enum Undone {
+pub(crate) enum Undone {
     Fault(PageFault),
     /// It may not be done, for this reason.
     Refused(&'static str),
@@ -63,7 +63,7 @@ impl From<PageFault> for Undone {
 
 /// A step of a save.
 #[derive(Clone, Copy)]
-enum Step {
+pub(crate) enum Step {
     /// Fills a log page with a byte.
     Piece(u32, u8),
     Save(u8),
@@ -73,7 +73,7 @@ enum Step {
 }
 
 /// The steps that save the first round, and those that save the second.
-const FIRST_SAVE: [Step; 3] = [Step::Save(1), Step::Switch(1, 1), Step::Adopt];
+pub(crate) const FIRST_SAVE: [Step; 3] = [Step::Save(1), Step::Switch(1, 1), Step::Adopt];
 
 const SECOND_SAVE: [Step; 3] = [Step::Save(0), Step::Switch(2, 0), Step::Adopt];
 
@@ -87,7 +87,7 @@ const SECOND_SAVE_WITH_PIECES: [Step; 5] = [
 ];
 
 /// A page of these numbers.
-fn page_of(number: u32, round: u8) -> Page {
+pub(crate) fn page_of(number: u32, round: u8) -> Page {
     let mut page = [round; 4096];
     let [.., low] = number.to_be_bytes();
     page[0] = low;
@@ -115,7 +115,7 @@ fn second_round() -> Rounds {
 }
 
 /// Opens the pages of a device, where half of its slots have room for them.
-fn open(alloc: Global, device: MemDevice) -> Result<Buffer<MemDevice>, Fail> {
+pub(crate) fn open(alloc: Global, device: MemDevice) -> Result<Buffer<MemDevice>, Fail> {
     let mut device = device;
     let (root, _) = load(&mut device)?;
     let table = read_table(alloc, &mut device, &root)?;
@@ -129,7 +129,7 @@ fn open(alloc: Global, device: MemDevice) -> Result<Buffer<MemDevice>, Fail> {
 }
 
 /// The pages of a store that has none.
-fn empty(alloc: Global) -> Result<Buffer<MemDevice>, Fail> {
+pub(crate) fn empty(alloc: Global) -> Result<Buffer<MemDevice>, Fail> {
     let pages = pages_with_root(alloc, DEVICE_PAGES, &first_root(SLOTS, 0))?;
     open(alloc, MemDevice::new(alloc, pages)?)
 }
@@ -153,7 +153,7 @@ fn read<P: Pages>(pages: &mut P, key: PageKey) -> Result<Page, Undone> {
 }
 
 /// Writes a page, where it is mapped.
-fn write<P: Pages>(pages: &mut P, key: PageKey, page: &Page) -> Result<(), Undone> {
+pub(crate) fn write<P: Pages>(pages: &mut P, key: PageKey, page: &Page) -> Result<(), Undone> {
     if !pages.has(key) {
         return Err(Undone::Refused("a page that isn't mapped"));
     }
@@ -161,7 +161,7 @@ fn write<P: Pages>(pages: &mut P, key: PageKey, page: &Page) -> Result<(), Undon
 }
 
 /// Gives a page back, where it is mapped.
-fn give<P: Pages>(pages: &mut P, key: PageKey) -> Result<(), Undone> {
+pub(crate) fn give<P: Pages>(pages: &mut P, key: PageKey) -> Result<(), Undone> {
     if !pages.has(key) {
         return Err(Undone::Refused("a page that isn't mapped"));
     }
@@ -217,7 +217,7 @@ fn do_step<S: Saving>(pages: &mut S, step: Step) -> Result<(), Undone> {
 }
 
 /// Does the steps of a save, up to the first that fails.
-fn do_steps<S: Saving>(pages: &mut S, steps: &[Step]) -> Result<(), Undone> {
+pub(crate) fn do_steps<S: Saving>(pages: &mut S, steps: &[Step]) -> Result<(), Undone> {
     for step in steps {
         do_step(pages, *step)?;
     }
@@ -317,7 +317,10 @@ fn save_second<S: Saving>(pages: &mut S, save: &[Step]) -> Result<(), Undone> {
 }
 
 /// The device of pages to which something was done.
-fn device_of(pages: Buffer<MemDevice>, done: Result<(), Undone>) -> Result<MemDevice, Fail> {
+pub(crate) fn device_of(
+    pages: Buffer<MemDevice>,
+    done: Result<(), Undone>,
+) -> Result<MemDevice, Fail> {
     match done {
         Ok(()) => Ok(pages.into_device()),
         Err(undone) => Err(undone.into()),
@@ -348,7 +351,7 @@ fn open_failing(alloc: Global, pages: &[Page], call: u64) -> Result<Buffer<MemDe
 }
 
 /// Opens the store with the first round on a device of which this call fails.
-fn open_first(alloc: Global, call: u64) -> Result<Buffer<MemDevice>, Fail> {
+pub(crate) fn open_first(alloc: Global, call: u64) -> Result<Buffer<MemDevice>, Fail> {
     let store = first_store(alloc)?;
     open_failing(alloc, store.as_slice(), call)
 }

@@ -9,6 +9,8 @@ mod buffers;
 #[cfg(test)]
 mod caller;
 #[cfg(test)]
+mod finding;
+#[cfg(test)]
 mod harness;
 #[cfg(test)]
 mod maps;

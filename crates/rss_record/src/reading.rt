@@ -14,7 +14,8 @@ pub fn read_record(bytes: &[u8]) -> Option<(LogRecord, u32)>
     ensures found { IfSome result (λ f. BeginsWith bytes.now f.0 (drop f.1 bytes.now)) }
     ensures size { IfSome result (λ f. f.1 ≡ record_size f.0) }
     ensures within { IfSome result (λ f. f.1 ≤ length bytes.now) }
-    ensures none { IfNone result ((r : SomeRecord) (rest : List ℕ) → BeginsWith bytes.now r rest → ⊥) }
+    ensures none { IfNone result ((r : SomeRecord) (rest : List ℕ)
+        → BeginsWith bytes.now r rest → ⊥) }
 {
     let mut fields = Fields::new(bytes);
     let record = read(&mut fields)?;

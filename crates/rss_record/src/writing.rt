@@ -19,7 +19,8 @@ pub type RecordBytes = [u8; RECORD_BYTES];
 /// was. It takes no memory.
 pub fn write_record(record_value: &LogRecord, into: &mut RecordBytes) -> u32
     requires { IsBounded record_value.now }
-    ensures written { into.new ≡ record_bytes record_value.now ++ drop (record_size record_value.now) into.old }
+    ensures written { into.new
+        ≡ record_bytes record_value.now ++ drop (record_size record_value.now) into.old }
     ensures size { result ≡ record_size record_value.now }
     ensures spellable { IsSpellable record_value.now }
     ensures within { result ≤ longest_record }
@@ -109,7 +110,8 @@ fn put_tuple(
     values: &Body,
 ) -> usize
     requires { IsShort values.now }
-    ensures written { Puts 0 (tuple_bytes kind by relation tid ++ sized_bytes values.now) into.old into.new }
+    ensures written { Puts 0 (tuple_bytes kind by relation tid ++ sized_bytes values.now)
+        into.old into.new }
     ensures end { result ≡ 14 + length values.now }
     ensures fits { HasPage tid }
 {

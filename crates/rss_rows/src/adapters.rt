@@ -1,14 +1,13 @@
 // Devices, sources, sinks and lists as they run.
 ghost use Rattle.std.specs.Prelude.{◌≡◌, ◌<◌};
 
-use crate::asserts::{assert_same, assert_same_slices};
 use crate::harness::image_at;
+use rss_asserts::{assert_same, assert_same_slices};
 use rss_base::{Device, Failed, Page, Sink, Source, Text, Tuple, Value, write_all};
 use rss_device::{
     FileDevice, MemDevice, MemSink, MemSource, ReaderSource, StoreFiles, Unsynced, WriterSink,
 };
 use std::alloc::Global;
-use std::process::Abort;
 use std::rt::Files;
 use std::test::Fail;
 use std::{env, fs, process};
@@ -84,14 +83,17 @@ pub(crate) fn write_two<D: Device>(device: &mut D) -> Result<(), Failed> {
     device.sync()
 }
 
-/// A device has these three pages.
-pub(crate) fn assert_three<D: Device>(rt: &impl Abort, device: &mut D) -> Result<(), Failed> {
-    let size = device.size()?;
-    assert!(rt; size == 3, "another size");
-    assert_same(rt, &is_full_of(device, 0, 0)?, &true, "page 0");
-    assert_same(rt, &is_full_of(device, 1, 7)?, &true, "page 1");
-    assert_same(rt, &is_full_of(device, 2, 9)?, &true, "page 2");
-    Ok(())
+/// Whether a device has these three pages, and no others.
+pub(crate) fn has_three<D: Device>(device: &mut D) -> Result<bool, Failed> {
+    if device.size()? != 3 {
+        return Ok(false);
+    }
+    Ok(is_full_of(device, 0, 0)? && is_full_of(device, 1, 7)? && is_full_of(device, 2, 9)?)
+}
+
+/// A device has them.
+pub(crate) fn assert_three<D: Device>(device: &mut D) -> Result<(), Fail> {
+    assert_same(&has_three(device), &Ok(true), "the three pages")
 }
 
 /// A path where no file is.
@@ -102,9 +104,9 @@ pub(crate) fn new_path(rt: &HostRuntime, name: &str) -> Result<String, Fail> {
 }
 
 /// Makes a file of three pages.
-fn make_file<S: StoreFiles + Abort>(rt: &S, path: &str) -> Result<(), Fail> {
+fn make_file<S: StoreFiles>(rt: &S, path: &str) -> Result<(), Fail> {
     let mut device = FileDevice::new(rt, path);
-    assert_same(rt, &device.size(), &Err(Failed), "no file");
+    assert_same(&device.size(), &Err(Failed), "no file")?;
     write_two(&mut device)?;
     Ok(())
 }
@@ -121,36 +123,33 @@ static SIZES: [(usize, u64); 7] = [
 ];
 
 /// Opens it, and finds its size as its length changes.
-fn assert_file<S: StoreFiles + Files + Abort>(rt: &S, path: &str) -> Result<(), Fail> {
+fn assert_file<S: StoreFiles + Files>(rt: &S, path: &str) -> Result<(), Fail> {
     let mut device = FileDevice::new(rt, path);
-    assert_three(rt, &mut device)?;
+    assert_three(&mut device)?;
     let bytes = [0u8; 16_384];
     for (length, pages) in &SIZES {
         fs::write(rt, path, &bytes[..(*length).min(bytes.len())])?;
-        assert_same(rt, &device.size(), &Ok(*pages), *length);
+        assert_same(&device.size(), &Ok(*pages), *length)?;
     }
     Ok(())
 }
 
-fn assert_source_fails<S: Source>(
-    rt: &impl Abort,
-    alloc: Global,
-    source: &mut S,
-) -> Result<(), Fail> {
+fn assert_source_fails<S: Source>(alloc: Global, source: &mut S) -> Result<(), Fail> {
     let mut buffer = [0; 8];
-    assert_same(rt, &source.read(&mut buffer), &Ok(3), "the first read");
-    assert_same(rt, &source.read(&mut buffer), &Err(Failed), "the second");
+    assert_same(&source.read(&mut buffer), &Ok(3), "the first read")?;
+    assert_same(&source.read(&mut buffer), &Err(Failed), "the second")?;
     let rest = read_to_end(alloc, source, &mut buffer)?;
-    assert_same_slices(rt, rest.as_slice(), b"in 1\nend 1\n", "the rest");
+    assert_same_slices(rest.as_slice(), b"in 1\nend 1\n", "the rest")?;
     Ok(())
 }
 
-fn assert_sink_fails(rt: &impl Abort, sink: MemSink) {
+fn assert_sink_fails(sink: MemSink) -> Result<(), Fail> {
     let mut sink = sink;
-    assert_same(rt, &write_all(&mut sink, TEXT), &Err(Failed), "the text");
-    assert_same_slices(rt, sink.bytes(), b"begin ", "what was written");
+    assert_same(&write_all(&mut sink, TEXT), &Err(Failed), "the text")?;
+    assert_same_slices(sink.bytes(), b"begin ", "what was written")?;
     let bytes = sink.into_bytes();
-    assert_same_slices(rt, bytes.as_slice(), b"begin ", "the bytes");
+    assert_same_slices(bytes.as_slice(), b"begin ", "the bytes")?;
+    Ok(())
 }
 
 /// A device of two pages.
@@ -159,66 +158,66 @@ fn two_pages(alloc: Global) -> Result<MemDevice, Fail> {
     Ok(MemDevice::new(alloc, pages)?)
 }
 
-/// Writes the second page of a device. The test ends where it has none.
-fn write_second(rt: &impl Abort, device: &mut MemDevice, byte: u8) -> Result<(), Failed> {
-    assert!(rt; device.pages().len() >= 2, "no second page");
+/// Writes the second page of a device. It fails where there is none.
+fn write_second(device: &mut MemDevice, byte: u8) -> Result<(), Failed> {
+    if device.pages().len() < 2 {
+        return Err(Failed);
+    }
     device.write(1, &page_full_of(byte))
 }
 
 /// A stop at a moment leaves these bytes in the second page.
 fn assert_images(
-    rt: &impl Abort,
     alloc: Global,
     device: &MemDevice,
     moment: usize,
     left: &[(Unsynced, u8)],
-) {
+) -> Result<(), Fail> {
     for (unsynced, byte) in left {
-        let image = image_at(rt, alloc, device, moment, *unsynced);
+        let image = image_at(alloc, device, moment, *unsynced)?;
         let is_left = image.as_slice() == [page_full_of(1), page_full_of(*byte)].as_slice();
-        assert_same(rt, &is_left, &true, (*unsynced, "at moment", moment));
+        assert_same(&is_left, &true, (*unsynced, "at moment", moment))?;
     }
+    Ok(())
 }
 
 /// Writes and syncs the second page, and stops that.
-fn assert_stops(rt: &impl Abort, alloc: Global, device: &mut MemDevice) {
-    assert_same(rt, &write_second(rt, device, 3), &Ok(()), "the write");
+fn assert_stops(alloc: Global, device: &mut MemDevice) -> Result<(), Fail> {
+    assert_same(&write_second(device, 3), &Ok(()), "the write")?;
     let written = device.moment();
-    assert_same(rt, &device.sync(), &Ok(()), "the sync");
+    assert_same(&device.sync(), &Ok(()), "the sync")?;
     let synced = device.moment();
-    assert_images(rt, alloc, device, 0, &BEFORE);
-    assert_images(rt, alloc, device, written, &WRITTEN);
-    assert_images(rt, alloc, device, synced, &SYNCED);
+    assert_images(alloc, device, 0, &BEFORE)?;
+    assert_images(alloc, device, written, &WRITTEN)?;
+    assert_images(alloc, device, synced, &SYNCED)?;
+    Ok(())
 }
 
 /// Writes the second page, which fails, and again, and syncs it, which fails. Answers the moments of
 /// the writes.
-fn fail_calls(rt: &impl Abort, device: &mut MemDevice) -> (usize, usize) {
-    assert_same(rt, &write_second(rt, device, 3), &Err(Failed), "a write");
+fn fail_calls(device: &mut MemDevice) -> Result<(usize, usize), Fail> {
+    assert_same(&write_second(device, 3), &Err(Failed), "a write")?;
     let torn = device.moment();
-    assert_same(rt, &write_second(rt, device, 4), &Ok(()), "the next one");
-    assert_same(rt, &device.sync(), &Err(Failed), "the sync");
-    (torn, device.moment())
+    assert_same(&write_second(device, 4), &Ok(()), "the next one")?;
+    assert_same(&device.sync(), &Err(Failed), "the sync")?;
+    Ok((torn, device.moment()))
 }
 
 /// The device has two writes, which made these moments.
-fn assert_two_writes(rt: &impl Abort, device: &MemDevice, torn: usize, written: usize) {
-    assert_same(rt, &device.moment_of_write(0), &Some(torn), "a write");
-    assert_same(
-        rt,
-        &device.moment_of_write(1),
-        &Some(written),
-        "the next one",
-    );
-    assert_same(rt, &device.moment_of_write(2), &None, "no write");
+fn assert_two_writes(device: &MemDevice, torn: usize, written: usize) -> Result<(), Fail> {
+    assert_same(&device.moment_of_write(0), &Some(torn), "a write")?;
+    assert_same(&device.moment_of_write(1), &Some(written), "the next one")?;
+    assert_same(&device.moment_of_write(2), &None, "no write")?;
+    Ok(())
 }
 
 /// Does so, and stops it.
-fn assert_failures(rt: &impl Abort, alloc: Global, device: &mut MemDevice) {
-    let (torn, written) = fail_calls(rt, device);
-    assert_two_writes(rt, device, torn, written);
-    assert_images(rt, alloc, device, torn, &TORN);
-    assert_images(rt, alloc, device, written, &WRITTEN_AFTER);
+fn assert_failures(alloc: Global, device: &mut MemDevice) -> Result<(), Fail> {
+    let (torn, written) = fail_calls(device)?;
+    assert_two_writes(device, torn, written)?;
+    assert_images(alloc, device, torn, &TORN)?;
+    assert_images(alloc, device, written, &WRITTEN_AFTER)?;
+    Ok(())
 }
 
 fn push_bytes(text: &mut Text, bytes: &[u8]) -> Result<(), Fail> {
@@ -260,7 +259,7 @@ fn file_device_keeps_its_pages(rt: HostRuntime) -> Result<(), Fail> {
 fn reader_source_gives_its_text(rt: HostRuntime) -> Result<(), Fail> {
     let mut source = ReaderSource::new(TEXT);
     let all = read_to_end(rt.alloc(), &mut source, &mut [0; 4])?;
-    assert_same_slices(&rt, all.as_slice(), TEXT, "the text");
+    assert_same_slices(all.as_slice(), TEXT, "the text")?;
     Ok(())
 }
 
@@ -268,22 +267,22 @@ fn reader_source_gives_its_text(rt: HostRuntime) -> Result<(), Fail> {
 fn writer_sink_writes_its_text(rt: HostRuntime) -> Result<(), Fail> {
     let mut written = Vec::new(rt.alloc());
     write_all(&mut WriterSink::new(&mut written), TEXT)?;
-    assert_same_slices(&rt, written.as_slice(), TEXT, "the text");
+    assert_same_slices(written.as_slice(), TEXT, "the text")?;
     Ok(())
 }
 
 #[test]
 fn memory_fails_where_it_is_told_to(rt: HostRuntime) -> Result<(), Fail> {
     let mut source = MemSource::new(TEXT).in_pieces(3).failing_at(1);
-    assert_source_fails(&rt, rt.alloc(), &mut source)?;
-    assert_sink_fails(&rt, MemSink::new(rt.alloc()).taking(3).failing_at(2));
+    assert_source_fails(rt.alloc(), &mut source)?;
+    assert_sink_fails(MemSink::new(rt.alloc()).taking(3).failing_at(2))?;
     Ok(())
 }
 
 #[test]
 fn a_stop_leaves_unsynced_pages_open(rt: HostRuntime) -> Result<(), Fail> {
     let mut device = two_pages(rt.alloc())?;
-    assert_stops(&rt, rt.alloc(), &mut device);
+    assert_stops(rt.alloc(), &mut device)?;
     Ok(())
 }
 
@@ -291,15 +290,15 @@ fn a_stop_leaves_unsynced_pages_open(rt: HostRuntime) -> Result<(), Fail> {
 fn a_call_that_fails_brings_nothing_to_the_disk(rt: HostRuntime) -> Result<(), Fail> {
     let calls = vec![in rt.alloc(); 0, 2]?;
     let mut device = two_pages(rt.alloc())?.failing_at(calls);
-    assert_failures(&rt, rt.alloc(), &mut device);
+    assert_failures(rt.alloc(), &mut device)?;
     Ok(())
 }
 
 #[test]
 fn lists_keep_what_is_pushed(rt: HostRuntime) -> Result<(), Fail> {
     let text = text_of(rt.alloc(), TEXT)?;
-    assert_same_slices(&rt, text.as_slice(), TEXT, "the text");
+    assert_same_slices(text.as_slice(), TEXT, "the text")?;
     let tuple = tuple_of(rt.alloc(), text)?;
-    assert_same(&rt, &is_of_seven(&tuple, TEXT), &true, "the tuple");
+    assert_same(&is_of_seven(&tuple, TEXT), &true, "the tuple")?;
     Ok(())
 }

@@ -1,15 +1,14 @@
 // Files that fail, and files that another opening has.
 ghost use Rattle.std.specs.Prelude.{◌≤◌, true, IfOk};
 
-use crate::adapters::{assert_three, new_path, write_two};
-use crate::asserts::assert_same;
+use crate::adapters::{assert_three, has_three, new_path, write_two};
+use rss_asserts::assert_same;
 use rss_base::{Device, Failed};
 use rss_device::{FileDevice, StoreFile, StoreFiles};
 use std::cell::Cell;
 use std::fs::{File, Metadata, OpenFile};
 use std::io::ErrorKind;
 use std::os::unix::fs::FileExt;
-use std::process::Abort;
 use std::rt::Files;
 use std::test::Fail;
 use std::{fs, io};
@@ -219,7 +218,7 @@ impl Calls {
 
 /// Writes a new file, in which this call goes wrong. Either that is told, or the file is as it should
 /// be.
-fn assert_written<S: StoreFiles<File = File> + Files + Abort + Drop>(
+fn assert_written<S: StoreFiles<File = File> + Files + Drop>(
     rt: &S,
     path: &str,
     call: u64,
@@ -232,29 +231,33 @@ fn assert_written<S: StoreFiles<File = File> + Files + Abort + Drop>(
     };
     let is_written = write_two(&mut FileDevice::new(&files, path)).is_ok();
     let case = ("writing", call, fault);
-    assert_same(rt, &is_written, &WRITING.goes_well(call, fault), case);
+    assert_same(&is_written, &WRITING.goes_well(call, fault), case)?;
     if is_written {
-        assert_three(rt, &mut FileDevice::new(rt, path))?;
+        assert_three(&mut FileDevice::new(rt, path))?;
     }
     let _ = fs::remove_file(rt, path);
     Ok(())
 }
 
 /// Reads a file, of which this call goes wrong.
-fn assert_read<S: StoreFiles<File = File> + Abort + Drop>(
+fn assert_read<S: StoreFiles<File = File> + Drop>(
     rt: &S,
     path: &str,
     call: u64,
     fault: Fault,
-) {
+) -> Result<(), Fail> {
     let plan = Plan::failing_at(call, fault);
     let files = FaultyFiles {
         system: rt,
         plan: &plan,
     };
-    let is_read = assert_three(rt, &mut FileDevice::new(&files, path)).is_ok();
-    let case = ("reading", call, fault);
-    assert_same(rt, &is_read, &READING.goes_well(call, fault), case);
+    let read = has_three(&mut FileDevice::new(&files, path));
+    let want = if READING.goes_well(call, fault) {
+        Ok(true)
+    } else {
+        Err(Failed)
+    };
+    assert_same(&read, &want, ("reading", call, fault))
 }
 
 /// The size of a file that is opened under these descriptors.
@@ -283,7 +286,7 @@ fn a_fault_of_each_call_of_a_file_is_told(rt: HostRuntime) -> Result<(), Fail> {
     write_two(&mut FileDevice::new(&rt, path.as_str()))?;
     for fault in &FAULTS {
         for call in 0..12 {
-            assert_read(&rt, path.as_str(), call, *fault);
+            assert_read(&rt, path.as_str(), call, *fault)?;
         }
     }
     fs::remove_file(&rt, path.as_str())?;
@@ -302,7 +305,7 @@ fn a_file_is_away_from_the_standard_streams(rt: HostRuntime) -> Result<(), Fail>
         (1, 0, Err(Failed)),
     ] {
         let found = size_under(&rt, path.as_str(), opened, cloned);
-        assert_same(&rt, &found, &size, (opened, cloned));
+        assert_same(&found, &size, (opened, cloned))?;
     }
     fs::remove_file(&rt, path.as_str())?;
     Ok(())
@@ -315,11 +318,11 @@ fn a_file_has_one_device_at_a_time(rt: HostRuntime) -> Result<(), Fail> {
     {
         let mut first = FileDevice::new(&rt, path.as_str());
         write_two(&mut first)?;
-        assert_same(&rt, &second.size(), &Err(Failed), "its size");
-        assert_same(&rt, &second.set_size(1), &Err(Failed), "another size");
-        assert_three(&rt, &mut first)?;
+        assert_same(&second.size(), &Err(Failed), "its size")?;
+        assert_same(&second.set_size(1), &Err(Failed), "another size")?;
+        assert_three(&mut first)?;
     }
-    assert_three(&rt, &mut second)?;
+    assert_three(&mut second)?;
     fs::remove_file(&rt, path.as_str())?;
     Ok(())
 }

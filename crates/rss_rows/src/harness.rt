@@ -1,11 +1,11 @@
-// Commands over devices in memory, and the stores that they make.
-use crate::asserts::{assert_same, assert_same_slices};
-use rss_base::{Device, Page, Sink, Source};
+// Stores in memory, and what they answer.
+use rss_asserts::{assert_same, assert_same_slices};
+use rss_base::{Device, Page, Source};
 use rss_device::{MemDevice, MemSink, MemSource, Unsynced};
-use rss_top::{Status, run};
+use rss_scripts::{format_device, run_script, run_words, without_moments};
+use rss_top::Status;
 use std::alloc::Global;
 use std::fmt::Debug;
-use std::process::Abort;
 use std::test::Fail;
 
 /// How many slots the smallest store has.
@@ -31,45 +31,8 @@ pub(crate) struct Row<'a> {
     pub(crate) replies: &'a [u8],
 }
 
-/// The words of a command, with the program's own name first.
-fn push_words(alloc: Global, words: &[&str], command: &mut Vec<String>) -> Result<(), Fail> {
-    command.push(String::from_str(alloc, "rss")?)?;
-    for word in words {
-        command.push(String::from_str(alloc, word)?)?;
-    }
-    Ok(())
-}
-
-/// Does a command, by its words after the program's own name.
-pub(crate) fn run_words<O: Source, K: Sink, D: Device + Drop>(
-    alloc: Global,
-    words: &[&str],
-    source: &mut O,
-    sink: &mut K,
-    device: D,
-) -> Result<(Status, D), Fail> {
-    let mut command = Vec::new(alloc);
-    push_words(alloc, words, &mut command)?;
-    Ok(run(alloc, command.as_slice(), source, sink, device))
-}
-
-/// Runs a script that comes in pieces of so many bytes. Answers how it ended, the replies, and the
-/// device that it left.
-pub(crate) fn run_script<D: Device + Drop>(
-    alloc: Global,
-    device: D,
-    script: &[u8],
-    piece: usize,
-) -> Result<(Status, Vec<u8>, D), Fail> {
-    let mut source = MemSource::new(script).in_pieces(piece);
-    let mut sink = MemSink::new(alloc);
-    let (status, device) = run_words(alloc, &["run", "FILE"], &mut source, &mut sink, device)?;
-    Ok((status, sink.into_bytes(), device))
-}
-
 /// Runs a row's script to its end, and it gets its replies. Answers the device that it left.
 pub(crate) fn assert_script<D: Device + Drop, C: Debug + Copy>(
-    rt: &impl Abort,
     alloc: Global,
     device: D,
     row: &Row,
@@ -77,14 +40,13 @@ pub(crate) fn assert_script<D: Device + Drop, C: Debug + Copy>(
     case: C,
 ) -> Result<D, Fail> {
     let (status, replies, device) = run_script(alloc, device, row.script, piece)?;
-    assert_same(rt, &status, &Status::Ok, case);
-    assert_same_slices(rt, replies.as_slice(), row.replies, case);
+    assert_same(&status, &Status::Ok, case)?;
+    assert_same_slices(replies.as_slice(), row.replies, case)?;
     Ok(device)
 }
 
 /// Runs the probe over a store, and it gets these replies.
 pub(crate) fn assert_probe<D: Device + Drop, C: Debug + Copy>(
-    rt: &impl Abort,
     alloc: Global,
     device: D,
     replies: &[u8],
@@ -94,13 +56,12 @@ pub(crate) fn assert_probe<D: Device + Drop, C: Debug + Copy>(
         script: PROBE,
         replies,
     };
-    assert_script(rt, alloc, device, &row, 100, ("the probe", case))?;
+    assert_script(alloc, device, &row, 100, ("the probe", case))?;
     Ok(())
 }
 
 /// Does a command over a device of no pages, which ends so with nothing read, written or done.
 pub(crate) fn assert_untouched<C: Debug + Copy>(
-    rt: &impl Abort,
     alloc: Global,
     words: &[&str],
     want: Status,
@@ -110,26 +71,11 @@ pub(crate) fn assert_untouched<C: Debug + Copy>(
     let mut sink = MemSink::new(alloc);
     let device = MemDevice::empty(alloc);
     let (status, device) = run_words(alloc, words, &mut source, &mut sink, device)?;
-    assert_same(rt, &status, &want, case);
-    assert_same_slices(rt, sink.bytes(), &[], case);
-    assert_same(rt, &device.moment(), &0, case);
-    assert_same(rt, &source.read(&mut [0; 100]), &Ok(COMMIT.len()), case);
+    assert_same(&status, &want, case)?;
+    assert_same_slices(sink.bytes(), &[], case)?;
+    assert_same(&device.moment(), &0, case)?;
+    assert_same(&source.read(&mut [0; 100]), &Ok(COMMIT.len()), case)?;
     Ok(())
-}
-
-/// Makes a device an empty store of so many slots and log pages. Answers how that ended, what was
-/// written, and the device.
-pub(crate) fn format_device<D: Device + Drop>(
-    alloc: Global,
-    device: D,
-    slots: &str,
-    log_pages: &str,
-) -> Result<(Status, Vec<u8>, D), Fail> {
-    let mut source = MemSource::new(b"");
-    let mut sink = MemSink::new(alloc);
-    let words = ["format", "FILE", slots, log_pages];
-    let (status, device) = run_words(alloc, &words, &mut source, &mut sink, device)?;
-    Ok((status, sink.into_bytes(), device))
 }
 
 /// An empty store of so many slots and 8 log pages.
@@ -145,7 +91,7 @@ fn formatted(alloc: Global, slots: &str) -> Result<MemDevice, Fail> {
 pub(crate) fn empty_store(alloc: Global, slots: u32) -> Result<MemDevice, Fail> {
     let slots = format!(in alloc; "{slots}")?;
     let device = formatted(alloc, slots.as_str())?;
-    without_moments(alloc, &device)
+    Ok(without_moments(alloc, &device)?)
 }
 
 /// A small store on which the commit was made.
@@ -167,28 +113,22 @@ pub(crate) fn copy_of_pages(alloc: Global, device: &MemDevice) -> Result<Vec<Pag
     Ok(Vec::from_slice(alloc, device.pages())?)
 }
 
-/// A device of the same pages, all synced, with no moments yet.
-pub(crate) fn without_moments(alloc: Global, device: &MemDevice) -> Result<MemDevice, Fail> {
-    Ok(MemDevice::new(alloc, copy_of_pages(alloc, device)?)?)
-}
-
 /// The device, but that this call of it fails.
 pub(crate) fn failing_at(alloc: Global, device: MemDevice, call: u64) -> Result<MemDevice, Fail> {
     Ok(device.failing_at(vec![in alloc; call]?))
 }
 
-/// What a stop leaves at a moment. The test ends where there is no such moment, or no memory.
+/// What a stop leaves at a moment.
 pub(crate) fn image_at(
-    rt: &impl Abort,
     alloc: Global,
     device: &MemDevice,
     moment: usize,
     unsynced: Unsynced,
-) -> Vec<Page> {
-    assert!(rt; moment <= device.moment(), "a moment that isn't there");
-    device
-        .image_at(alloc, moment, unsynced)
-        .expect(rt, "no memory")
+) -> Result<Vec<Page>, Fail> {
+    if moment > device.moment() {
+        return Err("a moment that isn't there".into());
+    }
+    Ok(device.image_at(alloc, moment, unsynced)?)
 }
 
 /// Whether there were exactly so many writes.

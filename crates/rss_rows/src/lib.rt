@@ -4,8 +4,6 @@
 #[cfg(test)]
 mod adapters;
 #[cfg(test)]
-mod asserts;
-#[cfg(test)]
 mod file_faults;
 #[cfg(test)]
 mod formats;

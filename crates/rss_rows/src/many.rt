@@ -1,12 +1,12 @@
 // Many transactions over a larger store, stopped at each of their moments.
-use crate::harness::{Row, empty_store, without_moments};
+use crate::harness::{Row, empty_store};
 use crate::lines::{
     write_absent, write_fetched, write_fetches, write_inserted, write_inserts, write_lines,
 };
 use crate::stops::{Commit, Probe, assert_stops, run_commit};
 use rss_device::{MemDevice, Unsynced};
+use rss_scripts::without_moments;
 use std::alloc::Global;
-use std::process::Abort;
 use std::test::Fail;
 
 /// How many transactions there are, and how many tuples each inserts.
@@ -38,33 +38,35 @@ fn no_transaction(alloc: Global) -> Transaction {
 }
 
 /// Writes the script that inserts the tuples of these places, and its replies.
-fn write_insert(rt: &impl Abort, made: &mut Transaction, first: u32, end: u32) {
-    write_lines(rt, &mut made.insert, "begin 1\n");
-    write_inserts(rt, &mut made.insert, first, end);
-    write_lines(rt, &mut made.insert, "end 1\n");
-    write_lines(rt, &mut made.inserted, "ok\n");
-    write_inserted(rt, &mut made.inserted, first, end);
-    write_lines(rt, &mut made.inserted, "ok\n");
+fn write_insert(made: &mut Transaction, first: u32, end: u32) -> Result<(), Fail> {
+    write_lines(&mut made.insert, "begin 1\n")?;
+    write_inserts(&mut made.insert, first, end)?;
+    write_lines(&mut made.insert, "end 1\n")?;
+    write_lines(&mut made.inserted, "ok\n")?;
+    write_inserted(&mut made.inserted, first, end)?;
+    write_lines(&mut made.inserted, "ok\n")?;
+    Ok(())
 }
 
 /// Writes the script that fetches them, and its replies. Of the others the last is fetched too.
-fn write_fetch(rt: &impl Abort, made: &mut Transaction, first: u32, end: u32) {
+fn write_fetch(made: &mut Transaction, first: u32, end: u32) -> Result<(), Fail> {
     let last = first.saturating_sub(1);
-    write_lines(rt, &mut made.fetch, "begin 1\n");
-    write_fetches(rt, &mut made.fetch, last, end);
-    write_lines(rt, &mut made.before, "ok\n");
-    write_fetched(rt, &mut made.before, last, first);
-    write_absent(rt, &mut made.before, first, end);
-    write_lines(rt, &mut made.after, "ok\n");
-    write_fetched(rt, &mut made.after, last, end);
+    write_lines(&mut made.fetch, "begin 1\n")?;
+    write_fetches(&mut made.fetch, last, end)?;
+    write_lines(&mut made.before, "ok\n")?;
+    write_fetched(&mut made.before, last, first)?;
+    write_absent(&mut made.before, first, end)?;
+    write_lines(&mut made.after, "ok\n")?;
+    write_fetched(&mut made.after, last, end)?;
+    Ok(())
 }
 
 /// A transaction that inserts the tuples of these places behind the others.
-fn new_transaction(rt: &impl Abort, alloc: Global, first: u32, end: u32) -> Transaction {
+fn new_transaction(alloc: Global, first: u32, end: u32) -> Result<Transaction, Fail> {
     let mut made = no_transaction(alloc);
-    write_insert(rt, &mut made, first, end);
-    write_fetch(rt, &mut made, first, end);
-    made
+    write_insert(&mut made, first, end)?;
+    write_fetch(&mut made, first, end)?;
+    Ok(made)
 }
 
 /// How many home pages have a tuple of these places.
@@ -75,21 +77,19 @@ fn home_pages(first: u32, end: u32) -> u32 {
 
 /// Makes a commit over a store, and stops it. Answers the store, with no moments yet.
 fn assert_commit(
-    rt: &impl Abort,
     alloc: Global,
     device: MemDevice,
     commit: &Commit,
     unsynced: Unsynced,
 ) -> Result<MemDevice, Fail> {
-    let after = run_commit(rt, alloc, device, commit)?;
-    assert_stops(rt, alloc, &after, commit, &[unsynced])?;
-    without_moments(alloc, &after)
+    let after = run_commit(alloc, device, commit)?;
+    assert_stops(alloc, &after, commit, &[unsynced])?;
+    Ok(without_moments(alloc, &after)?)
 }
 
 /// The same with the transaction of this number, counted from 0, which inserts the tuples from this
 /// place on.
 fn assert_transaction(
-    rt: &impl Abort,
     alloc: Global,
     device: MemDevice,
     number: u32,
@@ -97,7 +97,7 @@ fn assert_transaction(
     unsynced: Unsynced,
 ) -> Result<MemDevice, Fail> {
     let end = first.saturating_add(INSERTS);
-    let made = new_transaction(rt, alloc, first, end);
+    let made = new_transaction(alloc, first, end)?;
     let commit = Commit {
         number,
         row: Row {
@@ -112,14 +112,14 @@ fn assert_transaction(
         writes: home_pages(first, end) as usize + MAP_PAGES + 2,
         root: if number % 2 == 0 { 2 } else { 1 },
     };
-    assert_commit(rt, alloc, device, &commit, unsynced)
+    assert_commit(alloc, device, &commit, unsynced)
 }
 
 /// Makes all transactions over an empty store, and stops each.
-fn assert_transactions(rt: &impl Abort, alloc: Global, unsynced: Unsynced) -> Result<(), Fail> {
+fn assert_transactions(alloc: Global, unsynced: Unsynced) -> Result<(), Fail> {
     let mut device = empty_store(alloc, 4096)?;
     for number in 0..TRANSACTIONS {
-        device = assert_transaction(rt, alloc, device, number, INSERTS * number, unsynced)?;
+        device = assert_transaction(alloc, device, number, INSERTS * number, unsynced)?;
     }
     Ok(())
 }
@@ -130,26 +130,26 @@ fn assert_transactions(rt: &impl Abort, alloc: Global, unsynced: Unsynced) -> Re
 fn transactions_stopped_with_old_pages_keep_what_was_committed(
     rt: HostRuntime,
 ) -> Result<(), Fail> {
-    assert_transactions(&rt, rt.alloc(), Unsynced::Old)
+    assert_transactions(rt.alloc(), Unsynced::Old)
 }
 
 #[test]
 fn transactions_stopped_with_new_pages_keep_what_was_committed(
     rt: HostRuntime,
 ) -> Result<(), Fail> {
-    assert_transactions(&rt, rt.alloc(), Unsynced::New)
+    assert_transactions(rt.alloc(), Unsynced::New)
 }
 
 #[test]
 fn transactions_stopped_with_pages_of_zeros_keep_what_was_committed(
     rt: HostRuntime,
 ) -> Result<(), Fail> {
-    assert_transactions(&rt, rt.alloc(), Unsynced::Filled(0))
+    assert_transactions(rt.alloc(), Unsynced::Filled(0))
 }
 
 #[test]
 fn transactions_stopped_with_pages_of_255s_keep_what_was_committed(
     rt: HostRuntime,
 ) -> Result<(), Fail> {
-    assert_transactions(&rt, rt.alloc(), Unsynced::Filled(255))
+    assert_transactions(rt.alloc(), Unsynced::Filled(255))
 }

@@ -1,15 +1,14 @@
 // Devices that hold no store, and the places that are named.
-use crate::asserts::assert_same;
 use crate::harness::{
-    ABSENT, PRESENT, PROBE, SMALL, copy_of_pages, empty_store, has_writes, run_words,
-    store_with_tuple,
+    ABSENT, PRESENT, PROBE, SMALL, copy_of_pages, empty_store, has_writes, store_with_tuple,
 };
+use rss_asserts::assert_same;
 use rss_base::{Page, Place, Source};
 use rss_device::{MemDevice, MemSink, MemSource};
+use rss_scripts::run_words;
 use rss_top::Status;
 use std::alloc::Global;
 use std::fmt::Debug;
-use std::process::Abort;
 use std::test::Fail;
 
 /// How a run of the probe ends.
@@ -186,7 +185,6 @@ fn a_page_less(alloc: Global) -> Result<Vec<Page>, Fail> {
 
 /// Runs the probe. Where it is refused, it is to have read nothing.
 fn assert_ending<C: Debug + Copy>(
-    rt: &impl Abort,
     alloc: Global,
     pages: Vec<Page>,
     ending: &Ending,
@@ -196,47 +194,46 @@ fn assert_ending<C: Debug + Copy>(
     let mut source = MemSource::new(PROBE);
     let mut sink = MemSink::new(alloc);
     let (status, device) = run_words(alloc, &["run", "FILE"], &mut source, &mut sink, device)?;
-    assert_same(rt, &ending.is(status, sink.bytes()), &true, (case, status));
-    assert_same(rt, &has_writes(&device, 0), &true, case);
+    assert_same(&ending.is(status, sink.bytes()), &true, (case, status))?;
+    assert_same(&has_writes(&device, 0), &true, case)?;
     if status != Status::Ok {
-        assert_same(rt, &source.read(&mut [0; 100]), &Ok(PROBE.len()), case);
+        assert_same(&source.read(&mut [0; 100]), &Ok(PROBE.len()), case)?;
     }
     Ok(())
 }
 
 /// Runs the probe over so many zeros.
-fn assert_zeros(rt: &impl Abort, alloc: Global, pages: usize, ending: &Ending) -> Result<(), Fail> {
+fn assert_zeros(alloc: Global, pages: usize, ending: &Ending) -> Result<(), Fail> {
     let zeros = vec![in alloc; [0; 4096]; pages]?;
-    assert_ending(rt, alloc, zeros, ending, ("zeros", pages))
+    assert_ending(alloc, zeros, ending, ("zeros", pages))
 }
 
 /// Runs the probe over a store of which bits of a byte are turned.
 fn assert_turned(
-    rt: &impl Abort,
     alloc: Global,
     (at, offset, bits): (usize, usize, u8),
     ending: &Ending,
 ) -> Result<(), Fail> {
     let pages = turned(alloc, at, offset, bits)?;
-    assert_ending(rt, alloc, pages, ending, ("page and byte", at, offset))
+    assert_ending(alloc, pages, ending, ("page and byte", at, offset))
 }
 
 #[test]
 fn a_device_of_another_size_is_no_store(rt: HostRuntime) -> Result<(), Fail> {
     for pages in &[0, 1, 2] {
-        assert_zeros(&rt, rt.alloc(), *pages, &NOT_THE_SIZE)?;
+        assert_zeros(rt.alloc(), *pages, &NOT_THE_SIZE)?;
     }
     let pages = a_page_more(rt.alloc())?;
-    assert_ending(&rt, rt.alloc(), pages, &NOT_THE_SIZE, "a page more")?;
+    assert_ending(rt.alloc(), pages, &NOT_THE_SIZE, "a page more")?;
     let pages = a_page_less(rt.alloc())?;
-    assert_ending(&rt, rt.alloc(), pages, &NOT_THE_SIZE, "a page less")?;
-    assert_zeros(&rt, rt.alloc(), 77, &NOT_ROOT_1)
+    assert_ending(rt.alloc(), pages, &NOT_THE_SIZE, "a page less")?;
+    assert_zeros(rt.alloc(), 77, &NOT_ROOT_1)
 }
 
 #[test]
 fn a_byte_that_is_turned_is_found_where_it_matters(rt: HostRuntime) -> Result<(), Fail> {
     for (at, offset, bits, ending) in &TURNED {
-        assert_turned(&rt, rt.alloc(), (*at, *offset, *bits), ending)?;
+        assert_turned(rt.alloc(), (*at, *offset, *bits), ending)?;
     }
     Ok(())
 }
@@ -244,7 +241,7 @@ fn a_byte_that_is_turned_is_found_where_it_matters(rt: HostRuntime) -> Result<()
 #[test]
 fn a_map_of_more_than_half_the_slots_has_no_room(rt: HostRuntime) -> Result<(), Fail> {
     let pages = mapped(rt.alloc(), 23)?;
-    assert_ending(&rt, rt.alloc(), pages, &NO_ROOM, "33 pages")?;
+    assert_ending(rt.alloc(), pages, &NO_ROOM, "33 pages")?;
     let pages = mapped(rt.alloc(), 42)?;
-    assert_ending(&rt, rt.alloc(), pages, &NO_ROOM, "52 pages")
+    assert_ending(rt.alloc(), pages, &NO_ROOM, "52 pages")
 }

@@ -1,12 +1,10 @@
 // How a run ends, and what it leaves.
-use crate::asserts::{assert_same, assert_same_slices};
-use crate::harness::{
-    ABSENT, PRESENT, SMALL, assert_probe, assert_untouched, empty_store, run_words,
-};
+use crate::harness::{ABSENT, PRESENT, SMALL, assert_probe, assert_untouched, empty_store};
+use rss_asserts::{assert_same, assert_same_slices};
 use rss_device::{MemDevice, MemSink, MemSource};
+use rss_scripts::run_words;
 use rss_top::Status;
 use std::alloc::Global;
-use std::process::Abort;
 use std::test::Fail;
 
 /// A script with one commit.
@@ -107,23 +105,23 @@ static WORDS: [&[&str]; 16] = [
 ];
 
 /// Runs the commit's script over an empty store with a fault. Answers the device that this left.
-fn run_with(rt: &impl Abort, alloc: Global, fault: &Fault) -> Result<MemDevice, Fail> {
+fn run_with(alloc: Global, fault: &Fault) -> Result<MemDevice, Fail> {
     let mut source = MemSource::new(COMMIT)
         .in_pieces(fault.piece)
         .failing_at(fault.read);
     let mut sink = MemSink::new(alloc).failing_at(fault.write);
     let device = empty_store(alloc, SMALL)?;
     let (status, device) = run_words(alloc, &["run", "FILE"], &mut source, &mut sink, device)?;
-    assert_same(rt, &status, &fault.status, fault.name);
-    assert_same_slices(rt, sink.bytes(), fault.replies, fault.name);
+    assert_same(&status, &fault.status, fault.name)?;
+    assert_same_slices(sink.bytes(), fault.replies, fault.name)?;
     Ok(device)
 }
 
 #[test]
 fn a_fault_of_the_source_or_the_sink_ends_the_run(rt: HostRuntime) -> Result<(), Fail> {
     for fault in &FAULTS {
-        let device = run_with(&rt, rt.alloc(), fault)?;
-        assert_probe(&rt, rt.alloc(), device, fault.leaves, fault.name)?;
+        let device = run_with(rt.alloc(), fault)?;
+        assert_probe(rt.alloc(), device, fault.leaves, fault.name)?;
     }
     Ok(())
 }
@@ -131,7 +129,7 @@ fn a_fault_of_the_source_or_the_sink_ends_the_run(rt: HostRuntime) -> Result<(),
 #[test]
 fn words_that_are_no_command_touch_nothing(rt: HostRuntime) -> Result<(), Fail> {
     for words in &WORDS {
-        assert_untouched(&rt, rt.alloc(), words, Status::Words, *words)?;
+        assert_untouched(rt.alloc(), words, Status::Words, *words)?;
     }
     Ok(())
 }

@@ -1,14 +1,13 @@
 // Stops in the middle of a run, and the tables that an opening finds after them.
-use crate::asserts::{assert_same, assert_same_slices};
 use crate::harness::{
     Row, SMALL, WHOLE, assert_script, copy_of_pages, empty_store, failing_at, has_writes, image_at,
-    run_script, without_moments,
 };
+use rss_asserts::{assert_same, assert_same_slices};
 use rss_base::Page;
 use rss_device::{MemDevice, Unsynced};
+use rss_scripts::{run_script, without_moments};
 use rss_top::Status;
 use std::alloc::Global;
-use std::process::Abort;
 use std::test::Fail;
 
 /// The tables that an opening finds: those before a commit, or those after it.
@@ -60,13 +59,12 @@ impl Probe<'_> {
     /// What an opening finds after a stop.
     fn finds_after(
         &self,
-        rt: &impl Abort,
         alloc: Global,
         device: &MemDevice,
         moment: usize,
         unsynced: Unsynced,
     ) -> Result<Option<Tables>, Fail> {
-        self.finds(alloc, image_at(rt, alloc, device, moment, unsynced))
+        self.finds(alloc, image_at(alloc, device, moment, unsynced)?)
     }
 }
 
@@ -115,13 +113,35 @@ impl Commit<'_> {
 static FIRST: Commit<'static> = Commit {
     number: 0,
     row: Row {
-        script: b"begin 1\ninsert 1 r 7\nfetch 1 r 0.0\nend 1\n",
-        replies: b"ok\nok 0.0\nok 7\nok\n",
+        script: b"\
+begin 1
+insert 1 r 7
+fetch 1 r 0.0
+end 1
+",
+        replies: b"\
+ok
+ok 0.0
+ok 7
+ok
+",
     },
     probe: Probe {
-        script: b"begin 1\nfetch 1 r 0.0\nend 1\n",
-        before: b"ok\nrefused 9 no tuple r 0.0\nok\n",
-        after: b"ok\nok 7\nok\n",
+        script: b"\
+begin 1
+fetch 1 r 0.0
+end 1
+",
+        before: b"\
+ok
+refused 9 no tuple r 0.0
+ok
+",
+        after: b"\
+ok
+ok 7
+ok
+",
     },
     writes: 4,
     root: 2,
@@ -131,13 +151,36 @@ static FIRST: Commit<'static> = Commit {
 static SECOND: Commit<'static> = Commit {
     number: 1,
     row: Row {
-        script: b"begin 1\ninsert 1 r 8\nend 1\n",
-        replies: b"ok\nok 0.1\nok\n",
+        script: b"\
+begin 1
+insert 1 r 8
+end 1
+",
+        replies: b"\
+ok
+ok 0.1
+ok
+",
     },
     probe: Probe {
-        script: b"begin 1\nfetch 1 r 0.0\nfetch 1 r 0.1\nend 1\n",
-        before: b"ok\nok 7\nrefused 9 no tuple r 0.1\nok\n",
-        after: b"ok\nok 7\nok 8\nok\n",
+        script: b"\
+begin 1
+fetch 1 r 0.0
+fetch 1 r 0.1
+end 1
+",
+        before: b"\
+ok
+ok 7
+refused 9 no tuple r 0.1
+ok
+",
+        after: b"\
+ok
+ok 7
+ok 8
+ok
+",
     },
     writes: 4,
     root: 1,
@@ -213,14 +256,13 @@ const MANY_CALLS: u64 = 1000;
 
 /// Makes a commit.
 pub(crate) fn run_commit(
-    rt: &impl Abort,
     alloc: Global,
     device: MemDevice,
     commit: &Commit,
 ) -> Result<MemDevice, Fail> {
     let case = ("commit", commit.number);
-    let after = assert_script(rt, alloc, device, &commit.row, WHOLE, case)?;
-    assert_same(rt, &has_writes(&after, commit.writes), &true, case);
+    let after = assert_script(alloc, device, &commit.row, WHOLE, case)?;
+    assert_same(&has_writes(&after, commit.writes), &true, case)?;
     Ok(after)
 }
 
@@ -236,23 +278,19 @@ fn switched_at(device: &MemDevice, commit: &Commit) -> Result<usize, Fail> {
 
 /// Stops the run of a commit that is over, at one of its moments.
 fn assert_stop(
-    rt: &impl Abort,
     alloc: Global,
     device: &MemDevice,
     commit: &Commit,
     (moment, want, unsynced): (usize, Tables, Unsynced),
 ) -> Result<(), Fail> {
-    let found = commit
-        .probe
-        .finds_after(rt, alloc, device, moment, unsynced)?;
+    let found = commit.probe.finds_after(alloc, device, moment, unsynced)?;
     let case = (unsynced, "at moment", moment, "of commit", commit.number);
-    assert_same(rt, &found, &Some(want), case);
+    assert_same(&found, &Some(want), case)?;
     Ok(())
 }
 
 /// Stops it at one of its moments, with each of what the stop may leave.
 fn assert_stops_at(
-    rt: &impl Abort,
     alloc: Global,
     device: &MemDevice,
     commit: &Commit,
@@ -261,14 +299,13 @@ fn assert_stops_at(
 ) -> Result<(), Fail> {
     for unsynced in left {
         let want = commit.finds_at(moment, switched, *unsynced);
-        assert_stop(rt, alloc, device, commit, (moment, want, *unsynced))?;
+        assert_stop(alloc, device, commit, (moment, want, *unsynced))?;
     }
     Ok(())
 }
 
 /// Stops the run of a commit that is over, at each of its moments, with what the stop may leave.
 pub(crate) fn assert_stops(
-    rt: &impl Abort,
     alloc: Global,
     device: &MemDevice,
     commit: &Commit,
@@ -276,7 +313,7 @@ pub(crate) fn assert_stops(
 ) -> Result<(), Fail> {
     let switched = switched_at(device, commit)?;
     for moment in 0..=device.moment() {
-        assert_stops_at(rt, alloc, device, commit, (moment, switched), left)?;
+        assert_stops_at(alloc, device, commit, (moment, switched), left)?;
     }
     Ok(())
 }
@@ -288,7 +325,7 @@ fn failing_store(alloc: Global, call: u64) -> Result<MemDevice, Fail> {
 
 /// Runs the first commit over an empty store of which this call fails.
 fn run_failing(alloc: Global, call: u64) -> Result<(Status, Vec<u8>, MemDevice), Fail> {
-    run_script(alloc, failing_store(alloc, call)?, FIRST.row.script, WHOLE)
+    Ok(run_script(alloc, failing_store(alloc, call)?, FIRST.row.script, WHOLE)?)
 }
 
 /// How many calls of the device the run of the first commit makes: the first call that it can't
@@ -304,101 +341,76 @@ fn calls_of_first(alloc: Global) -> Result<u64, Fail> {
 }
 
 /// Opens what a run that met a failure leaves, with no stop.
-fn assert_held(
-    rt: &impl Abort,
-    alloc: Global,
-    device: &MemDevice,
-    failure: &Failure,
-) -> Result<(), Fail> {
+fn assert_held(alloc: Global, device: &MemDevice, failure: &Failure) -> Result<(), Fail> {
     let found = FIRST.probe.finds(alloc, copy_of_pages(alloc, device)?)?;
-    assert_same(
-        rt,
-        &found,
-        &Some(failure.held),
-        (failure.call, "with no stop"),
-    );
+    assert_same(&found, &Some(failure.held), (failure.call, "with no stop"))?;
     Ok(())
 }
 
 /// Opens it after a stop.
-fn assert_left(
-    rt: &impl Abort,
-    alloc: Global,
-    device: &MemDevice,
-    failure: &Failure,
-) -> Result<(), Fail> {
+fn assert_left(alloc: Global, device: &MemDevice, failure: &Failure) -> Result<(), Fail> {
     for (unsynced, tables) in UNSYNCED.iter().zip(&failure.finds) {
         let found = FIRST
             .probe
-            .finds_after(rt, alloc, device, device.moment(), *unsynced)?;
-        assert_same(rt, &found, &Some(*tables), (failure.call, *unsynced));
+            .finds_after(alloc, device, device.moment(), *unsynced)?;
+        assert_same(&found, &Some(*tables), (failure.call, *unsynced))?;
     }
     Ok(())
 }
 
 /// Runs the first commit over a device that fails a call. Answers the device that it left.
-fn fail_first(
-    rt: &impl Abort,
-    alloc: Global,
-    call: u64,
-    failure: &Failure,
-) -> Result<MemDevice, Fail> {
+fn fail_first(alloc: Global, call: u64, failure: &Failure) -> Result<MemDevice, Fail> {
     let (status, replies, after) = run_failing(alloc, call)?;
-    assert_same(rt, &status, &Status::DeviceFault, failure.call);
-    assert_same_slices(rt, replies.as_slice(), failure.replies, failure.call);
+    assert_same(&status, &Status::DeviceFault, failure.call)?;
+    assert_same_slices(replies.as_slice(), failure.replies, failure.call)?;
     Ok(after)
 }
 
 /// Fails a call, and opens what that leaves, with no stop and after one.
-fn assert_failure(
-    rt: &impl Abort,
-    alloc: Global,
-    call: u64,
-    failure: &Failure,
-) -> Result<(), Fail> {
-    let device = fail_first(rt, alloc, call, failure)?;
-    assert_held(rt, alloc, &device, failure)?;
-    assert_left(rt, alloc, &device, failure)
+fn assert_failure(alloc: Global, call: u64, failure: &Failure) -> Result<(), Fail> {
+    let device = fail_first(alloc, call, failure)?;
+    assert_held(alloc, &device, failure)?;
+    assert_left(alloc, &device, failure)
 }
 
 /// Fails each call of the opening.
-fn assert_opening(rt: &impl Abort, alloc: Global, calls: u64) -> Result<(), Fail> {
+fn assert_opening(alloc: Global, calls: u64) -> Result<(), Fail> {
     for call in 0..calls {
-        assert_failure(rt, alloc, call, &OPENING)?;
+        assert_failure(alloc, call, &OPENING)?;
     }
     Ok(())
 }
 
 /// Fails each of the last calls, of which this is the first.
-fn assert_failures(rt: &impl Abort, alloc: Global, first: u64) -> Result<(), Fail> {
+fn assert_failures(alloc: Global, first: u64) -> Result<(), Fail> {
     let mut call = first;
     for failure in &FAILURES {
-        assert_failure(rt, alloc, call, failure)?;
+        assert_failure(alloc, call, failure)?;
         call = call.saturating_add(1);
     }
     Ok(())
 }
 
 /// Makes the first commit over an empty store, and stops it.
-fn assert_first(rt: &impl Abort, alloc: Global) -> Result<MemDevice, Fail> {
-    let device = run_commit(rt, alloc, empty_store(alloc, SMALL)?, &FIRST)?;
-    assert_stops(rt, alloc, &device, &FIRST, &UNSYNCED)?;
-    without_moments(alloc, &device)
+fn assert_first(alloc: Global) -> Result<MemDevice, Fail> {
+    let device = run_commit(alloc, empty_store(alloc, SMALL)?, &FIRST)?;
+    assert_stops(alloc, &device, &FIRST, &UNSYNCED)?;
+    Ok(without_moments(alloc, &device)?)
 }
 
 #[test]
 fn a_commit_stopped_at_each_moment_opens_to_the_tables_before_or_after(
     rt: HostRuntime,
 ) -> Result<(), Fail> {
-    let device = assert_first(&rt, rt.alloc())?;
-    let device = run_commit(&rt, rt.alloc(), device, &SECOND)?;
-    assert_stops(&rt, rt.alloc(), &device, &SECOND, &UNSYNCED)
+    let device = assert_first(rt.alloc())?;
+    let device = run_commit(rt.alloc(), device, &SECOND)?;
+    assert_stops(rt.alloc(), &device, &SECOND, &UNSYNCED)
 }
 
 #[test]
 fn a_device_call_that_fails_ends_the_run_with_status_4(rt: HostRuntime) -> Result<(), Fail> {
     let calls = calls_of_first(rt.alloc())?;
     let opening = calls.checked_sub(6).ok_or("the run has too few calls")?;
-    assert_opening(&rt, rt.alloc(), opening)?;
-    assert_failures(&rt, rt.alloc(), opening)
+    assert_opening(rt.alloc(), opening)?;
+    assert_failures(rt.alloc(), opening)
 }

@@ -81,8 +81,10 @@ impl PageIndex {
         requires high { segment ≤ 8 }
         requires space { space ≢ System }
         ensures within { IfSome result (λ number. number < numbers_of self.now) }
-        ensures free { IfSome result (λ number. slot_in self.now (page_key segment space number) ≡ None) }
-        ensures lesser { IfSome result (λ number. (k : ℕ) → k < number → IsSome (slot_in self.now (page_key segment space k))) }
+        ensures free { IfSome result (λ number.
+            slot_in self.now (page_key segment space number) ≡ None) }
+        ensures lesser { IfSome result (λ number. (k : ℕ) → k < number
+            → IsSome (slot_in self.now (page_key segment space k))) }
         ensures none { IfNone result (numbers_of self.now ≤ pages_in self.now) }
     {
         self.columns[column_at(space, segment)].first_free(0)

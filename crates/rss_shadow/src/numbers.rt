@@ -142,7 +142,8 @@ fn clear_in_word(words: &[u64], from: u32) -> Option<u32>
 fn with_bits_below(word: u64, bit: u32) -> u64
     requires { bit < 64 }
     ensures below { (other : ℕ) → other < bit → bit_at result other ≡ 1 }
-    ensures others { (other : ℕ) → bit ≤ other → other < 64 → bit_at result other ≡ bit_at word other }
+    ensures others { (other : ℕ) → bit ≤ other → other < 64
+        → bit_at result other ≡ bit_at word other }
 {
     word | !(u64::MAX << bit)
 }
@@ -163,7 +164,8 @@ fn put_bit(words: &mut [u64], number: u32, value: bool) -> bool
 fn with_bit(word: u64, bit: u32, value: bool) -> u64
     requires { bit < 64 }
     ensures here { (bit_at result bit == 1) ≡ value }
-    ensures others { (other : ℕ) → other < 64 → other ≢ bit → bit_at result other ≡ bit_at word other }
+    ensures others { (other : ℕ) → other < 64 → other ≢ bit
+        → bit_at result other ≡ bit_at word other }
 {
     if value {
         word | (1 << bit)

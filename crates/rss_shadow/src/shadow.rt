@@ -45,7 +45,8 @@ impl Model for Shadow {
 
     ghost view = { λ s. record { current = s.current; shadow = s.shadow.items } };
 
-    ghost invariant = { λ s. IsShadow (record { current = s.current; shadow = s.shadow.items }) s.index s.used s.pages s.heap s.shadow_pages };
+    ghost invariant = { λ s. IsShadow (record { current = s.current; shadow = s.shadow.items })
+        s.index s.used s.pages s.heap s.shadow_pages };
 }
 
 impl Shadow {
@@ -249,7 +250,9 @@ fn remove_unowned(used: &mut NumberSet, owners: &[Option<PageKey>])
     requires count { length used.old ≡ length owners.now }
     requires few { length owners.now ≤ 65536 }
     ensures count { length used.new ≡ length used.old }
-    ensures left { (slot : ℕ) → slot < length owners.now → slice_index_or used.new slot true ≡ (is_some (owner_of owners.now slot) && slice_index_or used.old slot true) }
+    ensures left { (slot : ℕ) → slot < length owners.now
+        → slice_index_or used.new slot true
+        ≡ (is_some (owner_of owners.now slot) && slice_index_or used.old slot true) }
 {
     for (slot, owner) in owners.iter().enumerate() {
         if owner.is_none() {

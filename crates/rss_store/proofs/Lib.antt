@@ -12,4 +12,5 @@ pub mod FirstOwners
 pub mod Formats
 pub mod Checked
 pub mod Refusals
+pub mod Unopened
 pub mod Ways

@@ -103,6 +103,11 @@ pub record IsRefused (pages : Pages) (fault : OpenFault) : Type 0 where
   pub overfull : IsOverfull pages
       → (fault ≡ Damaged Room) ⊎ (fault ≡ DeviceFailed) ⊎ (fault ≡ LacksMemory)
 
+-- A device didn't open, and this is the fault: why, where it tells its contents.
+pub record IsUnopened (device : DeviceView) (fault : OpenFault) : Type 0 where
+  pub refused : Told device.disk (λ pages. IsRefused pages fault)
+  pub right_size : fault ≡ WrongSize → ⊥
+
 -- ---- pages that open
 
 -- the root by its number, the map, and how many home pages and tuples there are, as they are in a store

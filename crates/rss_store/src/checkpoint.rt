@@ -30,7 +30,8 @@ pub(crate) fn checkpoint<S: Saving>(
         → (before after : List ℤ) → CanCommit (S.view pages.old) number root.old before after
         → Passes (S.view pages.old).disk (S.view pages.new).disk
         (IsEither number root.old (S.view pages.old) before
-        (λ image. IsStore image (stored (3 - number) root.new (S.saving pages.old).current after))) }
+        (λ image.
+        IsStore image (stored (3 - number) root.new (S.saving pages.old).current after))) }
     ensures fixes { OnOk result (IsTold (S.view pages.old).disk
         → (before after : List ℤ) → CanCommit (S.view pages.old) number root.old before after
         → (image : DevicePages) → HasFixed (S.view pages.new).fixed image

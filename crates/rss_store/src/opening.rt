@@ -1,18 +1,18 @@
 // The opening of a store.
-ghost use Rattle.std.specs.Prelude.{◌≡◌, ◌↔◌, ◌*◌, ◌<◌, ◌≤◌, length, count_by, false, IsTrue, IfSome, IfNone};
-ghost use Rattle.std.specs.Prelude.{IfOk, IfErr, OnOk, IsErrOf, Some};
+ghost use Rattle.std.specs.Prelude.{◌≡◌, ◌↔◌, ◌*◌, ◌<◌, ◌≤◌, length, count_by, false, IsTrue};
+ghost use Rattle.std.specs.Prelude.{IfSome, IfNone, IfOk, IfErr, OnOk, Some};
 ghost use Rattle.rss_base.specs.DiskRule.{Pages as DevicePages, Told, LeavesOnly};
 ghost use Rattle.rss_base.specs.Devices.{OnlyReads, ReadsStore};
 ghost use Rattle.rss_base.specs.Faults.{Rises};
 ghost use Rattle.rss_base.specs.Layout.{device_pages};
 ghost use Rattle.rss_base.specs.PageMap.{IsTable, page_count};
 ghost use Rattle.rss_base.specs.declared.fault.OpenFault.TheVariants.{Device as DeviceFailed};
-ghost use Rattle.rss_base.specs.declared.fault.OpenFault.TheVariants.{WrongSize as NoSize};
 ghost use Rattle.rss_base.specs.declared.place.Place.TheVariants.{Room as NoRoom};
 ghost use Rattle.rss_model.specs.Store.{HasFirstLog};
 ghost use Rattle.rss_buffer.specs.Devices.{device_of};
 ghost use Rattle.rss_store.specs.Parts.{pages_below};
-ghost use Rattle.rss_store.specs.Opening.{is_home, home_limit, LacksStore, IsRefused, IsSound, HoldsSound, IsOpened};
+ghost use Rattle.rss_store.specs.Opening.{is_home, home_limit, LacksStore, IsUnopened, IsSound};
+ghost use Rattle.rss_store.specs.Opening.{HoldsSound, IsOpened};
 
 use crate::Store;
 use crate::checking::{check_pages, first_unmapped, home_pages_in, pages_in, place_of};
@@ -87,9 +87,7 @@ fn read_store<D: Device>(alloc: Global, device: &mut D) -> Result<Found, OpenFau
         HoldsSound pages f.root f.number f.table f.count)) }
     ensures synced { OnOk result
         (Told (D.view device.old).disk (LeavesOnly (D.view device.new).disk)) }
-    ensures refused { IfErr result (λ fault. Told (D.view device.old).disk (λ pages.
-        IsRefused pages fault)) }
-    ensures wrong_size { IsErrOf result OpenFault.WrongSize → ⊥ }
+    ensures refused { IfErr result (IsUnopened (D.view device.old)) }
     ensures did { ReadsStore (D.view device.old) (D.view device.new) result }
 {
     let (root, number) = load(device)?;
@@ -122,9 +120,7 @@ fn store_of<D: Device>(
     ensures opened { IfOk result (λ store.
         IsOpened (D.view device) (⟦<Store<Buffer<D>> as Engine>⟧.view store)) }
     ensures same { IfOk result (λ store. device_of (pages_below store) ≡ device) }
-    ensures refused { IfErr result (λ e. Told (D.view device).disk (λ pages.
-        IsRefused pages e.fault)) }
-    ensures wrong_size { IfErr result (λ e. e.fault ≡ NoSize → ⊥) }
+    ensures refused { IfErr result (λ e. IsUnopened (D.view device) e.fault) }
     ensures cause { IfErr result (λ e. e.fault ≡ DeviceFailed → ⊥) }
     ensures back { IfErr result (λ e. e.device ≡ device) }
 {
@@ -164,9 +160,7 @@ pub fn open<D: Device>(alloc: Global, device: D) -> Result<Store<Buffer<D>>, Uno
         OnlyReads (D.view device) (D.view (device_of (pages_below store)))) }
 
     // A device that is handed back.
-    ensures refused { IfErr result (λ e. Told (D.view device).disk (λ pages.
-        IsRefused pages e.fault)) }
-    ensures wrong_size { IfErr result (λ e. e.fault ≡ NoSize → ⊥) }
+    ensures refused { IfErr result (λ e. IsUnopened (D.view device) e.fault) }
     ensures cause { IfErr result (λ e. e.fault ≡ DeviceFailed
         → Rises (D.view device).faults (D.view e.device).faults) }
     ensures back { IfErr result (λ e. OnlyReads (D.view device) (D.view e.device)) }

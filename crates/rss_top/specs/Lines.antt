@@ -19,21 +19,16 @@ use Rattle.rss_top.specs.declared.status.Status.TheVariants.{Ok as Done, ReadFau
 abbrev pub stream : Option (List ℕ) → ℕ → Stream
 stream bytes faults = record { bytes = bytes; faults = faults }
 
-abbrev pub on : DeviceView → Stream → World
-on device sink = record {
-  disk = device.disk;
-  writes = device.writes;
-  faults = device.faults;
-  sink = sink;
-}
+abbrev world_of : Disk → ℕ → ℕ → Stream → World
+world_of disk writes faults sink = record { disk = disk; writes = writes; faults = faults; sink = sink }
 
+-- a device and a sink
+abbrev pub on : DeviceView → Stream → World
+on device sink = world_of device.disk device.writes device.faults sink
+
+-- the device under an engine, and a sink
 abbrev pub world : EngineView → Stream → World
-world engine sink = record {
-  disk = engine.disk;
-  writes = engine.writes;
-  faults = engine.faults;
-  sink = sink;
-}
+world engine sink = world_of engine.disk engine.writes engine.faults sink
 
 -- an engine and a sink
 pub record View : Type 1 where

@@ -30,9 +30,11 @@ pub fn key(fields: &[FieldDef], which: &[u8], values: &[u8], into: &mut Key)
 fn put_part(fields: &[FieldDef], number: u8, values: &[u8], into: &mut Key)
     requires spelled { SpellsSome (kinds fields.now) values.now }
     requires number { IsNumberOf fields.now number }
-    requires room { length into.old + key_width (chosen (number ∷ []) (kinds fields.now)) ≤ KEY_BYTES }
+    requires room { length into.old + key_width (chosen (number ∷ []) (kinds fields.now))
+        ≤ KEY_BYTES }
     ensures { (tuple : List Value) → Spells (kinds fields.now) values.now tuple
-        → into.new ≡ into.old ++ key_bytes (chosen (number ∷ []) (kinds fields.now)) (chosen (number ∷ []) tuple) }
+        → into.new
+        ≡ into.old ++ key_bytes (chosen (number ∷ []) (kinds fields.now)) (chosen (number ∷ []) tuple) }
 {
     let at = usize::from(number) - 1;
     let mut cursor = Cursor::new(values);
@@ -48,9 +50,11 @@ fn put_part(fields: &[FieldDef], number: u8, values: &[u8], into: &mut Key)
 pub fn compare_keys(a: &Key, b: &Key) -> Ordering
     ensures bytes { result ≡ slice_cmp nat_cmp a.now b.now }
     ensures values { (fields : List FieldKind) (first second : List Value)
-        → IsKeyOf fields first a.now → IsKeyOf fields second b.now → result ≡ values_cmp first second }
+        → IsKeyOf fields first a.now → IsKeyOf fields second b.now
+        → result ≡ values_cmp first second }
     ensures same { (fields : List FieldKind) (first second : List Value)
-        → IsKeyOf fields first a.now → IsKeyOf fields second b.now → (a.now ≡ b.now) ↔ (first ≡ second) }
+        → IsKeyOf fields first a.now → IsKeyOf fields second b.now
+        → (a.now ≡ b.now) ↔ (first ≡ second) }
 {
     a.as_slice().cmp(b.as_slice())
 }

@@ -1,10 +1,9 @@
 // Tuples as bytes, by bytes written out.
-use crate::asserts::{assert_bytes, assert_same};
 use crate::harness::{Written, body_of, field, tuple_of};
+use rss_asserts::{assert_same, assert_same_slices};
 use rss_base::{FieldDef, FieldKind};
 use rss_value::decode;
 use std::alloc::Global;
-use std::process::Abort;
 use std::test::Fail;
 
 /// A text of 255 bytes.
@@ -12,17 +11,16 @@ const LONG: [u8; 255] = [b'x'; 255];
 
 /// A tuple has these bytes, and they give a tuple that has them again.
 fn assert_spelled(
-    rt: &impl Abort,
     alloc: Global,
     fields: &[FieldDef],
     values: &[Written],
     want: &[u8],
 ) -> Result<(), Fail> {
     let body = body_of(fields, &tuple_of(alloc, values)?).ok_or("a tuple that doesn't fit")?;
-    assert_bytes(rt, body.as_slice(), want, values.len());
+    assert_same_slices(body.as_slice(), want, values.len())?;
     let again = decode(alloc, fields, want)?.ok_or("no tuple")?;
     let bytes = body_of(fields, &again).ok_or("a tuple that doesn't fit")?;
-    assert_bytes(rt, bytes.as_slice(), want, values.len());
+    assert_same_slices(bytes.as_slice(), want, values.len())?;
     Ok(())
 }
 
@@ -31,27 +29,24 @@ fn tuples_have_these_bytes(rt: HostRuntime) -> Result<(), Fail> {
     let fields = [field(FieldKind::Int), field(FieldKind::Text(5))];
     let least = Written::Int(i64::MIN);
     assert_spelled(
-        &rt,
         rt.alloc(),
         &fields,
         &[Written::Int(7), Written::Text(b"ab")],
         b"\0\0\0\0\0\0\0\x07\x02ab",
     )?;
     assert_spelled(
-        &rt,
         rt.alloc(),
         &fields,
         &[Written::Int(-1), Written::Text(b"\xe2\x82\xac")],
         b"\xff\xff\xff\xff\xff\xff\xff\xff\x03\xe2\x82\xac",
     )?;
     assert_spelled(
-        &rt,
         rt.alloc(),
         &fields,
         &[least, Written::Text(b"")],
         b"\x80\0\0\0\0\0\0\0\0",
     )?;
-    assert_spelled(&rt, rt.alloc(), &[], &[], b"")
+    assert_spelled(rt.alloc(), &[], &[], b"")
 }
 
 /// How many of eight texts have 255 bytes while the others are empty, and how many bytes they are.
@@ -74,7 +69,7 @@ fn texts_take_their_bytes_and_one_more(rt: HostRuntime) -> Result<(), Fail> {
     for (full, want) in SIZES {
         let tuple = tuple_of(rt.alloc(), &texts(full))?;
         let body = body_of(&fields, &tuple).ok_or("a tuple that doesn't fit")?;
-        assert_same(&rt, &body.as_slice().len(), &want, full);
+        assert_same(&body.as_slice().len(), &want, full)?;
     }
     Ok(())
 }
@@ -97,7 +92,7 @@ fn other_bytes_spell_no_tuple(rt: HostRuntime) -> Result<(), Fail> {
     let fields = [field(FieldKind::Int), field(FieldKind::Text(2))];
     for (case, bytes) in NO_TUPLES.iter().enumerate() {
         let found = decode(rt.alloc(), &fields, bytes)?.is_some();
-        assert_same(&rt, &found, &false, case);
+        assert_same(&found, &false, case)?;
     }
     Ok(())
 }

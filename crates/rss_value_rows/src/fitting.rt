@@ -1,14 +1,12 @@
 // Which tuples fit, by values written out.
-use crate::asserts::assert_same;
 use crate::harness::{Written, field, tuple_of};
+use rss_asserts::assert_same;
 use rss_base::{FieldDef, FieldKind};
 use rss_value::fits;
 use std::alloc::Global;
-use std::process::Abort;
 use std::test::Fail;
 
 fn assert_fits(
-    rt: &impl Abort,
     alloc: Global,
     fields: &[FieldDef],
     values: &[Written],
@@ -18,7 +16,7 @@ fn assert_fits(
     if fields.len() > 16 {
         Err("too many fields")?;
     }
-    assert_same(rt, &fits(fields, &tuple), &want, values.len());
+    assert_same(&fits(fields, &tuple), &want, values.len())?;
     Ok(())
 }
 
@@ -44,7 +42,6 @@ const TEXTS: [(&[u8], Result<(), u8>); 14] = [
 fn a_text_fits_by_its_bytes_and_characters(rt: HostRuntime) -> Result<(), Fail> {
     for (text, want) in TEXTS {
         assert_fits(
-            &rt,
             rt.alloc(),
             &[field(FieldKind::Text(4))],
             &[Written::Text(text)],
@@ -64,14 +61,14 @@ fn the_first_misfit_is_named(rt: HostRuntime) -> Result<(), Fail> {
     let int = Written::Int(-1);
     let text = Written::Text(b"ab");
     let long = Written::Text(b"abc");
-    assert_fits(&rt, rt.alloc(), &fields, &[int, text, int], Ok(()))?;
-    assert_fits(&rt, rt.alloc(), &fields, &[text, text, int], Err(1))?;
-    assert_fits(&rt, rt.alloc(), &fields, &[int, int, int], Err(2))?;
-    assert_fits(&rt, rt.alloc(), &fields, &[int, long, text], Err(2))?;
-    assert_fits(&rt, rt.alloc(), &fields, &[int, text, text], Err(3))?;
-    assert_fits(&rt, rt.alloc(), &fields, &[int, text], Err(3))?;
-    assert_fits(&rt, rt.alloc(), &fields, &[], Err(1))?;
-    assert_fits(&rt, rt.alloc(), &fields, &[int, text, int, int], Err(4))?;
-    assert_fits(&rt, rt.alloc(), &[], &[], Ok(()))?;
-    assert_fits(&rt, rt.alloc(), &[], &[int], Err(1))
+    assert_fits(rt.alloc(), &fields, &[int, text, int], Ok(()))?;
+    assert_fits(rt.alloc(), &fields, &[text, text, int], Err(1))?;
+    assert_fits(rt.alloc(), &fields, &[int, int, int], Err(2))?;
+    assert_fits(rt.alloc(), &fields, &[int, long, text], Err(2))?;
+    assert_fits(rt.alloc(), &fields, &[int, text, text], Err(3))?;
+    assert_fits(rt.alloc(), &fields, &[int, text], Err(3))?;
+    assert_fits(rt.alloc(), &fields, &[], Err(1))?;
+    assert_fits(rt.alloc(), &fields, &[int, text, int, int], Err(4))?;
+    assert_fits(rt.alloc(), &[], &[], Ok(()))?;
+    assert_fits(rt.alloc(), &[], &[int], Err(1))
 }

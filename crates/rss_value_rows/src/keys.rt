@@ -1,6 +1,6 @@
 // Keys, by bytes written out and by the order of the values.
-use crate::asserts::{assert_bytes, assert_same};
 use crate::harness::{Written, field, key_of, tuple_of};
+use rss_asserts::{assert_same, assert_same_slices};
 use rss_base::{FieldKind, Key};
 use rss_value::compare_keys;
 use std::alloc::Global;
@@ -22,7 +22,7 @@ fn a_number_has_its_sign_inverted(rt: HostRuntime) -> Result<(), Fail> {
     for (number, want) in NUMBERS {
         let tuple = tuple_of(rt.alloc(), &[Written::Int(number)])?;
         let key = key_of(&[field(FieldKind::Int)], &[1], &tuple).ok_or("no key")?;
-        assert_bytes(&rt, key.as_slice(), want, number);
+        assert_same_slices(key.as_slice(), want, number)?;
     }
     Ok(())
 }
@@ -41,14 +41,13 @@ fn a_key_has_the_fields_in_the_order_of_the_image(rt: HostRuntime) -> Result<(),
     ];
     let tuple = tuple_of(rt.alloc(), &values)?;
     let both = key_of(&fields, &[3, 1], &tuple).ok_or("no key")?;
-    assert_bytes(&rt, both.as_slice(), b"xyzab\0\0", "third and first");
+    assert_same_slices(both.as_slice(), b"xyzab\0\0", "third and first")?;
     let number = key_of(&fields, &[2], &tuple).ok_or("no key")?;
-    assert_bytes(
-        &rt,
+    assert_same_slices(
         number.as_slice(),
         b"\x7f\xff\xff\xff\xff\xff\xff\xfe",
         "second",
-    );
+    )?;
     Ok(())
 }
 
@@ -80,7 +79,7 @@ fn keys_are_in_the_order_of_the_values(rt: HostRuntime) -> Result<(), Fail> {
                     let one = key_of_both(rt.alloc(), &[1, 2], a, first)?;
                     let other = key_of_both(rt.alloc(), &[1, 2], b, second)?;
                     let want = a.cmp(&b).then(at.cmp(&place));
-                    assert_same(&rt, &compare_keys(&one, &other), &want, (a, b, at, place));
+                    assert_same(&compare_keys(&one, &other), &want, (a, b, at, place))?;
                 }
             }
         }
@@ -92,6 +91,6 @@ fn keys_are_in_the_order_of_the_values(rt: HostRuntime) -> Result<(), Fail> {
 fn texts_before_numbers(rt: HostRuntime) -> Result<(), Fail> {
     let one = key_of_both(rt.alloc(), &[2, 1], 7, b"a")?;
     let other = key_of_both(rt.alloc(), &[2, 1], -1, b"ab")?;
-    assert_same(&rt, &compare_keys(&one, &other), &Ordering::Less, 0);
+    assert_same(&compare_keys(&one, &other), &Ordering::Less, 0)?;
     Ok(())
 }

@@ -3,4 +3,4 @@ use Rattle.rss_log.proofs.LogReads.{tail_read}
 use Rattle.rss_log.proofs.log.read_log.Goals as goal
 
 pub returns-clause-kept : goal.returns-clause-kept
-returns-clause-kept g c = λ pages told. tail_read pages c.args.first_page c.args.log_pages c.args.head c.args.end _ _ c.args.tail.now c.requires.ring.order c.requires.tail (omega (arith, c.requires.ring.room)) (c.in_ok-read_pieces.ensures.ring pages told) c.put.ensures
+returns-clause-kept g c = λ pages told. tail_read pages c.args.first_page c.args.log_pages c.args.head c.args.end _ _ c.args.tail.now c.requires.log.ring.order c.requires.log.tail_long (omega (arith, c.requires.log.ring.room)) (c.in_ok-read_pieces.ensures.ring pages told) c.put.ensures

@@ -7,10 +7,10 @@ use Rattle.rss_paging_rows.proofs.caller.keep.Goals as goal
 
 pub returns-clause-kept : goal.returns-clause-kept
 returns-clause-kept g c = λ told.
-    let then_told = c.in_ok-number.ensures.did.step.leaves.told.0 told in
+    let then_told = c.in_ok-number.ensures.did.step.passes.leaves.told.0 told in
     let key = page_key c.args.segment Home c.in_ok-number.number in
     let written = c.in_ok-write.ensures.written.held then_told ∙ ap (λ (h : Held). with_page h key (Some c.args.from.now)) (c.in_ok-number.ensures.taken.held told) in
-    all_held c.in_ok-read.ensures.did.step (c.in_ok-write.ensures.did.step.leaves.told.0 then_told) ∙ written ∙ with_page-twice (g.P.Pages.view c.args.pages.now).held key _ (Some c.args.from.now)
+    all_held c.in_ok-read.ensures.did.step (c.in_ok-write.ensures.did.step.passes.leaves.told.0 then_told) ∙ written ∙ with_page-twice (g.P.Pages.view c.args.pages.now).held key _ (Some c.args.from.now)
 
 pub returns-in_err-write-clause-did : goal.returns-in_err-write-clause-did
 returns-in_err-write-clause-did g c =

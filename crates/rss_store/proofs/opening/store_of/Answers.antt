@@ -6,6 +6,7 @@ use Rattle.rss_store.proofs.Engines.{same_size}
 use Rattle.rss_store.specs.StoreLaws.{opens_ready}
 use Rattle.rss_store.proofs.Stores.{rest_itself, sound_unbroken, not_overfull}
 use Rattle.rss_store.proofs.Refusals.{refused_damaged, lacks_key}
+use Rattle.rss_store.proofs.Unopened.{unopened_damaged}
 use Rattle.rss_store.proofs.Holding.{held_map, fresh_mapped, fresh_unchanged, fresh_store, fresh_ready}
 use Rattle.rss_store.proofs.opening.store_of.Goals as goal
 
@@ -15,19 +16,19 @@ new-requires-clause-map g c = λ pages told. held_map c.requires.sound (c.requir
 -- ---- a page is missing
 
 pub returns-in-Some-clause-refused : goal.returns-in-Some-clause-refused
-returns-in-Some-clause-refused g c = λ pages told.
+returns-in-Some-clause-refused g c = unopened_damaged c.place_of.result (λ pages told.
     let sound = c.requires.sound in
     let holds = c.requires.holds pages told in
     let lacks = fresh_mapped (saveable_by c.in_ok-pages.pages.holds) c.in_ok-pages.ensures.fresh c.in-Some.key ∙ c.in-Some.ensures.unmapped in
-    refused_damaged c.place_of.result holds.root_there holds.map (lacks_key pages c.args.found.root c.args.found.table c.args.found.home c.in-Some.key sound.table.distinct sound.home_counted (or_left _ _ c.in-Some.ensures.some) lacks) (λ over. absurd (omega (arith, sound.half, sound.slots))) (λ is. absurd (c.place_of.ensures.elsewhere is))
+    refused_damaged c.place_of.result holds.root_there holds.map (lacks_key pages c.args.found.root c.args.found.table c.args.found.home c.in-Some.key sound.table.distinct sound.home_counted (or_left _ _ c.in-Some.ensures.some) lacks) (λ over. absurd (omega (arith, sound.half, sound.slots))) (λ is. absurd (c.place_of.ensures.elsewhere is)))
 
 pub returns-in-Some-first_unmapped-clause-refused : goal.returns-in-Some-first_unmapped-clause-refused
-returns-in-Some-first_unmapped-clause-refused g c = λ pages told.
+returns-in-Some-first_unmapped-clause-refused g c = unopened_damaged c.place_of-in-Some-first_unmapped.result (λ pages told.
     let sound = c.requires.sound in
     let holds = c.requires.holds pages told in
     let key = c.in-Some-first_unmapped.key in
     let lacks = fresh_mapped (saveable_by c.in_ok-pages.pages.holds) c.in_ok-pages.ensures.fresh key ∙ c.in-Some-first_unmapped.ensures.unmapped in
-    refused_damaged c.place_of-in-Some-first_unmapped.result holds.root_there holds.map (lacks_key pages c.args.found.root c.args.found.table c.args.found.home key sound.table.distinct sound.home_counted (or_right _ _ c.in-Some-first_unmapped.ensures.some) lacks) (λ over. absurd (omega (arith, sound.half, sound.slots))) (λ is. absurd (c.place_of-in-Some-first_unmapped.ensures.elsewhere is))
+    refused_damaged c.place_of-in-Some-first_unmapped.result holds.root_there holds.map (lacks_key pages c.args.found.root c.args.found.table c.args.found.home key sound.table.distinct sound.home_counted (or_right _ _ c.in-Some-first_unmapped.ensures.some) lacks) (λ over. absurd (omega (arith, sound.half, sound.slots))) (λ is. absurd (c.place_of-in-Some-first_unmapped.ensures.elsewhere is)))
 
 -- ---- none is
 

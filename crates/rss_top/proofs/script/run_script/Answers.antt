@@ -14,7 +14,7 @@ pub returns-in-NoMemory : goal.returns-in-NoMemory
 returns-in-NoMemory g c = lacked_opening (left_alone c.in-Err.ensures.back) refl
 
 pub returns-in-NotAStore : goal.returns-in-NotAStore
-returns-in-NotAStore g c = layout_refused (left_alone c.in-Err.ensures.back) c.in-NotAStore.is c.in-Err.ensures.refused c.refuse_layout.ensures
+returns-in-NotAStore g c = layout_refused (left_alone c.in-Err.ensures.back) c.in-NotAStore.is c.in-Err.ensures.refused.refused c.refuse_layout.ensures
 
 pub returns-in-Damaged : goal.returns-in-Damaged
-returns-in-Damaged g c = store_refused (left_alone c.in-Err.ensures.back) c.in-Damaged.is c.in-Err.ensures.refused c.refuse_damaged.ensures
+returns-in-Damaged g c = store_refused (left_alone c.in-Err.ensures.back) c.in-Damaged.is c.in-Err.ensures.refused.refused c.refuse_damaged.ensures

@@ -1,14 +1,16 @@
+use Rattle.std.proofs.Common.{rules}
 use Rattle.rss_base.proofs.Steps.{noted}
 use Rattle.rss_notes.specs.Marks.{told}
 use Rattle.rss_buffer.specs.Devices.{buffer_view}
-use Rattle.rss_buffer.proofs.Changed.{AreNotesOf-noted, IsBuffer-noted}
-use Rattle.rss_buffer.proofs.Noted.{notes_page, passes_noting}
+use Rattle.rss_buffer.proofs.Changed.{AreNotesOf-noted}
+use Rattle.rss_buffer.proofs.Turns.{IsBuffer-beside}
+use Rattle.rss_buffer.proofs.Noted.{notes_page}
 use Rattle.rss_buffer.proofs.pages.BufferPages.note.Goals as goal
 
 pub invariant_of-self : goal.invariant_of-self
 invariant_of-self g c =
     let self = c.args.self.now in
-    record { saved_area = self.saved_area; holds = IsBuffer-noted self.holds (AreNotesOf-noted c.requires.mapped self.holds.noted c.note.ensures) }
+    record { saved_area = self.saved_area; holds = IsBuffer-beside self.holds (AreNotesOf-noted c.requires.mapped self.holds.noted c.note.ensures) }
 
 pub returns-clause-noted : goal.returns-clause-noted
 returns-clause-noted g c =
@@ -16,4 +18,4 @@ returns-clause-noted g c =
     notes_page (buffer_view self) (told c.note.new.self) self.holds.noted c.requires.mapped c.requires.space c.note.ensures
 
 pub returns-clause-did : goal.returns-clause-did
-returns-clause-did g c = noted (passes_noting (buffer_view c.args.self.now) (told c.note.new.self)) (returns-clause-noted g c)
+returns-clause-did g c = noted (search rules) (returns-clause-noted g c)

@@ -1,25 +1,16 @@
-use Rattle.std.proofs.Common.{rules, refl, arith, inl, ◌≡◌, ◌∙◌, All, true, false, None}
-use Rattle.rss_device.specs.MemPages.{has_key, place_at}
-use Rattle.rss_device.proofs.Places.{none_has, changes_own, stored_put, follows, stays_mapped, placed_after}
+use Rattle.std.proofs.Common.{rules, refl, arith, inl, ◌∙◌, None}
+use Rattle.rss_device.proofs.Places.{changes_own, stored_put, follows, stays_mapped, placed_after}
 use Rattle.rss_base.proofs.Calls.{leaves_rests}
 use Rattle.rss_base.proofs.Steps.{wrote}
 use Rattle.rss_device.proofs.mem_pages.MemPagesPages.write.Goals as goal
 
-pub unreachable-requires : goal.unreachable-requires
-unreachable-requires c =
-    let none : All (λ place. has_key c.args.key place ≡ false) c.args.self.now.places.items = search rules in
-    let lacking = none_has c.args.self.now.places.items c.args.key none in
-    cc
-
 pub invariant_of-self : goal.invariant_of-self
 invariant_of-self c =
-    let has : has_key c.args.key (place_at c.args.self.now.places.items c.in-Some.at) ≡ true = search rules in
-    record { placed = placed_after _ _ _ _ c.args.self.now.placed (changes_own _ _ _ _ c.args.self.now.placed has (λ other differs. differs)) (c.args.self.now.placed.allowed _ _ has) }
+    record { placed = placed_after _ _ _ _ c.args.self.now.placed (changes_own _ _ _ _ c.args.self.now.placed c.place-at.ensures.has (λ other differs. differs)) (c.args.self.now.placed.allowed _ _ c.place-at.ensures.has) }
 
 pub returns-clause-written : goal.returns-clause-written
 returns-clause-written c =
-    let has : has_key c.args.key (place_at c.args.self.now.places.items c.in-Some.at) ≡ true = search rules in
-    let put = stored_put _ _ _ c.args.from.now None (changes_own _ _ _ _ c.args.self.now.placed has (λ other differs. differs)) in
+    let put = stored_put _ _ _ c.args.from.now None (changes_own _ _ _ _ c.args.self.now.placed c.place-at.ensures.has (λ other differs. differs)) in
     let follows = follows c.args.self.now.places.items _ _ _ put in
     record { mapped = follows.mapped ∙ stays_mapped _ c.args.key c.requires; held = λ told. follows.held; notes = follows.notes }
 

@@ -1,0 +1,94 @@
+//! A program that builds on the store: it makes a device one, inserts two tuples in a transaction,
+//! and fetches them again after the store was opened anew.
+#![tactic(auto)]
+
+ghost use Rattle.std.specs.Prelude.{[], ◌∷◌, IfOk};
+ghost use Rattle.rss_base.specs.declared.value.Value.TheVariants.{Int};
+ghost use Rattle.rss_base.specs.declared.call.Call.TheVariants.{Insert, Fetch};
+ghost use Rattle.rss_base.specs.declared.answer.Reply.TheVariants.{Tid as Identifier, Tuple as Found};
+ghost use Rattle.rss_model.specs.Store.{relation_r};
+ghost use Rattle.rss_embed.specs.Made.{Made};
+
+use rss_base::{Call, CallError, OpenFault, RELATION_R, Reply, Tid, Tuple, Value};
+use rss_device::MemDevice;
+use rss_model::Engine;
+use rss_store::{format, open};
+use std::alloc::{AllocError, Global};
+use std::io;
+use thiserror::Error;
+
+#[derive(Debug, Drop, Error)]
+enum Failure {
+    #[error("there is no store: {0:?}")]
+    Store(#[from] OpenFault),
+    #[error("a call failed: {0:?}")]
+    Call(CallError),
+    #[error("another reply than that of the call: {0:?}")]
+    Reply(Reply),
+    #[error("memory ran out")]
+    Memory(#[from] AllocError),
+    #[error("nothing could be printed: {0}")]
+    Print(#[from] io::Error),
+}
+
+impl From<CallError> for Failure {
+    fn from(error: CallError) -> Self {
+        Failure::Call(error)
+    }
+}
+
+/// Inserts a tuple of one INT in transaction 1.
+fn insert<E: Engine>(engine: &mut E, alloc: Global, value: i64) -> Result<Tid, Failure>
+    ensures { IfOk result (λ tid. Made (E.view engine.old) (E.view engine.new)
+        (Insert 1 relation_r (Int value ∷ [])) (Identifier tid)) }
+{
+    let tuple = Tuple::single(alloc, Value::Int(value))?;
+    match engine.call(&Call::Insert(1, RELATION_R, tuple))? {
+        Reply::Tid(tid) => Ok(tid),
+        other => Err(Failure::Reply(other)),
+    }
+}
+
+/// Inserts two tuples, and commits them together. Answers their identifiers.
+fn insert_both<E: Engine>(engine: &mut E, alloc: Global) -> Result<[Tid; 2], Failure> {
+    engine.call(&Call::Begin(1))?;
+    let first = insert(engine, alloc, 7)?;
+    let second = insert(engine, alloc, -7)?;
+    engine.call(&Call::End(1))?;
+    Ok([first, second])
+}
+
+/// Fetches a tuple in transaction 1.
+fn fetch<E: Engine>(engine: &mut E, tid: Tid) -> Result<Tuple, Failure>
+    ensures { IfOk result (λ tuple. Made (E.view engine.old) (E.view engine.new)
+        (Fetch 1 relation_r tid) (Found tuple)) }
+{
+    match engine.call(&Call::Fetch(1, RELATION_R, tid))? {
+        Reply::Tuple(tuple) => Ok(tuple),
+        other => Err(Failure::Reply(other)),
+    }
+}
+
+/// Prints each of these tuples, as a run from now on finds them.
+fn print_all<E: Engine, R: Print>(rt: &R, engine: &mut E, tids: &[Tid]) -> Result<(), Failure> {
+    engine.call(&Call::Begin(1))?;
+    for tid in tids {
+        let tuple = fetch(engine, *tid)?;
+        println!(rt; "{}.{} holds {:?}", tid.page, tid.slot, tuple.as_slice())?;
+    }
+    Ok(())
+}
+
+fn main(rt: HostRuntime) -> Result<(), Failure> {
+    let mut device = MemDevice::empty(rt.alloc());
+    format(rt.alloc(), &mut device, 64, 8)?;
+    let mut store = open(rt.alloc(), device).map_err(|unopened| unopened.fault)?;
+    let tids = insert_both(&mut store, rt.alloc());
+    // A store is given back as its device, whatever came out.
+    let device = store.into_pages().into_device();
+    let tids = tids?;
+    let mut store = open(rt.alloc(), device).map_err(|unopened| unopened.fault)?;
+    let printed = print_all(&rt, &mut store, &tids);
+    let _ = store.into_pages().into_device();
+    printed
+}
