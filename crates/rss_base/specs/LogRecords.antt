@@ -2,6 +2,7 @@
 use Rattle.std.specs.Prelude.{◌≡◌, ℕ, ◌+◌, ◌^◌, ◌<◌, ◌≤◌, List, [], ◌∷◌, ◌++◌, length, replicate, Option, Some, None, IfSome}
 use Rattle.std.specs.Int.{w16, w32, w64, to_be_bytes}
 use Rattle.std.specs.List.{AllByRecursion}
+use Rattle.rss_base.specs.Sizes.{page_entries}
 use Rattle.rss_base.specs.declared.tid.Tid.{Tid}
 use Rattle.rss_base.specs.declared.change.Change.{Change}
 use Rattle.rss_base.specs.declared.change.Change.TheVariants.{Insert, Delete, Update, Connect, Disconnect}
@@ -62,16 +63,12 @@ record_size r = length (record_bytes r)
 abbrev pub values_most : ℕ
 values_most = 2048
 
--- how many entries the directory of a page of tuples has
-abbrev pub slots_of_page : ℕ
-slots_of_page = 128
-
 -- how many transactions a checkpoint names at most
 abbrev pub marks_most : ℕ
 marks_most = 32
 
 abbrev pub HasSlot : Tid → Type 0
-HasSlot tid = tid.slot < slots_of_page
+HasSlot tid = tid.slot < page_entries
 
 abbrev pub IsShort : List ℕ → Type 0
 IsShort values = length values ≤ values_most

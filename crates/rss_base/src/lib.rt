@@ -45,7 +45,7 @@ pub use layout::{ENTRIES_OF_PAGE, HEAD_PAGES, device_pages, log_at, map_at, map_
 pub use log_record::LogRecord;
 pub use marks::{MARKS_MOST, Marks};
 pub use name::{Name, RELATION_R};
-pub use page::{PAGE_BYTES, Page};
+pub use page::{PAGE_BYTES, PAGE_ENTRIES, Page};
 pub use pages::Pages;
 pub use place::Place;
 pub use refusal::{Kind, LimitKind, Refusal};

@@ -6,8 +6,8 @@ use Rattle.std.proofs.lemmas.Bool.{cases_lt}
 use Rattle.std.proofs.lemmas.List.{length-append, take-append-drop, drop-append-le, drop_at, take_at}
 use Rattle.std.specs.Global.{Vec}
 use Rattle.std.specs.Vec.{with_items}
+use Rattle.rss_base.specs.Sizes.{piece_bytes}
 use Rattle.rss_base.specs.declared.log_record.LogRecord.{LogRecord}
-use Rattle.rss_base.specs.LogPages.{piece_length}
 use Rattle.rss_base.specs.LogRecords.{record_bytes, record_size, longest_record, Placed, spelled, ArePlaced, Parses, IsSpellable, BeginsWith}
 use Rattle.rss_record.proofs.Records.{record_most}
 use Rattle.rss_log.specs.Rings.{ring_bytes, IsPut}
@@ -32,15 +32,15 @@ length-bytes_from log position low high = ap length (bytes_at log position low h
 pub long_enough : (all n : ℕ) → n ≡ min all 4400 → (all ≤ n) ⊎ (longest_record ≤ n)
 long_enough all n is = elim (cases_lt n longest_record) [ inl lt ↦ inl (omega arith) | inr le ↦ inr le ]
 
-pub piece_in : (log : Inside) (number : ℕ) → log.head / piece_length ≤ number → number < log.end / piece_length → piece_of (log_view log) number ≡ ring_bytes log.ring.items (number * piece_length) piece_length
+pub piece_in : (log : Inside) (number : ℕ) → log.head / piece_bytes ≤ number → number < log.end / piece_bytes → piece_of (log_view log) number ≡ ring_bytes log.ring.items (number * piece_bytes) piece_bytes
 piece_in log number low high =
-    ap (take piece_length) (bytes_at log (number * piece_length) (omega arith) (omega arith))
-    ∙ take-ring_bytes log.ring.items (number * piece_length) piece_length (log.end - number * piece_length) (omega arith)
+    ap (take piece_bytes) (bytes_at log (number * piece_bytes) (omega arith) (omega arith))
+    ∙ take-ring_bytes log.ring.items (number * piece_bytes) piece_bytes (log.end - number * piece_bytes) (omega arith)
 
-pub tail_in : (log : Inside) → log.head ≤ log.end → tail_of (log_view log) ≡ ring_bytes log.ring.items (log.end - log.end % piece_length) (log.end % piece_length)
+pub tail_in : (log : Inside) → log.head ≤ log.end → tail_of (log_view log) ≡ ring_bytes log.ring.items (log.end - log.end % piece_bytes) (log.end % piece_bytes)
 tail_in log order =
-    let at : piece_start log.end ≡ log.end - log.end % piece_length = omega arith in
-    let size : log.end - piece_start log.end ≡ log.end % piece_length = omega arith in
+    let at : piece_start log.end ≡ log.end - log.end % piece_bytes = omega arith in
+    let size : log.end - piece_start log.end ≡ log.end % piece_bytes = omega arith in
     bytes_at log (piece_start log.end) (omega arith) (omega arith) ∙ (λ i. ring_bytes log.ring.items (at i) (size i))
 
 pub front_in : (log : Inside) (position n : ℕ) → piece_start log.head ≤ position → position + n ≤ log.end → ring_bytes log.ring.items position n ≡ take n (bytes_from (log_view log) position)

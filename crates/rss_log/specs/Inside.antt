@@ -1,6 +1,6 @@
 -- The log by its fields.
+use Rattle.rss_base.specs.Sizes.{piece_bytes}
 use Rattle.std.specs.Prelude.{◌≡◌, ℕ, ◌+◌, ◌-◌, ◌*◌, List, length}
-use Rattle.rss_base.specs.LogPages.{piece_length}
 use Rattle.rss_log.specs.Rings.{ring_bytes}
 use Rattle.rss_log.specs.Logs.{LogView, IsRing, piece_start}
 use Rattle.rss_log.specs.declared.log.Log.TheInside.{Inside}
@@ -20,4 +20,4 @@ log_view log = view_of log.pages log.head log.end log.ring.items
 -- the ring has room for the pieces of all log pages and the root's tail
 pub record IsInside (log : Inside) : Type 0 where
   pub ring : IsRing log.pages log.head log.end
-  pub size : length log.ring.items ≡ (log.pages + 1) * piece_length
+  pub size : length log.ring.items ≡ (log.pages + 1) * piece_bytes

@@ -1,8 +1,7 @@
 -- The log as its callers see it.
 use Rattle.std.specs.Prelude.{◌≡◌, ℕ, ◌+◌, ◌-◌, ◌*◌, ◌/◌, ◌%◌, ◌^◌, ◌<◌, ◌≤◌, List, ◌++◌, length, take, drop}
 use Rattle.rss_base.specs.declared.log_record.LogRecord.{LogRecord}
-use Rattle.rss_base.specs.Sizes.{log_pages_most}
-use Rattle.rss_base.specs.LogPages.{piece_length}
+use Rattle.rss_base.specs.Sizes.{log_pages_most, piece_bytes}
 use Rattle.rss_base.specs.LogRecords.{Placed, Parses, BeginsWith}
 
 -- How many log pages the device has, the first position that is kept, the next position, and the bytes from the start of the piece with the head up to the end.
@@ -14,11 +13,11 @@ pub record LogView : Type 0 where
 
 -- where the piece with a position begins
 abbrev pub piece_start : ℕ → ℕ
-piece_start position = position / piece_length * piece_length
+piece_start position = position / piece_bytes * piece_bytes
 
 -- where the last piece that has room ends
 abbrev pub room_end : ℕ → ℕ → ℕ
-room_end pages head = (head / piece_length + pages + 1) * piece_length
+room_end pages head = (head / piece_bytes + pages + 1) * piece_bytes
 
 -- how many bytes the log has room for
 abbrev pub free_of : LogView → ℕ
@@ -35,7 +34,7 @@ pub record IsRing (pages head end : ℕ) : Type 0 where
 -- A log of these positions can be read from a device of this size, a number of 64 bits: the log pages stand there from the first one on, and the tail are the bytes behind the last full piece.
 pub record CanLoad (first_page log_pages head end : ℕ) (tail : List ℕ) (size : ℕ) : Type 0 where
   pub ring : IsRing log_pages head end
-  pub tail_long : length tail ≡ end % piece_length
+  pub tail_long : length tail ≡ end % piece_bytes
   pub within : first_page + log_pages ≤ size
   pub limit : first_page + log_pages < 2 ^ 64
 
@@ -50,7 +49,7 @@ bytes_from log position = drop (position - piece_start log.head) log.kept
 
 -- a full piece of the log
 abbrev pub piece_of : LogView → ℕ → List ℕ
-piece_of log number = take piece_length (bytes_from log (number * piece_length))
+piece_of log number = take piece_bytes (bytes_from log (number * piece_bytes))
 
 -- the bytes behind the last full piece
 abbrev pub tail_of : LogView → List ℕ

@@ -1,10 +1,11 @@
 // The laws of the log's bytes.
 ghost use Rattle.std.specs.Prelude.{◌≡◌, ◌+◌, ◌++◌, ◌∷◌, ◌/◌, ◌%◌, ◌<◌, ◌≤◌, ℕ, List, length};
+ghost use Rattle.rss_base.specs.Sizes.{piece_bytes};
 ghost use Rattle.rss_base.specs.DiskRule.{Pages as DevicePages, SameOff};
 ghost use Rattle.rss_base.specs.Layout.{log_at};
 ghost use Rattle.rss_base.specs.declared.root.Root.{Root as SomeRoot};
 ghost use Rattle.rss_base.specs.LogRecords.{record_size, Placed, ArePlaced, Parses, BeginsWith};
-ghost use Rattle.rss_base.specs.LogPages.{log_bytes, piece, piece_length, IsNewPiece, HasRoom};
+ghost use Rattle.rss_base.specs.LogPages.{log_bytes, piece, IsNewPiece, HasRoom};
 ghost use Rattle.rss_base.specs.LogPages.{Grows};
 ghost use Rattle.rss_log.specs.Logs.{LogView, IsLog, HasRecords, bytes_from, piece_of, piece_start};
 ghost use Rattle.rss_log.specs.Logs.{tail_of};
@@ -37,7 +38,7 @@ pub fn pieces_grow()
     ensures { (log : LogView) (root : SomeRoot) (more : List ℕ) (pages : DevicePages) → IsLog log
         → piece_start log.head ≤ piece_start root.end → log.end ≡ root.end + length more
         → bytes_from log (piece_start root.end) ≡ root.tail ++ more
-        → ((k : ℕ) → root.end / piece_length ≤ k → k < log.end / piece_length
+        → ((k : ℕ) → root.end / piece_bytes ≤ k → k < log.end / piece_bytes
         → piece pages (log_at root.slots) root.log_pages k ≡ piece_of log k)
         → Grows root more pages log.end (tail_of log) }
 {}
@@ -48,7 +49,7 @@ pub fn next_log_follows()
     ensures { (pages : DevicePages) (root next : SomeRoot) (more : List ℕ)
         (ps qs gone kept : List Placed)
         → next.slots ≡ root.slots → next.log_pages ≡ root.log_pages → root.head < root.end
-        → length next.tail ≡ next.end % piece_length → Grows root more pages next.end next.tail
+        → length next.tail ≡ next.end % piece_bytes → Grows root more pages next.end next.tail
         → Parses (log_bytes pages root) root.head ps root.end → Parses more root.end qs next.end
         → ps ++ qs ≡ gone ++ kept
         → ArePlaced root.head gone next.head → ArePlaced next.head kept next.end

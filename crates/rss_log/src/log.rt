@@ -4,8 +4,8 @@ ghost use Rattle.std.specs.Prelude.{◌∷◌, ◌++◌, length, take, drop, IfO
 ghost use Rattle.std.specs.Prelude.{OnOk};
 ghost use Rattle.rss_base.specs.DiskRule.{Told};
 ghost use Rattle.rss_base.specs.Devices.{ReadsPages, ReadsStore};
-ghost use Rattle.rss_base.specs.Sizes.{log_pages_most};
-ghost use Rattle.rss_base.specs.LogPages.{piece_length, pieces, kept_from};
+ghost use Rattle.rss_base.specs.Sizes.{log_pages_most, piece_bytes};
+ghost use Rattle.rss_base.specs.LogPages.{pieces, kept_from};
 ghost use Rattle.rss_base.specs.LogRecords.{record_bytes, record_size, IsBounded, Placed};
 ghost use Rattle.rss_base.specs.LogRecords.{ArePlaced, BeginsWith};
 ghost use Rattle.rss_base.specs.declared.fault.OpenFault.TheVariants.{Device as DeviceFailed};
@@ -172,9 +172,9 @@ impl Log {
 
     /// Writes a full piece to the front of a page, and leaves the rest of the page.
     pub fn pieces(&self, number: u64, into: &mut Page)
-        requires low { self.now.head / piece_length ≤ number }
-        requires high { number < self.now.end / piece_length }
-        ensures { into.new ≡ piece_of self.now number ++ drop piece_length into.old }
+        requires low { self.now.head / piece_bytes ≤ number }
+        requires high { number < self.now.end / piece_bytes }
+        ensures { into.new ≡ piece_of self.now number ++ drop piece_bytes into.old }
     {
         copy(&self.ring, number * PIECE_LENGTH, &mut into[..PIECE_BYTES]);
     }
@@ -198,7 +198,7 @@ impl Log {
 /// A ring for the pieces of so many log pages and the last part.
 fn new_ring(alloc: Global, log_pages: u32) -> Result<Vec<u8>, OpenFault>
     requires { log_pages ≤ log_pages_most }
-    ensures size { IfOk result (λ ring. length ring.items ≡ (log_pages + 1) * piece_length) }
+    ensures size { IfOk result (λ ring. length ring.items ≡ (log_pages + 1) * piece_bytes) }
     ensures fault { IfErr result (λ fault. fault ≡ LacksMemory) }
 {
     match vec![in alloc; 0; (log_pages as usize + 1) * PIECE_BYTES] {
@@ -218,7 +218,7 @@ fn read_log<D: Device>(
     ring: &mut [u8],
 ) -> Result<(), Failed>
     requires log { CanLoad first_page log_pages head end tail.now (D.view device.old).size }
-    requires room { length ring.old ≡ (log_pages + 1) * piece_length }
+    requires room { length ring.old ≡ (log_pages + 1) * piece_bytes }
     ensures kept { OnOk result (Told (D.view device.old).disk (λ pages.
         ring_bytes ring.new (piece_start head) (end - piece_start head)
         ≡ kept_from pages first_page log_pages head end tail.now)) }
@@ -244,11 +244,11 @@ fn read_pieces<D: Device>(
     requires some { 0 < log_pages }
     requires order { first ≤ last }
     requires size { first_page + log_pages ≤ (D.view device.old).size }
-    requires room { (last - first) * piece_length ≤ length ring.old }
+    requires room { (last - first) * piece_bytes ≤ length ring.old }
     requires limit { first_page + log_pages < 2 ^ 64 }
-    requires end { last * piece_length < 2 ^ 64 }
+    requires end { last * piece_bytes < 2 ^ 64 }
     ensures ring { OnOk result (Told (D.view device.old).disk (λ pages.
-        ring_bytes ring.new (first * piece_length) ((last - first) * piece_length)
+        ring_bytes ring.new (first * piece_bytes) ((last - first) * piece_bytes)
         ≡ pieces pages first_page log_pages first (last - first))) }
     ensures long { length ring.new ≡ length ring.old }
     ensures did { ReadsPages (D.view device.old) (D.view device.new) result }

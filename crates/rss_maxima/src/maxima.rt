@@ -1,6 +1,8 @@
 // Numbers, and the maxima of their groups.
-ghost use Rattle.std.specs.Prelude.{◌≡◌, ◌+◌, ◌*◌, ◌/◌, ◌^◌, ◌<◌, ◌≤◌, ℕ, length, take, drop, replicate, slice_index, slice_set, IfSome, IfNone, IfOk};
-ghost use Rattle.rss_maxima.specs.Maxima.{AllBelow, IsFirstFrom, IsLevel, StartsAt, greatest, Shares};
+ghost use Rattle.std.specs.Prelude.{◌≡◌, ◌+◌, ◌*◌, ◌/◌, ◌^◌, ◌<◌, ◌≤◌, ℕ, length, take, drop};
+ghost use Rattle.std.specs.Prelude.{replicate, slice_index, slice_set, IfSome, IfNone, IfOk};
+ghost use Rattle.rss_maxima.specs.Maxima.{AllBelow, IsFirstFrom, IsLevel, StartsAt, greatest};
+ghost use Rattle.rss_maxima.specs.Maxima.{Shares};
 
 use std::alloc::{AllocError, Global};
 use std::marker::Model;
@@ -26,8 +28,8 @@ const NUMBERS: usize = 4368;
 /// At most 65,536 numbers, all 0 at first.
 ///
 /// They stand at the end of one block that is taken by `new`. In front of them are maxima: of each
-/// sixteen numbers, then of each sixteen of these, and so on, until sixteen are left for all numbers.
-/// A change writes three of them, and a search looks at a hundred or so at most.
+/// sixteen numbers, then of each sixteen of these, and so on, until sixteen are left for all
+/// numbers. A change writes three of them, and a search looks at a hundred or so at most.
 #[derive(Drop)]
 pub struct Maxima {
     tree: Vec<u16>,
@@ -48,7 +50,7 @@ impl Maxima {
     /// So many numbers, all 0. It is the one call that takes memory: two bytes a number, and 8,736
     /// more.
     pub fn new(alloc: Global, len: usize) -> Result<Self, AllocError>
-        requires { len ≤ 65536 }
+        requires { len ≤ NUMBERS_MOST }
         ensures { IfOk result (λ numbers. numbers ≡ replicate len 0) }
     {
         let tree = vec![in alloc; 0; NUMBERS + len]?;
@@ -58,7 +60,7 @@ impl Maxima {
     /// How many numbers there are.
     pub fn len(&self) -> usize
         ensures count { result ≡ length self.now }
-        ensures most { result ≤ 65536 }
+        ensures most { result ≤ NUMBERS_MOST }
     {
         self.tree.len() - NUMBERS
     }
@@ -133,7 +135,7 @@ fn start_of(bits: u32) -> usize
 
 /// The first place behind those that are like this one but for so many low bits.
 fn behind_group(at: usize, bits: u32) -> usize
-    requires within { at < 65536 }
+    requires within { at < NUMBERS_MOST }
     requires level { IsLevel bits }
     ensures later { at < result }
     ensures near { result ≤ 131072 }

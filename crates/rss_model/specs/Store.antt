@@ -14,7 +14,7 @@ use Rattle.rss_base.specs.declared.key.Space.TheVariants.{Home, System}
 use Rattle.rss_base.specs.declared.key.PageKey.{PageKey}
 use Rattle.rss_base.specs.declared.place.Place.{Place}
 use Rattle.rss_base.specs.DiskRule.{Disk, Pages, Leaves}
-use Rattle.rss_base.specs.Sizes.{system_pages}
+use Rattle.rss_base.specs.Sizes.{system_pages, page_entries, zero_page}
 use Rattle.rss_base.specs.Layout.{map_at, slots_at, HasRoot, IsRootFault}
 use Rattle.rss_base.specs.PageMap.{space_code, IsMap, IsMapFault}
 use Rattle.rss_base.specs.Paged.{Mapped, Held, page_key}
@@ -52,7 +52,7 @@ definitions = record {
 
 -- the tuple at a place, counted from 0
 abbrev pub tid_at : ℕ → Tid
-tid_at place = record { page = place / 128; slot = place % 128 }
+tid_at place = record { page = place / page_entries; slot = place % page_entries }
 
 abbrev pub item_at : ℕ → Item
 item_at place = TupleItem relation_r (tid_at place)
@@ -71,13 +71,13 @@ tables_of values = record {
 
 -- ---- its pages
 
--- how many home pages so many tuples need: each but the last has 128
+-- how many home pages so many tuples need: each but the last is full
 abbrev pub home_pages : ℕ → ℕ
-home_pages count = (count + 127) / 128
+home_pages count = (count + (page_entries - 1)) / page_entries
 
 -- the values of the tuples of a home page
 abbrev pub values_on : ℕ → List ℤ → List ℤ
-values_on number values = take 128 (drop (128 * number) values)
+values_on number values = take page_entries (drop (page_entries * number) values)
 
 -- the bytes of a value, in two's complement
 abbrev pub value_bytes : ℤ → List ℕ
@@ -92,14 +92,16 @@ home_page number values =
 abbrev pub is_page_of : ℕ → Space → ℕ → PageKey → Bool
 is_page_of segment space limit key = (key.segment == segment) && (space_code key.space == space_code space) && nat_lt key.number limit
 
--- the pages of a store: the ten of the system space, and so many home pages of segment 1
+-- the pages of a store: those of the system space, and so many home pages of segment 1
 abbrev pub store_pages : ℕ → Mapped
-store_pages home key = is_page_of 0 System 10 key || is_page_of 1 Home home key
+store_pages home key = is_page_of 0 System system_pages key || is_page_of 1 Home home key
 
 -- The pages hold these tuples: those of the system space are zeros as yet.
 pub record HoldsTuples (held : Held) (values : List ℤ) : Type 0 where
-  pub system : (number : ℕ) → number < 10 → held (page_key 0 System number) ≡ Some (replicate 4096 0)
-  pub home : (number : ℕ) → number < home_pages (length values) → held (page_key 1 Home number) ≡ Some (home_page number (values_on number values))
+  pub system : (number : ℕ) → number < system_pages
+      → held (page_key 0 System number) ≡ Some zero_page
+  pub home : (number : ℕ) → number < home_pages (length values)
+      → held (page_key 1 Home number) ≡ Some (home_page number (values_on number values))
 
 -- ---- a store
 

@@ -1,5 +1,6 @@
 -- Columns of marks: one for each space and segment whose pages are noted.
 use Rattle.std.specs.Prelude.{◌≡◌, ℕ, ◌+◌, ◌-◌, ◌<◌, ◌≤◌, Bool, ◌==◌, ◌||◌, nat_lt, if◌then◌else◌, List, [], length, slice_index, slice_index_or, slice_set, Option, Some, None}
+use Rattle.rss_base.specs.Sizes.{slots_most}
 use Rattle.rss_base.specs.declared.key.Space.{Space}
 use Rattle.rss_base.specs.declared.key.Space.TheVariants.{Home, Overflow, Image, System}
 use Rattle.rss_base.specs.declared.key.PageKey.{PageKey}
@@ -48,7 +49,7 @@ note_of_mark mark = if (mark == 0) || (mark == 65535) then None else Some (mark 
 
 -- sixteen columns, with a mark for each slot's number
 pub record AreColumns (slots : ℕ) (columns : Columns) : Type 0 where
-  pub few : slots ≤ 65536
+  pub few : slots ≤ slots_most
   pub count : length columns ≡ 16
   pub long : (c : ℕ) → c < 16 → length (slice_index_or columns c []) ≡ slots
 

@@ -1,5 +1,6 @@
 // Notes on pages.
 ghost use Rattle.std.specs.Prelude.{◌≡◌, ◌≤◌, ℕ, true, false, None, IfOk, IfSome, IfNone};
+ghost use Rattle.rss_base.specs.Sizes.{slots_most};
 ghost use Rattle.rss_base.specs.Notes.{MayDo, is_noted_space, note_most};
 ghost use Rattle.rss_base.specs.PageMap.{IsKey};
 ghost use Rattle.rss_base.specs.Paged.{IsFirstFrom, NoneFrom};
@@ -40,7 +41,7 @@ impl Model for Notes {
 impl Notes {
     /// For a store of so many slots. No page is mapped.
     pub fn new(alloc: Global, slots: u32) -> Result<Self, AllocError>
-        requires { slots ≤ 65536 }
+        requires { slots ≤ slots_most }
         ensures slots { IfOk result (λ notes. (told notes).slots ≡ slots) }
         ensures mapped { IfOk result (λ notes. (key : Key) → (told notes).mapped key ≡ false) }
         ensures notes { IfOk result (λ notes. (key : Key) → (told notes).notes key ≡ None) }

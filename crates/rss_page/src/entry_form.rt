@@ -2,17 +2,19 @@
 ghost use Rattle.std.specs.Prelude.{◌≡◌, ◌↔◌, ◌+◌, IsTrue};
 ghost use Rattle.rss_page.specs.Slotted.{entry_bytes, entry_from, place_of, length_of, IsAllowed, IsEntry};
 
+use rss_base::{PAGE_BYTES, PAGE_ENTRIES};
+
 /// How many bytes an entry has.
 pub const ENTRY_BYTES: usize = 8;
 
 /// How many entries a page has.
-pub const ENTRIES: u8 = 128;
+pub const ENTRIES: u8 = PAGE_ENTRIES as u8;
 
 /// Where the bodies begin.
 pub const BODIES_AT: u16 = 1040;
 
 /// How many bytes a page has.
-pub const PAGE_END: u16 = 4096;
+pub const PAGE_END: u16 = PAGE_BYTES as u16;
 
 /// The code of the home space, the one in which entries may be forwards.
 const HOME: u8 = 1;

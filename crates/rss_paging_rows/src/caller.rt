@@ -1,5 +1,6 @@
 // A caller of pages, which is proved from what `Pages` says alone.
 ghost use Rattle.std.specs.Prelude.{◌≡◌, ◌<◌, ◌≤◌, Some, IfOk, OnOk};
+ghost use Rattle.rss_base.specs.Sizes.{segments};
 ghost use Rattle.rss_base.specs.DiskRule.{IsTold};
 ghost use Rattle.rss_base.specs.Paged.{with_page, page_key};
 ghost use Rattle.rss_base.specs.Steps.{PagesCall, pages_in};
@@ -16,12 +17,14 @@ pub fn keep<P: Pages>(
     into: &mut Page,
 ) -> Result<u32, PageFault>
     requires low { 1 ≤ segment }
-    requires high { segment ≤ 8 }
+    requires high { segment ≤ segments }
     requires room { 0 < (P.view pages.old).spare }
     ensures kept { IfOk result (λ number. IsTold (P.view pages.old).disk
-        → (P.view pages.new).held ≡ with_page (P.view pages.old).held (page_key segment Home number) (Some from.now)) }
+        → (P.view pages.new).held
+        ≡ with_page (P.view pages.old).held (page_key segment Home number) (Some from.now)) }
     ensures read { OnOk result (IsTold (P.view pages.old).disk → into.new ≡ from.now) }
-    ensures did { PagesCall (pages_in segment Home) 1 3 (P.view pages.old) (P.view pages.new) result }
+    ensures did { PagesCall (pages_in segment Home) 1 3
+        (P.view pages.old) (P.view pages.new) result }
 {
     let number = pages.take(segment, Space::Home)?;
     let key = PageKey {

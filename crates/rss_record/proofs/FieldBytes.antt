@@ -6,8 +6,9 @@ use Rattle.std.specs.List.{AllByRecursion}
 use Rattle.std.proofs.lemmas.Bool.{cases_lt, ltb-false, ltb-true, le-ltb, lt-ltb, eqb-true}
 use Rattle.std.proofs.lemmas.List.{take_at, drop_at, take-append-drop, length-append, length-take, get_or-drop, get_or-take, get_or_past}
 use Rattle.std.proofs.lemmas.Nat.{be_bytes_2, be_bytes_4, be_bytes_8, from_be_bytes-to_be_bytes_2, from_be_bytes-to_be_bytes_4, from_be_bytes-to_be_bytes_8}
+use Rattle.rss_base.specs.Sizes.{page_entries}
 use Rattle.rss_base.specs.declared.tid.Tid.{Tid}
-use Rattle.rss_base.specs.LogRecords.{tid_bytes, place_bytes, sized_bytes, marks_bytes, HasSlot, HasPage, IsShort, DoesMarkFit, marks_most, values_most, slots_of_page}
+use Rattle.rss_base.specs.LogRecords.{tid_bytes, place_bytes, sized_bytes, marks_bytes, HasSlot, HasPage, IsShort, DoesMarkFit, marks_most, values_most}
 use Rattle.rss_record.specs.Reading.{◌>>=◌, Front, number_at, tid_at, place_at, values_at, mark_at, so_many_at, marks_at}
 
 -- ---- bytes
@@ -130,10 +131,10 @@ tid_of page slot = record { page = page; slot = slot }
 pub tid_takes : (bytes : List ℕ) (f : Tid × List ℕ) → IsBytes bytes → tid_at bytes ≡ Some f → Takes bytes (tid_bytes f.0) f.1 × IsTid f.0
 unfolding tid_at
 tid_takes bytes f fits e =
-    let a = bind_some (number_at w32 bytes) (λ page. number_at w16 page.1 >>= λ slot. cond (ltb slot.0 slots_of_page) (Some (tid_of page.0 slot.0, slot.1)) None) f e in
-    let b = bind_some (number_at w16 a.0.1) (λ slot. cond (ltb slot.0 slots_of_page) (Some (tid_of a.0.0 slot.0, slot.1)) None) f a.2 in
+    let a = bind_some (number_at w32 bytes) (λ page. number_at w16 page.1 >>= λ slot. cond (ltb slot.0 page_entries) (Some (tid_of page.0 slot.0, slot.1)) None) f e in
+    let b = bind_some (number_at w16 a.0.1) (λ slot. cond (ltb slot.0 page_entries) (Some (tid_of a.0.0 slot.0, slot.1)) None) f a.2 in
     let made : Tid × List ℕ = (tid_of a.0.0 b.0.0, b.0.1) in
-    let g = guard_some (ltb b.0.0 slots_of_page) made f b.2 in
+    let g = guard_some (ltb b.0.0 page_entries) made f b.2 in
     let page = number_takes w32 (2 ^ 32) wide32 bytes a.0 fits a.1 in
     let slot = number_takes w16 (2 ^ 16) wide16 a.0.1 b.0 page.0.rest_fits b.1 in
     subst (λ (y : Tid × List ℕ). Takes bytes (tid_bytes y.0) y.1 × IsTid y.0) g.1 (Takes-then bytes (to_be_bytes w32 a.0.0) a.0.1 (to_be_bytes w16 b.0.0) b.0.1 page.0 slot.0, (ltb-true _ _ g.0, page.1))
@@ -141,7 +142,7 @@ tid_takes bytes f fits e =
 pub tid_again : (tid : Tid) (rest : List ℕ) → IsTid tid → tid_at (tid_bytes tid ++ rest) ≡ Some (tid, rest)
 unfolding tid_at
 tid_again tid rest is =
-    let low : ltb tid.slot slots_of_page ≡ true = lt-ltb _ _ is.0 in
+    let low : ltb tid.slot page_entries ≡ true = lt-ltb _ _ is.0 in
     ap tid_at (append_assoc (to_be_bytes w32 tid.page) (to_be_bytes w16 tid.slot) rest)
     ∙ rw (number_again w32 (2 ^ 32) wide32 tid.page (to_be_bytes w16 tid.slot ++ rest) is.1, number_again w16 (2 ^ 16) wide16 tid.slot rest (omega (arith, is.0)), low) refl
 
@@ -149,7 +150,7 @@ abbrev pub IsPlace : Option Tid → Type 0
 IsPlace place = IfSome place HasSlot × IfSome place HasPage
 
 abbrev place_of : ℕ → ℕ → List ℕ → Front (Option Tid)
-place_of page slot rest = cond (ltb slot slots_of_page) (Some (Some (tid_of page slot), rest)) (cond (eqb page 4294967295 && eqb slot 65535) (Some (None, rest)) None)
+place_of page slot rest = cond (ltb slot page_entries) (Some (Some (tid_of page slot), rest)) (cond (eqb page 4294967295 && eqb slot 65535) (Some (None, rest)) None)
 
 pub place_takes : (bytes : List ℕ) (f : Option Tid × List ℕ) → IsBytes bytes → place_at bytes ≡ Some f → Takes bytes (place_bytes f.0) f.1 × IsPlace f.0
 unfolding place_at
@@ -161,7 +162,7 @@ place_takes bytes f fits e =
     let both : Takes bytes (to_be_bytes w32 a.0.0 ++ to_be_bytes w16 b.0.0) b.0.1 = Takes-then bytes (to_be_bytes w32 a.0.0) a.0.1 (to_be_bytes w16 b.0.0) b.0.1 page.0 slot.0 in
     let tid : Option Tid × List ℕ = (Some (tid_of a.0.0 b.0.0), b.0.1) in
     let none : Option Tid × List ℕ = (None, b.0.1) in
-    elim (chosen (ltb b.0.0 slots_of_page) (Some tid) (cond (eqb a.0.0 4294967295 && eqb b.0.0 65535) (Some none) None) (Some f) b.2) [
+    elim (chosen (ltb b.0.0 page_entries) (Some tid) (cond (eqb a.0.0 4294967295 && eqb b.0.0 65535) (Some none) None) (Some f) b.2) [
       | inl some ↦ subst (λ (y : Option Tid × List ℕ). Takes bytes (place_bytes y.0) y.1 × IsPlace y.0) (some_is tid f some.1) (both, (ltb-true _ _ some.0, page.1))
       | inr other ↦
           let g = guard_some (eqb a.0.0 4294967295 && eqb b.0.0 65535) none f other.1 in
@@ -175,7 +176,7 @@ unfolding place_at
 place_again None rest is =
     rw (number_again w32 (2 ^ 32) wide32 4294967295 (to_be_bytes w16 65535 ++ rest) (lit< tt), number_again w16 (2 ^ 16) wide16 65535 rest (lit< tt)) refl
 place_again (Some tid) rest is =
-    let low : ltb tid.slot slots_of_page ≡ true = lt-ltb _ _ is.0 in
+    let low : ltb tid.slot page_entries ≡ true = lt-ltb _ _ is.0 in
     ap place_at (append_assoc (to_be_bytes w32 tid.page) (to_be_bytes w16 tid.slot) rest)
     ∙ rw (number_again w32 (2 ^ 32) wide32 tid.page (to_be_bytes w16 tid.slot ++ rest) is.1, number_again w16 (2 ^ 16) wide16 tid.slot rest (omega (arith, is.0)), low) refl
 

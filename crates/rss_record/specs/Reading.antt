@@ -1,12 +1,13 @@
 -- Fields and records from the front of bytes.
 use Rattle.std.specs.Prelude.{◌≡◌, ℕ, zero, suc, List, [], ◌∷◌, length, take, drop, Option, Some, None, nat_lt, ◌==◌, ◌&&◌, ◌||◌, if◌then◌else◌}
 use Rattle.std.specs.Int.{Width, w16, w32, w64, byte_len, from_be_bytes}
+use Rattle.rss_base.specs.Sizes.{page_entries}
 use Rattle.rss_base.specs.declared.tid.Tid.{Tid}
 use Rattle.rss_base.specs.declared.change.Change.{Change}
 use Rattle.rss_base.specs.declared.change.Change.TheVariants.{Insert, Delete, Update, Connect, Disconnect}
 use Rattle.rss_base.specs.declared.log_record.LogRecord.{LogRecord}
 use Rattle.rss_base.specs.declared.log_record.LogRecord.TheVariants as records
-use Rattle.rss_base.specs.LogRecords.{values_most, slots_of_page, marks_most}
+use Rattle.rss_base.specs.LogRecords.{values_most, marks_most}
 
 infixl 10 ◌>>=◌
 abbrev pub ◌>>=◌ : {A B : Type 0} → Option A → (A → Option B) → Option B
@@ -35,13 +36,13 @@ unfoldable pub tid_at : List ℕ → Front Tid
 tid_at bytes = do
   page ← number_at w32 bytes
   slot ← number_at w16 page.1
-  if nat_lt slot.0 slots_of_page then Some (record { page = page.0; slot = slot.0 }, slot.1) else None
+  if nat_lt slot.0 page_entries then Some (record { page = page.0; slot = slot.0 }, slot.1) else None
 
 unfoldable pub place_at : List ℕ → Front (Option Tid)
 place_at bytes = do
   page ← number_at w32 bytes
   slot ← number_at w16 page.1
-  if nat_lt slot.0 slots_of_page
+  if nat_lt slot.0 page_entries
       then Some (Some (record { page = page.0; slot = slot.0 }), slot.1)
       else (if (page.0 == 4294967295) && (slot.0 == 65535) then Some (None, slot.1) else None)
 

@@ -3,14 +3,14 @@ ghost use Rattle.std.specs.Prelude.{◌≡◌, length};
 ghost use Rattle.std.specs.Int.{w16, w32, w64};
 ghost use Rattle.rss_record.specs.Reading.{Gives, byte_at, number_at, tid_at, place_at, values_at, mark_at, marks_at};
 
-use rss_base::{Body, MARKS_MOST, Marks, Tid};
+use rss_base::{Body, MARKS_MOST, Marks, PAGE_ENTRIES, Tid};
 use std::marker::Model;
 
 /// How many bytes of values a record has at most.
 const VALUES_MOST: usize = 2048;
 
-/// How many entries the directory of a page of tuples has.
-const SLOTS_OF_PAGE: u16 = 128;
+/// How many tuples a page has an entry for.
+const ENTRIES: u16 = PAGE_ENTRIES as u16;
 
 /// Bytes that are still to be read. Each call takes a field from their front; where there is none,
 /// what is left is of no use.
@@ -90,7 +90,7 @@ impl<'a> Fields<'a> {
     {
         let page = self.u32()?;
         let slot = self.u16()?;
-        if slot < SLOTS_OF_PAGE {
+        if slot < ENTRIES {
             Some(Tid { page, slot })
         } else {
             None
@@ -104,7 +104,7 @@ impl<'a> Fields<'a> {
     {
         let page = self.u32()?;
         let slot = self.u16()?;
-        if slot < SLOTS_OF_PAGE {
+        if slot < ENTRIES {
             Some(Some(Tid { page, slot }))
         } else if page == u32::MAX && slot == u16::MAX {
             Some(None)

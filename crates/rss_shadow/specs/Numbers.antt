@@ -1,5 +1,6 @@
 -- Numbers in use, as bits in words.
 use Rattle.std.specs.Prelude.{◌≡◌, ◌≢◌, ℕ, ◌+◌, ◌-◌, ◌*◌, ◌/◌, ◌%◌, ◌^◌, ◌<◌, ◌≤◌, Bool, true, false, ◌==◌, List, length, slice_index, slice_index_or, map}
+use Rattle.rss_base.specs.Sizes.{slots_most}
 use Rattle.std.specs.List.{range_with_len}
 use Rattle.std.specs.Int.{bit_at}
 
@@ -32,7 +33,7 @@ pub record TellFull (words full : List ℕ) : Type 0 where
 -- three levels of bits, of which each upper one tells which words of the one below are full
 pub record AreNumbers (bound : ℕ) (numbers full_words full_groups : List ℕ) : Type 0 where
   pub some : 0 < bound
-  pub few : bound ≤ 65536
+  pub few : bound ≤ slots_most
   pub numbers_hold : AreBits bound numbers
   pub words_hold : AreBits (length numbers) full_words
   pub groups_hold : AreBits (length full_words) full_groups

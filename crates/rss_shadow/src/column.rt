@@ -1,5 +1,7 @@
 // The slots of the pages of one space in one segment.
-ghost use Rattle.std.specs.Prelude.{◌≡◌, ◌<◌, ◌≤◌, length, replicate, slice_index_or, slice_set, Some, None, IfOk, IfSome, IfNone};
+ghost use Rattle.std.specs.Prelude.{◌≡◌, ◌<◌, ◌≤◌, length, replicate, slice_index_or, slice_set};
+ghost use Rattle.std.specs.Prelude.{Some, None, IfOk, IfSome, IfNone};
+ghost use Rattle.rss_base.specs.Sizes.{slots_most};
 ghost use Rattle.rss_base.specs.Paged.{IsFirstFrom, NoneFrom};
 ghost use Rattle.rss_shadow.specs.Index.{HasSlot, LacksSlot};
 
@@ -7,8 +9,8 @@ use crate::numbers::NumberSet;
 use std::alloc::{AllocError, Global};
 use std::marker::Model;
 
-/// The slot of each page, by its number, and the numbers of the pages that have one and of those that
-/// have none, so that the next of either kind is found at once.
+/// The slot of each page, by its number, and the numbers of the pages that have one and of those
+/// that have none, so that the next of either kind is found at once.
 #[derive(Drop)]
 pub(crate) struct Column {
     slots: Vec<Option<u16>>,
@@ -31,7 +33,7 @@ impl Column {
     /// No page has a slot.
     pub(crate) fn new(alloc: Global, pages: u32) -> Result<Self, AllocError>
         requires some { 0 < pages }
-        requires few { pages ≤ 65536 }
+        requires few { pages ≤ slots_most }
         ensures { IfOk result (λ column. column ≡ replicate pages None) }
     {
         Ok(Column {

@@ -1,9 +1,12 @@
 // The slots of all pages, by the pages.
-ghost use Rattle.std.specs.Prelude.{◌≡◌, ◌≢◌, ◌<◌, ◌≤◌, ℕ, Some, None, IsSome, IfOk, IfSome, IfNone};
+ghost use Rattle.std.specs.Prelude.{◌≡◌, ◌≢◌, ◌<◌, ◌≤◌, ℕ, Some, None, IsSome, IfOk, IfSome};
+ghost use Rattle.std.specs.Prelude.{IfNone};
+ghost use Rattle.rss_base.specs.Sizes.{slots_most, segments};
 ghost use Rattle.rss_base.specs.PageMap.{IsKey};
 ghost use Rattle.rss_base.specs.declared.key.PageKey.{PageKey as Key};
 ghost use Rattle.rss_base.specs.declared.key.Space.TheVariants.{System};
-ghost use Rattle.rss_shadow.specs.Index.{column_at, slot_in, numbers_of, pages_in, PutsSlot, IsIndexed, IsUnindexed};
+ghost use Rattle.rss_shadow.specs.Index.{column_at, slot_in, numbers_of, pages_in, PutsSlot};
+ghost use Rattle.rss_shadow.specs.Index.{IsIndexed, IsUnindexed};
 ghost use Rattle.rss_base.specs.Paged.{page_key, IsFirstFrom, NoneFrom};
 
 use crate::column::Column;
@@ -35,7 +38,7 @@ impl PageIndex {
     /// The index of a store of so many slots. No page has one.
     pub(crate) fn new(alloc: Global, slots: u32) -> Result<Self, AllocError>
         requires some { 0 < slots }
-        requires few { slots ≤ 65536 }
+        requires few { slots ≤ slots_most }
         ensures numbers { IfOk result (λ index. numbers_of index ≡ slots) }
         ensures empty { IfOk result (λ index. (key : Key) → slot_in index key ≡ None) }
         ensures pages { IfOk result (λ index. pages_in index ≡ 0) }
@@ -78,7 +81,7 @@ impl PageIndex {
     /// pages have a slot than there are numbers.
     pub(crate) fn least_free(&self, segment: u8, space: Space) -> Option<u32>
         requires low { 1 ≤ segment }
-        requires high { segment ≤ 8 }
+        requires high { segment ≤ segments }
         requires space { space ≢ System }
         ensures within { IfSome result (λ number. number < numbers_of self.now) }
         ensures free { IfSome result (λ number.
@@ -93,7 +96,7 @@ impl PageIndex {
     /// The first number from this one on, of a segment and a space, whose page has a slot.
     pub(crate) fn first_mapped(&self, segment: u8, space: Space, from: u32) -> Option<u32>
         requires low { 1 ≤ segment }
-        requires high { segment ≤ 8 }
+        requires high { segment ≤ segments }
         requires space { space ≢ System }
         ensures some { IfSome result (IsFirstFrom (IsIndexed self.now segment space) from) }
         ensures none { IfNone result (NoneFrom (IsIndexed self.now segment space) from) }
@@ -104,7 +107,7 @@ impl PageIndex {
     /// The first number from this one on, of a segment and a space, whose page has none.
     pub(crate) fn first_unmapped(&self, segment: u8, space: Space, from: u32) -> Option<u32>
         requires low { 1 ≤ segment }
-        requires high { segment ≤ 8 }
+        requires high { segment ≤ segments }
         requires space { space ≢ System }
         ensures some { IfSome result (IsFirstFrom (IsUnindexed self.now segment space) from) }
         ensures none { IfNone result (NoneFrom (IsUnindexed self.now segment space) from) }
@@ -115,7 +118,7 @@ impl PageIndex {
 
 /// The column of a space in a segment.
 fn column_at(space: Space, segment: u8) -> usize
-    requires { segment ≤ 8 }
+    requires { segment ≤ segments }
     ensures place { result ≡ column_at space segment }
     ensures within { result < 25 }
 {

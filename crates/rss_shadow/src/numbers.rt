@@ -1,8 +1,12 @@
 // Numbers in use.
-ghost use Rattle.std.specs.Prelude.{◌≡◌, ◌≢◌, ◌-◌, ◌/◌, ◌^◌, ◌<◌, ◌≤◌, ◌==◌, ◌+◌, ℕ, true, false, length, replicate, slice_index, slice_set, IfOk, IfSome, IfNone};
+ghost use Rattle.std.specs.Prelude.{◌≡◌, ◌≢◌, ◌-◌, ◌/◌, ◌^◌, ◌<◌, ◌≤◌, ◌==◌, ◌+◌, ℕ, true, false};
+ghost use Rattle.std.specs.Prelude.{length, replicate, slice_index, slice_set, IfOk, IfSome};
+ghost use Rattle.std.specs.Prelude.{IfNone};
+ghost use Rattle.rss_base.specs.Sizes.{slots_most};
 ghost use Rattle.std.specs.Int.{bit_at};
 ghost use Rattle.rss_base.specs.Paged.{IsFirstFrom, NoneFrom};
-ghost use Rattle.rss_shadow.specs.Numbers.{AreClear, IsPut, IsSetFrom, IsAbsent, IsClear, IsOpen, IsSetOn};
+ghost use Rattle.rss_shadow.specs.Numbers.{AreClear, IsPut, IsSetFrom, IsAbsent, IsClear, IsOpen};
+ghost use Rattle.rss_shadow.specs.Numbers.{IsSetOn};
 
 use std::alloc::{AllocError, Global};
 use std::marker::Model;
@@ -38,7 +42,7 @@ impl NumberSet {
     /// No number below this bound is in use.
     pub(crate) fn new(alloc: Global, len: u32) -> Result<Self, AllocError>
         requires some { 0 < len }
-        requires few { len ≤ 65536 }
+        requires few { len ≤ slots_most }
         ensures { IfOk result (λ set. set ≡ replicate len false) }
     {
         let words = len.div_ceil(WORD_BITS);
@@ -54,7 +58,7 @@ impl NumberSet {
     /// Each number below this bound is in use.
     pub(crate) fn all(alloc: Global, len: u32) -> Result<Self, AllocError>
         requires some { 0 < len }
-        requires few { len ≤ 65536 }
+        requires few { len ≤ slots_most }
         ensures { IfOk result (λ set. set ≡ replicate len true) }
     {
         let words = len.div_ceil(WORD_BITS);
@@ -177,7 +181,7 @@ fn with_bit(word: u64, bit: u32, value: bool) -> u64
 /// Words of bits, of which those below a bound are clear and those from it on are set.
 fn clear_below(alloc: Global, bound: u32) -> Result<Vec<u64>, AllocError>
     requires some { 0 < bound }
-    requires few { bound ≤ 65536 }
+    requires few { bound ≤ slots_most }
     ensures { IfOk result (λ words. AreClear bound words.items) }
 {
     let words = bound.div_ceil(WORD_BITS) as usize;

@@ -1,10 +1,14 @@
 // The current map and the shadow map.
-ghost use Rattle.std.specs.Prelude.{◌≡◌, ◌≢◌, ◌+◌, ◌*◌, ◌<◌, ◌≤◌, ℕ, ◌&&◌, if◌then◌else◌, length, slice_index_or, true, None, Some, is_some, IfOk, IfSome, IfNone};
+ghost use Rattle.std.specs.Prelude.{◌≡◌, ◌≢◌, ◌+◌, ◌*◌, ◌<◌, ◌≤◌, ℕ, ◌&&◌, if◌then◌else◌, length};
+ghost use Rattle.std.specs.Prelude.{slice_index_or, true, None, Some, is_some, IfOk, IfSome};
+ghost use Rattle.std.specs.Prelude.{IfNone};
+ghost use Rattle.rss_base.specs.Sizes.{slots_most, segments};
 ghost use Rattle.rss_base.specs.PageMap.{IsKey, owner_of, page_count};
 ghost use Rattle.rss_base.specs.declared.key.Space.TheVariants.{System};
 ghost use Rattle.rss_base.specs.Paged.{page_key, IsMappedAt, IsUnmappedAt, IsFirstFrom, NoneFrom};
 ghost use Rattle.rss_base.specs.StoredPages.{mapped_by};
-ghost use Rattle.rss_shadow.specs.Maps.{AreMaps, is_heap_space, heap_pages_of, spare, HasPage, LacksPage, GainsPage, LosesPage, MovesPage, IsLeastLacking};
+ghost use Rattle.rss_shadow.specs.Maps.{AreMaps, is_heap_space, heap_pages_of, spare, HasPage};
+ghost use Rattle.rss_shadow.specs.Maps.{LacksPage, GainsPage, LosesPage, MovesPage, IsLeastLacking};
 
 use crate::index::PageIndex;
 use crate::numbers::NumberSet;
@@ -92,8 +96,8 @@ impl Shadow {
         }
     }
 
-    /// The slot to which a page is to be written: the one that it has, or, where the shadow map uses
-    /// that one, a free slot, which the page has from now on.
+    /// The slot to which a page is to be written: the one that it has, or, where the shadow map
+    /// uses that one, a free slot, which the page has from now on.
     pub fn first_write(&mut self, key: PageKey) -> u32
         requires { HasPage self.old.current key }
         ensures moves { MovesPage self.old self.new key result }
@@ -119,7 +123,7 @@ impl Shadow {
     /// The first number from this one on, of a segment and a space, whose page is mapped.
     pub fn first_mapped(&self, segment: u8, space: Space, from: u32) -> Option<u32>
         requires low { 1 ≤ segment }
-        requires high { segment ≤ 8 }
+        requires high { segment ≤ segments }
         requires space { space ≢ System }
         ensures some { IfSome result (IsFirstFrom
             (IsMappedAt (mapped_by self.now.current) segment space) from) }
@@ -132,7 +136,7 @@ impl Shadow {
     /// The first number from this one on, below the number of slots, whose page isn't mapped.
     pub fn first_unmapped(&self, segment: u8, space: Space, from: u32) -> Option<u32>
         requires low { 1 ≤ segment }
-        requires high { segment ≤ 8 }
+        requires high { segment ≤ segments }
         requires space { space ≢ System }
         ensures some { IfSome result (IsFirstFrom
             (IsUnmappedAt (length self.now.current) (mapped_by self.now.current) segment space)
@@ -147,7 +151,7 @@ impl Shadow {
     /// Maps the least page of a segment and a space that isn't mapped, and answers its number.
     pub fn take(&mut self, segment: u8, space: Space) -> u32
         requires low { 1 ≤ segment }
-        requires high { segment ≤ 8 }
+        requires high { segment ≤ segments }
         requires space { space ≢ System }
         requires room { 0 < spare self.old }
         ensures least { IsLeastLacking self.old.current segment space result }
@@ -248,7 +252,7 @@ impl Shadow {
 /// Takes each slot out of the set that has no owner.
 fn remove_unowned(used: &mut NumberSet, owners: &[Option<PageKey>])
     requires count { length used.old ≡ length owners.now }
-    requires few { length owners.now ≤ 65536 }
+    requires few { length owners.now ≤ slots_most }
     ensures count { length used.new ≡ length used.old }
     ensures left { (slot : ℕ) → slot < length owners.now
         → slice_index_or used.new slot true

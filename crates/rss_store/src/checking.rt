@@ -18,8 +18,10 @@ ghost use Rattle.rss_store.specs.HomePages.{IsHomePage};
 ghost use Rattle.rss_store.specs.Opening.{is_home, MaySystem, MayHave, HasTuplesOn, IsNoPageOf};
 ghost use Rattle.rss_store.specs.Opening.{AreStoreKeys, HoldStorePages, HoldsNoPage, ChecksPages};
 
-use crate::home_page::{PAGE_ENTRIES, tuples_of};
-use rss_base::{Device, OpenFault, PAGE_BYTES, Page, PageKey, Pages, Place, Root, Space, slots_at};
+use crate::home_page::tuples_of;
+use rss_base::{
+    Device, OpenFault, PAGE_BYTES, PAGE_ENTRIES, Page, PageKey, Pages, Place, Root, Space, slots_at,
+};
 use rss_pagemap::SlotTable;
 
 /// How many tuples a full home page has.

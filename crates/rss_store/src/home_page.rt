@@ -6,10 +6,7 @@ ghost use Rattle.rss_base.specs.Sizes.{page_entries};
 ghost use Rattle.rss_model.specs.Store.{home_page};
 ghost use Rattle.rss_store.specs.HomePages.{value_in, IsHomePage};
 
-use rss_base::{PAGE_BYTES, Page, put_bytes};
-
-/// How many tuples a home page holds at most.
-pub(crate) const PAGE_ENTRIES: usize = 128;
+use rss_base::{PAGE_BYTES, PAGE_ENTRIES, Page, put_bytes};
 
 /// Where the page's number stands.
 const NUMBER_AT: usize = 4;

@@ -16,7 +16,10 @@ ghost use Rattle.rss_store.specs.Opening.{HoldsSound, IsOpened};
 
 use crate::Store;
 use crate::checking::{check_pages, first_unmapped, home_pages_in, pages_in, place_of};
-use rss_base::{Device, OpenFault, PageKey, Place, Root, SYSTEM_PAGES, Space, Unopened};
+use crate::session::TUPLES_MOST;
+use rss_base::{
+    Device, OpenFault, PAGE_ENTRIES, PageKey, Place, Root, SYSTEM_PAGES, Space, Unopened,
+};
 use rss_buffer::Buffer;
 use rss_model::Engine;
 use rss_pagemap::{SlotTable, read_table};
@@ -27,7 +30,7 @@ use std::alloc::Global;
 const FRAMES: u32 = 256;
 
 /// How many home pages hold as many tuples as a relation may have.
-const HOME_PAGES_MOST: u32 = 8192;
+const HOME_PAGES_MOST: u32 = TUPLES_MOST / PAGE_ENTRIES as u32;
 
 /// What is read before the pages are put together: the selected root with its number, the map that
 /// it names, and how many home pages and tuples there are.

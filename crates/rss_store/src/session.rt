@@ -14,14 +14,13 @@ ghost use Rattle.rss_model.specs.ReplyText.{IsShort};
 ghost use Rattle.rss_model.specs.Store.{relation_r, tid_at, home_pages};
 ghost use Rattle.rss_store.specs.Held.{needed};
 
-use crate::home_page::PAGE_ENTRIES;
-use rss_base::{Kind, LimitKind, Name, RELATION_R, Refusal, Reply, Tid, Tuple, Value};
-
-/// How many pages the catalog has.
-const CATALOG_PAGES: u64 = 10;
+use rss_base::{
+    Kind, LimitKind, Name, PAGE_ENTRIES, RELATION_R, Refusal, Reply, SYSTEM_PAGES, Tid, Tuple,
+    Value,
+};
 
 /// How many tuples a relation has at most.
-const TUPLES_MOST: u32 = 1 << 20;
+pub(crate) const TUPLES_MOST: u32 = 1 << 20;
 
 /// The transaction that is open, and how many tuples there are.
 #[derive(Drop)]
@@ -128,7 +127,7 @@ impl Session {
     {
         let heap = u64::from(self.committed).div_ceil(PAGE_ENTRIES as u64);
         let changes = u64::from(self.count - self.committed) + 1;
-        2 * (heap + 4 * changes + CATALOG_PAGES)
+        2 * (heap + 4 * changes + SYSTEM_PAGES as u64)
     }
 
     /// Counts a tuple that was inserted behind the others, and answers its identifier.

@@ -8,8 +8,8 @@ ghost use Rattle.rss_base.specs.declared.key.Space.TheVariants.{Home};
 ghost use Rattle.rss_store.specs.HomePages.{value_at};
 ghost use Rattle.rss_store.specs.TupleSteps.{CanAppend, Appends};
 
-use crate::home_page::{PAGE_ENTRIES, blank, put_value, value_at};
-use rss_base::{PAGE_BYTES, PageFault, PageKey, Pages, Space};
+use crate::home_page::{blank, put_value, value_at};
+use rss_base::{PAGE_BYTES, PAGE_ENTRIES, PageFault, PageKey, Pages, Space};
 
 /// The segment whose home pages hold the tuples.
 const SEGMENT: u8 = 1;

@@ -34,7 +34,8 @@ fn put_part(fields: &[FieldDef], number: u8, values: &[u8], into: &mut Key)
         ≤ KEY_BYTES }
     ensures { (tuple : List Value) → Spells (kinds fields.now) values.now tuple
         → into.new
-        ≡ into.old ++ key_bytes (chosen (number ∷ []) (kinds fields.now)) (chosen (number ∷ []) tuple) }
+        ≡ into.old ++ key_bytes (chosen (number ∷ []) (kinds fields.now))
+        (chosen (number ∷ []) tuple) }
 {
     let at = usize::from(number) - 1;
     let mut cursor = Cursor::new(values);
