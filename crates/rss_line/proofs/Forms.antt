@@ -1,126 +1,113 @@
--- The lines of a script, as one list of bytes each.
-use Rattle.std.proofs.Common.{◌≡◌, ◌∙◌, ℕ, ◌+◌, ◌<◌, ◌≤◌, ◌^◌, List, [], ◌∷◌, ◌++◌, length, get_or, drop, refl, ap, sym, subst, arith, append_assoc, rules, false, true, ◌==◌}
-use Rattle.std.specs.Prelude.{ℤ, Option, Some, None, MatchOption, codes, decimal, ◌≢◌}
-use Rattle.std.specs.Borrow.{Bor}
-use Rattle.std.specs.List.{join_with_byte}
-use Rattle.std.specs.Str.Pattern.{FindsTextPrefix}
-use Rattle.std.specs.Str.Parse.{AllDigits}
-use Rattle.std.proofs.lemmas.Fmt.{decimal_digit, digits_decimal, IsAscii-signed, IsAscii-decimal}
-use Rattle.std.specs.Str.{IsAscii, IsUtf8}
-use Rattle.std.proofs.lemmas.Str.{IsAscii-append, IsUtf8-from_ascii}
-use Rattle.std.proofs.lemmas.Str.Parse.{numerals_by_value, tells_digits, not_in_digits}
-use Rattle.std.proofs.lemmas.Str.Pattern.{IsSplitOnceResult, split_after}
-use Rattle.std.proofs.lemmas.Option.{MatchOption-at_none, MatchOption-at_some}
-use Rattle.rss_line.proofs.Numbers.{mag_fits}
+-- The forms of a line, and values one after another.
+use Rattle.std.proofs.Common.{◌≡◌, ◌∙◌, ℕ, List, [], ◌∷◌, ◌++◌, refl, ap, sym, subst}
+use Rattle.std.specs.Prelude.{◌≢◌, codes}
+use Rattle.rss_base.specs.declared.name.Name.{Name}
 use Rattle.rss_base.specs.declared.tid.Tid.{Tid}
 use Rattle.rss_base.specs.declared.value.Value.{Value}
-use Rattle.rss_base.specs.declared.value.Value.TheVariants.{Int}
 use Rattle.rss_base.specs.declared.call.Call.{Call}
 use Rattle.rss_base.specs.declared.call.Call.TheVariants.{Begin, End, Insert, Fetch}
-use Rattle.rss_model.specs.Store.{relation_r}
-use Rattle.rss_model.specs.Script.{IsTransaction, IsRelation, IsInt, IsTid, Names, Spells, begin, end, insert, fetch}
+use Rattle.rss_model.specs.Script.{HasWords, AreValues, IsTransaction, IsRelation, IsTid, Names, begin, end, insert, fetch}
 
--- the line of a call
-abbrev pub Form : List ℕ → Call → Type 0
-Form line (Begin t) = line ≡ codes "begin 1"
-Form line (End t) = line ≡ codes "end 1"
-Form line (Insert t relation values) = (word : List ℕ) × (z : ℤ) × (line ≡ codes "insert 1 r " ++ word) × IsInt word z
-Form line (Fetch t relation tid) = (word : List ℕ) × (line ≡ codes "fetch 1 r " ++ word) × IsTid word tid
+-- These values were read of old, and the rest is left: what is read on completes it.
+pub record GoesOn (old : List ℕ) (values : List Value) (left : List ℕ) : Type 0 where
+  pub on : (words : List (List ℕ)) (more : List Value) → HasWords left words → AreValues words more
+      → (all : List (List ℕ)) × HasWords old all × AreValues all (values ++ more)
+  pub back : (all : List (List ℕ)) (given : List Value) → HasWords old all → AreValues all given
+      → (words : List (List ℕ)) × (more : List Value) × HasWords left words × AreValues words more
+      × (given ≡ values ++ more)
 
-one : {word : List ℕ} {t : ℕ} → IsTransaction word t → word ≡ codes "1"
-one is = is.spelled ∙ (ap decimal is.only ∙ decimal_digit 1 (omega arith))
+-- ---- the words behind the first one, one after another
 
-named : (line : List ℕ) {words : List (List ℕ)} {call : Call} → line ≡ join_with_byte 32 words → Names words call → Form line call
-named line spaced (begin t) = spaced ∙ ap (λ word. codes "begin" ++ 32 ∷ word) (one t)
-named line spaced (end t) = spaced ∙ ap (λ word. codes "end" ++ 32 ∷ word) (one t)
-named line spaced (insert {first = first} {second = second} {third = third} {z = z} t r is) =
-    (third, z, spaced ∙ (ap (λ word. codes "insert" ++ 32 ∷ (word ++ 32 ∷ (second ++ 32 ∷ third))) (one t) ∙ ap (λ word. codes "insert 1 " ++ (word ++ 32 ∷ third)) r.spelled), is)
-named line spaced (fetch {first = first} {second = second} {third = third} t r is) =
-    (third, spaced ∙ (ap (λ word. codes "fetch" ++ 32 ∷ (word ++ 32 ∷ (second ++ 32 ∷ third))) (one t) ∙ ap (λ word. codes "fetch 1 " ++ (word ++ 32 ∷ third)) r.spelled), is)
+-- the next word stands for something, and this is what follows it
+abbrev pub Word : {T U : Type 0} → (List ℕ → T → Type 0) → (T → List (List ℕ) → U → Type 0) → List (List ℕ) → U → Type 0
+Word {T = T} Is After words x = (word : List ℕ) × (rest : List (List ℕ)) × (y : T) × (words ≡ word ∷ rest) × Is word y × After y rest x
 
-pub form : (line : List ℕ) (call : Call) → Spells line call → Form line call
-form line call spells = named line spells.spaced spells.names
+abbrev pub Last : Call → List (List ℕ) → Call → Type 0
+Last call words x = (words ≡ []) × (x ≡ call)
 
--- a line in its form spells the call
-first_transaction : IsTransaction (codes "1") 1
-first_transaction = record { spelled = sym (decimal_digit 1 (omega arith)); only = refl }
+abbrev pub BeginForm : List (List ℕ) → Call → Type 0
+BeginForm = Word IsTransaction (λ t. Last (Begin t))
 
-the_relation : IsRelation (codes "r") relation_r
-the_relation = record { spelled = refl; only = refl }
+abbrev pub EndForm : List (List ℕ) → Call → Type 0
+EndForm = Word IsTransaction (λ t. Last (End t))
 
-pub spells_begin : (line : List ℕ) → line ≡ codes "begin 1" → length line ≤ 8192 → Spells line (Begin 1)
-spells_begin line e short = record { words = codes "begin" ∷ codes "1" ∷ []; spaced = e; names = begin first_transaction; short = short }
+abbrev pub Values : ℕ → Name → List (List ℕ) → Call → Type 0
+Values t relation words x = (values : List Value) × AreValues words values × (x ≡ Insert t relation values)
 
-pub spells_end : (line : List ℕ) → line ≡ codes "end 1" → length line ≤ 8192 → Spells line (End 1)
-spells_end line e short = record { words = codes "end" ∷ codes "1" ∷ []; spaced = e; names = end first_transaction; short = short }
+abbrev pub InsertForm : List (List ℕ) → Call → Type 0
+InsertForm = Word IsTransaction (λ t. Word IsRelation (λ relation. Values t relation))
 
-pub spells_insert : (line word : List ℕ) (z : ℤ) (values : List Value) → line ≡ codes "insert 1 r " ++ word → IsInt word z → values ≡ Int z ∷ [] → length line ≤ 8192 → Spells line (Insert 1 relation_r values)
-spells_insert line word z values e is value short = subst (λ (vs : List Value). Spells line (Insert 1 relation_r vs)) (sym value) (record {
-  words = codes "insert" ∷ codes "1" ∷ codes "r" ∷ word ∷ [];
-  spaced = e;
-  names = insert first_transaction the_relation is;
-  short = short;
-})
+abbrev pub FetchForm : List (List ℕ) → Call → Type 0
+FetchForm = Word IsTransaction (λ t. Word IsRelation (λ relation. Word IsTid (λ tid. Last (Fetch t relation tid))))
 
-pub spells_fetch : (line word : List ℕ) (tid : Tid) → line ≡ codes "fetch 1 r " ++ word → IsTid word tid → length line ≤ 8192 → Spells line (Fetch 1 relation_r tid)
-spells_fetch line word tid e is short = record { words = codes "fetch" ∷ codes "1" ∷ codes "r" ∷ word ∷ []; spaced = e; names = fetch first_transaction the_relation is; short = short }
+-- what the words behind this first one are is said by the form
+pub record Tells (first : List ℕ) (Form : List (List ℕ) → Call → Type 0) : Type 0 where
+  pub of : (words : List (List ℕ)) (call : Call) → Names (first ∷ words) call → Form words call
+  pub back : (words : List (List ℕ)) (call : Call) → Form words call → Names (first ∷ words) call
 
--- two forms begin with other bytes
-apart : (line a b : List ℕ) → line ≡ a → line ≡ b → (get_or a 0 0 ≡ get_or b 0 0 → ⊥) → ⊥
-apart line a b is_a is_b differs = differs (ap (λ l. get_or l 0 0) (sym is_a ∙ is_b))
+begin_of : (words : List (List ℕ)) (call : Call) → Names (codes "begin" ∷ words) call → BeginForm words call
+begin_of words call (begin {word = word} {t = t} is) = (word, [], t, refl, is, (refl, refl))
 
-pub no_insert : (line word : List ℕ) → line ≡ codes "insert 1 r " ++ word → ((z : ℤ) → IsInt word z → ⊥) → (call : Call) → Form line call → ⊥
-no_insert line word e none (Begin t) is = apart line (codes "insert 1 r " ++ word) (codes "begin 1") e is (λ h. omega (arith, h))
-no_insert line word e none (End t) is = apart line (codes "insert 1 r " ++ word) (codes "end 1") e is (λ h. omega (arith, h))
-no_insert line word e none (Insert t relation values) (other, z, is, int) =
-    let same : other ≡ word = ap (drop 11) (sym is ∙ e) in none z (subst (λ (w : List ℕ). IsInt w z) same int)
-no_insert line word e none (Fetch t relation tid) (other, is, at) = apart line (codes "insert 1 r " ++ word) (codes "fetch 1 r " ++ other) e is (λ h. omega (arith, h))
+end_of : (words : List (List ℕ)) (call : Call) → Names (codes "end" ∷ words) call → EndForm words call
+end_of words call (end {word = word} {t = t} is) = (word, [], t, refl, is, (refl, refl))
 
-pub no_fetch : (line word : List ℕ) → line ≡ codes "fetch 1 r " ++ word → ((tid : Tid) → IsTid word tid → ⊥) → (call : Call) → Form line call → ⊥
-no_fetch line word e none (Begin t) is = apart line (codes "fetch 1 r " ++ word) (codes "begin 1") e is (λ h. omega (arith, h))
-no_fetch line word e none (End t) is = apart line (codes "fetch 1 r " ++ word) (codes "end 1") e is (λ h. omega (arith, h))
-no_fetch line word e none (Insert t relation values) (other, z, is, int) = apart line (codes "fetch 1 r " ++ word) (codes "insert 1 r " ++ other) e is (λ h. omega (arith, h))
-no_fetch line word e none (Fetch t relation tid) (other, is, at) = let same : other ≡ word = ap (drop 10) (sym is ∙ e) in none tid (subst (λ (w : List ℕ). IsTid w tid) same at)
+insert_of : (words : List (List ℕ)) (call : Call) → Names (codes "insert" ∷ words) call → InsertForm words call
+insert_of words call (insert {first = first} {second = second} {words = rest} {t = t} {relation = relation} {values = values} is name are) =
+    (first, second ∷ rest, t, refl, is, (second, rest, relation, refl, name, (values, are, refl)))
 
-pub no_form : (line : List ℕ) → line ≢ codes "begin 1" → line ≢ codes "end 1" → ((word : List ℕ) → line ≢ codes "insert 1 r " ++ word) → ((word : List ℕ) → line ≢ codes "fetch 1 r " ++ word) → (call : Call) → Form line call → ⊥
-no_form line no_begin no_end no_insert no_fetch (Begin t) is = no_begin is
-no_form line no_begin no_end no_insert no_fetch (End t) is = no_end is
-no_form line no_begin no_end no_insert no_fetch (Insert t relation values) (word, z, is, int) = no_insert word is
-no_form line no_begin no_end no_insert no_fetch (Fetch t relation tid) (word, is, at) = no_fetch word is
+fetch_of : (words : List (List ℕ)) (call : Call) → Names (codes "fetch" ∷ words) call → FetchForm words call
+fetch_of words call (fetch {first = first} {second = second} {third = third} {t = t} {relation = relation} {tid = tid} is name at) =
+    (first, second ∷ third ∷ [], t, refl, is, (second, third ∷ [], relation, refl, name, (third, [], tid, refl, at, (refl, refl))))
 
--- every form is text
-form_ascii : (line : List ℕ) (call : Call) → Form line call → IsAscii line
-form_ascii line (Begin t) is = subst IsAscii (sym is) (search rules)
-form_ascii line (End t) is = subst IsAscii (sym is) (search rules)
-form_ascii line (Insert t relation values) (word, z, is, int) =
-    subst IsAscii (sym is) (IsAscii-append (codes "insert 1 r ") word (search rules) (subst IsAscii (sym int.spelled) (IsAscii-signed z (mag_fits z int.fits))))
-form_ascii line (Fetch t relation tid) (word, is, at) = let page = at.page in let slot = at.slot in
-    let dot : IsAscii (decimal tid.page ++ codes ".") = IsAscii-append (decimal tid.page) (codes ".") (IsAscii-decimal tid.page (omega arith)) (search rules) in
-    let both : IsAscii (decimal tid.page ++ codes "." ++ decimal tid.slot) = IsAscii-append (decimal tid.page ++ codes ".") (decimal tid.slot) dot (IsAscii-decimal tid.slot (omega arith)) in
-    subst IsAscii (sym is) (IsAscii-append (codes "fetch 1 r ") word (search rules) (subst IsAscii (sym at.spelled) both))
+-- the same words, and the same call
+names_as : {words other : List (List ℕ)} {call same : Call} → words ≡ other → call ≡ same → Names other same → Names words call
+names_as {words = words} {same = same} e f names = subst (λ (c : Call). Names words c) (sym f) (subst (λ (w : List (List ℕ)). Names w same) (sym e) names)
 
-pub spelled_is_text : (line : List ℕ) (call : Call) → Spells line call → IsUtf8 line
-spelled_is_text line call spells = IsUtf8-from_ascii line (form_ascii line call (form line call spells))
+pub begin_told : Tells (codes "begin") BeginForm
+begin_told = record {
+  of = begin_of;
+  back = λ words call (word, rest, t, e, is, (none, same)).
+      names_as (ap (λ w. codes "begin" ∷ w) (e ∙ ap (λ w. word ∷ w) none)) same (begin is);
+}
 
--- what `strip_prefix` tells
-pub stripped : (prefix line word : List ℕ) → (n : ℕ) × FindsTextPrefix prefix line (Some n) × (word ≡ drop n line) × (length word + n ≡ length line) → line ≡ prefix ++ word
-stripped prefix line word (n, found, rest, len) = found.1 ∙ ap (λ w. prefix ++ w) (sym rest)
+pub end_told : Tells (codes "end") EndForm
+end_told = record {
+  of = end_of;
+  back = λ words call (word, rest, t, e, is, (none, same)).
+      names_as (ap (λ w. codes "end" ∷ w) (e ∙ ap (λ w. word ∷ w) none)) same (end is);
+}
 
--- the parts of an identifier
-no_point : (n : ℕ) → n < 2 ^ 64 → (i : ℕ) → i < length (decimal n) → get_or (decimal n) i 0 ≢ 46
-no_point n small = let own = numerals_by_value (AllDigits 10) tells_digits in
-    not_in_digits own (decimal n) 46 (digits_decimal own n small) (λ h. omega arith)
+pub insert_told : Tells (codes "insert") InsertForm
+insert_told = record {
+  of = insert_of;
+  back = λ words call (first, others, t, e, is, (second, rest, relation, f, name, (values, are, same))).
+      names_as (ap (λ w. codes "insert" ∷ w) (e ∙ ap (λ w. first ∷ w) f)) same (insert is name are);
+}
 
-module _ (word : List ℕ) (r : Option (Bor (List ℕ) × Bor (List ℕ))) (tid : Tid) (cut : IsSplitOnceResult 46 word r) (is : IsTid word tid) where
-  parts : MatchOption r ⊥ (λ x. (x.0.now ≡ decimal tid.page) × (x.1.now ≡ decimal tid.slot))
-  parts = split_after 46 word (decimal tid.page) (decimal tid.slot) r cut (omega arith)
-      (is.spelled ∙ append_assoc (decimal tid.page) (codes ".") (decimal tid.slot)) (no_point tid.page (let h = is.page in omega arith))
+pub fetch_told : Tells (codes "fetch") FetchForm
+fetch_told = record {
+  of = fetch_of;
+  back = λ words call (first, others, t, e, is, (second, rest, relation, f, name, (third, last, tid, g, at, (none, same)))).
+      names_as (ap (λ w. codes "fetch" ∷ w) (e ∙ (ap (λ w. first ∷ w) f ∙ (ap (λ w. first ∷ second ∷ w) g ∙ ap (λ w. first ∷ second ∷ third ∷ w) none)))) same (fetch is name at);
+}
 
-  pub tid_cut : r ≡ None → ⊥
-  tid_cut none = MatchOption-at_none ⊥ (λ x. (x.0.now ≡ decimal tid.page) × (x.1.now ≡ decimal tid.slot)) none parts
+-- the first words that there are
+pub data IsVerb : List ℕ → Type 0 where
+  begins : IsVerb (codes "begin")
+  ends : IsVerb (codes "end")
+  inserts : IsVerb (codes "insert")
+  fetches : IsVerb (codes "fetch")
 
-  pub tid_parts : (x : Bor (List ℕ) × Bor (List ℕ)) → r ≡ Some x → (x.0.now ≡ decimal tid.page) × (x.1.now ≡ decimal tid.slot)
-  tid_parts x some = MatchOption-at_some ⊥ (λ x. (x.0.now ≡ decimal tid.page) × (x.1.now ≡ decimal tid.slot)) x some parts
+pub verb_of : (words : List (List ℕ)) (call : Call) → Names words call
+    → (verb : List ℕ) × (rest : List (List ℕ)) × (words ≡ verb ∷ rest) × IsVerb verb
+verb_of words call (begin {word = word} is) = (codes "begin", word ∷ [], refl, begins)
+verb_of words call (end {word = word} is) = (codes "end", word ∷ [], refl, ends)
+verb_of words call (insert {first = first} {second = second} {words = rest} is name are) = (codes "insert", first ∷ second ∷ rest, refl, inserts)
+verb_of words call (fetch {first = first} {second = second} {third = third} is name at) = (codes "fetch", first ∷ second ∷ third ∷ [], refl, fetches)
 
-pub not_blank : (line : List ℕ) → false ≡ (length line == 0) → line ≢ []
-not_blank line test blank = let empty : (length line == 0) ≡ true = ap (λ l. length l == 0) blank in cc
+-- no first word is another one
+pub other_word : {word : List ℕ} → word ≢ codes "begin" → word ≢ codes "end" → word ≢ codes "insert" → word ≢ codes "fetch" → IsVerb word → ⊥
+other_word no_begin no_end no_insert no_fetch begins = no_begin refl
+other_word no_begin no_end no_insert no_fetch ends = no_end refl
+other_word no_begin no_end no_insert no_fetch inserts = no_insert refl
+other_word no_begin no_end no_insert no_fetch fetches = no_fetch refl

@@ -1,3 +1,9 @@
 mod Numbers
-mod Forms
 mod Pieces
+mod Cuts
+mod Forms
+mod Plain
+mod Combining
+mod Values
+mod Tids
+mod Names

@@ -9,7 +9,7 @@ use Rattle.std.specs.Str.Parse.{ParsesSigned, ParsesUnsigned}
 use Rattle.std.proofs.lemmas.Fmt.{parse-signed_decimal, parse-decimal}
 use Rattle.std.proofs.lemmas.Int.{ints, to_z-of_z}
 use Rattle.std.proofs.lemmas.Slice.Eq.{bytes_eq-Decides}
-use Rattle.rss_model.specs.Script.{IsInt}
+use Rattle.rss_line.specs.Reads.{IsInt}
 use lib.Signed.{mag}
 use mir.Val.{to_z, of_z}
 
@@ -19,7 +19,7 @@ mag_fits (negsuc n) fits = omega (arith, ints)
 
 -- what `parse` gives of a number's own text
 pub int_read : {E : Type 0} (word : List ℕ) (z : ℤ) (r : Result ℤ E) → ParsesSigned w64 10 word r → IsInt word z → result_ok r ≡ Some z
-int_read word z r parsed is = ap result_ok (parse-signed_decimal w64 z word r is.fits (mag_fits z is.fits) is.spelled parsed)
+int_read word z r parsed is = ap result_ok (parse-signed_decimal w64 z word r is.proper (mag_fits z is.proper) is.spelled parsed)
 
 pub decimal_read : {E : Type 0} (word : List ℕ) (n : ℕ) (r : Result ℕ E) → ParsesUnsigned 64 10 word r → n < 2 ^ 64 → word ≡ decimal n → result_ok r ≡ Some n
 decimal_read word n r parsed small is = ap result_ok (parse-decimal 64 n word r small small is parsed)
@@ -32,7 +32,7 @@ pub differ : (text word : List ℕ) → bytes_eq text word ≡ false → text �
 differ text word test same = let holds : bytes_eq text word ≡ true = (bytes_eq-Decides text word).1 same in cc
 
 pub int_same : (word text : List ℕ) (z number : ℤ) → number ≡ z → IsInt word z → text ≡ signed_decimal (to_z w64 (of_z w64 number)) → text ≡ word
-int_same word text z number same is printed = let back : to_z w64 (of_z w64 z) ≡ z = to_z-of_z w64 z is.fits in
+int_same word text z number same is printed = let back : to_z w64 (of_z w64 z) ≡ z = to_z-of_z w64 z is.proper in
     printed ∙ (ap (λ y. signed_decimal (to_z w64 (of_z w64 y))) same ∙ (ap signed_decimal back ∙ sym is.spelled))
 
 pub decimal_same : (word text : List ℕ) (n number : ℕ) → number ≡ n → word ≡ decimal n → text ≡ decimal number → text ≡ word

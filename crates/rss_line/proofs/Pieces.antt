@@ -5,7 +5,8 @@ use Rattle.std.specs.Prelude.{if◌then◌else◌}
 use Rattle.std.proofs.lemmas.List.{take_more, take-append-drop}
 use Rattle.std.proofs.lemmas.List.Sums.{fold-append}
 use Rattle.rss_base.specs.declared.value.Value.{Value}
-use Rattle.rss_model.specs.ReplyText.{doubled, value_text, values_text}
+use Rattle.rss_model.specs.Spellings.{doubled, value_text}
+use Rattle.rss_model.specs.ReplyText.{values_text}
 use Rattle.rss_line.specs.declared.word.Word.{Word}
 use Rattle.rss_line.specs.Words.{word_text, with_words}
 

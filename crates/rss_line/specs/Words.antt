@@ -1,6 +1,6 @@
 -- The text of words with one space between two.
 use Rattle.std.specs.Prelude.{ℕ, List, ◌++◌, codes, decimal, fold}
-use Rattle.rss_model.specs.ReplyText.{name_text, tid_text}
+use Rattle.rss_model.specs.Spellings.{name_text, tid_text}
 use Rattle.rss_line.specs.declared.word.Word.{Word}
 use Rattle.rss_line.specs.declared.word.Word.TheVariants.{Text, Number, Name, Tid}
 

@@ -2,7 +2,9 @@
 #![tactic(auto)]
 
 mod fault;
+mod name;
 mod number;
+mod reader;
 mod reading;
 mod saying;
 mod value_text;

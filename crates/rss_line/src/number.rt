@@ -1,13 +1,21 @@
 // Numbers, which a script spells in one way each: a word is read as a number where it is what is
 // printed of that number.
-ghost use Rattle.std.specs.Prelude.{◌≡◌, ◌<◌, ◌^◌, ℕ, ℤ, IfSome, IfNone, decimal};
-ghost use Rattle.rss_model.specs.Script.{IsInt};
+ghost use Rattle.std.specs.Prelude.{◌≡◌, ◌<◌, ◌^◌, ℕ, IfSome, IfNone, decimal};
+ghost use Rattle.rss_model.specs.Script.{IsTransaction, IsTid};
+ghost use Rattle.rss_line.specs.Reads.{ReadsAs, IsInt, IsBelow};
 
 use itoa::Buffer;
+use rss_base::Tid;
+
+/// The number of a transaction lies below this one.
+const NUMBER_LIMIT: u64 = 1 << 32;
+
+const PAGE_LIMIT: u64 = 65_536;
+
+const SLOT_LIMIT: u64 = 128;
 
 pub fn read_int(word: &str) -> Option<i64>
-    ensures some { IfSome result (IsInt word.now) }
-    ensures none { IfNone result ((z : ℤ) → IsInt word.now z → ⊥) }
+    ensures { ReadsAs (IsInt word.now) result }
 {
     let number = word.parse::<i64>().ok()?;
     let mut buffer = Buffer::new();
@@ -33,15 +41,32 @@ pub fn read_number(word: &str) -> Option<u64>
 }
 
 /// A number without a sign, below a limit.
-pub fn read_below(limit: u32, word: &str) -> Option<u32>
-    ensures spelled { IfSome result (λ n. word.now ≡ decimal n) }
-    ensures below { IfSome result (λ n. n < limit) }
-    ensures none { IfNone result ((n : ℕ) → n < limit → word.now ≡ decimal n → ⊥) }
+fn read_below(limit: u64, word: &str) -> Option<u64>
+    ensures { ReadsAs (IsBelow limit word.now) result }
 {
     let number = read_number(word)?;
-    if number < u64::from(limit) {
-        Some(number as u32)
-    } else {
+    if number < limit { Some(number) } else { None }
+}
+
+pub fn read_transaction(word: &str) -> Option<u32>
+    ensures { ReadsAs (IsTransaction word.now) result }
+{
+    let number = read_below(NUMBER_LIMIT, word)?;
+    if number == 0 {
         None
+    } else {
+        Some(number as u32)
     }
+}
+
+pub fn read_tid(word: &str) -> Option<Tid>
+    ensures { ReadsAs (IsTid word.now) result }
+{
+    let (page, slot) = word.split_once('.')?;
+    let page = read_below(PAGE_LIMIT, page)?;
+    let slot = read_below(SLOT_LIMIT, slot)?;
+    Some(Tid {
+        page: page as u32,
+        slot: slot as u16,
+    })
 }

@@ -1,7 +1,8 @@
 // The text of a tuple's values.
 ghost use Rattle.std.specs.Prelude.{[], ◌∷◌, ◌++◌};
 ghost use Rattle.std.specs.Fmt.{signed_decimal};
-ghost use Rattle.rss_model.specs.ReplyText.{doubled, values_text};
+ghost use Rattle.rss_model.specs.Spellings.{doubled};
+ghost use Rattle.rss_model.specs.ReplyText.{values_text};
 ghost use Rattle.rss_line.specs.Appends.{Appends};
 
 use itoa::Buffer;

@@ -1,7 +1,7 @@
 // The words of a line that is written.
 ghost use Rattle.std.specs.Prelude.{◌≡◌, ◌≤◌, ◌==◌, not, [], ◌∷◌, decimal};
 ghost use Rattle.std.specs.List.{prefix_len};
-ghost use Rattle.rss_model.specs.ReplyText.{name_text, tid_text};
+ghost use Rattle.rss_model.specs.Spellings.{name_text, tid_text};
 ghost use Rattle.rss_line.specs.Appends.{Appends};
 ghost use Rattle.rss_line.specs.Words.{with_words};
 

@@ -10,7 +10,8 @@ use Rattle.rss_base.specs.declared.value.Value.TheVariants.{Int}
 use Rattle.rss_base.specs.declared.answer.Reply.TheVariants.{Tid as Identifier, Tuple as TupleReply}
 use Rattle.rss_base.specs.declared.refusal.Refusal.TheVariants.{BadTuple, NoTuple, Full}
 use Rattle.rss_model.specs.Store.{relation_r}
-use Rattle.rss_model.specs.ReplyText.{tid_text, answer_line}
+use Rattle.rss_model.specs.Spellings.{tid_text}
+use Rattle.rss_model.specs.ReplyText.{answer_line}
 
 -- a text of this length, and then the end of its line
 ended : (front text : List ℕ) (n : ℕ) → length text ≤ n → length ((front ++ text) ++ codes "\n") ≤ length front + n + 1

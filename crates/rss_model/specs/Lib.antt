@@ -16,6 +16,7 @@ pub mod Steps
 pub mod Kept
 pub mod Runs
 pub mod Commits
+pub mod Spellings
 pub mod ReplyText
 pub mod Script
 pub mod Plays

@@ -1,10 +1,6 @@
 -- A reply as text.
-use Rattle.std.specs.Prelude.{ℕ, ◌≤◌, length, not, ◌==◌, if◌then◌else◌, List, [], ◌∷◌, ◌++◌, Some, None, Ok, Err, codes, take_while, decimal}
-use Rattle.std.specs.Fmt.{signed_decimal}
-use Rattle.rss_base.specs.declared.name.Name.{Name}
-use Rattle.rss_base.specs.declared.tid.Tid.{Tid}
+use Rattle.std.specs.Prelude.{ℕ, ◌≤◌, length, List, [], ◌∷◌, ◌++◌, Some, None, Ok, Err, codes, decimal}
 use Rattle.rss_base.specs.declared.value.Value.{Value}
-use Rattle.rss_base.specs.declared.value.Value.TheVariants.{Int, Text}
 use Rattle.rss_base.specs.declared.item.Item.{Item}
 use Rattle.rss_base.specs.declared.item.Item.TheVariants.{Segment as SegmentItem, Relation as RelationItem, Tuple as TupleItem, Chain as ChainItem, Key as KeyItem}
 use Rattle.rss_base.specs.declared.answer.Reply.{Reply}
@@ -20,28 +16,13 @@ use Rattle.rss_base.specs.declared.place.Place.TheVariants.{Size, Root, Slot, Ca
 use Rattle.rss_base.specs.declared.key.Space.{Space}
 use Rattle.rss_base.specs.declared.key.Space.TheVariants.{Home, Overflow, Image as ImageSpace, System}
 use Rattle.rss_model.specs.Steps.{Answer}
+use Rattle.rss_model.specs.Spellings.{space, name_text, tid_text, value_text}
 use Rattle.rss_model.specs.Script.{line_limit}
-
--- the bytes before a name's zeros
-abbrev pub name_text : Name → List ℕ
-name_text name = take_while (λ b. not (b == 0)) name.bytes
-
-abbrev pub tid_text : Tid → List ℕ
-tid_text tid = decimal tid.page ++ codes "." ++ decimal tid.slot
-
--- a text between quotes, where a quote within it stands twice
-abbrev pub doubled : List ℕ → List ℕ
-doubled [] = []
-doubled (b ∷ bytes) = if b == 34 then 34 ∷ 34 ∷ doubled bytes else b ∷ doubled bytes
-
-abbrev pub value_text : Value → List ℕ
-value_text (Int z) = signed_decimal z
-value_text (Text bytes) = 34 ∷ (doubled bytes ++ 34 ∷ [])
 
 -- each value after a space
 abbrev pub values_text : List Value → List ℕ
 values_text [] = []
-values_text (value ∷ values) = 32 ∷ (value_text value ++ values_text values)
+values_text (value ∷ values) = space ∷ (value_text value ++ values_text values)
 
 abbrev pub item_text : Item → List ℕ
 item_text (SegmentItem name) = codes "segment " ++ name_text name

@@ -1,14 +1,16 @@
 -- Reading a script: its lines, and the call that a line spells.
-use Rattle.std.specs.Prelude.{◌≡◌, ◌≢◌, ℕ, ◌<◌, ◌≤◌, List, [], ◌∷◌, ◌++◌, length, All, ℤ, codes, decimal, FitsSigned}
-use Rattle.std.specs.Fmt.{signed_decimal}
+use Rattle.std.specs.Prelude.{◌≡◌, ◌≢◌, ℕ, ◌^◌, ◌<◌, ◌≤◌, List, [], ◌∷◌, ◌++◌, length, All, true, codes, decimal, FitsSigned, ⊤}
 use Rattle.std.specs.Int.{w64}
-use Rattle.std.specs.List.{join_with_byte}
+use Rattle.rss_base.specs.Sizes.{page_entries, slots_most}
+use Rattle.rss_base.specs.TupleTypes.{is_allowed_text}
 use Rattle.rss_base.specs.declared.name.Name.{Name}
 use Rattle.rss_base.specs.declared.tid.Tid.{Tid}
-use Rattle.rss_base.specs.declared.value.Value.TheVariants.{Int}
+use Rattle.rss_base.specs.declared.value.Value.{Value}
+use Rattle.rss_base.specs.declared.value.Value.TheVariants.{Int, Text}
 use Rattle.rss_base.specs.declared.call.Call.{Call}
 use Rattle.rss_base.specs.declared.call.Call.TheVariants.{Begin, End, Insert, Fetch}
-use Rattle.rss_model.specs.Store.{relation_r}
+use Rattle.rss_model.specs.Fits.{IsName}
+use Rattle.rss_model.specs.Spellings.{space, name_text, tid_text, value_text}
 
 -- ---- lines
 
@@ -39,53 +41,105 @@ pub record AreLines (bytes : List ℕ) (lines : List (List ℕ)) : Type 0 where
   pub splits : Splits bytes ended left
   pub all : lines ≡ ended ++ last_line left
 
--- ---- words
-
--- the number of a transaction: as yet there is one
-pub record IsTransaction (word : List ℕ) (t : ℕ) : Type 0 where
-  pub spelled : word ≡ decimal t
-  pub only : t ≡ 1
-
--- the name of a relation: as yet there is one
-pub record IsRelation (word : List ℕ) (relation : Name) : Type 0 where
-  pub spelled : word ≡ codes "r"
-  pub only : relation ≡ relation_r
-
--- an identifier: two decimals without leading zeros
-pub record IsTid (word : List ℕ) (tid : Tid) : Type 0 where
-  pub spelled : word ≡ decimal tid.page ++ codes "." ++ decimal tid.slot
-  pub page : tid.page < 65536
-  pub slot : tid.slot < 128
-
--- an INT: a decimal of 64 signed bits without leading zeros
-pub record IsInt (word : List ℕ) (z : ℤ) : Type 0 where
-  pub spelled : word ≡ signed_decimal z
-  pub fits : FitsSigned w64 z
-
--- these words are this call
-pub data Names : List (List ℕ) → Call → Type 0 where
-  begin : {word : List ℕ} {t : ℕ} → IsTransaction word t → Names (codes "begin" ∷ word ∷ []) (Begin t)
-  end : {word : List ℕ} {t : ℕ} → IsTransaction word t → Names (codes "end" ∷ word ∷ []) (End t)
-  insert : {first second third : List ℕ} {t : ℕ} {relation : Name} {z : ℤ} → IsTransaction first t → IsRelation second relation → IsInt third z
-      → Names (codes "insert" ∷ first ∷ second ∷ third ∷ []) (Insert t relation (Int z ∷ []))
-  fetch : {first second third : List ℕ} {t : ℕ} {relation : Name} {tid : Tid} → IsTransaction first t → IsRelation second relation → IsTid third tid
-      → Names (codes "fetch" ∷ first ∷ second ∷ third ∷ []) (Fetch t relation tid)
-
 -- at most so many bytes of a line
 abbrev pub line_limit : ℕ
 line_limit = 8192
 
--- the line is this call: its words, with one space between two
+-- ---- words
+
+abbrev pub AreSpaces : List ℕ → Type 0
+AreSpaces bytes = All (λ b. b ≡ space) bytes
+
+-- what stands behind a word: a space, or nothing
+abbrev pub IsApart : List ℕ → Type 0
+IsApart [] = ⊤
+IsApart (b ∷ bytes) = b ≡ space
+
+-- The bytes begin with this word, and the rest stands behind it. Spaces may stand before it.
+pub record Begins (bytes word rest : List ℕ) : Type 0 where
+  pub spaces : List ℕ
+  pub before : AreSpaces spaces
+  pub parts : bytes ≡ spaces ++ (word ++ rest)
+  pub apart : IsApart rest
+
+-- The bytes are these words, with one or more spaces between two. Spaces may stand behind the last.
+abbrev pub HasWords : List ℕ → List (List ℕ) → Type 0
+HasWords bytes [] = AreSpaces bytes
+HasWords bytes (word ∷ words) = (rest : List ℕ) × Begins bytes word rest × HasWords rest words
+
+-- ---- what a word stands for
+
+-- the number of a transaction lies below this one
+abbrev pub number_limit : ℕ
+number_limit = 2 ^ 32
+
+-- the number of a transaction, without leading zeros
+pub record IsTransaction (word : List ℕ) (t : ℕ) : Type 0 where
+  pub spelled : word ≡ decimal t
+  pub some : 1 ≤ t
+  pub below : t < number_limit
+
+-- the name of a relation
+pub record IsRelation (word : List ℕ) (relation : Name) : Type 0 where
+  pub spelled : word ≡ name_text relation
+  pub name : IsName relation
+
+-- an identifier: two numbers without leading zeros
+pub record IsTid (word : List ℕ) (tid : Tid) : Type 0 where
+  pub spelled : word ≡ tid_text tid
+  pub page : tid.page < slots_most
+  pub slot : tid.slot < page_entries
+
+-- an INT has 64 signed bits, and a TEXT no characters but those that are allowed
+abbrev pub IsProper : Value → Type 0
+IsProper (Int z) = FitsSigned w64 z
+IsProper (Text bytes) = is_allowed_text bytes ≡ true
+
+pub record IsValue (word : List ℕ) (value : Value) : Type 0 where
+  pub spelled : word ≡ value_text value
+  pub proper : IsProper value
+
+-- each word is the value at its place
+abbrev pub AreValues : List (List ℕ) → List Value → Type 0
+AreValues [] [] = ⊤
+AreValues [] (value ∷ values) = ⊥
+AreValues (word ∷ words) [] = ⊥
+AreValues (word ∷ words) (value ∷ values) = IsValue word value × AreValues words values
+
+-- ---- calls
+
+-- These words are this call. Each form of a line is a case.
+pub data Names : List (List ℕ) → Call → Type 0 where
+  begin : {word : List ℕ} {t : ℕ} → IsTransaction word t
+      → Names (codes "begin" ∷ word ∷ []) (Begin t)
+  end : {word : List ℕ} {t : ℕ} → IsTransaction word t
+      → Names (codes "end" ∷ word ∷ []) (End t)
+  insert : {first second : List ℕ} {words : List (List ℕ)}
+      {t : ℕ} {relation : Name} {values : List Value}
+      → IsTransaction first t → IsRelation second relation → AreValues words values
+      → Names (codes "insert" ∷ first ∷ second ∷ words) (Insert t relation values)
+  fetch : {first second third : List ℕ} {t : ℕ} {relation : Name} {tid : Tid}
+      → IsTransaction first t → IsRelation second relation → IsTid third tid
+      → Names (codes "fetch" ∷ first ∷ second ∷ third ∷ []) (Fetch t relation tid)
+
+-- ---- what a line is
+
+abbrev pub IsShortLine : List ℕ → Type 0
+IsShortLine line = length line ≤ line_limit
+
+-- the line is this call
 pub record Spells (line : List ℕ) (call : Call) : Type 0 where
   pub words : List (List ℕ)
-  pub spaced : line ≡ join_with_byte 32 words
+  pub spaced : HasWords line words
   pub names : Names words call
-  pub short : length line ≤ line_limit
+  pub short : IsShortLine line
 
-abbrev pub IsBlank : List ℕ → Type 0
-IsBlank line = line ≡ []
+-- the line has no word
+pub record IsBlank (line : List ℕ) : Type 0 where
+  pub spaces : AreSpaces line
+  pub short : IsShortLine line
 
 -- the line is neither blank nor a call
 pub record IsWords (line : List ℕ) : Type 0 where
-  pub some : line ≢ []
+  pub some : IsBlank line → ⊥
   pub no_call : (call : Call) → Spells line call → ⊥

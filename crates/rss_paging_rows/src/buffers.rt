@@ -1,16 +1,15 @@
 // Pages over a device and in memory, as they run.
-use crate::asserts::{assert_same, assert_same_slices};
 use crate::caller::keep;
 use crate::harness::{
     failing_at, first_root, home, image_at, is_half_free, page_at, pages_with_root,
 };
+use rss_asserts::{assert_same, assert_same_slices};
 use rss_base::{Page, PageFault, PageKey, Pages, Space, log_at};
 use rss_buffer::{Buffer, Saving, Stage};
 use rss_device::{MemDevice, MemPages, Unsynced};
 use rss_pagemap::read_table;
 use rss_root::load;
 use std::alloc::Global;
-use std::process::Abort;
 use std::test::Fail;
 
 /// A store of 128 slots, and how many pages its device has.
@@ -327,6 +326,16 @@ pub(crate) fn device_of(
     }
 }
 
+/// The same where it was seen to be done.
+pub(crate) fn device_after(
+    pages: Buffer<MemDevice>,
+    seen: Result<(), Fail>,
+) -> Result<MemDevice, Fail> {
+    let device = pages.into_device();
+    seen?;
+    Ok(device)
+}
+
 /// The device of a store with the first round.
 fn first_device(alloc: Global) -> Result<MemDevice, Fail> {
     let mut pages = empty(alloc)?;
@@ -364,67 +373,56 @@ fn second_device(alloc: Global, save: &[Step]) -> Result<MemDevice, Fail> {
 }
 
 /// All pages are of these rounds.
-fn assert_rounds<P: Pages>(
-    rt: &impl Abort,
-    pages: &mut P,
-    want: &Rounds,
-    when: &str,
-) -> Result<(), Undone> {
-    assert_same_slices(rt, &rounds_of(pages)?, want, when);
+fn assert_rounds<P: Pages>(pages: &mut P, want: &Rounds, when: &str) -> Result<(), Fail> {
+    assert_same_slices(&rounds_of(pages)?, want, when)?;
     Ok(())
 }
 
 /// Does the steps of a save. All pages are read before the first, and after each.
-fn assert_saved<S: Saving>(
-    rt: &impl Abort,
-    pages: &mut S,
-    save: &[Step],
-    want: &Rounds,
-) -> Result<(), Undone> {
-    assert_rounds(rt, pages, want, "written")?;
+fn assert_saved<S: Saving>(pages: &mut S, save: &[Step], want: &Rounds) -> Result<(), Fail> {
+    assert_rounds(pages, want, "written")?;
     for step in save {
         do_step(pages, *step)?;
-        assert_rounds(rt, pages, want, "on the way to the disk")?;
+        assert_rounds(pages, want, "on the way to the disk")?;
     }
     Ok(())
 }
 
 /// Makes and saves the first round over pages that have none.
-fn assert_first<S: Saving>(rt: &impl Abort, pages: &mut S) -> Result<(), Undone> {
+fn assert_first<S: Saving>(pages: &mut S) -> Result<(), Fail> {
     make_first(pages)?;
-    assert_saved(rt, pages, &FIRST_SAVE, &FIRST_ROUND)
+    assert_saved(pages, &FIRST_SAVE, &FIRST_ROUND)
 }
 
 /// Makes and saves the second round over those of the first.
-fn assert_second<S: Saving>(rt: &impl Abort, pages: &mut S) -> Result<(), Undone> {
-    assert_rounds(rt, pages, &FIRST_ROUND, "opened")?;
+fn assert_second<S: Saving>(pages: &mut S) -> Result<(), Fail> {
+    assert_rounds(pages, &FIRST_ROUND, "opened")?;
     make_second(pages)?;
-    assert_saved(rt, pages, &SECOND_SAVE, &second_round())
+    assert_saved(pages, &SECOND_SAVE, &second_round())
 }
 
 /// The second round is there once more.
-fn assert_opened_again<P: Pages>(rt: &impl Abort, pages: &mut P) -> Result<(), Fail> {
-    Ok(assert_rounds(rt, pages, &second_round(), "opened again")?)
+fn assert_opened_again<P: Pages>(pages: &mut P) -> Result<(), Fail> {
+    Ok(assert_rounds(pages, &second_round(), "opened again")?)
 }
 
 /// The device on which the first round is so made and saved.
-fn first_asserted(rt: &impl Abort, alloc: Global) -> Result<MemDevice, Fail> {
+fn first_asserted(alloc: Global) -> Result<MemDevice, Fail> {
     let mut pages = empty(alloc)?;
-    let done = assert_first(rt, &mut pages);
-    device_of(pages, done)
+    let done = assert_first(&mut pages);
+    device_after(pages, done)
 }
 
 /// The device on which the second is.
-fn second_asserted(rt: &impl Abort, alloc: Global) -> Result<MemDevice, Fail> {
-    let mut pages = open(alloc, first_asserted(rt, alloc)?)?;
-    let done = assert_second(rt, &mut pages);
-    device_of(pages, done)
+fn second_asserted(alloc: Global) -> Result<MemDevice, Fail> {
+    let mut pages = open(alloc, first_asserted(alloc)?)?;
+    let done = assert_second(&mut pages);
+    device_after(pages, done)
 }
 
 /// Stops a device at a moment of the second round. What that leaves is one of the two rounds, and
 /// where nothing is switched the first.
 fn assert_stop(
-    rt: &impl Abort,
     alloc: Global,
     device: &MemDevice,
     moment: usize,
@@ -433,93 +431,88 @@ fn assert_stop(
     for unsynced in &UNSYNCED {
         let rounds = rounds_after(alloc, device, moment, *unsynced)?;
         if !is_switching || rounds != second_round() {
-            assert_same_slices(rt, &rounds, &FIRST_ROUND, (*unsynced, "at moment", moment));
+            assert_same_slices(&rounds, &FIRST_ROUND, (*unsynced, "at moment", moment))?;
         }
     }
     Ok(())
 }
 
 /// Stops it at each moment but the last, where up to this one nothing is switched.
-fn assert_stops(
-    rt: &impl Abort,
-    alloc: Global,
-    device: &MemDevice,
-    saved: usize,
-) -> Result<(), Fail> {
+fn assert_stops(alloc: Global, device: &MemDevice, saved: usize) -> Result<(), Fail> {
     for moment in 0..device.moment() {
-        assert_stop(rt, alloc, device, moment, moment > saved)?;
+        assert_stop(alloc, device, moment, moment > saved)?;
     }
     Ok(())
 }
 
 /// Stops it at the last moment.
-fn assert_end(rt: &impl Abort, alloc: Global, device: &MemDevice) -> Result<(), Fail> {
+fn assert_end(alloc: Global, device: &MemDevice) -> Result<(), Fail> {
     for unsynced in &UNSYNCED {
         let rounds = rounds_after(alloc, device, device.moment(), *unsynced)?;
-        assert_same_slices(rt, &rounds, &second_round(), (*unsynced, "at the end"));
+        assert_same_slices(&rounds, &second_round(), (*unsynced, "at the end"))?;
     }
     Ok(())
 }
 
 /// What a second save leaves in which a call of the device fails.
-fn device_of_failure(
-    rt: &impl Abort,
-    alloc: Global,
-    store: &[Page],
-    call: u64,
-) -> Result<MemDevice, Fail> {
+fn device_of_failure(alloc: Global, store: &[Page], call: u64) -> Result<MemDevice, Fail> {
     let mut pages = open_failing(alloc, store, call)?;
-    assert_fails(rt, &mut pages, call);
+    assert_fails(&mut pages, call)?;
     Ok(pages.into_device())
 }
 
 /// Fails a call of the device in the second round.
-fn assert_failure(rt: &impl Abort, alloc: Global, store: &[Page], call: u64) -> Result<(), Fail> {
-    let device = device_of_failure(rt, alloc, store, call)?;
-    assert_stop(rt, alloc, &device, device.moment(), true)
+fn assert_failure(alloc: Global, store: &[Page], call: u64) -> Result<(), Fail> {
+    let device = device_of_failure(alloc, store, call)?;
+    assert_stop(alloc, &device, device.moment(), true)
 }
 
 /// Fails each of them.
-fn assert_failures(rt: &impl Abort, alloc: Global, store: &[Page]) -> Result<(), Fail> {
+fn assert_failures(alloc: Global, store: &[Page]) -> Result<(), Fail> {
     for call in OPENING..DONE {
-        assert_failure(rt, alloc, store, call)?;
+        assert_failure(alloc, store, call)?;
     }
     Ok(())
 }
 
 /// Makes and saves the second round.
-fn assert_done<S: Saving>(rt: &impl Abort, pages: &mut S) {
+fn assert_done<S: Saving>(pages: &mut S) -> Result<(), Fail> {
     let done = save_second(pages, &SECOND_SAVE);
-    assert_same(rt, &done, &Ok(()), "no call fails");
+    assert_same(&done, &Ok(()), "no call fails")?;
+    Ok(())
 }
 
 /// Makes it and saves it where the device fails.
-fn assert_fails<S: Saving>(rt: &impl Abort, pages: &mut S, call: u64) {
+fn assert_fails<S: Saving>(pages: &mut S, call: u64) -> Result<(), Fail> {
     let done = save_second(pages, &SECOND_SAVE);
     let want = Err(Undone::Fault(PageFault::Device));
-    assert_same(rt, &done, &want, ("call", call));
+    assert_same(&done, &want, ("call", call))?;
+    Ok(())
 }
 
 /// Reads a page, and finds it as it was written in the first round.
-fn assert_read<P: Pages>(rt: &impl Abort, pages: &mut P, number: u32, when: &str) {
+fn assert_read<P: Pages>(pages: &mut P, number: u32, when: &str) -> Result<(), Fail> {
     let page = read(pages, home(1, number));
-    assert_same(rt, &page, &Ok(page_of(number, 1)), when);
+    assert_same(&page, &Ok(page_of(number, 1)), when)?;
+    Ok(())
 }
 
 /// Reads a page, and the device fails.
-fn assert_unread<P: Pages>(rt: &impl Abort, pages: &mut P, number: u32, when: &str) {
+fn assert_unread<P: Pages>(pages: &mut P, number: u32, when: &str) -> Result<(), Fail> {
     let page = read(pages, home(1, number));
-    assert_same(rt, &page, &Err(Undone::Fault(PageFault::Device)), when);
+    assert_same(&page, &Err(Undone::Fault(PageFault::Device)), when)?;
+    Ok(())
 }
 
 /// Reads a page three times, and then another one, where the device's second read fails.
-fn assert_read_once<P: Pages>(rt: &impl Abort, pages: &mut P) {
+fn assert_read_once<P: Pages>(pages: &mut P) -> Result<(), Fail> {
     for when in ["once", "twice", "three times"] {
-        assert_read(rt, pages, 0, when);
+        assert_read(pages, 0, when)?;
     }
-    assert_unread(rt, pages, 1, "the second read of the device");
-    assert_read(rt, pages, 1, "its third read");
-    assert_read(rt, pages, 0, "at last");
+    assert_unread(pages, 1, "the second read of the device")?;
+    assert_read(pages, 1, "its third read")?;
+    assert_read(pages, 0, "at last")?;
+    Ok(())
 }
 
 /// Reads eight pages, the first of them again, and a ninth.
@@ -530,42 +523,37 @@ fn read_nine_pages<P: Pages>(pages: &mut P) -> Result<(), Undone> {
 }
 
 /// Reads nine pages so, where the device's tenth read fails. The first is then in memory and the second isn't, which wasn't used for the longest time.
-fn assert_eldest_leaves<P: Pages>(rt: &impl Abort, pages: &mut P) -> Result<(), Fail> {
+fn assert_eldest_leaves<P: Pages>(pages: &mut P) -> Result<(), Fail> {
     read_nine_pages(pages)?;
-    assert_read(rt, pages, 0, "the first page");
-    assert_unread(rt, pages, 1, "the second page");
+    assert_read(pages, 0, "the first page")?;
+    assert_unread(pages, 1, "the second page")?;
     Ok(())
 }
 
 /// Reads all pages twice.
-fn assert_read_twice<P: Pages>(rt: &impl Abort, pages: &mut P) -> Result<(), Undone> {
-    assert_rounds(rt, pages, &FIRST_ROUND, "once")?;
-    assert_rounds(rt, pages, &FIRST_ROUND, "twice")
+fn assert_read_twice<P: Pages>(pages: &mut P) -> Result<(), Fail> {
+    assert_rounds(pages, &FIRST_ROUND, "once")?;
+    assert_rounds(pages, &FIRST_ROUND, "twice")
 }
 
 /// The device on which all pages were read twice.
-fn device_read_twice(rt: &impl Abort, alloc: Global) -> Result<MemDevice, Fail> {
+fn device_read_twice(alloc: Global) -> Result<MemDevice, Fail> {
     let mut pages = open(alloc, MemDevice::new(alloc, first_store(alloc)?)?)?;
-    let done = assert_read_twice(rt, &mut pages);
-    device_of(pages, done)
+    let done = assert_read_twice(&mut pages);
+    device_after(pages, done)
 }
 
 /// Fills a log page with sevens.
-fn fill_piece<S: Saving>(rt: &impl Abort, pages: &mut S, number: u32) -> Result<(), Undone> {
+fn fill_piece<S: Saving>(pages: &mut S, number: u32) -> Result<(), Fail> {
     write_piece(pages, number, 7)?;
-    assert_rounds(rt, pages, &FIRST_ROUND, "a log page is written")
+    assert_rounds(pages, &FIRST_ROUND, "a log page is written")
 }
 
 /// A device on which a log page was so filled.
-fn device_with_piece(
-    rt: &impl Abort,
-    alloc: Global,
-    store: &[Page],
-    number: u32,
-) -> Result<MemDevice, Fail> {
+fn device_with_piece(alloc: Global, store: &[Page], number: u32) -> Result<MemDevice, Fail> {
     let mut pages = open(alloc, copy_of(alloc, store)?)?;
-    let done = fill_piece(rt, &mut pages, number);
-    device_of(pages, done)
+    let done = fill_piece(&mut pages, number);
+    device_after(pages, done)
 }
 
 /// The pages of a device, but that a log page is filled so.
@@ -578,41 +566,31 @@ fn pages_with_piece(alloc: Global, store: &[Page], number: u32) -> Result<Vec<Pa
 }
 
 /// Fills a log page, and finds it on the device with all else as it was.
-fn assert_piece(rt: &impl Abort, alloc: Global, store: &[Page], number: u32) -> Result<(), Fail> {
-    let device = device_with_piece(rt, alloc, store, number)?;
+fn assert_piece(alloc: Global, store: &[Page], number: u32) -> Result<(), Fail> {
+    let device = device_with_piece(alloc, store, number)?;
     let want = pages_with_piece(alloc, store, number)?;
     let is_alone = device.pages() == want.as_slice();
-    assert_same(rt, &is_alone, &true, ("log page", number));
+    assert_same(&is_alone, &true, ("log page", number))?;
     Ok(())
 }
 
-fn assert_pieces(rt: &impl Abort, alloc: Global, store: &[Page]) -> Result<(), Fail> {
+fn assert_pieces(alloc: Global, store: &[Page]) -> Result<(), Fail> {
     for number in 0..8 {
-        assert_piece(rt, alloc, store, number)?;
+        assert_piece(alloc, store, number)?;
     }
     Ok(())
 }
 
 /// The first and the last log page are as they were written on the way, and so are all pages.
-fn assert_saved_with_pieces(
-    rt: &impl Abort,
-    alloc: Global,
-    device: &MemDevice,
-) -> Result<(), Fail> {
+fn assert_saved_with_pieces(alloc: Global, device: &MemDevice) -> Result<(), Fail> {
+    assert_same(&page_at(device, LOG_AT)?, &[7; 4096], "the first log page")?;
     assert_same(
-        rt,
-        &page_at(device, LOG_AT)?,
-        &[7; 4096],
-        "the first log page",
-    );
-    assert_same(
-        rt,
         &page_at(device, LOG_AT + 7)?,
         &[8; 4096],
         "the last log page",
-    );
+    )?;
     let rounds = rounds_in(alloc, Vec::from_slice(alloc, device.pages())?)?;
-    assert_same_slices(rt, &rounds, &second_round(), "the pages");
+    assert_same_slices(&rounds, &second_round(), "the pages")?;
     Ok(())
 }
 
@@ -646,53 +624,38 @@ fn found<P: Pages>(alloc: Global, pages: &mut P) -> Result<Vec<u32>, Fail> {
     kept(alloc, pages, 3)
 }
 
-fn assert_found<P: Pages>(
-    rt: &impl Abort,
-    alloc: Global,
-    pages: &mut P,
-    place: &str,
-) -> Result<(), Fail> {
+fn assert_found<P: Pages>(alloc: Global, pages: &mut P, place: &str) -> Result<(), Fail> {
     let numbers = found(alloc, pages)?;
-    assert_same_slices(rt, numbers.as_slice(), &[3, 11, 20], place);
+    assert_same_slices(numbers.as_slice(), &[3, 11, 20], place)?;
     Ok(())
 }
 
 /// So many pages are the same in both places.
-fn assert_same_pages<P: Pages, Q: Pages>(
-    rt: &impl Abort,
-    on_device: &mut P,
-    in_memory: &mut Q,
-) -> Result<(), Fail> {
+fn assert_same_pages<P: Pages, Q: Pages>(on_device: &mut P, in_memory: &mut Q) -> Result<(), Fail> {
     for number in 0..21 {
         let page = read(on_device, home(1, number))?;
         let here = read(in_memory, home(1, number));
-        assert_same(rt, &here, &Ok(page), ("page", number));
+        assert_same(&here, &Ok(page), ("page", number))?;
     }
     Ok(())
 }
 
 /// A caller finds the same in both places.
 fn assert_alike<P: Pages, Q: Pages>(
-    rt: &impl Abort,
     alloc: Global,
     on_device: &mut P,
     in_memory: &mut Q,
 ) -> Result<(), Fail> {
-    assert_found(rt, alloc, on_device, "on a device")?;
-    assert_found(rt, alloc, in_memory, "in memory")?;
-    assert_same(
-        rt,
-        &on_device.spare(),
-        &in_memory.spare(),
-        "the spare pages",
-    );
-    assert_same_pages(rt, on_device, in_memory)
+    assert_found(alloc, on_device, "on a device")?;
+    assert_found(alloc, in_memory, "in memory")?;
+    assert_same(&on_device.spare(), &in_memory.spare(), "the spare pages")?;
+    assert_same_pages(on_device, in_memory)
 }
 
 #[test]
 fn sixty_pages_in_eight_frames_are_read_as_they_were_written(rt: HostRuntime) -> Result<(), Fail> {
-    let mut pages = open(rt.alloc(), second_asserted(&rt, rt.alloc())?)?;
-    assert_opened_again(&rt, &mut pages)
+    let mut pages = open(rt.alloc(), second_asserted(rt.alloc())?)?;
+    assert_opened_again(&mut pages)
 }
 
 #[test]
@@ -701,8 +664,8 @@ fn a_stop_at_each_moment_finds_the_pages_of_before_the_switch_or_after_it(
 ) -> Result<(), Fail> {
     let saved = second_device(rt.alloc(), &SECOND_SAVE[..1])?.moment();
     let device = second_device(rt.alloc(), &SECOND_SAVE)?;
-    assert_stops(&rt, rt.alloc(), &device, saved)?;
-    assert_end(&rt, rt.alloc(), &device)
+    assert_stops(rt.alloc(), &device, saved)?;
+    assert_end(rt.alloc(), &device)
 }
 
 #[test]
@@ -710,20 +673,20 @@ fn a_failed_call_of_the_device_is_a_device_fault_and_no_page_is_lost(
     rt: HostRuntime,
 ) -> Result<(), Fail> {
     let store = first_store(rt.alloc())?;
-    assert_failures(&rt, rt.alloc(), store.as_slice())
+    assert_failures(rt.alloc(), store.as_slice())
 }
 
 #[test]
 fn a_second_save_has_no_further_call_of_the_device(rt: HostRuntime) -> Result<(), Fail> {
     let mut pages = open_first(rt.alloc(), DONE)?;
-    assert_done(&rt, &mut pages);
+    assert_done(&mut pages)?;
     Ok(())
 }
 
 #[test]
 fn a_page_in_memory_is_not_read_again(rt: HostRuntime) -> Result<(), Fail> {
     let mut pages = open_first(rt.alloc(), OPENING + 1)?;
-    assert_read_once(&rt, &mut pages);
+    assert_read_once(&mut pages)?;
     Ok(())
 }
 
@@ -732,32 +695,32 @@ fn the_page_that_was_not_used_for_the_longest_time_leaves_memory(
     rt: HostRuntime,
 ) -> Result<(), Fail> {
     let mut pages = open_first(rt.alloc(), OPENING + 9)?;
-    assert_eldest_leaves(&rt, &mut pages)
+    assert_eldest_leaves(&mut pages)
 }
 
 #[test]
 fn pages_that_are_only_read_are_not_written(rt: HostRuntime) -> Result<(), Fail> {
-    let device = device_read_twice(&rt, rt.alloc())?;
+    let device = device_read_twice(rt.alloc())?;
     // An opening syncs, and that is all.
-    assert_same(&rt, &device.moment(), &1, "the last moment");
+    assert_same(&device.moment(), &1, "the last moment")?;
     Ok(())
 }
 
 #[test]
 fn a_log_page_is_written_and_no_other_page(rt: HostRuntime) -> Result<(), Fail> {
     let store = first_store(rt.alloc())?;
-    assert_pieces(&rt, rt.alloc(), store.as_slice())
+    assert_pieces(rt.alloc(), store.as_slice())
 }
 
 #[test]
 fn pages_are_saved_while_log_pages_are_written(rt: HostRuntime) -> Result<(), Fail> {
     let device = second_device(rt.alloc(), &SECOND_SAVE_WITH_PIECES)?;
-    assert_saved_with_pieces(&rt, rt.alloc(), &device)
+    assert_saved_with_pieces(rt.alloc(), &device)
 }
 
 #[test]
 fn a_caller_finds_the_same_over_a_device_and_in_memory(rt: HostRuntime) -> Result<(), Fail> {
     let mut on_device = empty(rt.alloc())?;
     let mut in_memory = MemPages::new(rt.alloc(), SLOTS)?;
-    assert_alike(&rt, rt.alloc(), &mut on_device, &mut in_memory)
+    assert_alike(rt.alloc(), &mut on_device, &mut in_memory)
 }

@@ -1,15 +1,14 @@
 // Pages that are found by their numbers and by their notes, and pages that are lent.
-use crate::asserts::assert_same;
 use crate::buffers::{
-    FIRST_SAVE, OPENING, SLOTS, Undone, device_of, do_steps, empty, give, open, open_first,
+    FIRST_SAVE, OPENING, SLOTS, Undone, device_after, do_steps, empty, give, open, open_first,
     page_of, write,
 };
 use crate::harness::home;
+use rss_asserts::assert_same;
 use rss_base::{Page, PageKey, Pages, Space};
 use rss_buffer::Saving;
 use rss_device::{MemDevice, MemPages};
 use std::alloc::Global;
-use std::process::Abort;
 use std::test::Fail;
 
 /// What is done to a page of segment 1.
@@ -116,19 +115,19 @@ fn do_act<P: Pages>(pages: &mut P, space: Space, act: Act) -> Result<(), Undone>
 }
 
 /// After each act the first page that may do is the one that is wanted.
-fn assert_noted<P: Pages>(rt: &impl Abort, pages: &mut P, space: Space) -> Result<(), Undone> {
+fn assert_noted<P: Pages>(pages: &mut P, space: Space) -> Result<(), Fail> {
     for (act, want) in &ACTS {
         do_act(pages, space, *act)?;
         let found = first_noted(pages, space, 0, 100)?;
-        assert_same(rt, &found, want, (space, *act));
+        assert_same(&found, want, (space, *act))?;
     }
     Ok(())
 }
 
 /// The same in both spaces that are noted.
-fn assert_all_noted<P: Pages>(rt: &impl Abort, pages: &mut P) -> Result<(), Undone> {
-    assert_noted(rt, pages, Space::Home)?;
-    assert_noted(rt, pages, Space::Overflow)
+fn assert_all_noted<P: Pages>(pages: &mut P) -> Result<(), Fail> {
+    assert_noted(pages, Space::Home)?;
+    assert_noted(pages, Space::Overflow)
 }
 
 /// Takes five pages, and gives the first and the fourth back.
@@ -141,13 +140,13 @@ fn take_some<P: Pages>(pages: &mut P) -> Result<(), Undone> {
 }
 
 /// Each number is answered that is wanted.
-fn assert_firsts<P: Pages>(rt: &impl Abort, pages: &mut P) -> Result<(), Undone> {
+fn assert_firsts<P: Pages>(pages: &mut P) -> Result<(), Fail> {
     take_some(pages)?;
     for (from, mapped, unmapped) in &FIRSTS {
         let found = pages.first_mapped(1, Space::Image, *from);
-        assert_same(rt, &found, mapped, ("mapped from", *from));
+        assert_same(&found, mapped, ("mapped from", *from))?;
         let found = pages.first_unmapped(1, Space::Image, *from);
-        assert_same(rt, &found, unmapped, ("unmapped from", *from));
+        assert_same(&found, unmapped, ("unmapped from", *from))?;
     }
     Ok(())
 }
@@ -161,74 +160,75 @@ fn note_two<P: Pages>(pages: &mut P) -> Result<(), Undone> {
 }
 
 /// Notes them so, and saves the pages.
-fn assert_saved_notes<S: Saving>(rt: &impl Abort, pages: &mut S) -> Result<(), Undone> {
+fn assert_saved_notes<S: Saving>(pages: &mut S) -> Result<(), Fail> {
     note_two(pages)?;
     do_steps(pages, &FIRST_SAVE)?;
     let found = first_noted(pages, Space::Home, 0, 6)?;
-    assert_same(rt, &found, &Some(1), "after a save");
+    assert_same(&found, &Some(1), "after a save")?;
     Ok(())
 }
 
 /// The device on which they are saved.
-fn saved_device(rt: &impl Abort, alloc: Global) -> Result<MemDevice, Fail> {
+fn saved_device(alloc: Global) -> Result<MemDevice, Fail> {
     let mut pages = empty(alloc)?;
-    let done = assert_saved_notes(rt, &mut pages);
-    device_of(pages, done)
+    let done = assert_saved_notes(&mut pages);
+    device_after(pages, done)
 }
 
 /// The page is lent as it was written.
-fn assert_lent<P: Pages>(rt: &impl Abort, pages: &mut P, number: u32, round: u8, when: &str) {
+fn assert_lent<P: Pages>(pages: &mut P, number: u32, round: u8, when: &str) -> Result<(), Fail> {
     let page = lent(pages, home(1, number));
-    assert_same(rt, &page, &Ok(page_of(number, round)), when);
+    assert_same(&page, &Ok(page_of(number, round)), when)?;
+    Ok(())
 }
 
 /// A page is lent as it was saved and then as it is written, where the device reads once.
-fn assert_lent_twice<P: Pages>(rt: &impl Abort, pages: &mut P) -> Result<(), Undone> {
-    assert_lent(rt, pages, 0, 1, "as it was saved");
-    assert_lent(rt, pages, 0, 1, "again");
+fn assert_lent_twice<P: Pages>(pages: &mut P) -> Result<(), Fail> {
+    assert_lent(pages, 0, 1, "as it was saved")?;
+    assert_lent(pages, 0, 1, "again")?;
     write(pages, home(1, 0), &page_of(0, 2))?;
-    assert_lent(rt, pages, 0, 2, "as it is written");
+    assert_lent(pages, 0, 2, "as it is written")?;
     Ok(())
 }
 
 /// A page in memory is lent as it was written.
-fn assert_lent_in_memory<P: Pages>(rt: &impl Abort, pages: &mut P) -> Result<(), Undone> {
+fn assert_lent_in_memory<P: Pages>(pages: &mut P) -> Result<(), Fail> {
     take(pages, Space::Home)?;
     write(pages, home(1, 0), &page_of(0, 1))?;
-    assert_lent_twice(rt, pages)
+    assert_lent_twice(pages)
 }
 
 #[test]
 fn the_first_page_that_may_do_is_found_by_the_notes(rt: HostRuntime) -> Result<(), Fail> {
     let mut on_device = empty(rt.alloc())?;
-    assert_all_noted(&rt, &mut on_device)?;
+    assert_all_noted(&mut on_device)?;
     let mut in_memory = MemPages::new(rt.alloc(), SLOTS)?;
-    assert_all_noted(&rt, &mut in_memory)?;
+    assert_all_noted(&mut in_memory)?;
     Ok(())
 }
 
 #[test]
 fn pages_are_found_by_their_numbers(rt: HostRuntime) -> Result<(), Fail> {
     let mut on_device = empty(rt.alloc())?;
-    assert_firsts(&rt, &mut on_device)?;
+    assert_firsts(&mut on_device)?;
     let mut in_memory = MemPages::new(rt.alloc(), SLOTS)?;
-    assert_firsts(&rt, &mut in_memory)?;
+    assert_firsts(&mut in_memory)?;
     Ok(())
 }
 
 #[test]
 fn a_note_outlives_a_save_and_no_opening(rt: HostRuntime) -> Result<(), Fail> {
-    let pages = open(rt.alloc(), saved_device(&rt, rt.alloc())?)?;
+    let pages = open(rt.alloc(), saved_device(rt.alloc())?)?;
     let found = first_noted(&pages, Space::Home, 0, 6)?;
-    assert_same(&rt, &found, &Some(0), "after an opening");
+    assert_same(&found, &Some(0), "after an opening")?;
     Ok(())
 }
 
 #[test]
 fn a_page_is_lent_as_it_was_written_and_read_once(rt: HostRuntime) -> Result<(), Fail> {
     let mut on_device = open_first(rt.alloc(), OPENING + 1)?;
-    assert_lent_twice(&rt, &mut on_device)?;
+    assert_lent_twice(&mut on_device)?;
     let mut in_memory = MemPages::new(rt.alloc(), SLOTS)?;
-    assert_lent_in_memory(&rt, &mut in_memory)?;
+    assert_lent_in_memory(&mut in_memory)?;
     Ok(())
 }

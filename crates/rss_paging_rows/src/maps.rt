@@ -1,14 +1,13 @@
 // Maps, as bytes and on a device.
-use crate::asserts::{assert_same, assert_same_slices};
 use crate::harness::{
     failing_at, first_root, load_table, others_from, page_at, pages_with_root, put_entry,
     switch_from, write_to,
 };
+use rss_asserts::{assert_same, assert_same_slices};
 use rss_base::{Device, Failed, OpenFault, Page, PageKey, Place, Space};
 use rss_device::MemDevice;
 use rss_pagemap::SlotTable;
 use std::alloc::Global;
-use std::process::Abort;
 use std::test::Fail;
 
 type Entry = [u8; 8];
@@ -193,44 +192,38 @@ fn device_of(alloc: Global, table: &SlotTable) -> Result<MemDevice, Fail> {
 
 /// A page of a device has these bytes that aren't 0.
 fn assert_bytes(
-    rt: &impl Abort,
     alloc: Global,
     device: &MemDevice,
     at: usize,
     want: &[(usize, u8)],
 ) -> Result<(), Fail> {
     let bytes = bytes_at(alloc, device, at)?;
-    assert_same_slices(rt, bytes.as_slice(), want, ("page", at));
+    assert_same_slices(bytes.as_slice(), want, ("page", at))?;
     Ok(())
 }
 
 /// Both areas of a device on which a table was written to area 0.
-fn assert_areas(rt: &impl Abort, alloc: Global, table: &SlotTable) -> Result<(), Fail> {
+fn assert_areas(alloc: Global, table: &SlotTable) -> Result<(), Fail> {
     let device = device_of(alloc, table)?;
-    assert_bytes(rt, alloc, &device, 3, &OF_LAST_SYSTEM)?;
-    assert_bytes(rt, alloc, &device, 4, &[])
+    assert_bytes(alloc, &device, 3, &OF_LAST_SYSTEM)?;
+    assert_bytes(alloc, &device, 4, &[])
 }
 
 /// An entry is read as its page in each of the slots.
-fn assert_sound(
-    rt: &impl Abort,
-    alloc: Global,
-    entry: Entry,
-    want: Option<PageKey>,
-) -> Result<(), Fail> {
+fn assert_sound(alloc: Global, entry: Entry, want: Option<PageKey>) -> Result<(), Fail> {
     for slot in &SLOTS {
         let owner = owner_by(alloc, *slot, entry)?;
-        assert_same(rt, &owner, &want, (entry, "in slot", *slot));
+        assert_same(&owner, &want, (entry, "in slot", *slot))?;
     }
     Ok(())
 }
 
 /// An entry is named by its slot in each of the slots.
-fn assert_wrong(rt: &impl Abort, alloc: Global, name: &str, entry: Entry) -> Result<(), Fail> {
+fn assert_wrong(alloc: Global, name: &str, entry: Entry) -> Result<(), Fail> {
     for slot in &SLOTS {
         let fault = fault_by(alloc, *slot, entry)?;
         let want = Some(OpenFault::NotAStore(Place::Slot(*slot)));
-        assert_same(rt, &fault, &want, (name, "in slot", *slot));
+        assert_same(&fault, &want, (name, "in slot", *slot))?;
     }
     Ok(())
 }
@@ -256,10 +249,10 @@ fn write_failing(alloc: Global, table: &SlotTable, call: u64) -> Result<Result<(
     write_to(&mut device, table, 1)
 }
 
-fn assert_write_calls(rt: &impl Abort, alloc: Global, table: &SlotTable) -> Result<(), Fail> {
+fn assert_write_calls(alloc: Global, table: &SlotTable) -> Result<(), Fail> {
     for (call, want) in &WRITE_CALLS {
         let written = write_failing(alloc, table, *call)?;
-        assert_same(rt, &written, want, ("call", *call));
+        assert_same(&written, want, ("call", *call))?;
     }
     Ok(())
 }
@@ -267,21 +260,21 @@ fn assert_write_calls(rt: &impl Abort, alloc: Global, table: &SlotTable) -> Resu
 #[test]
 fn a_new_table_is_free(rt: HostRuntime) -> Result<(), Fail> {
     let table = SlotTable::new(rt.alloc(), 64)?;
-    assert_same(&rt, &table.slots(), &64, "how many slots");
-    assert_same_slices(&rt, table.as_slice(), &[None; 64], "the slots");
+    assert_same(&table.slots(), &64, "how many slots")?;
+    assert_same_slices(table.as_slice(), &[None; 64], "the slots")?;
     Ok(())
 }
 
 #[test]
 fn an_entry_has_the_bytes_of_its_format(rt: HostRuntime) -> Result<(), Fail> {
     let table = table_of_last_system(rt.alloc())?;
-    assert_areas(&rt, rt.alloc(), &table)
+    assert_areas(rt.alloc(), &table)
 }
 
 #[test]
 fn a_sound_entry_is_read_as_its_page(rt: HostRuntime) -> Result<(), Fail> {
     for (entry, want) in &SOUND {
-        assert_sound(&rt, rt.alloc(), *entry, *want)?;
+        assert_sound(rt.alloc(), *entry, *want)?;
     }
     Ok(())
 }
@@ -289,7 +282,7 @@ fn a_sound_entry_is_read_as_its_page(rt: HostRuntime) -> Result<(), Fail> {
 #[test]
 fn each_entry_turned_wrong_is_named(rt: HostRuntime) -> Result<(), Fail> {
     for (name, entry) in &WRONG {
-        assert_wrong(&rt, rt.alloc(), name, *entry)?;
+        assert_wrong(rt.alloc(), name, *entry)?;
     }
     Ok(())
 }
@@ -299,7 +292,7 @@ fn bytes_behind_the_last_entry_are_named(rt: HostRuntime) -> Result<(), Fail> {
     let want = Some(OpenFault::NotAStore(Place::Slot(64)));
     for offset in &[512, 4095] {
         let fault = fault_by_byte(rt.alloc(), *offset)?;
-        assert_same(&rt, &fault, &want, ("byte", *offset));
+        assert_same(&fault, &want, ("byte", *offset))?;
     }
     Ok(())
 }
@@ -310,21 +303,21 @@ fn a_failed_read_of_a_table_is_a_device_fault(rt: HostRuntime) -> Result<(), Fai
     // The call behind the four of the root's.
     let mut device = failing_at(rt.alloc(), device, 4)?;
     let fault = fault_of(rt.alloc(), &mut device);
-    assert_same(&rt, &fault, &Some(OpenFault::Device), "the fifth call");
+    assert_same(&fault, &Some(OpenFault::Device), "the fifth call")?;
     Ok(())
 }
 
 #[test]
 fn a_failed_write_of_a_table_is_a_failure(rt: HostRuntime) -> Result<(), Fail> {
     let table = SlotTable::new(rt.alloc(), 1500)?;
-    assert_write_calls(&rt, rt.alloc(), &table)
+    assert_write_calls(rt.alloc(), &table)
 }
 
 #[test]
 fn the_second_page_of_an_area_goes_on_behind_the_first(rt: HostRuntime) -> Result<(), Fail> {
     for (place, entry, want) in &IN_SECOND {
         let fault = fault_in_second(rt.alloc(), *place, *entry)?;
-        assert_same(&rt, &fault, want, (*entry, "at place", *place));
+        assert_same(&fault, want, (*entry, "at place", *place))?;
     }
     Ok(())
 }
@@ -400,49 +393,39 @@ fn first_other(table: &SlotTable) -> Option<usize> {
 }
 
 /// Reads the largest table from an area.
-fn assert_read<D: Device>(
-    rt: &impl Abort,
-    alloc: Global,
-    device: &mut D,
-    area: u8,
-) -> Result<SlotTable, Fail> {
+fn assert_read<D: Device>(alloc: Global, device: &mut D, area: u8) -> Result<SlotTable, Fail> {
     let table = load_table(alloc, device)?;
-    assert_same(rt, &table.slots(), &65_536, ("slots in area", area));
+    assert_same(&table.slots(), &65_536, ("slots in area", area))?;
     assert_same(
-        rt,
         &first_other(&table),
         &None,
         ("as it was read from area", area),
-    );
+    )?;
     Ok(table)
 }
 
 /// Writes a table to area 1, and selects that.
-fn assert_moved(rt: &impl Abort, device: &mut MemDevice, table: &SlotTable) -> Result<(), Fail> {
-    assert_same(rt, &write_to(device, table, 1)?, &Ok(()), "the write");
+fn assert_moved(device: &mut MemDevice, table: &SlotTable) -> Result<(), Fail> {
+    assert_same(&write_to(device, table, 1)?, &Ok(()), "the write")?;
     let switched = switch_from(device, 1, &first_root(MOST, 1))?;
-    assert_same(rt, &switched, &Ok(2), "the switch");
+    assert_same(&switched, &Ok(2), "the switch")?;
     Ok(())
 }
 
 /// Reads the largest table from area 0, and moves it to area 1.
-fn assert_read_and_moved(
-    rt: &impl Abort,
-    alloc: Global,
-    device: &mut MemDevice,
-) -> Result<(), Fail> {
-    let table = assert_read(rt, alloc, device, 0)?;
-    assert_moved(rt, device, &table)
+fn assert_read_and_moved(alloc: Global, device: &mut MemDevice) -> Result<(), Fail> {
+    let table = assert_read(alloc, device, 0)?;
+    assert_moved(device, &table)
 }
 
-fn assert_largest(rt: &impl Abort, alloc: Global, device: &mut MemDevice) -> Result<(), Fail> {
-    assert_read_and_moved(rt, alloc, device)?;
-    assert_read(rt, alloc, device, 1)?;
+fn assert_largest(alloc: Global, device: &mut MemDevice) -> Result<(), Fail> {
+    assert_read_and_moved(alloc, device)?;
+    assert_read(alloc, device, 1)?;
     Ok(())
 }
 
 #[test]
 fn a_table_of_65536_slots_is_read_as_it_was_written(rt: HostRuntime) -> Result<(), Fail> {
     let mut device = MemDevice::new(rt.alloc(), largest_store(rt.alloc())?)?;
-    assert_largest(&rt, rt.alloc(), &mut device)
+    assert_largest(rt.alloc(), &mut device)
 }

@@ -1,11 +1,10 @@
 // Roots, as bytes and on a device.
-use crate::asserts::{assert_same, assert_same_slices};
 use crate::harness::{failing_at, first_root, image_at, others_from, pages_with_root, switch_from};
+use rss_asserts::{assert_same, assert_same_slices};
 use rss_base::{Device, Failed, OpenFault, Page, Place, Root, Tail};
 use rss_device::{MemDevice, Unsynced};
 use rss_root::{decode, encode, load};
 use std::alloc::Global;
-use std::process::Abort;
 use std::test::Fail;
 
 /// The first 24 bytes of the first root of a store of 64 slots.
@@ -365,7 +364,6 @@ fn found_on(alloc: Global, device: &MemDevice, switch: &Switch) -> Result<Found,
 
 /// Stops a device at a moment.
 fn assert_stop(
-    rt: &impl Abort,
     alloc: Global,
     device: &MemDevice,
     switch: &Switch,
@@ -373,106 +371,94 @@ fn assert_stop(
 ) -> Result<(), Fail> {
     for (unsynced, want) in UNSYNCED.iter().zip(&stop.finds) {
         let found = found_after(alloc, device, switch, stop.moment, *unsynced)?;
-        assert_same(rt, &found, want, (switch.name, stop.when, *unsynced));
+        assert_same(&found, want, (switch.name, stop.when, *unsynced))?;
     }
     Ok(())
 }
 
 /// Stops it at each moment of a switch.
-fn assert_stops(
-    rt: &impl Abort,
-    alloc: Global,
-    device: &MemDevice,
-    switch: &Switch,
-) -> Result<(), Fail> {
+fn assert_stops(alloc: Global, device: &MemDevice, switch: &Switch) -> Result<(), Fail> {
     for stop in &switch.stops {
-        assert_stop(rt, alloc, device, switch, stop)?;
+        assert_stop(alloc, device, switch, stop)?;
     }
     Ok(())
 }
 
 /// The writes of both switches have their moments, and after the last one comes a sync.
-fn assert_writes(rt: &impl Abort, device: &MemDevice) {
+fn assert_writes(device: &MemDevice) -> Result<(), Fail> {
     for (write, moment) in &WRITES {
         assert_same(
-            rt,
             &device.moment_of_write(*write),
             &Some(*moment),
             ("write", *write),
-        );
+        )?;
     }
-    assert_same(rt, &device.moment(), &8, "the last moment");
+    assert_same(&device.moment(), &8, "the last moment")?;
+    Ok(())
 }
 
 /// Makes a switch, which names this root.
-fn assert_made(
-    rt: &impl Abort,
-    device: &mut MemDevice,
-    switch: &Switch,
-    root: u8,
-) -> Result<(), Fail> {
-    assert_same(rt, &make(device, switch)?, &Ok(root), switch.name);
+fn assert_made(device: &mut MemDevice, switch: &Switch, root: u8) -> Result<(), Fail> {
+    assert_same(&make(device, switch)?, &Ok(root), switch.name)?;
     Ok(())
 }
 
 /// Switches a device from root 1 and back, and stops it at each moment.
 fn assert_switches(
-    rt: &impl Abort,
     alloc: Global,
     device: &mut MemDevice,
     there: &Switch,
     back: &Switch,
 ) -> Result<(), Fail> {
-    assert_made(rt, device, there, 2)?;
-    assert_made(rt, device, back, 1)?;
-    assert_writes(rt, device);
-    assert_stops(rt, alloc, device, there)?;
-    assert_stops(rt, alloc, device, back)
+    assert_made(device, there, 2)?;
+    assert_made(device, back, 1)?;
+    assert_writes(device)?;
+    assert_stops(alloc, device, there)?;
+    assert_stops(alloc, device, back)
 }
 
 /// Makes a switch over a device that fails a call, and loads what that leaves.
 fn assert_failed_switch(
-    rt: &impl Abort,
     alloc: Global,
     device: &mut MemDevice,
     switch: &Switch,
     (call, want): (&str, Found),
 ) -> Result<(), Fail> {
-    assert_same(rt, &make(device, switch)?, &Err(Failed), call);
-    assert_same(rt, &found_on(alloc, device, switch)?, &want, call);
+    assert_same(&make(device, switch)?, &Err(Failed), call)?;
+    assert_same(&found_on(alloc, device, switch)?, &want, call)?;
     Ok(())
 }
 
 /// Fails each call of a switch.
-fn assert_failed_switches(rt: &impl Abort, alloc: Global, switch: &Switch) -> Result<(), Fail> {
+fn assert_failed_switches(alloc: Global, switch: &Switch) -> Result<(), Fail> {
     for (call, name, want) in &SWITCH_CALLS {
         let mut device = failing_device(alloc, *call)?;
-        assert_failed_switch(rt, alloc, &mut device, switch, (name, *want))?;
+        assert_failed_switch(alloc, &mut device, switch, (name, *want))?;
     }
     Ok(())
 }
 
 /// The bytes of a page from this place on that aren't 0.
-fn assert_rest(rt: &impl Abort, alloc: Global, page: &Page) -> Result<(), Fail> {
+fn assert_rest(alloc: Global, page: &Page) -> Result<(), Fail> {
     let others = others_from(alloc, page, 24)?;
-    assert_same_slices(rt, others.as_slice(), &REST, "the others");
+    assert_same_slices(others.as_slice(), &REST, "the others")?;
     Ok(())
 }
 
 #[test]
 fn a_root_has_the_bytes_of_its_format(rt: HostRuntime) -> Result<(), Fail> {
     let page = encode(&first_root(64, 0));
-    assert_same_slices(&rt, &page[..24], &FRONT, "the front");
-    assert_rest(&rt, rt.alloc(), &page)
+    assert_same_slices(&page[..24], &FRONT, "the front")?;
+    assert_rest(rt.alloc(), &page)
 }
 
 #[test]
 fn each_field_turned_names_its_place(rt: HostRuntime) -> Result<(), Fail> {
     let answer = answer_of_size(rt.alloc(), PAGES)?;
-    assert_same(&rt, &answer, &Ok(LOADS), "as it was made");
+    assert_same(&answer, &Ok(LOADS), "as it was made")?;
     for (at, offset, bits, want) in &TURNED {
         let answer = answer_turned(rt.alloc(), *at, *offset, *bits)?;
-        assert_same(&rt, &answer, want, ("page", *at, "byte", *offset, *bits));
+        assert_same(&answer, want, ("page", *at, "byte", *offset, *bits))?;
     }
     Ok(())
 }
@@ -481,17 +467,18 @@ fn each_field_turned_names_its_place(rt: HostRuntime) -> Result<(), Fail> {
 fn a_device_of_another_size_is_named(rt: HostRuntime) -> Result<(), Fail> {
     for size in &[0, 1, 2, 76, 78] {
         let answer = answer_of_size(rt.alloc(), *size)?;
-        assert_same(&rt, &answer, &NOT_SIZE, ("pages", *size));
+        assert_same(&answer, &NOT_SIZE, ("pages", *size))?;
     }
     Ok(())
 }
 
 #[test]
-fn the_log_needs_room_for_a_checkpoint(rt: HostRuntime) {
+fn the_log_needs_room_for_a_checkpoint(rt: HostRuntime) -> Result<(), Fail> {
     for (head, end, fits) in &ROOMS {
         let page = encode(&root_between(*head, *end));
-        assert_same(&rt, &decode(&page).is_some(), fits, (*head, *end));
+        assert_same(&decode(&page).is_some(), fits, (*head, *end))?;
     }
+    Ok(())
 }
 
 #[test]
@@ -499,24 +486,24 @@ fn a_switch_stopped_at_each_write_finds_the_old_root_or_the_new_one(
     rt: HostRuntime,
 ) -> Result<(), Fail> {
     let mut device = first_device(rt.alloc())?;
-    assert_switches(&rt, rt.alloc(), &mut device, &TO_ROOT_2, &TO_ROOT_1)
+    assert_switches(rt.alloc(), &mut device, &TO_ROOT_2, &TO_ROOT_1)
 }
 
 #[test]
 fn a_failed_call_of_a_load_is_a_device_fault(rt: HostRuntime) -> Result<(), Fail> {
     for (call, name, want) in &LOAD_CALLS {
-        assert_same(&rt, &answer_failing(rt.alloc(), *call)?, want, *name);
+        assert_same(&answer_failing(rt.alloc(), *call)?, want, *name)?;
     }
     Ok(())
 }
 
 #[test]
 fn a_failed_call_of_a_switch_is_a_device_fault(rt: HostRuntime) -> Result<(), Fail> {
-    assert_failed_switches(&rt, rt.alloc(), &TO_ROOT_2)
+    assert_failed_switches(rt.alloc(), &TO_ROOT_2)
 }
 
 #[test]
 fn a_switch_has_no_fifth_call(rt: HostRuntime) -> Result<(), Fail> {
     let mut device = failing_device(rt.alloc(), 4)?;
-    assert_made(&rt, &mut device, &TO_ROOT_2, 2)
+    assert_made(&mut device, &TO_ROOT_2, 2)
 }

@@ -1,14 +1,13 @@
 // The current map and the shadow map, as they run.
-use crate::asserts::{assert_other, assert_same};
 use crate::harness::{
     Counts, Firsts, Maps, first_root, home, load_table, no_pages, pages_with_root, put_entry,
     shadow_of,
 };
+use rss_asserts::{assert_other, assert_same};
 use rss_base::{Device, Page, PageKey, Space};
 use rss_device::MemDevice;
 use rss_shadow::Shadow;
 use std::alloc::Global;
-use std::process::Abort;
 use std::test::Fail;
 
 /// How many slots the largest maps have, and how many pages are taken there.
@@ -203,20 +202,20 @@ fn four_pages(alloc: Global) -> Result<Shadow, Fail> {
     maps_on(alloc, &mut device)
 }
 
-fn assert_four_pages<M: Maps>(rt: &impl Abort, maps: &M) {
-    assert_same(rt, &maps.counts(), &FOUR_SAVED, "the counts");
+fn assert_four_pages<M: Maps>(maps: &M) -> Result<(), Fail> {
+    assert_same(&maps.counts(), &FOUR_SAVED, "the counts")?;
     for (segment, space, number, want) in &SLOTS_OF_FOUR {
         let key = PageKey {
             segment: *segment,
             space: *space,
             number: *number,
         };
-        assert_same(rt, &maps.slot_of(key), want, key);
+        assert_same(&maps.slot_of(key), want, key)?;
     }
+    Ok(())
 }
 
 fn assert_firsts<M: Maps>(
-    rt: &impl Abort,
     maps: &M,
     rows: &[(u8, Space, u32, Option<u32>, Option<u32>)],
 ) -> Result<(), Fail> {
@@ -225,173 +224,162 @@ fn assert_firsts<M: Maps>(
             mapped: *mapped,
             unmapped: *unmapped,
         };
-        assert_same(rt, &maps.try_firsts(*segment, *space, *from)?, &want, *from);
+        assert_same(&maps.try_firsts(*segment, *space, *from)?, &want, *from)?;
     }
     Ok(())
 }
 
 /// Takes many pages of maps that have none.
-fn assert_many_taken<M: Maps>(rt: &impl Abort, maps: &mut M) -> Result<(), Fail> {
-    assert_same(rt, &take_pages(maps, MANY)?, &None, "a turn");
-    assert_same(rt, &maps.counts(), &MANY_TAKEN, "taken");
+fn assert_many_taken<M: Maps>(maps: &mut M) -> Result<(), Fail> {
+    assert_same(&take_pages(maps, MANY)?, &None, "a turn")?;
+    assert_same(&maps.counts(), &MANY_TAKEN, "taken")?;
     Ok(())
 }
 
-fn assert_taken_again<M: Maps>(rt: &impl Abort, maps: &mut M) -> Result<(), Fail> {
-    assert_same(rt, &maps.counts(), &NONE_TAKEN, "as they were made");
-    assert_many_taken(rt, maps)?;
+fn assert_taken_again<M: Maps>(maps: &mut M) -> Result<(), Fail> {
+    assert_same(&maps.counts(), &NONE_TAKEN, "as they were made")?;
+    assert_many_taken(maps)?;
     give_pages(maps, 1, MANY)?;
-    assert_same(rt, &maps.counts(), &NONE_TAKEN, "given back");
-    assert_many_taken(rt, maps)
+    assert_same(&maps.counts(), &NONE_TAKEN, "given back")?;
+    assert_many_taken(maps)
 }
 
 /// Writes each of many pages once, after they were saved.
-fn assert_first_writes<M: Maps>(
-    rt: &impl Abort,
-    alloc: Global,
-    maps: &mut M,
-    round: &str,
-) -> Result<(), Fail> {
-    assert_same(rt, &maps.counts(), &MANY_SAVED, round);
-    assert_same(rt, &first_in_saved_slot(alloc, maps)?, &None, round);
-    assert_same(rt, &maps.counts(), &MANY_SAVED, (round, "written"));
+fn assert_first_writes<M: Maps>(alloc: Global, maps: &mut M, round: &str) -> Result<(), Fail> {
+    assert_same(&maps.counts(), &MANY_SAVED, round)?;
+    assert_same(&first_in_saved_slot(alloc, maps)?, &None, round)?;
+    assert_same(&maps.counts(), &MANY_SAVED, (round, "written"))?;
     Ok(())
 }
 
-fn assert_many_written<M: Maps>(rt: &impl Abort, alloc: Global, maps: &mut M) -> Result<(), Fail> {
-    assert_many_taken(rt, maps)?;
+fn assert_many_written<M: Maps>(alloc: Global, maps: &mut M) -> Result<(), Fail> {
+    assert_many_taken(maps)?;
     // The second time around, the slots of the first are free again.
     for round in ["the first save", "the second save", "the third save"] {
         maps.try_adopt()?;
-        assert_first_writes(rt, alloc, maps, round)?;
+        assert_first_writes(alloc, maps, round)?;
     }
     Ok(())
 }
 
-fn assert_least_numbers<M: Maps>(rt: &impl Abort, maps: &mut M) -> Result<(), Fail> {
+fn assert_least_numbers<M: Maps>(maps: &mut M) -> Result<(), Fail> {
     take_with_holes(maps)?;
     for want in &[0, 64, 127, 130, 132] {
-        assert_same(rt, &maps.try_take(1, Space::Home)?, want, "the least");
+        assert_same(&maps.try_take(1, Space::Home)?, want, "the least")?;
     }
     Ok(())
 }
 
-fn assert_own_numbers<M: Maps>(rt: &impl Abort, maps: &mut M) -> Result<(), Fail> {
+fn assert_own_numbers<M: Maps>(maps: &mut M) -> Result<(), Fail> {
     take_with_holes(maps)?;
-    assert_same(rt, &maps.try_take(8, Space::Home)?, &0, "another segment");
+    assert_same(&maps.try_take(8, Space::Home)?, &0, "another segment")?;
     for want in &[0, 1] {
-        assert_same(rt, &maps.try_take(1, Space::Image)?, want, "another space");
+        assert_same(&maps.try_take(1, Space::Image)?, want, "another space")?;
     }
     Ok(())
 }
 
-fn assert_write_leaves<M: Maps>(rt: &impl Abort, maps: &mut M) -> Result<(), Fail> {
+fn assert_write_leaves<M: Maps>(maps: &mut M) -> Result<(), Fail> {
     let saved = save_one_page(maps)?;
-    assert_other(rt, &maps.try_first_write(home(1, 0))?, &saved, "the slot");
-    assert_same(rt, &fills(maps, saved)?, &false, "the shadow map uses it");
+    assert_other(&maps.try_first_write(home(1, 0))?, &saved, "the slot")?;
+    assert_same(&fills(maps, saved)?, &false, "the shadow map uses it")?;
     maps.try_adopt()?;
     // The page moves once more, so that the two maps together need all slots.
     maps.try_first_write(home(1, 0))?;
-    assert_same(rt, &fills(maps, saved)?, &true, "it is free again");
+    assert_same(&fills(maps, saved)?, &true, "it is free again")?;
     Ok(())
 }
 
-fn assert_giving_leaves<M: Maps>(rt: &impl Abort, maps: &mut M) -> Result<(), Fail> {
+fn assert_giving_leaves<M: Maps>(maps: &mut M) -> Result<(), Fail> {
     let saved = save_one_page(maps)?;
     maps.try_give(home(1, 0))?;
-    assert_same(rt, &fills(maps, saved)?, &false, "the shadow map uses it");
+    assert_same(&fills(maps, saved)?, &false, "the shadow map uses it")?;
     maps.try_adopt()?;
-    assert_same(rt, &fills(maps, saved)?, &true, "it is free again");
+    assert_same(&fills(maps, saved)?, &true, "it is free again")?;
     Ok(())
 }
 
 /// A page that was saved moves once.
-fn assert_moves_once<M: Maps>(rt: &impl Abort, maps: &mut M) -> Result<(), Fail> {
+fn assert_moves_once<M: Maps>(maps: &mut M) -> Result<(), Fail> {
     let moved = maps.try_first_write(home(1, 0))?;
-    assert_same(rt, &maps.try_first_write(home(1, 0))?, &moved, "once more");
+    assert_same(&maps.try_first_write(home(1, 0))?, &moved, "once more")?;
     Ok(())
 }
 
 /// A new page stays until it is saved. Its slot isn't this one.
-fn assert_new_page_stays<M: Maps>(rt: &impl Abort, maps: &mut M, saved: u32) -> Result<(), Fail> {
-    assert_same(
-        rt,
-        &maps.try_take(1, Space::Home)?,
-        &1,
-        "the new page's number",
-    );
+fn assert_new_page_stays<M: Maps>(maps: &mut M, saved: u32) -> Result<(), Fail> {
+    assert_same(&maps.try_take(1, Space::Home)?, &1, "the new page's number")?;
     let new = maps.slot_of(home(1, 1)).ok_or("no slot")?;
-    assert_other(rt, &new, &saved, "the new page's slot");
-    assert_same(rt, &maps.try_first_write(home(1, 1))?, &new, "a new page");
+    assert_other(&new, &saved, "the new page's slot")?;
+    assert_same(&maps.try_first_write(home(1, 1))?, &new, "a new page")?;
     maps.try_adopt()?;
     assert_other(
-        rt,
         &maps.try_first_write(home(1, 1))?,
         &new,
         "a page that was saved",
-    );
+    )?;
     Ok(())
 }
 
-fn assert_moves_and_stays<M: Maps>(rt: &impl Abort, maps: &mut M) -> Result<(), Fail> {
+fn assert_moves_and_stays<M: Maps>(maps: &mut M) -> Result<(), Fail> {
     let saved = save_one_page(maps)?;
-    assert_moves_once(rt, maps)?;
-    assert_new_page_stays(rt, maps, saved)
+    assert_moves_once(maps)?;
+    assert_new_page_stays(maps, saved)
 }
 
 #[test]
 fn the_maps_of_a_table_have_its_pages(rt: HostRuntime) -> Result<(), Fail> {
     let maps = four_pages(rt.alloc())?;
-    assert_four_pages(&rt, &maps);
+    assert_four_pages(&maps)?;
     Ok(())
 }
 
 #[test]
 fn the_first_page_of_either_kind_is_found_from_each_number_on(rt: HostRuntime) -> Result<(), Fail> {
-    assert_firsts(&rt, &four_pages(rt.alloc())?, &FIRSTS_OF_FOUR)?;
+    assert_firsts(&four_pages(rt.alloc())?, &FIRSTS_OF_FOUR)?;
     let mut maps = no_pages(rt.alloc(), MOST)?;
-    assert_many_taken(&rt, &mut maps)?;
-    assert_firsts(&rt, &maps, &FIRSTS_OF_MANY)
+    assert_many_taken(&mut maps)?;
+    assert_firsts(&maps, &FIRSTS_OF_MANY)
 }
 
 #[test]
 fn thirty_thousand_pages_are_taken_given_and_taken_again(rt: HostRuntime) -> Result<(), Fail> {
     let mut maps = no_pages(rt.alloc(), MOST)?;
-    assert_taken_again(&rt, &mut maps)
+    assert_taken_again(&mut maps)
 }
 
 #[test]
 fn a_first_write_of_each_page_finds_a_slot_that_no_map_uses(rt: HostRuntime) -> Result<(), Fail> {
     let mut maps = no_pages(rt.alloc(), MOST)?;
-    assert_many_written(&rt, rt.alloc(), &mut maps)
+    assert_many_written(rt.alloc(), &mut maps)
 }
 
 #[test]
 fn take_finds_the_least_number(rt: HostRuntime) -> Result<(), Fail> {
     let mut maps = no_pages(rt.alloc(), 256)?;
-    assert_least_numbers(&rt, &mut maps)
+    assert_least_numbers(&mut maps)
 }
 
 #[test]
 fn each_segment_and_each_space_has_numbers_of_its_own(rt: HostRuntime) -> Result<(), Fail> {
     let mut maps = no_pages(rt.alloc(), 256)?;
-    assert_own_numbers(&rt, &mut maps)
+    assert_own_numbers(&mut maps)
 }
 
 #[test]
 fn a_first_write_leaves_the_saved_slot(rt: HostRuntime) -> Result<(), Fail> {
     let mut maps = no_pages(rt.alloc(), 64)?;
-    assert_write_leaves(&rt, &mut maps)
+    assert_write_leaves(&mut maps)
 }
 
 #[test]
 fn a_page_given_back_leaves_the_saved_slot(rt: HostRuntime) -> Result<(), Fail> {
     let mut maps = no_pages(rt.alloc(), 64)?;
-    assert_giving_leaves(&rt, &mut maps)
+    assert_giving_leaves(&mut maps)
 }
 
 #[test]
 fn first_write_of_a_new_page_stays(rt: HostRuntime) -> Result<(), Fail> {
     let mut maps = no_pages(rt.alloc(), 64)?;
-    assert_moves_and_stays(&rt, &mut maps)
+    assert_moves_and_stays(&mut maps)
 }

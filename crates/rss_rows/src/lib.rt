@@ -21,3 +21,5 @@ mod scripts;
 mod statuses;
 #[cfg(test)]
 mod stops;
+#[cfg(test)]
+mod texts;

@@ -18,41 +18,75 @@ static WRITES: [(&[u8], usize); 4] = [
 ];
 
 /// Lines that are words.
-static WORDS: [&[u8]; 30] = [
-    b" ",
+static WORDS: [&[u8]; 54] = [
     b"\t",
     b"\r",
+    b"\0",
+    b"frob 1",
     b"begin",
+    b"begin 0",
     b"begin 01",
-    b"begin 2",
-    b" begin 1",
-    b"begin 1 ",
-    b"begin  1",
+    b"begin -1",
+    b"begin 4294967296",
+    b"begin 99999999999999999999",
     b"begin\t1",
     b"begin 1\r",
     b"begin 1 1",
+    b"begin \"1\"",
     b"Begin 1",
+    b"begins 1",
     b"end 1\0",
-    b"insert 1 r",
-    b"insert 1 r ",
-    b"insert 1 s 1",
-    b"insert 1 r 1 2",
+    b"insert 1",
+    b"insert 007 r 1",
+    b"insert 1 R 1",
+    b"insert 1 1r 1",
+    b"insert 1 _r 1",
+    b"insert 1 r-s 1",
+    b"insert 1 r\0 1",
+    b"insert 1 \"r\" 1",
+    b"insert 1 names_of_17_bytes 1",
     b"insert 1 r +1",
     b"insert 1 r -0",
+    b"insert 1 r -",
     b"insert 1 r 00",
+    b"insert 1 r 007",
+    b"insert 1 r 1\t2",
+    b"insert 1 r 1\r",
     b"insert 1 r 9223372036854775808",
     b"insert 1 r -9223372036854775809",
+    b"insert 1 r 99999999999999999999",
+    b"insert 1 r x",
     b"insert 1 r \xff",
-    b"fetch 1 r 0",
+    b"insert 1 r \"",
+    b"insert 1 r \"x",
+    b"insert 1 r \"x\"\"",
+    b"insert 1 r \"x\"y",
+    b"insert 1 r \"x\"\"y\"\"\"z",
+    b"insert 1 r x\"y\"",
+    b"insert 1 r \"\t\"",
+    b"insert 1 r \"\0\"",
+    b"insert 1 r \"\x7f\"",
+    b"insert 1 r \"\xff\"",
+    b"insert 1 r \"\xe2\x98\"",
+    b"fetch 1 r",
     b"fetch 1 r 0.128",
     b"fetch 1 r 65536.0",
     b"fetch 1 r 0.00",
     b"fetch 1 r 0.0.0",
-    b"fetch 1 r 99999999999999999999.0",
 ];
 
 /// Lines of so many bytes are words too.
 const LENGTHS: [usize; 3] = [8192, 8193, 100_000];
+
+/// The most spaces that are a blank line.
+const MOST_SPACES: usize = 8192;
+
+/// How many values an insert has, and what it gets in a relation of one field.
+const COUNTS: [(usize, &[u8]); 3] = [
+    (1, b"ok\nok 0.0\n"),
+    (17, b"ok\nrefused 8 bad tuple 2\n"),
+    (300, b"ok\nrefused 8 bad tuple 2\n"),
+];
 
 /// The reply to words, and that to the call behind them.
 const REFUSED: &[u8] = b"refused 1 words\nok\n";
@@ -102,6 +136,41 @@ fn assert_long_lines(alloc: Global, device: MemDevice) -> Result<(), Fail> {
     Ok(())
 }
 
+/// A line of so many spaces between two calls is blank, and one of more is words.
+fn assert_spaces(alloc: Global, device: MemDevice) -> Result<(), Fail> {
+    let line = vec![in alloc; b' '; MOST_SPACES]?;
+    let script = with_call(alloc, line.as_slice())?;
+    let row = Row {
+        script: script.as_slice(),
+        replies: b"ok\n",
+    };
+    let device = assert_script(alloc, device, &row, 1000, "the most spaces")?;
+    let line = vec![in alloc; b' '; MOST_SPACES + 1]?;
+    assert_words(alloc, device, line.as_slice(), 1000)?;
+    Ok(())
+}
+
+/// An insert of so many values.
+fn insert_of(alloc: Global, count: usize) -> Result<Vec<u8>, Fail> {
+    let mut script = Vec::from_slice(alloc, b"begin 1\ninsert 1 r")?;
+    for _ in 0..count {
+        script.extend_from_slice(b" 1")?;
+    }
+    Ok(script)
+}
+
+/// Runs an insert of so many values, and it gets this.
+fn assert_count(alloc: Global, count: usize, replies: &[u8]) -> Result<(), Fail> {
+    let script = insert_of(alloc, count)?;
+    let row = Row {
+        script: script.as_slice(),
+        replies,
+    };
+    let device = empty_store(alloc, SMALL)?;
+    assert_script(alloc, device, &row, 100, count)?;
+    Ok(())
+}
+
 /// Runs a script that makes so many writes. Answers what it left, with no moments yet.
 fn assert_writes(
     alloc: Global,
@@ -120,6 +189,19 @@ fn assert_writes(
 fn a_line_that_is_no_call_is_words(rt: HostRuntime) -> Result<(), Fail> {
     let device = assert_lines(rt.alloc(), empty_store(rt.alloc(), SMALL)?)?;
     assert_long_lines(rt.alloc(), device)
+}
+
+#[test]
+fn a_line_of_spaces_is_blank_where_it_is_short(rt: HostRuntime) -> Result<(), Fail> {
+    assert_spaces(rt.alloc(), empty_store(rt.alloc(), SMALL)?)
+}
+
+#[test]
+fn an_insert_may_have_any_number_of_values(rt: HostRuntime) -> Result<(), Fail> {
+    for (count, replies) in &COUNTS {
+        assert_count(rt.alloc(), *count, replies)?;
+    }
+    Ok(())
 }
 
 #[test]

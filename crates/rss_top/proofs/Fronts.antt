@@ -28,7 +28,7 @@ long_or_kept left = elim (cases_lt (length left) kept_limit) [
 -- a line that is too long is words
 too_long : {left : List ℕ} → kept_limit ≤ length left → IsWords left
 too_long {left = left} long = record {
-  some = λ none. let zero : length left ≡ 0 = ap length none in omega (arith, zero, long);
+  some = λ blank. omega (arith, blank.short, long);
   no_call = λ made spells. omega (arith, spells.short, long);
 }
 
@@ -36,7 +36,7 @@ kept_long : (left : List ℕ) → kept_limit ≤ length left → kept_limit ≤ 
 kept_long left long = omega (arith, length-take kept_limit left)
 
 as_words : {old new : Scene} {made : Made} {left line : List ℕ} → kept_limit ≤ length left → kept_limit ≤ length line → LineStep old line made new → LineStep old left made new
-as_words {line = line} long kept (blank empty) = absurd (let zero : length line ≡ 0 = ap length empty in omega (arith, zero, kept))
+as_words {line = line} long kept (blank empty) = absurd (omega (arith, empty.short, kept))
 as_words long kept (words is) = words (too_long long)
 as_words long kept (call spells step) = absurd (omega (arith, spells.short, kept))
 

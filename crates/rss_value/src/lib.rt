@@ -9,4 +9,5 @@ mod widths;
 
 pub use codec::{decode, encode, fits};
 pub use keys::{compare_keys, key};
+pub use value_ref::is_allowed_text;
 pub use widths::{key_width, width};

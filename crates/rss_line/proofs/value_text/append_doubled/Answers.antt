@@ -1,5 +1,5 @@
 use Rattle.std.proofs.Common.{rules, ◌∷◌, [], take, get_or, refl, arith, vec_len, vec_capacity}
-use Rattle.rss_model.specs.ReplyText.{doubled}
+use Rattle.rss_model.specs.Spellings.{doubled}
 use Rattle.rss_line.proofs.Pieces.{on_err, full_from, piece_fits, piece_said, doubled-append}
 use Rattle.rss_line.proofs.value_text.append_doubled.Goals as goal
 

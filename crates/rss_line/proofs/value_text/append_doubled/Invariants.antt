@@ -1,5 +1,5 @@
 use Rattle.std.proofs.Common.{◌≡◌, ◌≤◌, ◌++◌, take, vec_capacity}
-use Rattle.rss_model.specs.ReplyText.{doubled}
+use Rattle.rss_model.specs.Spellings.{doubled}
 use Rattle.rss_line.proofs.value_text.append_doubled.Given as goal
 
 abbrev pub invariant-loop-byte : goal.invariant-loop-byte

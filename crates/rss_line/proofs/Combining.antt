@@ -1,0 +1,183 @@
+-- What is read word by word.
+use Rattle.std.proofs.Common.{◌≡◌, ◌∙◌, ℕ, List, [], ◌∷◌, ◌++◌, Option, Some, None, Result, Ok, Err, IfOk, IsErrAnd, IsErrOf, ok_or, refl, ap, sym, subst}
+use Rattle.std.specs.Borrow.{Bor}
+use Rattle.rss_base.specs.declared.name.Name.{Name}
+use Rattle.rss_base.specs.declared.value.Value.{Value}
+use Rattle.rss_base.specs.declared.call.Call.{Call}
+use Rattle.rss_base.specs.declared.call.Call.TheVariants.{Insert}
+use Rattle.rss_model.specs.Script.{AreSpaces, AreValues, Begins, HasWords, IsWords, Names}
+use Rattle.rss_line.specs.Reads.{IsPlain, Skips, ReadsPlain, ReadsAs, Gives, ReadsWord, ReadsWords, Ends, Behind}
+use Rattle.rss_line.specs.declared.fault.LineFault.{LineFault}
+use Rattle.rss_line.specs.declared.fault.LineFault.TheVariants.{Words, NoMemory}
+use Rattle.rss_line.proofs.Cuts.{IsSolid, skipped, unskipped, at_once}
+use Rattle.rss_line.proofs.Forms.{Word, Last, Values, Tells, IsVerb, verb_of}
+use Rattle.rss_line.proofs.Plain.{verb_plain}
+
+-- ---- one word
+
+-- each such word is plain
+abbrev pub ArePlain : {T : Type 0} → (List ℕ → T → Type 0) → Type 0
+ArePlain {T = T} Is = (word : List ℕ) (x : T) → Is word x → IsPlain word
+
+abbrev pub AreSolid : {T : Type 0} → (List ℕ → T → Type 0) → Type 0
+AreSolid {T = T} Is = (word : List ℕ) (x : T) → Is word x → IsSolid word
+
+pub some_same : {T : Type 0} {x y : T} → Some y ≡ Some x → y ≡ x
+some_same e = cc
+
+pub none_some : {T : Type 0} {x : T} → None ≡ Some x → ⊥
+none_some e = cc
+
+module _ {T : Type 0} {Is : List ℕ → T → Type 0} (plain : ArePlain Is) {old new : List ℕ} where
+  pub word_missing : {e : LineFault} (r : Result T LineFault) → ReadsPlain old new (Err e) → IsErrAnd r (λ why. why ≡ e) → ReadsWord Is old new r
+  word_missing (Ok x) reads is = absurd is
+  word_missing (Err f) reads is = record { ok = tt; all = λ word rest x begins has. absurd (reads.all word rest begins (plain word x has)) }
+
+  found_word : {w : Bor (List ℕ)} (found : Option T) → ReadsPlain old new (Ok w) → ReadsAs (Is w.now) found → ReadsWord Is old new (ok_or found Words)
+  found_word {w = w} (Some y) reads decides = record {
+    ok = (w.now, reads.ok, decides.some);
+    all = λ word rest x begins has.
+        let same = reads.all word rest begins (plain word x has) in
+        (some_same (decides.all x (subst (λ (v : List ℕ). Is v x) (sym same.0) has)), same.1);
+  }
+  found_word {w = w} None reads decides = record {
+    ok = tt;
+    all = λ word rest x begins has.
+        let same = reads.all word rest begins (plain word x has) in
+        let empty : None ≡ Some x = decides.all x (subst (λ (v : List ℕ). Is v x) (sym same.0) has) in
+        absurd (none_some empty);
+  }
+
+  pub word_found : {w : Bor (List ℕ)} (found : Option T) {r : Result T LineFault} → r ≡ ok_or found Words → ReadsPlain old new (Ok w) → ReadsAs (Is w.now) found → ReadsWord Is old new r
+  word_found found e reads decides = subst (λ (r : Result T LineFault). ReadsWord Is old new r) (sym e) (found_word found reads decides)
+
+-- spaces before the word are skipped
+read_behind : {T : Type 0} (Is : List ℕ → T → Type 0) {old mid : List ℕ} (new : List ℕ) (r : Result T LineFault) → Skips old mid
+    → IfOk r (λ x. (word : List ℕ) × Begins mid word new × Is word x) → IfOk r (λ x. (word : List ℕ) × Begins old word new × Is word x)
+read_behind Is new (Ok x) skips (word, begins, is) = (word, unskipped skips begins, is)
+read_behind Is new (Err e) skips ok = tt
+
+pub behind_spaces : {T : Type 0} {Is : List ℕ → T → Type 0} → AreSolid Is → {old mid new : List ℕ} (r : Result T LineFault) → Skips old mid → ReadsWord Is mid new r → ReadsWord Is old new r
+behind_spaces solid r skips reads = record {
+  ok = read_behind _ _ r skips reads.ok;
+  all = λ word rest x begins has. reads.all word rest x (at_once (skipped skips (solid word x has) begins) begins.apart) has;
+}
+
+-- ---- words one after another
+
+has_as : (bytes : List ℕ) {words other : List (List ℕ)} → words ≡ other → HasWords bytes words → HasWords bytes other
+has_as bytes e has = subst (HasWords bytes) e has
+
+then_ok : {T U : Type 0} {Is : List ℕ → T → Type 0} (After : T → List (List ℕ) → U → Type 0) {old mid : List ℕ} {y : T} (r : Result U LineFault)
+    → ReadsWord Is old mid (Ok y) → IfOk r (λ x. (words : List (List ℕ)) × HasWords mid words × After y words x)
+    → IfOk r (λ x. (words : List (List ℕ)) × HasWords old words × Word Is After words x)
+then_ok After {y = y} (Ok x) reads (words, has, after) = let (word, begins, is) = reads.ok in (word ∷ words, (_, begins, has), (word, words, y, refl, is, after))
+then_ok After (Err e) reads ok = tt
+
+module _ {T U : Type 0} {Is : List ℕ → T → Type 0} {After : T → List (List ℕ) → U → Type 0} {old mid : List ℕ} where
+  pub stops_word : {e : LineFault} (r : Result U LineFault) → ReadsWord Is old mid (Err e) → IsErrAnd r (λ why. why ≡ e) → ReadsWords (Word Is After) old r
+  stops_word (Ok x) reads is = absurd is
+  stops_word {e = e} (Err f) reads is = record {
+    ok = tt;
+    all = λ words x has (word, rest, y, same, is_word, after).
+        let behind = has_as old same has in
+        is ∙ reads.all word behind.0 y behind.1 is_word;
+  }
+
+  pub then_word : {y : T} (r : Result U LineFault) → ReadsWord Is old mid (Ok y) → ReadsWords (After y) mid r → ReadsWords (Word Is After) old r
+  then_word {y = y} r reads next = record {
+    ok = then_ok After r reads next.ok;
+    all = λ words x has (word, rest, z, same, is_word, after).
+        let behind = has_as old same has in
+        let read = reads.all word behind.0 z behind.1 is_word in
+        next.all rest x (subst (λ (bytes : List ℕ). HasWords bytes rest) (sym read.1) behind.2) (subst (λ (t : T). After t rest x) (sym read.0) after);
+  }
+
+-- ---- the end of a line
+
+pub ends_line : {bytes : List ℕ} {call : Call} (r : Result Call LineFault) → Ends bytes call r → ReadsWords (Last call) bytes r
+ends_line (Ok read) (same, spaces) = record { ok = ([], spaces, (refl, same)); all = λ words x has (none, is). (same ∙ sym is, tt) }
+ends_line {bytes = bytes} (Err Words) ends = record { ok = tt; all = λ words x has (none, is). absurd (ends (has_as bytes none has)) }
+ends_line (Err NoMemory) ends = absurd ends
+
+module _ {t : ℕ} {relation : Name} {bytes : List ℕ} where
+  pub stops_values : {e : LineFault} (r : Result Call LineFault) → ReadsWords AreValues bytes (Err e) → IsErrAnd r (λ why. why ≡ e) → ReadsWords (Values t relation) bytes r
+  stops_values (Ok x) reads is = absurd is
+  stops_values {e = e} (Err f) reads is = record {
+    ok = tt;
+    all = λ words x has (values, are, same). is ∙ reads.all words values has are;
+  }
+
+  pub then_values : {values : List Value} → ReadsWords AreValues bytes (Ok values) → ReadsWords (Values t relation) bytes (Ok (Insert t relation values))
+  then_values {values = values} reads = record {
+    ok = let (words, has, are) = reads.ok in (words, has, (values, are, refl));
+    all = λ words x has (others, are, same). (ap (Insert t relation) (reads.all words others has are).0 ∙ sym same, tt);
+  }
+
+-- ---- the first word
+
+told_ok : {first : List ℕ} {Form : List (List ℕ) → Call → Type 0} (old : List ℕ) (r : Result Call LineFault) → Tells first Form
+    → IfOk r (λ x. (words : List (List ℕ)) × HasWords old words × Form words x)
+    → IfOk r (λ x. (words : List (List ℕ)) × HasWords old words × Behind first words x)
+told_ok old (Ok x) told (words, has, form) = (words, has, told.back words x form)
+told_ok old (Err e) told ok = tt
+
+pub by_form : {first : List ℕ} {Form : List (List ℕ) → Call → Type 0} {old : List ℕ} (r : Result Call LineFault) → Tells first Form → ReadsWords Form old r → ReadsWords (Behind first) old r
+by_form {old = old} r told reads = record {
+  ok = told_ok old r told reads.ok;
+  all = λ words x has names. reads.all words x has (told.of words x names);
+}
+
+module _ {old mid : List ℕ} where
+  pub no_verb : {e : LineFault} (r : Result Call LineFault) → ReadsPlain old mid (Err e) → IsErrAnd r (λ why. why ≡ e) → ReadsWords Names old r
+  no_verb (Ok x) reads is = absurd is
+  no_verb (Err f) reads is = record {
+    ok = tt;
+    all = λ words call has names.
+        let (verb, rest, same, is_verb) = verb_of words call names in
+        let behind = has_as old same has in
+        absurd (reads.all verb behind.0 behind.1 (verb_plain is_verb));
+  }
+
+  pub other_verb : {w : Bor (List ℕ)} → ReadsPlain old mid (Ok w) → (IsVerb w.now → ⊥) → ReadsWords Names old (Err Words)
+  other_verb reads none = record {
+    ok = tt;
+    all = λ words call has names.
+        let (verb, rest, same, is_verb) = verb_of words call names in
+        let behind = has_as old same has in
+        absurd (none (subst IsVerb (sym (reads.all verb behind.0 behind.1 (verb_plain is_verb)).0) is_verb));
+  }
+
+  verb_ok : {first : List ℕ} {w : Bor (List ℕ)} (r : Result Call LineFault) → ReadsPlain old mid (Ok w) → w.now ≡ first
+      → IfOk r (λ x. (words : List (List ℕ)) × HasWords mid words × Behind first words x)
+      → IfOk r (λ x. (words : List (List ℕ)) × HasWords old words × Names words x)
+  verb_ok {first = first} (Ok x) reads is (words, has, names) = (first ∷ words, (mid, subst (λ (v : List ℕ). Begins old v mid) is reads.ok, has), names)
+  verb_ok (Err e) reads is ok = tt
+
+  pub with_verb : {first : List ℕ} {w : Bor (List ℕ)} (r : Result Call LineFault) → ReadsPlain old mid (Ok w) → w.now ≡ first → ReadsWords (Behind first) mid r → ReadsWords Names old r
+  with_verb r reads is next = record {
+    ok = verb_ok r reads is next.ok;
+    all = λ words call has names.
+        let (verb, rest, same, is_verb) = verb_of words call names in
+        let behind = has_as old same has in
+        let read = reads.all verb behind.0 behind.1 (verb_plain is_verb) in
+        next.all rest call (subst (λ (bytes : List ℕ). HasWords bytes rest) (sym read.1) behind.2)
+        (subst (λ (v : List ℕ). Names (v ∷ rest) call) (sym read.0 ∙ is) (subst (λ (w : List (List ℕ)). Names w call) same names));
+  }
+
+-- ---- a line
+
+apart : {f e : LineFault} → f ≡ Words → f ≡ e → e ≡ NoMemory → ⊥
+apart is same memory = cc
+
+fault_same : {T : Type 0} {f e : LineFault} {r : Result T LineFault} → r ≡ Err f → IsErrOf r e → f ≡ e
+fault_same is was = cc
+
+-- where no call was read, there is none
+pub no_line : {T : Type 0} {line : List ℕ} {e : LineFault} (r : Result T LineFault) → (AreSpaces line → ⊥) → ReadsWords Names line (Err e) → IsErrAnd r (λ why. why ≡ e)
+    → IsErrOf r Words → IsWords line
+no_line (Ok x) some reads is was = absurd is
+no_line (Err f) some reads is was = record {
+  some = λ blank. some blank.spaces;
+  no_call = λ call spells. apart (fault_same refl was) is (reads.all spells.words call spells.spaced spells.names);
+}

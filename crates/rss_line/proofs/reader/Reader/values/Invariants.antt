@@ -1,0 +1,11 @@
+use Rattle.std.proofs.Common.{◌≡◌, ◌++◌, List, ℕ, length}
+use Rattle.rss_base.specs.declared.value.Value.{Value}
+use Rattle.rss_model.specs.Script.{HasWords, AreValues}
+use Rattle.rss_line.proofs.Forms.{GoesOn}
+use Rattle.rss_line.proofs.reader.Reader.values.Given as goal
+
+abbrev pub invariant-loop-alloc : goal.invariant-loop-alloc
+invariant-loop-alloc l = GoesOn l.initial.self l.tuple l.self
+
+abbrev pub decreases-loop-alloc : goal.decreases-loop-alloc
+decreases-loop-alloc l = length l.self

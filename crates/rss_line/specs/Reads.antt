@@ -1,0 +1,121 @@
+-- What the methods of the reader do. They see it as the bytes that are left.
+use Rattle.std.specs.Prelude.{◌≡◌, ◌≢◌, ℕ, ℤ, Bool, true, false, ◌==◌, List, [], ◌∷◌, ◌++◌, All, Option, Some, None, IfSome, Result, Ok, Err, IfOk, ⊤, ◌<◌, length, decimal}
+use Rattle.std.specs.Result.{MatchResult}
+use Rattle.std.specs.Str.{IsAscii}
+use Rattle.rss_base.specs.declared.value.Value.TheVariants.{Int}
+use Rattle.rss_base.specs.declared.call.Call.{Call}
+use Rattle.std.specs.Borrow.{Bor}
+use Rattle.rss_model.specs.Fits.{IsLetter, IsNameByte}
+use Rattle.rss_model.specs.Spellings.{space, quote, doubled}
+use Rattle.rss_model.specs.Script.{AreSpaces, IsApart, Begins, HasWords, IsValue, Names}
+use Rattle.rss_line.specs.declared.fault.LineFault.{LineFault}
+use Rattle.rss_line.specs.declared.fault.LineFault.TheVariants.{Words, NoMemory}
+
+abbrev pub is_space : ℕ → Bool
+is_space b = b == space
+
+-- ---- the front of a line
+
+-- nothing, or what begins with another byte than this one
+abbrev pub IsOff : ℕ → List ℕ → Type 0
+IsOff byte [] = ⊤
+IsOff byte (b ∷ bytes) = b ≢ byte
+
+-- spaces are skipped, up to what is no space
+pub record Skips (old new : List ℕ) : Type 0 where
+  pub spaces : List ℕ
+  pub before : AreSpaces spaces
+  pub parts : old ≡ spaces ++ new
+  pub off : IsOff space new
+
+-- no spaces
+abbrev pub IsBare : List ℕ → Type 0
+IsBare bytes = All (λ b. b ≢ space) bytes
+
+-- the bytes up to a space are read
+pub record ReadsFront (old word new : List ℕ) : Type 0 where
+  pub parts : old ≡ word ++ new
+  pub bare : IsBare word
+  pub apart : IsApart new
+
+-- ---- a word
+
+-- a word that needs no quotes
+pub record IsPlain (word : List ℕ) : Type 0 where
+  pub some : word ≢ []
+  pub bare : IsBare word
+  pub ascii : IsAscii word
+
+-- the next word is read, where it is such a word
+pub record ReadsPlain (old new : List ℕ) (result : Result (Bor (List ℕ)) LineFault) : Type 0 where
+  pub ok : IfOk result (λ x. Begins old x.now new)
+  pub all : (word rest : List ℕ) → Begins old word rest → IsPlain word
+      → MatchResult result (λ x. (x.now ≡ word) × (new ≡ rest)) (λ e. ⊥)
+
+-- what it stands for is answered, and nothing else
+pub record ReadsAs {T : Type 0} (Is : T → Type 0) (result : Option T) : Type 0 where
+  pub some : IfSome result Is
+  pub all : (x : T) → Is x → result ≡ Some x
+
+abbrev pub IsInt : List ℕ → ℤ → Type 0
+IsInt word z = IsValue word (Int z)
+
+-- the bytes of a name, without zeros behind them
+abbrev pub IsNameText : List ℕ → Type 0
+IsNameText [] = ⊥
+IsNameText (first ∷ rest) = IsLetter first × All IsNameByte rest × (length rest < 16)
+
+-- a number without leading zeros, below a limit
+abbrev pub IsBelow : ℕ → List ℕ → ℕ → Type 0
+IsBelow limit word n = (word ≡ decimal n) × (n < limit)
+
+-- What is read is x, and P holds; or memory ran out.
+abbrev pub Gives : {T : Type 0} → T → Type 0 → Result T LineFault → Type 0
+Gives x P (Ok y) = (y ≡ x) × P
+Gives x P (Err fault) = fault ≡ NoMemory
+
+-- the next word is read as what it stands for
+pub record ReadsWord {T : Type 0} (Is : List ℕ → T → Type 0) (old new : List ℕ)
+    (result : Result T LineFault) : Type 0 where
+  pub ok : IfOk result (λ x. (word : List ℕ) × Begins old word new × Is word x)
+  pub all : (word rest : List ℕ) (x : T) → Begins old word rest → Is word x
+      → Gives x (new ≡ rest) result
+
+-- all words are read, where they are such words
+pub record ReadsWords {T : Type 0} (Are : List (List ℕ) → T → Type 0) (old : List ℕ)
+    (result : Result T LineFault) : Type 0 where
+  pub ok : IfOk result (λ x. (words : List (List ℕ)) × HasWords old words × Are words x)
+  pub all : (words : List (List ℕ)) (x : T) → HasWords old words → Are words x
+      → Gives x ⊤ result
+
+-- ---- a text
+
+-- the quote before a text
+abbrev pub ReadsQuote : List ℕ → List ℕ → Bool → Type 0
+ReadsQuote old new true = old ≡ quote ∷ new
+ReadsQuote old new false = (new ≡ old) × IsOff quote old
+
+-- a byte of a text, or its closing quote; there are none where the line is over
+abbrev pub ReadsByte : List ℕ → List ℕ → Result (Option ℕ) LineFault → Type 0
+ReadsByte old new (Ok (Some b)) = old ≡ doubled (b ∷ []) ++ new
+ReadsByte old new (Ok None) = (old ≡ quote ∷ new) × IsOff quote new
+ReadsByte old new (Err Words) = old ≡ []
+ReadsByte old new (Err NoMemory) = ⊥
+
+-- a text and its closing quote; there is none where the line is over before
+abbrev pub ReadsText : List ℕ → List ℕ → Result (List ℕ) LineFault → Type 0
+ReadsText old new (Ok text) = (old ≡ doubled text ++ quote ∷ new) × IsOff quote new
+ReadsText old new (Err Words) = (text : List ℕ) × (old ≡ doubled text)
+ReadsText old new (Err NoMemory) = ⊤
+
+-- ---- a call
+
+-- the call, where no word is left
+abbrev pub Ends : List ℕ → Call → Result Call LineFault → Type 0
+Ends bytes call (Ok read) = (read ≡ call) × AreSpaces bytes
+Ends bytes call (Err Words) = AreSpaces bytes → ⊥
+Ends bytes call (Err NoMemory) = ⊥
+
+-- behind a first word, these words are the call
+abbrev pub Behind : List ℕ → List (List ℕ) → Call → Type 0
+Behind first words call = Names (first ∷ words) call

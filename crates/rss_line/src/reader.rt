@@ -1,0 +1,248 @@
+// The words of a line, read one after another.
+ghost use Rattle.std.specs.Prelude.{◌≡◌, ◌≤◌, ◌↔◌, ◌∷◌, IsTrue, codes, length};
+ghost use Rattle.std.specs.List.{list_all, prefix_len};
+ghost use Rattle.rss_model.specs.Spellings.{quote};
+ghost use Rattle.rss_model.specs.Script.{IsApart, IsTransaction, IsRelation, IsTid};
+ghost use Rattle.rss_model.specs.Script.{IsValue, AreValues, Names};
+ghost use Rattle.rss_line.specs.Reads.{is_space, Skips, ReadsFront, ReadsPlain, ReadsWord, IsInt};
+ghost use Rattle.rss_line.specs.Reads.{ReadsQuote, ReadsByte, ReadsText, ReadsWords, Ends, Behind};
+
+use crate::LineFault;
+use crate::name::read_name;
+use crate::number::{read_int, read_tid, read_transaction};
+use rss_base::{Call, Name, Text, Tid, Tuple, Value};
+use rss_value::is_allowed_text;
+use std::alloc::Global;
+use std::marker::Model;
+use std::str;
+
+/// How many spaces the bytes begin with.
+fn count_spaces(bytes: &[u8]) -> usize
+    ensures count { result ≡ prefix_len is_space bytes.now }
+    ensures bound { result ≤ length bytes.now }
+{
+    bytes.iter().take_while(|byte| **byte == b' ').count()
+}
+
+/// The bytes of a line that were not read yet.
+#[derive(Drop)]
+pub struct Reader<'a> {
+    rest: &'a [u8],
+}
+
+impl<'a> Model for Reader<'a> {
+    ghost use Rattle.std.specs.Prelude.{List, ℕ};
+
+    ghost Value = { List ℕ };
+
+    ghost view = { λ r. r.rest.now };
+}
+
+impl<'a> Reader<'a> {
+    pub fn new(line: &'a [u8]) -> Self
+        ensures { result ≡ line.now }
+    {
+        Reader { rest: line }
+    }
+
+    /// Whether no word is left.
+    pub fn is_at_end(&self) -> bool
+        ensures { result ≡ list_all is_space self.now }
+    {
+        self.rest.iter().all(|byte| *byte == b' ')
+    }
+
+    fn skip_spaces(&mut self)
+        ensures { Skips self.old self.new }
+    {
+        let (_, rest) = self.rest.split_at(count_spaces(self.rest));
+        self.rest = rest;
+    }
+
+    /// The bytes up to a space or the end.
+    fn front(&mut self) -> &'a [u8]
+        ensures { ReadsFront self.old result.now self.new }
+    {
+        let length = self.rest.iter().take_while(|byte| **byte != b' ').count();
+        let (word, rest) = self.rest.split_at(length);
+        self.rest = rest;
+        word
+    }
+
+    /// The next word, which is no text between quotes.
+    fn word(&mut self) -> Result<&'a str, LineFault>
+        ensures { ReadsPlain self.old self.new result }
+    {
+        self.skip_spaces();
+        let Ok(word) = str::from_utf8(self.front()) else {
+            return Err(LineFault::Words);
+        };
+        Ok(word)
+    }
+
+    fn transaction(&mut self) -> Result<u32, LineFault>
+        ensures { ReadsWord IsTransaction self.old self.new result }
+    {
+        read_transaction(self.word()?).ok_or(LineFault::Words)
+    }
+
+    fn relation(&mut self) -> Result<Name, LineFault>
+        ensures { ReadsWord IsRelation self.old self.new result }
+    {
+        read_name(self.word()?).ok_or(LineFault::Words)
+    }
+
+    fn tid(&mut self) -> Result<Tid, LineFault>
+        ensures { ReadsWord IsTid self.old self.new result }
+    {
+        read_tid(self.word()?).ok_or(LineFault::Words)
+    }
+
+    fn int(&mut self) -> Result<i64, LineFault>
+        ensures { ReadsWord IsInt self.old self.new result }
+    {
+        read_int(self.word()?).ok_or(LineFault::Words)
+    }
+
+    /// Whether a quote is next, which is then read.
+    fn opens_text(&mut self) -> bool
+        ensures { ReadsQuote self.old self.new result }
+    {
+        if let [b'"', rest @ ..] = self.rest {
+            self.rest = rest;
+            true
+        } else {
+            false
+        }
+    }
+
+    /// The next byte of a text: two quotes are one byte, and one alone ends the text.
+    fn text_byte(&mut self) -> Result<Option<u8>, LineFault>
+        ensures { ReadsByte self.old self.new result }
+    {
+        let (byte, rest) = match self.rest {
+            [b'"', b'"', rest @ ..] => (Some(b'"'), rest),
+            [b'"', rest @ ..] => (None, rest),
+            [byte, rest @ ..] => (Some(*byte), rest),
+            [] => return Err(LineFault::Words),
+        };
+        self.rest = rest;
+        Ok(byte)
+    }
+
+    /// The text whose opening quote was read, up to its closing quote.
+    fn text(&mut self, alloc: Global) -> Result<Text, LineFault>
+        ensures { ReadsText self.old self.new result }
+    {
+        let mut text = Text::new(alloc);
+        while let Some(byte) = self.text_byte()? {
+            text.push(byte)?;
+        }
+        Ok(text)
+    }
+
+    /// Whether a word may end here.
+    fn is_apart(&self) -> bool
+        ensures { IsTrue result ↔ IsApart self.now }
+    {
+        matches!(self.rest, [] | [b' ', ..])
+    }
+
+    /// The value whose opening quote was read.
+    fn quoted(&mut self, alloc: Global) -> Result<Value, LineFault>
+        ensures { ReadsWord IsValue (quote ∷ self.old) self.new result }
+    {
+        let text = self.text(alloc)?;
+        if self.is_apart() && is_allowed_text(text.as_slice()) {
+            Ok(Value::Text(text))
+        } else {
+            Err(LineFault::Words)
+        }
+    }
+
+    fn value(&mut self, alloc: Global) -> Result<Value, LineFault>
+        ensures { ReadsWord IsValue self.old self.new result }
+    {
+        self.skip_spaces();
+        if self.opens_text() {
+            return self.quoted(alloc);
+        }
+        let number = self.int()?;
+        Ok(Value::Int(number))
+    }
+
+    /// The values up to the line's end.
+    fn values(&mut self, alloc: Global) -> Result<Tuple, LineFault>
+        ensures { ReadsWords AreValues self.old result }
+    {
+        let mut tuple = Tuple::new(alloc);
+        while !self.is_at_end() {
+            let value = self.value(alloc)?;
+            tuple.push(value)?;
+        }
+        Ok(tuple)
+    }
+
+    /// The call, where no word is left.
+    fn ended(&self, call: Call) -> Result<Call, LineFault>
+        ensures { Ends self.now call result }
+    {
+        if self.is_at_end() {
+            Ok(call)
+        } else {
+            Err(LineFault::Words)
+        }
+    }
+
+    fn begin(&mut self) -> Result<Call, LineFault>
+        ensures { ReadsWords (Behind (codes "begin")) self.old result }
+    {
+        let transaction = self.transaction()?;
+        self.ended(Call::Begin(transaction))
+    }
+
+    fn end(&mut self) -> Result<Call, LineFault>
+        ensures { ReadsWords (Behind (codes "end")) self.old result }
+    {
+        let transaction = self.transaction()?;
+        self.ended(Call::End(transaction))
+    }
+
+    fn insert(&mut self, alloc: Global) -> Result<Call, LineFault>
+        ensures { ReadsWords (Behind (codes "insert")) self.old result }
+    {
+        let transaction = self.transaction()?;
+        let relation = self.relation()?;
+        let values = self.values(alloc)?;
+        Ok(Call::Insert(transaction, relation, values))
+    }
+
+    fn fetch(&mut self) -> Result<Call, LineFault>
+        ensures { ReadsWords (Behind (codes "fetch")) self.old result }
+    {
+        let transaction = self.transaction()?;
+        let relation = self.relation()?;
+        let tid = self.tid()?;
+        self.ended(Call::Fetch(transaction, relation, tid))
+    }
+
+    /// The call that the line is.
+    pub fn call(&mut self, alloc: Global) -> Result<Call, LineFault>
+        ensures { ReadsWords Names self.old result }
+    {
+        let verb = self.word()?;
+        if verb == "begin" {
+            return self.begin();
+        }
+        if verb == "end" {
+            return self.end();
+        }
+        if verb == "insert" {
+            return self.insert(alloc);
+        }
+        if verb == "fetch" {
+            return self.fetch();
+        }
+        Err(LineFault::Words)
+    }
+}
