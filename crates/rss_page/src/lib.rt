@@ -1,14 +1,16 @@
 //! Slotted pages: a directory of 128 entries and the bodies that it names, in one page.
 #![tactic(auto)]
 
+mod checked;
 mod directory;
 mod editing;
 mod entry_form;
 mod form;
 mod surveying;
 
+pub use checked::{bytes_at, checked_entry};
 pub use directory::{body, entry};
 pub use editing::{compact, forward_at, put_at, remove};
-pub use entry_form::Entry;
+pub use entry_form::{ENTRIES, Entry};
 pub use form::{blank, well_formed};
 pub use surveying::{Survey, fits};

@@ -1,0 +1,32 @@
+// Entries of bytes that may be no page.
+ghost use Rattle.std.specs.Prelude.{◌≡◌, ◌<◌, IfSome, IfNone, slice_index_or};
+ghost use Rattle.rss_page.specs.Slotted.{slot_count, part, entry_of, content_of, entries, IsAllowed, IsBody, IsSlotted};
+ghost use Rattle.rss_page.specs.Surveyed.{held_at};
+
+use crate::directory::{entry, entry_bytes_at};
+use crate::entry_form::Entry;
+use rss_base::Page;
+
+/// The entry of a slot, where it is spelled as it should be and may stand in a page of this space.
+/// Nothing else of the page is looked at.
+pub fn checked_entry(page: &Page, slot: u8) -> Option<Entry>
+    requires { slot < slot_count }
+    ensures holds { IfSome result (λ found. held_at (entries page.now) slot ≡ content_of page.now found) }
+    ensures allowed { IfSome result (IsAllowed (slice_index_or page.now 0 0)) }
+    ensures none { IfNone result (IsSlotted page.now → ⊥) }
+{
+    if Entry::is_spelled(&entry_bytes_at(page, slot), page[0]) {
+        Some(entry(page, slot))
+    } else {
+        None
+    }
+}
+
+/// Lends so many bytes of a page from a place on, where a body may stand there.
+pub fn bytes_at(page: &Page, place: u16, length: u16) -> &[u8]
+    requires { IsBody place length }
+    ensures { result.now ≡ part page.now place length }
+{
+    let from = usize::from(place);
+    &page[from..from + usize::from(length)]
+}

@@ -1,0 +1,9 @@
+pub mod Links
+pub mod Seen
+pub mod Sets
+pub mod Spots
+pub mod Placed
+pub mod Changes
+pub mod Moved
+pub mod Walks
+pub mod Chosen

@@ -1,0 +1,29 @@
+use Rattle.std.proofs.Common.{◌≡◌, ◌≤◌, ℕ, List, length, subst, sym, ◌∙◌}
+use Rattle.rss_page.specs.Content.{Empty, Here}
+use Rattle.rss_tuple.proofs.Sets.{entry_set, entry_kept, set_short, set_some, blank_room, blank_empty}
+use Rattle.rss_tuple.proofs.entries.fill.Goals as goal
+
+pub put_at-requires-clause-room : goal.put_at-requires-clause-room
+put_at-requires-clause-room g c = blank_room c.blank-page.result c.args.slot (length c.args.body.now) c.blank-page.ensures.empty c.requires.slot c.requires.most
+
+pub returns-clause-fills : goal.returns-clause-fills
+returns-clause-fills g c =
+    let page = c.blank-page.result in
+    let now = c.put_at.new.page in
+    let sets = c.put_at.ensures.becomes in
+    let empty = blank_empty page c.blank-page.ensures.empty in
+    let here = entry_set page now c.args.slot (Here c.args.body.now) c.requires.slot sets.holds in
+    record {
+      bytes = now;
+      written = c.in_ok-write.ensures.written;
+      heap = record {
+        formed = sets.formed c.args.key c.blank-page.ensures.formed;
+        some = set_some now c.args.slot (Here c.args.body.now) (λ is. absurd (cc)) here;
+        short = set_short page now c.args.slot (Here c.args.body.now) c.requires.slot sets.holds
+            (λ other body is. let never : Empty ≡ Here body = sym (empty other) ∙ is in absurd (cc))
+            (λ body is. let same : c.args.body.now ≡ body = cc in subst (λ (b : List ℕ). length b ≤ 2400) same c.requires.most);
+        noted = tt;
+      };
+      here = here;
+      others = λ other off. entry_kept page now c.args.slot other (Here c.args.body.now) off sets.holds ∙ empty other;
+    }

@@ -1,0 +1,44 @@
+-- How one entry of a page is changed, and what the pages are that a call has read.
+use Rattle.std.specs.Prelude.{◌≡◌, ℕ, true, List, Some, None}
+use Rattle.rss_base.specs.DiskRule.{IsTold}
+use Rattle.rss_base.specs.Steps.{PagesView, WritesPage}
+use Rattle.rss_base.specs.declared.key.PageKey.{PageKey}
+use Rattle.rss_page.specs.Content.{Content, Empty, Here, Forward}
+use Rattle.rss_page.specs.Slotted.{entries, IsWellFormed}
+use Rattle.rss_page.specs.Surveyed.{held_at}
+use Rattle.rss_tuple.specs.Directory.{Entries, content_at}
+use Rattle.rss_tuple.specs.Heaps.{IsHeap, AreFormed, HasBody}
+
+-- these bytes are a well-formed page, and those of the key where the device tells its contents
+pub record IsRead (view : PagesView) (key : PageKey) (bytes : List ℕ) : Type 0 where
+  pub mapped : view.mapped key ≡ true
+  pub formed : IsWellFormed key bytes
+  pub held : IsTold view.disk → view.held key ≡ Some bytes
+
+-- one entry of a page holds this now, and all pages are still well-formed by themselves
+pub record SetsEntry (key : PageKey) (slot : ℕ) (content : Content) (old new : PagesView) : Type 0 where
+  pub here : content_at new.held key slot ≡ content
+  pub others : (other : ℕ) → (other ≡ slot → ⊥) → content_at new.held key other ≡ content_at old.held key other
+  pub formed : AreFormed new
+
+-- The page holds one body now, and nothing else.
+pub record FillsPage (key : PageKey) (slot : ℕ) (body : List ℕ) (old new : PagesView) : Type 0 where
+  pub bytes : List ℕ
+  pub written : WritesPage key bytes old new
+  pub heap : IsHeap key bytes None
+  pub here : held_at (entries bytes) slot ≡ Here body
+  pub others : (other : ℕ) → (other ≡ slot → ⊥) → held_at (entries bytes) other ≡ Empty
+
+-- no page was changed, and all are still well-formed by themselves
+pub record KeepsEntries (old new : PagesView) : Type 0 where
+  pub mapped : new.mapped ≡ old.mapped
+  pub held : IsTold old.disk → new.held ≡ old.held
+  pub formed : IsTold old.disk → AreFormed new
+
+-- The entries of a segment, before and after one tuple was put, moved or taken away: those of no other tuple changed, where it led before is empty now, and where it leads now was empty and has a body.
+pub record Moves (page slot : ℕ) (home overflow home_now overflow_now : Entries) : Type 0 where
+  pub homes : (p s : ℕ) → ((p ≡ page) → (s ≡ slot) → ⊥) → home_now p s ≡ home p s
+  pub kept : (p s : ℕ) → (home page slot ≡ Forward p s → ⊥) → (home_now page slot ≡ Forward p s → ⊥) → overflow_now p s ≡ overflow p s
+  pub left : (p s : ℕ) → home page slot ≡ Forward p s → (home_now page slot ≡ Forward p s → ⊥) → overflow_now p s ≡ Empty
+  pub came : (p s : ℕ) → home_now page slot ≡ Forward p s → HasBody (overflow_now p s)
+  pub fresh : (p s : ℕ) → home_now page slot ≡ Forward p s → (home page slot ≡ Forward p s → ⊥) → overflow p s ≡ Empty

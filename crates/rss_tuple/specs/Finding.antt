@@ -1,0 +1,54 @@
+-- What is found of a tuple in pages.
+use Rattle.std.specs.Prelude.{◌≡◌, ◌⊎◌, ℕ, ◌<◌, ◌≤◌, Bool, true, false, List, Option, None, Some, MatchOption}
+use Rattle.rss_base.specs.declared.tid.Tid.{Tid}
+use Rattle.rss_page.specs.Content.{Content, Empty, Here, Forward}
+use Rattle.rss_page.specs.Slotted.{slot_count}
+use Rattle.rss_page.specs.Surveyed.{held_at}
+use Rattle.rss_tuple.specs.TupleSteps.{TuplesView, IsLive, IsBelow}
+use Rattle.rss_tuple.specs.declared.reading.Found.{Found}
+use Rattle.rss_tuple.specs.declared.reading.Found.TheVariants.{Nothing, Body, Elsewhere}
+
+-- ---- a fetch
+
+-- whether there is a body, and if so, that it was read
+abbrev pub IsFetched : Option (List ℕ) → Bool → List ℕ → Type 0
+IsFetched body live read = MatchOption body (live ≡ false) (λ bytes. (live ≡ true) × (read ≡ bytes))
+
+-- what was found is what the entry holds
+abbrev pub IsFound : Found → Content → List ℕ → Type 0
+IsFound Nothing content read = content ≡ Empty
+IsFound Body content read = content ≡ Here read
+IsFound (Elsewhere page slot) content read = content ≡ Forward page slot
+
+-- it leads to one of the slots of a page
+abbrev pub IsLow : Found → Type 0
+IsLow Nothing = Unit {0}
+IsLow Body = Unit {0}
+IsLow (Elsewhere page slot) = slot < slot_count
+
+-- ---- the next tuple
+
+-- an identifier stands behind this one, or is any where there is none
+abbrev pub IsAfter : Option Tid → Tid → Type 0
+IsAfter None tid = Unit {0}
+IsAfter (Some after) tid = IsBelow after tid
+
+-- an identifier stands at this one or behind it
+abbrev pub IsFrom : Tid → Tid → Type 0
+IsFrom from tid = (from.page < tid.page) ⊎ ((from.page ≡ tid.page) × (from.slot ≤ tid.slot))
+
+-- a tuple stands there, behind another one
+pub record IsNext (view : TuplesView) (segment : ℕ) (after : Option Tid) (tid : Tid) : Type 0 where
+  pub behind : IsAfter after tid
+  pub live : IsLive view segment tid
+
+-- the first slot from one on that holds something
+pub record IsFirstTaken (contents : List Content) (from slot : ℕ) : Type 0 where
+  pub from_there : from ≤ slot
+  pub low : slot < slot_count
+  pub taken : held_at contents slot ≡ Empty → ⊥
+  pub lesser : (other : ℕ) → from ≤ other → other < slot → held_at contents other ≡ Empty
+
+-- no slot from one on holds anything
+abbrev pub NoneTaken : List Content → ℕ → Type 0
+NoneTaken contents from = (slot : ℕ) → from ≤ slot → held_at contents slot ≡ Empty

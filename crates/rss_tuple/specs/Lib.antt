@@ -1,0 +1,9 @@
+pub mod Directory
+pub mod Heaps
+pub mod TupleSteps
+pub mod Placing
+pub mod Edits
+pub mod Finding
+pub mod Spots
+pub mod Puts
+pub mod Picks

@@ -1,0 +1,175 @@
+// One entry of a page that is changed.
+ghost use Rattle.std.specs.Prelude.{◌≡◌, ◌↔◌, ◌<◌, ◌≤◌, length, true, false, IsTrue, OnOk};
+ghost use Rattle.rss_base.specs.DiskRule.{IsTold};
+ghost use Rattle.rss_base.specs.PageMap.{IsKey};
+ghost use Rattle.rss_base.specs.Steps.{PagesCall, no_page, only};
+ghost use Rattle.rss_base.specs.declared.key.Space.TheVariants.{Home};
+ghost use Rattle.rss_page.specs.Content.{Empty, Here, Forward};
+ghost use Rattle.rss_page.specs.Slotted.{slot_count, entries, HasRoom, IsHeapKey, IsSlotted};
+ghost use Rattle.rss_page.specs.Surveyed.{IsVacant};
+ghost use Rattle.rss_tuple.specs.Heaps.{body_most, AreFormed};
+ghost use Rattle.rss_tuple.specs.Edits.{IsRead, SetsEntry, FillsPage};
+
+use crate::keys::damaged;
+use rss_base::{PAGE_BYTES, Page, PageFault, PageKey, Pages, Tid};
+use rss_page::{Survey, blank, forward_at, put_at, remove, well_formed};
+
+/// Reads a page that is to be well-formed.
+pub(crate) fn read_formed<P: Pages>(
+    pages: &mut P,
+    key: PageKey,
+    page: &mut Page,
+) -> Result<(), PageFault>
+    requires heap { IsHeapKey key }
+    requires mapped { IsTold (P.view pages.old).disk → (P.view pages.old).mapped key ≡ true }
+    requires formed { IsTold (P.view pages.old).disk → AreFormed (P.view pages.old) }
+    ensures read { OnOk result (IsRead (P.view pages.new) key page.new) }
+    ensures did { PagesCall no_page 1 1 (P.view pages.old) (P.view pages.new) result }
+{
+    if !pages.has(key) {
+        return Err(damaged(key));
+    }
+    pages.read(key, page)?;
+    if well_formed(page, key) {
+        Ok(())
+    } else {
+        Err(damaged(key))
+    }
+}
+
+/// Gives an entry of a page that was read a body, whatever it held.
+pub(crate) fn put_here<P: Pages>(
+    pages: &mut P,
+    key: PageKey,
+    page: &mut Page,
+    slot: u8,
+    body: &[u8],
+) -> Result<(), PageFault>
+    requires read { IsRead (P.view pages.old) key page.old }
+    requires slot { slot < slot_count }
+    requires some { 1 ≤ length body.now }
+    requires most { length body.now ≤ body_most }
+    requires room { HasRoom (entries page.old) slot (length body.now) }
+    requires formed { IsTold (P.view pages.old).disk → AreFormed (P.view pages.old) }
+    ensures sets { OnOk result (IsTold (P.view pages.old).disk
+        → SetsEntry key slot (Here body.now) (P.view pages.old) (P.view pages.new)) }
+    ensures did { PagesCall (only key) 0 1 (P.view pages.old) (P.view pages.new) result }
+{
+    put_at(page, slot, body);
+    pages.write(key, page)?;
+    Ok(())
+}
+
+/// Makes an entry of a home page that was read lead to an entry of an overflow page, whatever it
+/// held.
+pub(crate) fn put_forward<P: Pages>(
+    pages: &mut P,
+    key: PageKey,
+    page: &mut Page,
+    slot: u8,
+    to: Tid,
+) -> Result<(), PageFault>
+    requires read { IsRead (P.view pages.old) key page.old }
+    requires home { key.space ≡ Home }
+    requires slot { slot < slot_count }
+    requires to { to.slot < slot_count }
+    requires formed { IsTold (P.view pages.old).disk → AreFormed (P.view pages.old) }
+    ensures sets { OnOk result (IsTold (P.view pages.old).disk
+        → SetsEntry key slot (Forward to.page to.slot) (P.view pages.old) (P.view pages.new)) }
+    ensures did { PagesCall (only key) 0 1 (P.view pages.old) (P.view pages.new) result }
+{
+    forward_at(page, slot, to.page, to.slot as u8);
+    pages.write(key, page)?;
+    Ok(())
+}
+
+/// Whether all entries of a page are empty.
+fn is_vacant(page: &Page) -> bool
+    requires { IsSlotted page.now }
+    ensures { IsTrue result ↔ IsVacant (entries page.now) }
+{
+    Survey::of(page).is_vacant
+}
+
+/// Empties an entry of a page that was read. A page whose entries are all empty then is given back.
+pub(crate) fn clear_in<P: Pages>(
+    pages: &mut P,
+    key: PageKey,
+    page: &mut Page,
+    slot: u8,
+) -> Result<(), PageFault>
+    requires read { IsRead (P.view pages.old) key page.old }
+    requires slot { slot < slot_count }
+    requires formed { IsTold (P.view pages.old).disk → AreFormed (P.view pages.old) }
+    ensures sets { OnOk result (IsTold (P.view pages.old).disk
+        → SetsEntry key slot Empty (P.view pages.old) (P.view pages.new)) }
+    ensures did { PagesCall (only key) 0 1 (P.view pages.old) (P.view pages.new) result }
+{
+    remove(page, slot);
+    if is_vacant(page) {
+        pages.give(key)?;
+        return Ok(());
+    }
+    pages.write(key, page)?;
+    Ok(())
+}
+
+/// Empties an entry of a page.
+pub(crate) fn clear<P: Pages>(pages: &mut P, key: PageKey, slot: u8) -> Result<(), PageFault>
+    requires heap { IsHeapKey key }
+    requires slot { slot < slot_count }
+    requires mapped { IsTold (P.view pages.old).disk → (P.view pages.old).mapped key ≡ true }
+    requires formed { IsTold (P.view pages.old).disk → AreFormed (P.view pages.old) }
+    ensures sets { OnOk result (IsTold (P.view pages.old).disk
+        → SetsEntry key slot Empty (P.view pages.old) (P.view pages.new)) }
+    ensures did { PagesCall (only key) 1 2 (P.view pages.old) (P.view pages.new) result }
+{
+    let mut page = [0u8; PAGE_BYTES];
+    read_formed(pages, key, &mut page)?;
+    clear_in(pages, key, &mut page, slot)
+}
+
+/// Makes a page that was just taken one whose only body stands at this slot.
+pub(crate) fn fill<P: Pages>(
+    pages: &mut P,
+    key: PageKey,
+    slot: u8,
+    body: &[u8],
+) -> Result<(), PageFault>
+    requires heap { IsHeapKey key }
+    requires slot { slot < slot_count }
+    requires some { 1 ≤ length body.now }
+    requires most { length body.now ≤ body_most }
+    requires mapped { (P.view pages.old).mapped key ≡ true }
+    ensures fills { OnOk result (FillsPage key slot body.now (P.view pages.old)
+        (P.view pages.new)) }
+    ensures did { PagesCall (only key) 0 1 (P.view pages.old) (P.view pages.new) result }
+{
+    let mut page = blank(key);
+    put_at(&mut page, slot, body);
+    pages.write(key, &page)?;
+    Ok(())
+}
+
+/// Takes a page whose only body stands at this slot.
+pub(crate) fn take_here<P: Pages>(
+    pages: &mut P,
+    key: PageKey,
+    slot: u8,
+    body: &[u8],
+) -> Result<(), PageFault>
+    requires heap { IsHeapKey key }
+    requires allowed { IsKey (P.view pages.old).slots key }
+    requires unmapped { (P.view pages.old).mapped key ≡ false }
+    requires room { 0 < (P.view pages.old).spare }
+    requires slot { slot < slot_count }
+    requires some { 1 ≤ length body.now }
+    requires most { length body.now ≤ body_most }
+    requires formed { IsTold (P.view pages.old).disk → AreFormed (P.view pages.old) }
+    ensures sets { OnOk result (IsTold (P.view pages.old).disk
+        → SetsEntry key slot (Here body.now) (P.view pages.old) (P.view pages.new)) }
+    ensures did { PagesCall (only key) 0 2 (P.view pages.old) (P.view pages.new) result }
+{
+    pages.take_at(key)?;
+    fill(pages, key, slot, body)
+}

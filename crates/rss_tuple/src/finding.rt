@@ -1,0 +1,152 @@
+// The first page of a space with a free entry and enough free bytes.
+ghost use Rattle.std.specs.Prelude.{◌≡◌, ℕ, ◌+◌, ◌<◌, ◌≤◌, ◌↔◌, true, IsTrue, MatchOption, IfOk};
+ghost use Rattle.std.specs.Prelude.{OnOk};
+ghost use Rattle.rss_base.specs.DiskRule.{IsTold};
+ghost use Rattle.rss_base.specs.Sizes.{segments};
+ghost use Rattle.rss_base.specs.Notes.{is_noted_space};
+ghost use Rattle.rss_base.specs.Steps.{PagesCall, only, pages_in};
+ghost use Rattle.rss_page.specs.Slotted.{slot_count, entries};
+ghost use Rattle.rss_page.specs.Content.{Empty};
+ghost use Rattle.rss_page.specs.Surveyed.{held_at, IsSurvey};
+ghost use Rattle.rss_tuple.specs.Heaps.{body_most, AreFormed};
+ghost use Rattle.rss_tuple.specs.TupleSteps.{NoneIs};
+ghost use Rattle.rss_tuple.specs.Placing.{IsSpot};
+ghost use Rattle.rss_tuple.specs.Edits.{IsRead, KeepsEntries};
+ghost use Rattle.rss_tuple.specs.Spots.{AreBarred, IsFirstOpen, NoneOpen, HasSpot, HasNoSpot};
+ghost use Rattle.rss_tuple.specs.Spots.{IsRoom, IsFoundSpot};
+
+use crate::entries::read_formed;
+use rss_base::{PAGE_ENTRIES, Page, PageFault, PageKey, Pages, Space, Tid};
+use rss_page::{ENTRIES, Entry, Survey, entry};
+
+/// For each slot of a page, whether its identifier is barred.
+type Slots = [bool; PAGE_ENTRIES];
+
+/// The slots of the page of this number that are barred.
+fn barred_slots(number: u32, barred: &[Tid]) -> Slots
+    ensures { AreBarred barred.now number result }
+{
+    let mut slots = [false; PAGE_ENTRIES];
+    for tid in barred {
+        if tid.page == number && tid.slot < u16::from(ENTRIES) {
+            slots[usize::from(tid.slot)] = true;
+        }
+    }
+    slots
+}
+
+/// The first slot of a page whose entry is empty, and whose identifier isn't barred.
+pub(crate) fn first_open(page: &Page, number: u32, barred: &[Tid]) -> Option<u8>
+    ensures { MatchOption result (NoneOpen (entries page.now) barred.now number)
+        (IsFirstOpen (entries page.now) barred.now number) }
+{
+    let slots = barred_slots(number, barred);
+    for slot in 0..ENTRIES {
+        if !slots[usize::from(slot)] && is_empty(page, slot) {
+            return Some(slot);
+        }
+    }
+    None
+}
+
+/// Whether an entry holds nothing.
+pub(crate) fn is_empty(page: &Page, slot: u8) -> bool
+    requires { slot < slot_count }
+    ensures { IsTrue result ↔ (held_at (entries page.now) slot ≡ Empty) }
+{
+    match entry(page, slot) {
+        Entry::Empty => true,
+        Entry::Here { .. } | Entry::Forward { .. } => false,
+    }
+}
+
+/// The first such slot of a page that has so many free bytes.
+fn spot_in(page: &Page, number: u32, length: u16, barred: &[Tid], found: &Survey) -> Option<u8>
+    requires { IsSurvey page.now found.now }
+    ensures { MatchOption result (HasNoSpot (entries page.now) length barred.now number)
+        (HasSpot (entries page.now) length barred.now number) }
+{
+    if found.free < length {
+        return None;
+    }
+    first_open(page, number, barred)
+}
+
+/// What is noted on a page: 0 where no entry is empty, else 1 and the free bytes.
+fn room_of(page: &Page, found: &Survey) -> u16
+    requires { IsSurvey page.now found.now }
+    ensures { IsRoom (entries page.now) result }
+{
+    match found.first_empty {
+        None => 0,
+        Some(_) => found.free + 1,
+    }
+}
+
+/// Looks for such a slot in a mapped page, and notes the page's room.
+fn try_page<P: Pages>(
+    pages: &mut P,
+    key: PageKey,
+    length: u16,
+    barred: &[Tid],
+    page: &mut Page,
+) -> Result<Option<u8>, PageFault>
+    requires noted { is_noted_space key.space ≡ true }
+    requires mapped { (P.view pages.old).mapped key ≡ true }
+    requires formed { IsTold (P.view pages.old).disk → AreFormed (P.view pages.old) }
+    ensures read { OnOk result (IsRead (P.view pages.new) key page.new) }
+    ensures found { IfOk result (λ found. MatchOption found
+        (HasNoSpot (entries page.new) length barred.now key.number)
+        (HasSpot (entries page.new) length barred.now key.number)) }
+    ensures kept { KeepsEntries (P.view pages.old) (P.view pages.new) }
+    ensures did { PagesCall (only key) 1 1 (P.view pages.old) (P.view pages.new) result }
+{
+    read_formed(pages, key, page)?;
+    let found = Survey::of(page);
+    pages.note(key, room_of(page, &found));
+    Ok(spot_in(page, key.number, length, barred, &found))
+}
+
+/// Finds the first page of a segment and a space that has a free entry whose identifier isn't barred
+/// and so many free bytes, and there the first such entry. Leaves the page in `page`.
+pub(crate) fn find_page<P: Pages>(
+    pages: &mut P,
+    segment: u8,
+    space: Space,
+    length: u16,
+    barred: &[Tid],
+    page: &mut Page,
+) -> Result<Option<Tid>, PageFault>
+    requires low { 1 ≤ segment }
+    requires high { segment ≤ segments }
+    requires noted { is_noted_space space ≡ true }
+    requires most { length ≤ body_most }
+    requires formed { IsTold (P.view pages.old).disk → AreFormed (P.view pages.old) }
+    ensures found { IfOk result (λ found. MatchOption found
+        (IsTold (P.view pages.old).disk → NoneIs (IsSpot (P.view pages.old)
+        (record { segment = segment; space = space; length = length; barred = barred.now })))
+        (IsFoundSpot (P.view pages.old) (P.view pages.new)
+        (record { segment = segment; space = space; length = length; barred = barred.now }) page.new)) }
+    ensures kept { KeepsEntries (P.view pages.old) (P.view pages.new) }
+    ensures did { PagesCall (pages_in segment space) (P.view pages.old).slots
+        (P.view pages.old).slots (P.view pages.old) (P.view pages.new) result }
+{
+    // Numbers of pages are below this, so the one behind each is a number too.
+    let _slots = pages.slots();
+    let mut from = 0;
+    while let Some(number) = pages.first_noted(segment, space, from, length + 1) {
+        let key = PageKey {
+            segment,
+            space,
+            number,
+        };
+        if let Some(slot) = try_page(pages, key, length, barred, page)? {
+            return Ok(Some(Tid {
+                page: number,
+                slot: u16::from(slot),
+            }));
+        }
+        from = number + 1;
+    }
+    Ok(None)
+}

@@ -1,0 +1,15 @@
+//! A tuple store over pages: a finite map from the identifiers of a segment to bodies.
+#![tactic(auto)]
+
+mod choosing;
+mod entries;
+mod finding;
+mod keys;
+mod placing;
+mod reading;
+mod store;
+mod tuples;
+mod walking;
+
+pub use store::Store;
+pub use tuples::Tuples;

@@ -1,0 +1,120 @@
+// A tuple that is read by its identifier.
+ghost use Rattle.std.specs.Prelude.{◌≡◌, ◌<◌, ◌≤◌, ℕ, List, length, true, Option, IfSome, IfNone};
+ghost use Rattle.std.specs.Prelude.{IfOk, OnOk};
+ghost use Rattle.rss_base.specs.DiskRule.{IsTold};
+ghost use Rattle.rss_base.specs.Sizes.{segments};
+ghost use Rattle.rss_base.specs.Steps.{PagesCall, no_page};
+ghost use Rattle.rss_page.specs.Content.{Here};
+ghost use Rattle.rss_page.specs.Slotted.{slot_count, entries, IsHeapKey, IsSlotted};
+ghost use Rattle.rss_page.specs.Surveyed.{held_at};
+ghost use Rattle.rss_tuple.specs.Directory.{content_at, bodies_of};
+ghost use Rattle.rss_tuple.specs.Heaps.{body_most, AreFormed, AreHeaps, HasBody};
+ghost use Rattle.rss_tuple.specs.TupleSteps.{TuplesCall, tuples_in, no_tuple};
+ghost use Rattle.rss_tuple.specs.Finding.{IsFetched, IsFound, IsLow};
+
+use crate::keys::{damaged, home, overflow};
+use rss_base::{BODY_BYTES, Body, Page, PageFault, PageKey, Pages, Tid};
+use rss_page::{ENTRIES, Entry, bytes_at, checked_entry};
+
+/// What an entry holds.
+#[derive(Clone, Copy)]
+pub(crate) enum Found {
+    Nothing,
+    /// A body, which was copied.
+    Body,
+    /// The page and the slot of an overflow page where the body stands.
+    Elsewhere(u32, u8),
+}
+
+/// Finds out whether a tuple stands at an identifier, and if so, copies its body. Asks for two pages
+/// at most.
+pub(crate) fn fetch<P: Pages>(
+    pages: &mut P,
+    segment: u8,
+    tid: Tid,
+    into: &mut Body,
+) -> Result<bool, PageFault>
+    requires heaps { IsTold (P.view pages.old).disk → AreHeaps (P.view pages.old) }
+    ensures fetched { IfOk result (λ live. IsTold (P.view pages.old).disk
+        → IsFetched (bodies_of (P.view pages.old).held segment tid) live into.new) }
+    ensures did { TuplesCall no_page no_tuple 2 (tuples_in (P.view pages.old))
+        (tuples_in (P.view pages.new)) result }
+{
+    if tid.slot >= u16::from(ENTRIES) {
+        return Ok(false);
+    }
+    match look(pages, home(segment, tid.page), tid.slot as u8, into)? {
+        Found::Nothing => Ok(false),
+        Found::Body => Ok(true),
+        Found::Elsewhere(page, slot) => {
+            follow(pages, overflow(segment, page), slot, into)?;
+            Ok(true)
+        }
+    }
+}
+
+/// Copies the body that stands in an entry of an overflow page.
+fn follow<P: Pages>(pages: &mut P, key: PageKey, slot: u8, into: &mut Body) -> Result<(), PageFault>
+    requires heap { IsHeapKey key }
+    requires slot { slot < slot_count }
+    requires formed { IsTold (P.view pages.old).disk → AreFormed (P.view pages.old) }
+    requires body { IsTold (P.view pages.old).disk
+        → HasBody (content_at (P.view pages.old).held key slot) }
+    ensures body { OnOk result (IsTold (P.view pages.old).disk
+        → content_at (P.view pages.old).held key slot ≡ Here into.new) }
+    ensures did { PagesCall no_page 1 1 (P.view pages.old) (P.view pages.new) result }
+{
+    match look(pages, key, slot, into)? {
+        Found::Body => Ok(()),
+        Found::Nothing | Found::Elsewhere(..) => Err(damaged(key)),
+    }
+}
+
+/// Finds out what an entry of a page holds, where the page is mapped. A body is copied.
+fn look<P: Pages>(
+    pages: &mut P,
+    key: PageKey,
+    slot: u8,
+    into: &mut Body,
+) -> Result<Found, PageFault>
+    requires heap { IsHeapKey key }
+    requires slot { slot < slot_count }
+    requires formed { IsTold (P.view pages.old).disk → AreFormed (P.view pages.old) }
+    ensures found { IfOk result (λ found. IsTold (P.view pages.old).disk
+        → IsFound found (content_at (P.view pages.old).held key slot) into.new) }
+    ensures low { IfOk result IsLow }
+    ensures did { PagesCall no_page 1 1 (P.view pages.old) (P.view pages.new) result }
+{
+    if !pages.has(key) {
+        return Ok(Found::Nothing);
+    }
+    pages.load(key)?;
+    match look_in(pages.loaded(key), slot, into) {
+        Some(found) => Ok(found),
+        None => Err(damaged(key)),
+    }
+}
+
+/// Finds out what an entry holds, where its bytes are in form. A body is copied.
+fn look_in(page: &Page, slot: u8, into: &mut Body) -> Option<Found>
+    requires { slot < slot_count }
+    ensures found { IfSome result
+        (λ found. IsFound found (held_at (entries page.now) slot) into.new) }
+    ensures low { IfSome result IsLow }
+    ensures none { IfNone result (IsSlotted page.now
+        → ((body : List ℕ) → held_at (entries page.now) slot ≡ Here body
+        → length body ≤ body_most) → ⊥) }
+{
+    match checked_entry(page, slot)? {
+        Entry::Empty => Some(Found::Nothing),
+        Entry::Forward { page: to, slot } => Some(Found::Elsewhere(to, slot)),
+        Entry::Here { place, length } => {
+            if usize::from(length) > BODY_BYTES {
+                return None;
+            }
+            *into = Body::new();
+            into.extend_from_slice(bytes_at(page, place, length));
+            Some(Found::Body)
+        }
+    }
+}

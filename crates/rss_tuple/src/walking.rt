@@ -1,0 +1,104 @@
+// The next tuple of a segment.
+ghost use Rattle.std.specs.Prelude.{◌≡◌, ◌↔◌, ◌<◌, ◌≤◌, true, MatchOption, IfOk};
+ghost use Rattle.rss_base.specs.DiskRule.{IsTold};
+ghost use Rattle.rss_base.specs.Sizes.{segments};
+ghost use Rattle.rss_base.specs.Steps.{PagesCall, no_page};
+ghost use Rattle.rss_base.specs.declared.tid.Tid.{Tid as Identifier};
+ghost use Rattle.rss_page.specs.Slotted.{slot_count, entries};
+ghost use Rattle.rss_tuple.specs.Directory.{contents};
+ghost use Rattle.rss_tuple.specs.Heaps.{AreHeaps};
+ghost use Rattle.rss_tuple.specs.TupleSteps.{TuplesCall, IsLeast, NoneIs, tuples_in, no_tuple};
+ghost use Rattle.rss_tuple.specs.Finding.{IsAfter, IsFrom, IsNext, IsFirstTaken, NoneTaken};
+
+use crate::finding::is_empty;
+use crate::keys::home;
+use rss_base::{Page, PageFault, PageKey, Pages, Space, Tid};
+use rss_page::ENTRIES;
+
+/// The first identifier behind this one, or the first of all.
+fn start_of(after: Option<Tid>) -> Tid
+    ensures from { (tid : Identifier) → tid.slot < slot_count
+        → IsFrom result tid ↔ IsAfter after tid }
+    ensures low { result.slot ≤ slot_count }
+{
+    match after {
+        None => Tid { page: 0, slot: 0 },
+        Some(tid) => Tid {
+            page: tid.page,
+            slot: tid.slot.min(127) + 1,
+        },
+    }
+}
+
+/// The first slot of a page from one on that holds something.
+fn taken_from(page: &Page, from: u8) -> Option<u8>
+    ensures { MatchOption result (NoneTaken (entries page.now) from)
+        (IsFirstTaken (entries page.now) from) }
+{
+    for slot in from..ENTRIES {
+        if !is_empty(page, slot) {
+            return Some(slot);
+        }
+    }
+    None
+}
+
+/// The same of a mapped page.
+fn taken_in<P: Pages>(pages: &mut P, key: PageKey, from: u8) -> Result<Option<u8>, PageFault>
+    requires { (P.view pages.old).mapped key ≡ true }
+    ensures found { IfOk result (λ found. IsTold (P.view pages.old).disk
+        → MatchOption found (NoneTaken (contents (P.view pages.old).held key) from)
+        (IsFirstTaken (contents (P.view pages.old).held key) from)) }
+    ensures did { PagesCall no_page 1 1 (P.view pages.old) (P.view pages.new) result }
+{
+    pages.load(key)?;
+    Ok(taken_from(pages.loaded(key), from))
+}
+
+/// Where to begin in a page: at the slot of `from`, where it is its page, else at the first one.
+fn slot_in(from: Tid, number: u32) -> u8
+    requires { from.slot ≤ slot_count }
+    ensures same { from.page ≡ number → result ≡ from.slot }
+    ensures other { (from.page ≡ number → ⊥) → result ≡ 0 }
+{
+    if from.page == number {
+        from.slot as u8
+    } else {
+        0
+    }
+}
+
+/// The least identifier behind this one at which a tuple stands, or the least of all where there is
+/// none to stand behind.
+pub(crate) fn next_live<P: Pages>(
+    pages: &mut P,
+    segment: u8,
+    after: Option<Tid>,
+) -> Result<Option<Tid>, PageFault>
+    requires low { 1 ≤ segment }
+    requires high { segment ≤ segments }
+    requires heaps { IsTold (P.view pages.old).disk → AreHeaps (P.view pages.old) }
+    ensures next { IfOk result (λ found. IsTold (P.view pages.old).disk
+        → MatchOption found (NoneIs (IsNext (tuples_in (P.view pages.old)) segment after))
+        (IsLeast (IsNext (tuples_in (P.view pages.old)) segment after))) }
+    ensures did { TuplesCall no_page no_tuple (P.view pages.old).slots
+        (tuples_in (P.view pages.old)) (tuples_in (P.view pages.new)) result }
+{
+    // Numbers of pages are below this, so the one behind each is a number too.
+    let _slots = pages.slots();
+    let mut from = start_of(after);
+    while let Some(number) = pages.first_mapped(segment, Space::Home, from.page) {
+        let low = slot_in(from, number);
+        if let Some(slot) = taken_in(pages, home(segment, number), low)? {
+            return Ok(Some(Tid {
+                page: number,
+                slot: u16::from(slot),
+            }));
+        }
+        from = Tid {
+            page: number + 1,
+            slot: 0,
+        };
+    }
+    Ok(None)
+}
