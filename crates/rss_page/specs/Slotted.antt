@@ -2,6 +2,7 @@
 use Rattle.std.specs.Prelude.{◌≡◌, ◌⊎◌, ℕ, ◌+◌, ◌*◌, ◌^◌, ◌<◌, ◌≤◌, ◌==◌, if◌then◌else◌, List, [], ◌∷◌, ◌++◌, length, take, drop, map, replicate, slice_index, slice_set, sum_by}
 use Rattle.std.specs.List.{range_with_len}
 use Rattle.std.specs.Int.{w16, w32, to_be_bytes, from_be_bytes}
+use Rattle.rss_base.specs.Sizes.{page_entries, page_bytes}
 use Rattle.rss_base.specs.PageMap.{space_code}
 use Rattle.rss_base.specs.declared.key.PageKey.{PageKey}
 use Rattle.rss_base.specs.declared.key.Space.TheVariants.{Home, Overflow}
@@ -11,16 +12,9 @@ use Rattle.rss_page.specs.Content.{Content, Empty, Here, Forward, body_length}
 
 -- ---- its measures
 
--- how many entries a page has
-abbrev pub slot_count : ℕ
-slot_count = 128
-
--- where its bodies begin, and where it ends
+-- where the bodies of a page begin
 abbrev pub bodies_at : ℕ
 bodies_at = 1040
-
-abbrev pub page_end : ℕ
-page_end = 4096
 
 -- how many bytes all bodies may have together
 abbrev pub bodies_room : ℕ
@@ -67,12 +61,12 @@ pub record IsInBody (entry : Entry) (byte : ℕ) : Type 0 where
 pub record IsBody (place length : ℕ) : Type 0 where
   pub low : bodies_at ≤ place
   pub some : 1 ≤ length
-  pub high : place + length ≤ page_end
+  pub high : place + length ≤ page_bytes
 
 -- where a forward may lead, from a page of the space with this code: from home pages alone, to one of 128 slots
 pub record IsForward (space page slot : ℕ) : Type 0 where
   pub home : space ≡ 1
-  pub slot_low : slot < slot_count
+  pub slot_low : slot < page_entries
   pub page_low : page < 2 ^ 32
 
 -- an entry may stand in a page of the space with this code
@@ -102,7 +96,7 @@ content_of page (ForwardEntry to_page to_slot) = Forward to_page to_slot
 
 -- what a page says: what each of its 128 entries holds
 unfoldable pub entries : List ℕ → List Content
-entries page = map (λ slot. content_of page (entry_of page slot)) (range_with_len 0 slot_count)
+entries page = map (λ slot. content_of page (entry_of page slot)) (range_with_len 0 page_entries)
 
 -- how many bytes the bodies have
 abbrev pub body_bytes : List Content → ℕ
@@ -116,9 +110,9 @@ HasRoom contents slot length = body_bytes (slice_set contents slot Empty) + leng
 
 -- The directory and the bodies: each entry is spelled as it should be, and no byte belongs to two bodies. The page's first byte says whose space it is.
 pub record IsSlotted (page : List ℕ) : Type 0 where
-  pub size : length page ≡ page_end
-  pub spelled : (slot : ℕ) → slot < slot_count → IsEntry (slice_index page 0) (entry_at page slot)
-  pub apart : (a b byte : ℕ) → a < slot_count → b < slot_count → IsInBody (entry_of page a) byte → IsInBody (entry_of page b) byte → a ≡ b
+  pub size : length page ≡ page_bytes
+  pub spelled : (slot : ℕ) → slot < page_entries → IsEntry (slice_index page 0) (entry_at page slot)
+  pub apart : (a b byte : ℕ) → a < page_entries → b < page_entries → IsInBody (entry_of page a) byte → IsInBody (entry_of page b) byte → a ≡ b
 
 abbrev pub header_bytes : PageKey → List ℕ
 header_bytes key = space_code key.space ∷ key.segment ∷ 0 ∷ 0 ∷ (to_be_bytes w32 key.number ++ replicate 8 0)
@@ -152,11 +146,11 @@ Sets old new slot content = Becomes old new (slice_set (entries old) slot conten
 
 -- the bodies of all slots, but perhaps this one, end at this place or before it
 abbrev pub OthersEndBy : List ℕ → ℕ → ℕ → Type 0
-OthersEndBy page slot end = (other : ℕ) → other < slot_count → (other ≡ slot → ⊥) → place_of (entry_of page other) + length_of (entry_of page other) ≤ end
+OthersEndBy page slot end = (other : ℕ) → other < page_entries → (other ≡ slot → ⊥) → place_of (entry_of page other) + length_of (entry_of page other) ≤ end
 
 abbrev pub EndBy : List ℕ → ℕ → Type 0
-EndBy page end = (slot : ℕ) → slot < slot_count → place_of (entry_of page slot) + length_of (entry_of page slot) ≤ end
+EndBy page end = (slot : ℕ) → slot < page_entries → place_of (entry_of page slot) + length_of (entry_of page slot) ≤ end
 
 -- every other body stays in its place
 abbrev pub OthersStay : List ℕ → List ℕ → ℕ → Type 0
-OthersStay old new slot = (other : ℕ) → other < slot_count → (other ≡ slot → ⊥) → entry_of new other ≡ entry_of old other
+OthersStay old new slot = (other : ℕ) → other < page_entries → (other ≡ slot → ⊥) → entry_of new other ≡ entry_of old other

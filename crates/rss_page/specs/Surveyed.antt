@@ -1,8 +1,9 @@
 -- What one walk over the directory of a page finds.
 use Rattle.std.specs.Prelude.{◌≡◌, ◌↔◌, ℕ, ◌+◌, ◌<◌, ◌≤◌, List, take, slice_index_or, IsTrue, MatchOption}
+use Rattle.rss_base.specs.Sizes.{page_entries, page_bytes}
 use Rattle.rss_page.specs.declared.surveying.Survey.{Survey}
 use Rattle.rss_page.specs.Content.{Content, Empty}
-use Rattle.rss_page.specs.Slotted.{slot_count, bodies_at, bodies_room, page_end, entries, entry_of, body_bytes, place_of, length_of, EndBy}
+use Rattle.rss_page.specs.Slotted.{bodies_at, bodies_room, entries, entry_of, body_bytes, place_of, length_of, EndBy}
 
 -- what the entry of a slot holds
 abbrev pub held_at : List Content → ℕ → Content
@@ -14,7 +15,7 @@ AllTaken contents count = (slot : ℕ) → slot < count → held_at contents slo
 
 -- the least slot whose entry is empty
 pub record IsFirstEmpty (contents : List Content) (slot : ℕ) : Type 0 where
-  pub low : slot < slot_count
+  pub low : slot < page_entries
   pub empty : held_at contents slot ≡ Empty
   pub lesser : AllTaken contents slot
 
@@ -26,10 +27,10 @@ IsVacant contents = (slot : ℕ) → held_at contents slot ≡ Empty
 pub record IsSurvey (page : List ℕ) (survey : Survey) : Type 0 where
   pub free : survey.free + body_bytes (entries page) ≡ bodies_room
   pub low : bodies_at ≤ survey.end
-  pub high : survey.end ≤ page_end
+  pub high : survey.end ≤ page_bytes
   pub ends : EndBy page survey.end
   pub least : (end : ℕ) → bodies_at ≤ end → EndBy page end → survey.end ≤ end
-  pub empty : MatchOption survey.first_empty (AllTaken (entries page) slot_count) (IsFirstEmpty (entries page))
+  pub empty : MatchOption survey.first_empty (AllTaken (entries page) page_entries) (IsFirstEmpty (entries page))
   pub vacant : IsTrue survey.is_vacant ↔ IsVacant (entries page)
 
 -- ---- the walk
@@ -42,7 +43,7 @@ FirstEndBy page count end = (slot : ℕ) → slot < count → place_of (entry_of
 pub record IsSurveyOf (page : List ℕ) (count : ℕ) (survey : Survey) : Type 0 where
   pub free : survey.free + body_bytes (take count (entries page)) ≡ bodies_room
   pub low : bodies_at ≤ survey.end
-  pub high : survey.end ≤ page_end
+  pub high : survey.end ≤ page_bytes
   pub ends : FirstEndBy page count survey.end
   pub least : (end : ℕ) → bodies_at ≤ end → FirstEndBy page count end → survey.end ≤ end
   pub empty : MatchOption survey.first_empty (AllTaken (entries page) count) (IsFirstEmpty (entries page))

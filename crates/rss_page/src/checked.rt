@@ -1,6 +1,7 @@
 // Entries of bytes that may be no page.
 ghost use Rattle.std.specs.Prelude.{◌≡◌, ◌<◌, IfSome, IfNone, slice_index_or};
-ghost use Rattle.rss_page.specs.Slotted.{slot_count, part, entry_of, content_of, entries, IsAllowed, IsBody, IsSlotted};
+ghost use Rattle.rss_base.specs.Sizes.{page_entries};
+ghost use Rattle.rss_page.specs.Slotted.{part, entry_of, content_of, entries, IsAllowed, IsBody, IsSlotted};
 ghost use Rattle.rss_page.specs.Surveyed.{held_at};
 
 use crate::directory::{entry, entry_bytes_at};
@@ -10,7 +11,7 @@ use rss_base::Page;
 /// The entry of a slot, where it is spelled as it should be and may stand in a page of this space.
 /// Nothing else of the page is looked at.
 pub fn checked_entry(page: &Page, slot: u8) -> Option<Entry>
-    requires { slot < slot_count }
+    requires { slot < page_entries }
     ensures holds { IfSome result (λ found. held_at (entries page.now) slot ≡ content_of page.now found) }
     ensures allowed { IfSome result (IsAllowed (slice_index_or page.now 0 0)) }
     ensures none { IfNone result (IsSlotted page.now → ⊥) }

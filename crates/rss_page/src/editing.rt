@@ -1,7 +1,8 @@
 // Changes of a page.
 ghost use Rattle.std.specs.Prelude.{◌≡◌, ◌+◌, ◌-◌, ◌<◌, ◌≤◌, ℕ, length, replicate};
+ghost use Rattle.rss_base.specs.Sizes.{page_entries, page_bytes};
 ghost use Rattle.rss_page.specs.Content.{Empty, Here, Forward, body_length};
-ghost use Rattle.rss_page.specs.Slotted.{bodies_at, bodies_room, page_end, slot_count, part, entries, body_bytes, HasRoom, IsBody, IsSlotted, IsHome, Becomes, Sets, EndBy, OthersEndBy, OthersStay};
+ghost use Rattle.rss_page.specs.Slotted.{bodies_at, bodies_room, part, entries, body_bytes, HasRoom, IsBody, IsSlotted, IsHome, Becomes, Sets, EndBy, OthersEndBy, OthersStay};
 ghost use Rattle.rss_page.specs.Surveyed.{held_at};
 
 use crate::directory::{HEADER_BYTES, entry, set_entry};
@@ -15,7 +16,7 @@ const DIRECTORY_BYTES: usize = 1024;
 /// Empties an entry, whatever it holds.
 pub fn remove(page: &mut Page, slot: u8)
     requires slotted { IsSlotted page.old }
-    requires slot { slot < slot_count }
+    requires slot { slot < page_entries }
     ensures becomes { Sets page.old page.new slot Empty }
     ensures stay { OthersStay page.old page.new slot }
 {
@@ -26,8 +27,8 @@ pub fn remove(page: &mut Page, slot: u8)
 pub fn forward_at(page: &mut Page, slot: u8, to_page: u32, to_slot: u8)
     requires slotted { IsSlotted page.old }
     requires home { IsHome page.old }
-    requires slot { slot < slot_count }
-    requires to_slot { to_slot < slot_count }
+    requires slot { slot < page_entries }
+    requires to_slot { to_slot < page_entries }
     ensures becomes { Sets page.old page.new slot (Forward to_page to_slot) }
     ensures stay { OthersStay page.old page.new slot }
 {
@@ -42,11 +43,11 @@ pub fn forward_at(page: &mut Page, slot: u8, to_page: u32, to_slot: u8)
 /// suffice, the body goes there and these stay in their places; else they are moved together first.
 pub fn put_at(page: &mut Page, slot: u8, body: &[u8])
     requires slotted { IsSlotted page.old }
-    requires slot { slot < slot_count }
+    requires slot { slot < page_entries }
     requires some { 1 ≤ length body.now }
     requires room { HasRoom (entries page.old) slot (length body.now) }
     ensures becomes { Sets page.old page.new slot (Here body.now) }
-    ensures stay { (end : ℕ) → OthersEndBy page.old slot end → end + length body.now ≤ page_end
+    ensures stay { (end : ℕ) → OthersEndBy page.old slot end → end + length body.now ≤ page_bytes
         → OthersStay page.old page.new slot }
 {
     remove(page, slot);
@@ -61,8 +62,8 @@ fn make_room(page: &mut Page, length: u16) -> u16
     ensures becomes { Becomes page.old page.new (entries page.old) }
     ensures ends { EndBy page.new result }
     ensures low { bodies_at ≤ result }
-    ensures high { result + length ≤ page_end }
-    ensures stay { (end : ℕ) → EndBy page.old end → bodies_at ≤ end → end + length ≤ page_end
+    ensures high { result + length ≤ page_bytes }
+    ensures stay { (end : ℕ) → EndBy page.old end → bodies_at ≤ end → end + length ≤ page_bytes
         → page.new ≡ page.old }
 {
     let found = Survey::of(page);
@@ -91,7 +92,7 @@ pub fn compact(page: &mut Page)
 /// Empties all entries.
 fn clear(page: &mut Page)
     requires { IsSlotted page.old }
-    ensures becomes { Becomes page.old page.new (replicate slot_count Empty) }
+    ensures becomes { Becomes page.old page.new (replicate page_entries Empty) }
     ensures ends { EndBy page.new bodies_at }
 {
     put_bytes(page, HEADER_BYTES, &[0; DIRECTORY_BYTES]);
@@ -103,10 +104,10 @@ fn carry(from: &Page, page: &mut Page, slot: u8, end: u16) -> u16
     requires from { IsSlotted from.now }
     requires slotted { IsSlotted page.old }
     requires header { part page.old 0 16 ≡ part from.now 0 16 }
-    requires slot { slot < slot_count }
+    requires slot { slot < page_entries }
     requires ends { EndBy page.old end }
     requires low { bodies_at ≤ end }
-    requires high { end + body_length (held_at (entries from.now) slot) ≤ page_end }
+    requires high { end + body_length (held_at (entries from.now) slot) ≤ page_bytes }
     ensures becomes { Sets page.old page.new slot (held_at (entries from.now) slot) }
     ensures ends { EndBy page.new result }
     ensures close { result ≡ end + body_length (held_at (entries from.now) slot) }
@@ -134,7 +135,7 @@ fn carry(from: &Page, page: &mut Page, slot: u8, end: u16) -> u16
 /// Gives an entry a body that stands behind all others.
 fn append(page: &mut Page, slot: u8, end: u16, body: &[u8])
     requires slotted { IsSlotted page.old }
-    requires slot { slot < slot_count }
+    requires slot { slot < page_entries }
     requires free { OthersEndBy page.old slot end }
     requires place { IsBody end (length body.now) }
     ensures becomes { Sets page.old page.new slot (Here body.now) }

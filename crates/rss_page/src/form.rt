@@ -1,8 +1,9 @@
 // When a page is well-formed.
 ghost use Rattle.std.specs.Prelude.{◌≡◌, ◌≢◌, ◌↔◌, ◌+◌, ◌<◌, ◌≤◌, ℕ, Bool, true, false, replicate, slice_index_or, IsTrue};
 ghost use Rattle.std.specs.Bool.{OnTrue, OnFalse};
+ghost use Rattle.rss_base.specs.Sizes.{page_entries};
 ghost use Rattle.rss_page.specs.Content.{Empty};
-ghost use Rattle.rss_page.specs.Slotted.{slot_count, entries, header_bytes, IsAllowed, IsHeapKey, IsSlotted, IsWellFormed};
+ghost use Rattle.rss_page.specs.Slotted.{entries, header_bytes, IsAllowed, IsHeapKey, IsSlotted, IsWellFormed};
 ghost use Rattle.rss_page.specs.Marks.{IsWithin, Claims, IsClaimed};
 
 use crate::directory::{HEADER_BYTES, entry_bytes_at};
@@ -16,7 +17,7 @@ type Marks = [bool; PAGE_BYTES];
 pub fn blank(key: PageKey) -> Page
     requires { IsHeapKey key }
     ensures formed { IsWellFormed key result }
-    ensures empty { entries result ≡ replicate slot_count Empty }
+    ensures empty { entries result ≡ replicate page_entries Empty }
 {
     let mut page = [0u8; PAGE_BYTES];
     put_bytes(&mut page, 0, &header(key));

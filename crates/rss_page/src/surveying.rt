@@ -1,7 +1,8 @@
 // What one walk over the directory of a page finds.
 ghost use Rattle.std.specs.Prelude.{◌≡◌, ◌↔◌, ◌+◌, ◌-◌, ◌<◌, ◌≤◌, ℕ, max, slice_set, IsTrue, Option, Some, None, unwrap_or};
+ghost use Rattle.rss_base.specs.Sizes.{page_entries};
 ghost use Rattle.rss_page.specs.Content.{Content, Empty};
-ghost use Rattle.rss_page.specs.Slotted.{slot_count, entries, HasRoom, IsSlotted};
+ghost use Rattle.rss_page.specs.Slotted.{entries, HasRoom, IsSlotted};
 ghost use Rattle.rss_page.specs.Surveyed.{IsSurvey, IsSurveyOf};
 
 use crate::directory::entry;
@@ -42,7 +43,7 @@ impl Survey {
     /// Goes on with the next slot.
     fn with(self, page: &Page, slot: u8) -> Self
         requires slotted { IsSlotted page.now }
-        requires slot { slot < slot_count }
+        requires slot { slot < page_entries }
         requires before { IsSurveyOf page.now slot self }
         ensures { IsSurveyOf page.now (slot + 1) result }
     {
@@ -68,7 +69,7 @@ impl Survey {
 /// Whether a body of this length fits at a slot, where what the slot holds now is given up.
 pub fn fits(page: &Page, slot: u8, length: u16) -> bool
     requires slotted { IsSlotted page.now }
-    requires slot { slot < slot_count }
+    requires slot { slot < page_entries }
     ensures { IsTrue result ↔ HasRoom (entries page.now) slot length }
 {
     length <= Survey::of(page).free + entry(page, slot).body_length()

@@ -1,8 +1,8 @@
 -- What is found of a tuple in pages.
 use Rattle.std.specs.Prelude.{◌≡◌, ◌⊎◌, ℕ, ◌<◌, ◌≤◌, Bool, true, false, List, Option, None, Some, MatchOption}
+use Rattle.rss_base.specs.Sizes.{page_entries}
 use Rattle.rss_base.specs.declared.tid.Tid.{Tid}
 use Rattle.rss_page.specs.Content.{Content, Empty, Here, Forward}
-use Rattle.rss_page.specs.Slotted.{slot_count}
 use Rattle.rss_page.specs.Surveyed.{held_at}
 use Rattle.rss_tuple.specs.TupleSteps.{TuplesView, IsLive, IsBelow}
 use Rattle.rss_tuple.specs.declared.reading.Found.{Found}
@@ -24,7 +24,7 @@ IsFound (Elsewhere page slot) content read = content ≡ Forward page slot
 abbrev pub IsLow : Found → Type 0
 IsLow Nothing = Unit {0}
 IsLow Body = Unit {0}
-IsLow (Elsewhere page slot) = slot < slot_count
+IsLow (Elsewhere page slot) = slot < page_entries
 
 -- ---- the next tuple
 
@@ -45,7 +45,7 @@ pub record IsNext (view : TuplesView) (segment : ℕ) (after : Option Tid) (tid 
 -- the first slot from one on that holds something
 pub record IsFirstTaken (contents : List Content) (from slot : ℕ) : Type 0 where
   pub from_there : from ≤ slot
-  pub low : slot < slot_count
+  pub low : slot < page_entries
   pub taken : held_at contents slot ≡ Empty → ⊥
   pub lesser : (other : ℕ) → from ≤ other → other < slot → held_at contents other ≡ Empty
 

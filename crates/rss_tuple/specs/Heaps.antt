@@ -1,9 +1,10 @@
 -- What the home and the overflow pages of a store are, where the device tells its contents.
 use Rattle.std.specs.Prelude.{◌≡◌, ℕ, ◌+◌, ◌<◌, ◌≤◌, List, length, Option, Some, IfSome}
+use Rattle.rss_base.specs.Sizes.{page_entries}
 use Rattle.rss_base.specs.Steps.{PagesView}
 use Rattle.rss_base.specs.declared.key.PageKey.{PageKey}
 use Rattle.rss_page.specs.Content.{Content, Empty, Here, Forward}
-use Rattle.rss_page.specs.Slotted.{slot_count, bodies_room, entries, body_bytes, IsHeapKey, IsWellFormed}
+use Rattle.rss_page.specs.Slotted.{bodies_room, entries, body_bytes, IsHeapKey, IsWellFormed}
 use Rattle.rss_page.specs.Surveyed.{held_at, IsVacant}
 use Rattle.rss_tuple.specs.Directory.{Entries, homes, overflows}
 
@@ -15,7 +16,7 @@ body_most = 2400
 
 -- A note on a page is no less than its room: where an entry is empty, it is more than the free bytes.
 abbrev pub CoversRoom : List Content → ℕ → Type 0
-CoversRoom contents note = (slot : ℕ) → slot < slot_count → held_at contents slot ≡ Empty → bodies_room + 1 ≤ note + body_bytes contents
+CoversRoom contents note = (slot : ℕ) → slot < page_entries → held_at contents slot ≡ Empty → bodies_room + 1 ≤ note + body_bytes contents
 
 -- A page is well-formed, not all of its entries are empty, its bodies are those of tuples, and its note, if it has one, is no less than its room.
 pub record IsHeap (key : PageKey) (bytes : List ℕ) (note : Option ℕ) : Type 0 where

@@ -1,12 +1,13 @@
 -- Which identifier a new tuple gets, and in which page a body stands.
 use Rattle.std.specs.Prelude.{◌≡◌, ℕ, ◌+◌, ◌<◌, ◌≤◌, true, false, List, [], length, Contains, None}
+use Rattle.rss_base.specs.Sizes.{page_entries}
 use Rattle.rss_base.specs.Paged.{page_key}
 use Rattle.rss_base.specs.Steps.{PagesView}
 use Rattle.rss_base.specs.declared.tid.Tid.{Tid}
 use Rattle.rss_base.specs.declared.key.Space.{Space}
 use Rattle.rss_base.specs.declared.key.Space.TheVariants.{Home, Overflow}
 use Rattle.rss_page.specs.Content.{Content, Empty, Here, Forward}
-use Rattle.rss_page.specs.Slotted.{slot_count, bodies_room, body_bytes, HasRoom}
+use Rattle.rss_page.specs.Slotted.{bodies_room, body_bytes, HasRoom}
 use Rattle.rss_page.specs.Surveyed.{held_at}
 use Rattle.rss_tuple.specs.Directory.{contents, homes}
 use Rattle.rss_tuple.specs.TupleSteps.{TuplesView, IsLeast, NoneIs}
@@ -28,7 +29,7 @@ overflow_for segment length = record { segment = segment; space = Overflow; leng
 
 -- the entry of a slot is empty, and its identifier isn't barred
 pub record IsOpen (contents : List Content) (barred : List Tid) (tid : Tid) : Type 0 where
-  pub low : tid.slot < slot_count
+  pub low : tid.slot < page_entries
   pub empty : held_at contents tid.slot ≡ Empty
   pub allowed : Contains barred tid → ⊥
 
@@ -49,7 +50,7 @@ pub record IsNew (view : PagesView) (segment : ℕ) (barred : List Tid) (tid : T
 -- an identifier that isn't barred, of one of so many pages
 pub record IsNameable (slots : ℕ) (barred : List Tid) (tid : Tid) : Type 0 where
   pub within : tid.page < slots
-  pub low : tid.slot < slot_count
+  pub low : tid.slot < page_entries
   pub allowed : Contains barred tid → ⊥
 
 -- an identifier that a new tuple may get

@@ -1,11 +1,12 @@
 -- What is found in a page of free entries and of room.
 use Rattle.std.specs.Prelude.{◌≡◌, ◌↔◌, ℕ, ◌+◌, ◌<◌, ◌≤◌, Bool, true, false, List, Contains, slice_index_or}
+use Rattle.rss_base.specs.Sizes.{page_entries}
 use Rattle.rss_base.specs.DiskRule.{IsTold}
 use Rattle.rss_base.specs.Paged.{page_key}
 use Rattle.rss_base.specs.Steps.{PagesView}
 use Rattle.rss_base.specs.declared.tid.Tid.{Tid}
 use Rattle.rss_page.specs.Content.{Content, Empty}
-use Rattle.rss_page.specs.Slotted.{slot_count, bodies_room, entries, body_bytes}
+use Rattle.rss_page.specs.Slotted.{bodies_room, entries, body_bytes}
 use Rattle.rss_page.specs.Surveyed.{held_at}
 use Rattle.rss_tuple.specs.Directory.{tid_at}
 use Rattle.rss_tuple.specs.TupleSteps.{IsLeast}
@@ -14,7 +15,7 @@ use Rattle.rss_tuple.specs.Edits.{IsRead}
 
 -- the slots whose identifiers are barred are marked
 abbrev pub AreBarred : List Tid → ℕ → List Bool → Type 0
-AreBarred barred number marks = (slot : ℕ) → slot < slot_count → (slice_index_or marks slot false ≡ true) ↔ Contains barred (tid_at number slot)
+AreBarred barred number marks = (slot : ℕ) → slot < page_entries → (slice_index_or marks slot false ≡ true) ↔ Contains barred (tid_at number slot)
 
 -- the first open slot of a page
 pub record IsFirstOpen (contents : List Content) (barred : List Tid) (number slot : ℕ) : Type 0 where
@@ -35,8 +36,8 @@ HasNoSpot contents length barred number = body_bytes contents + length ≤ bodie
 
 -- What is noted on a page is its room: 0 where no entry is empty, else 1 and the free bytes.
 pub record IsRoom (contents : List Content) (room : ℕ) : Type 0 where
-  pub full : ((slot : ℕ) → slot < slot_count → held_at contents slot ≡ Empty → ⊥) → room ≡ 0
-  pub free : (slot : ℕ) → slot < slot_count → held_at contents slot ≡ Empty → room + body_bytes contents ≡ bodies_room + 1
+  pub full : ((slot : ℕ) → slot < page_entries → held_at contents slot ≡ Empty → ⊥) → room ≡ 0
+  pub free : (slot : ℕ) → slot < page_entries → held_at contents slot ≡ Empty → room + body_bytes contents ≡ bodies_room + 1
   pub most : room ≤ bodies_room + 1
 
 -- The page of this identifier was read, has what is looked for, and is the first one that had it before the search.

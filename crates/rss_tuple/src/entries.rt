@@ -1,11 +1,12 @@
 // One entry of a page that is changed.
 ghost use Rattle.std.specs.Prelude.{◌≡◌, ◌↔◌, ◌<◌, ◌≤◌, length, true, false, IsTrue, OnOk};
+ghost use Rattle.rss_base.specs.Sizes.{page_entries};
 ghost use Rattle.rss_base.specs.DiskRule.{IsTold};
 ghost use Rattle.rss_base.specs.PageMap.{IsKey};
 ghost use Rattle.rss_base.specs.Steps.{PagesCall, no_page, only};
 ghost use Rattle.rss_base.specs.declared.key.Space.TheVariants.{Home};
 ghost use Rattle.rss_page.specs.Content.{Empty, Here, Forward};
-ghost use Rattle.rss_page.specs.Slotted.{slot_count, entries, HasRoom, IsHeapKey, IsSlotted};
+ghost use Rattle.rss_page.specs.Slotted.{entries, HasRoom, IsHeapKey, IsSlotted};
 ghost use Rattle.rss_page.specs.Surveyed.{IsVacant};
 ghost use Rattle.rss_tuple.specs.Heaps.{body_most, AreFormed};
 ghost use Rattle.rss_tuple.specs.Edits.{IsRead, SetsEntry, FillsPage};
@@ -46,7 +47,7 @@ pub(crate) fn put_here<P: Pages>(
     body: &[u8],
 ) -> Result<(), PageFault>
     requires read { IsRead (P.view pages.old) key page.old }
-    requires slot { slot < slot_count }
+    requires slot { slot < page_entries }
     requires some { 1 ≤ length body.now }
     requires most { length body.now ≤ body_most }
     requires room { HasRoom (entries page.old) slot (length body.now) }
@@ -71,8 +72,8 @@ pub(crate) fn put_forward<P: Pages>(
 ) -> Result<(), PageFault>
     requires read { IsRead (P.view pages.old) key page.old }
     requires home { key.space ≡ Home }
-    requires slot { slot < slot_count }
-    requires to { to.slot < slot_count }
+    requires slot { slot < page_entries }
+    requires to { to.slot < page_entries }
     requires formed { IsTold (P.view pages.old).disk → AreFormed (P.view pages.old) }
     ensures sets { OnOk result (IsTold (P.view pages.old).disk
         → SetsEntry key slot (Forward to.page to.slot) (P.view pages.old) (P.view pages.new)) }
@@ -99,7 +100,7 @@ pub(crate) fn clear_in<P: Pages>(
     slot: u8,
 ) -> Result<(), PageFault>
     requires read { IsRead (P.view pages.old) key page.old }
-    requires slot { slot < slot_count }
+    requires slot { slot < page_entries }
     requires formed { IsTold (P.view pages.old).disk → AreFormed (P.view pages.old) }
     ensures sets { OnOk result (IsTold (P.view pages.old).disk
         → SetsEntry key slot Empty (P.view pages.old) (P.view pages.new)) }
@@ -117,7 +118,7 @@ pub(crate) fn clear_in<P: Pages>(
 /// Empties an entry of a page.
 pub(crate) fn clear<P: Pages>(pages: &mut P, key: PageKey, slot: u8) -> Result<(), PageFault>
     requires heap { IsHeapKey key }
-    requires slot { slot < slot_count }
+    requires slot { slot < page_entries }
     requires mapped { IsTold (P.view pages.old).disk → (P.view pages.old).mapped key ≡ true }
     requires formed { IsTold (P.view pages.old).disk → AreFormed (P.view pages.old) }
     ensures sets { OnOk result (IsTold (P.view pages.old).disk
@@ -137,7 +138,7 @@ pub(crate) fn fill<P: Pages>(
     body: &[u8],
 ) -> Result<(), PageFault>
     requires heap { IsHeapKey key }
-    requires slot { slot < slot_count }
+    requires slot { slot < page_entries }
     requires some { 1 ≤ length body.now }
     requires most { length body.now ≤ body_most }
     requires mapped { (P.view pages.old).mapped key ≡ true }
@@ -162,7 +163,7 @@ pub(crate) fn take_here<P: Pages>(
     requires allowed { IsKey (P.view pages.old).slots key }
     requires unmapped { (P.view pages.old).mapped key ≡ false }
     requires room { 0 < (P.view pages.old).spare }
-    requires slot { slot < slot_count }
+    requires slot { slot < page_entries }
     requires some { 1 ≤ length body.now }
     requires most { length body.now ≤ body_most }
     requires formed { IsTold (P.view pages.old).disk → AreFormed (P.view pages.old) }

@@ -2,10 +2,10 @@
 ghost use Rattle.std.specs.Prelude.{◌≡◌, ℕ, ◌+◌, ◌<◌, ◌≤◌, ◌↔◌, true, IsTrue, MatchOption, IfOk};
 ghost use Rattle.std.specs.Prelude.{OnOk};
 ghost use Rattle.rss_base.specs.DiskRule.{IsTold};
-ghost use Rattle.rss_base.specs.Sizes.{segments};
+ghost use Rattle.rss_base.specs.Sizes.{segments, page_entries};
 ghost use Rattle.rss_base.specs.Notes.{is_noted_space};
 ghost use Rattle.rss_base.specs.Steps.{PagesCall, only, pages_in};
-ghost use Rattle.rss_page.specs.Slotted.{slot_count, entries};
+ghost use Rattle.rss_page.specs.Slotted.{entries};
 ghost use Rattle.rss_page.specs.Content.{Empty};
 ghost use Rattle.rss_page.specs.Surveyed.{held_at, IsSurvey};
 ghost use Rattle.rss_tuple.specs.Heaps.{body_most, AreFormed};
@@ -51,7 +51,7 @@ pub(crate) fn first_open(page: &Page, number: u32, barred: &[Tid]) -> Option<u8>
 
 /// Whether an entry holds nothing.
 pub(crate) fn is_empty(page: &Page, slot: u8) -> bool
-    requires { slot < slot_count }
+    requires { slot < page_entries }
     ensures { IsTrue result ↔ (held_at (entries page.now) slot ≡ Empty) }
 {
     match entry(page, slot) {

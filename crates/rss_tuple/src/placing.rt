@@ -2,12 +2,12 @@
 ghost use Rattle.std.specs.Prelude.{◌≡◌, ℕ, ◌+◌, ◌<◌, ◌≤◌, length, true, false, Some, None, IfOk};
 ghost use Rattle.std.specs.Prelude.{OnOk};
 ghost use Rattle.rss_base.specs.DiskRule.{IsTold};
-ghost use Rattle.rss_base.specs.Sizes.{segments};
+ghost use Rattle.rss_base.specs.Sizes.{segments, page_entries};
 ghost use Rattle.rss_base.specs.Paged.{page_key};
 ghost use Rattle.rss_base.specs.Steps.{PagesCall, no_page, pages_in};
 ghost use Rattle.rss_base.specs.declared.key.Space.TheVariants.{Home, Overflow};
 ghost use Rattle.rss_page.specs.Content.{Empty, Forward};
-ghost use Rattle.rss_page.specs.Slotted.{slot_count, entries, IsHeapKey, IsSlotted};
+ghost use Rattle.rss_page.specs.Slotted.{entries, IsHeapKey, IsSlotted};
 ghost use Rattle.rss_page.specs.Surveyed.{held_at};
 ghost use Rattle.rss_tuple.specs.Directory.{contents, homes, with_body};
 ghost use Rattle.rss_tuple.specs.Heaps.{body_most, AreFormed, AreHeaps};
@@ -34,7 +34,7 @@ fn put_on_new<P: Pages>(pages: &mut P, segment: u8, body: &[u8]) -> Result<Tid, 
     requires formed { IsTold (P.view pages.old).disk → AreFormed (P.view pages.old) }
     ensures takes { IfOk result (λ to. IsTold (P.view pages.old).disk
         → TakesAway segment body.now to (P.view pages.old) (P.view pages.new)) }
-    ensures low { IfOk result (λ to. to.slot < slot_count) }
+    ensures low { IfOk result (λ to. to.slot < page_entries) }
     ensures did { PagesCall (pages_in segment Overflow) 0 2 (P.view pages.old)
         (P.view pages.new) result }
 {
@@ -57,7 +57,7 @@ fn put_away<P: Pages>(pages: &mut P, segment: u8, body: &[u8]) -> Result<Tid, Pa
     requires formed { IsTold (P.view pages.old).disk → AreFormed (P.view pages.old) }
     ensures puts { IfOk result (λ to. IsTold (P.view pages.old).disk
         → PutsAway segment body.now to (P.view pages.old) (P.view pages.new)) }
-    ensures low { IfOk result (λ to. to.slot < slot_count) }
+    ensures low { IfOk result (λ to. to.slot < page_entries) }
     ensures did { PagesCall (pages_in segment Overflow) ((P.view pages.old).slots + 2)
         ((P.view pages.old).slots + 2) (P.view pages.old) (P.view pages.new) result }
 {
@@ -95,7 +95,7 @@ fn place_away<P: Pages>(
     requires low { 1 ≤ segment }
     requires high { segment ≤ segments }
     requires read { IsRead (P.view pages.old) (page_key segment Home tid.page) page.old }
-    requires slot { tid.slot < slot_count }
+    requires slot { tid.slot < page_entries }
     requires some { 1 ≤ length body.now }
     requires most { length body.now ≤ body_most }
     requires room { 0 < (P.view pages.old).spare }
@@ -124,7 +124,7 @@ fn place<P: Pages>(
     requires low { 1 ≤ segment }
     requires high { segment ≤ segments }
     requires read { IsRead (P.view pages.old) (page_key segment Home tid.page) page.old }
-    requires slot { tid.slot < slot_count }
+    requires slot { tid.slot < page_entries }
     requires some { 1 ≤ length body.now }
     requires most { length body.now ≤ body_most }
     requires room { 0 < (P.view pages.old).spare }
@@ -157,7 +157,7 @@ pub(crate) fn insert_at<P: Pages>(
     requires low { 1 ≤ segment }
     requires high { segment ≤ segments }
     requires page { tid.page < (P.view pages.old).slots }
-    requires slot { tid.slot < slot_count }
+    requires slot { tid.slot < page_entries }
     requires some { 1 ≤ length body.now }
     requires most { length body.now ≤ body_most }
     requires room { 0 < (P.view pages.old).spare }
@@ -182,7 +182,7 @@ fn insert<P: Pages>(pages: &mut P, segment: u8, tid: Tid, body: &[u8]) -> Result
     requires low { 1 ≤ segment }
     requires high { segment ≤ segments }
     requires page { tid.page < (P.view pages.old).slots }
-    requires slot { tid.slot < slot_count }
+    requires slot { tid.slot < page_entries }
     requires some { 1 ≤ length body.now }
     requires most { length body.now ≤ body_most }
     requires room { 0 < (P.view pages.old).spare }
@@ -319,8 +319,8 @@ fn stays<P: Pages>(
     length: u16,
 ) -> Result<bool, PageFault>
     requires slotted { IsSlotted home.now }
-    requires slot { slot < slot_count }
-    requires to_slot { to_slot < slot_count }
+    requires slot { slot < page_entries }
+    requires to_slot { to_slot < page_entries }
     requires heap { IsHeapKey key }
     requires mapped { IsTold (P.view pages.old).disk → (P.view pages.old).mapped key ≡ true }
     requires formed { IsTold (P.view pages.old).disk → AreFormed (P.view pages.old) }
@@ -351,9 +351,9 @@ fn move_on<P: Pages>(
     requires low { 1 ≤ segment }
     requires high { segment ≤ segments }
     requires read { IsRead (P.view pages.old) (page_key segment Home tid.page) page.old }
-    requires slot { tid.slot < slot_count }
+    requires slot { tid.slot < page_entries }
     requires leads { held_at (entries page.old) tid.slot ≡ Forward to to_slot }
-    requires to_slot { to_slot < slot_count }
+    requires to_slot { to_slot < page_entries }
     requires some { 1 ≤ length body.now }
     requires most { length body.now ≤ body_most }
     requires room { 0 < (P.view pages.old).spare }
@@ -384,7 +384,7 @@ fn place_again<P: Pages>(
     requires low { 1 ≤ segment }
     requires high { segment ≤ segments }
     requires read { IsRead (P.view pages.old) (page_key segment Home tid.page) page.old }
-    requires slot { tid.slot < slot_count }
+    requires slot { tid.slot < page_entries }
     requires here { (to to_slot : ℕ) → held_at (entries page.old) tid.slot ≡ Forward to to_slot
         → ⊥ }
     requires some { 1 ≤ length body.now }

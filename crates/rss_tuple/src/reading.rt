@@ -2,10 +2,10 @@
 ghost use Rattle.std.specs.Prelude.{◌≡◌, ◌<◌, ◌≤◌, ℕ, List, length, true, Option, IfSome, IfNone};
 ghost use Rattle.std.specs.Prelude.{IfOk, OnOk};
 ghost use Rattle.rss_base.specs.DiskRule.{IsTold};
-ghost use Rattle.rss_base.specs.Sizes.{segments};
+ghost use Rattle.rss_base.specs.Sizes.{segments, page_entries};
 ghost use Rattle.rss_base.specs.Steps.{PagesCall, no_page};
 ghost use Rattle.rss_page.specs.Content.{Here};
-ghost use Rattle.rss_page.specs.Slotted.{slot_count, entries, IsHeapKey, IsSlotted};
+ghost use Rattle.rss_page.specs.Slotted.{entries, IsHeapKey, IsSlotted};
 ghost use Rattle.rss_page.specs.Surveyed.{held_at};
 ghost use Rattle.rss_tuple.specs.Directory.{content_at, bodies_of};
 ghost use Rattle.rss_tuple.specs.Heaps.{body_most, AreFormed, AreHeaps, HasBody};
@@ -56,7 +56,7 @@ pub(crate) fn fetch<P: Pages>(
 /// Copies the body that stands in an entry of an overflow page.
 fn follow<P: Pages>(pages: &mut P, key: PageKey, slot: u8, into: &mut Body) -> Result<(), PageFault>
     requires heap { IsHeapKey key }
-    requires slot { slot < slot_count }
+    requires slot { slot < page_entries }
     requires formed { IsTold (P.view pages.old).disk → AreFormed (P.view pages.old) }
     requires body { IsTold (P.view pages.old).disk
         → HasBody (content_at (P.view pages.old).held key slot) }
@@ -78,7 +78,7 @@ fn look<P: Pages>(
     into: &mut Body,
 ) -> Result<Found, PageFault>
     requires heap { IsHeapKey key }
-    requires slot { slot < slot_count }
+    requires slot { slot < page_entries }
     requires formed { IsTold (P.view pages.old).disk → AreFormed (P.view pages.old) }
     ensures found { IfOk result (λ found. IsTold (P.view pages.old).disk
         → IsFound found (content_at (P.view pages.old).held key slot) into.new) }
@@ -97,7 +97,7 @@ fn look<P: Pages>(
 
 /// Finds out what an entry holds, where its bytes are in form. A body is copied.
 fn look_in(page: &Page, slot: u8, into: &mut Body) -> Option<Found>
-    requires { slot < slot_count }
+    requires { slot < page_entries }
     ensures found { IfSome result
         (λ found. IsFound found (held_at (entries page.now) slot) into.new) }
     ensures low { IfSome result IsLow }

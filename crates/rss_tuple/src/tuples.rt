@@ -2,10 +2,9 @@
 ghost use Rattle.std.specs.Prelude.{◌≡◌, ◌+◌, ◌*◌, ◌<◌, ◌≤◌, ◌≢◌, length, Some, None, Contains};
 ghost use Rattle.std.specs.Prelude.{MatchOption, IfOk, IfSome, OnOk};
 ghost use Rattle.rss_base.specs.DiskRule.{IsTold};
-ghost use Rattle.rss_base.specs.Sizes.{segments};
+ghost use Rattle.rss_base.specs.Sizes.{segments, page_entries};
 ghost use Rattle.rss_base.specs.Steps.{no_page, pages_in};
 ghost use Rattle.rss_base.specs.declared.key.Space.TheVariants.{Home};
-ghost use Rattle.rss_page.specs.Slotted.{slot_count};
 ghost use Rattle.rss_tuple.specs.Directory.{bodies_of, with_body, homes};
 ghost use Rattle.rss_tuple.specs.Heaps.{body_most, AreHeaps};
 ghost use Rattle.rss_tuple.specs.TupleSteps.{TuplesView, TuplesCall, IsLive, IsLeast, NoneIs};
@@ -53,7 +52,7 @@ pub trait Tuples {
         requires low { 1 ≤ segment }
         requires high { segment ≤ segments }
         requires page { tid.page < (view self.old).pages.slots }
-        requires slot { tid.slot < slot_count }
+        requires slot { tid.slot < page_entries }
         requires some { 1 ≤ length body.now }
         requires most { length body.now ≤ body_most }
         requires room { 0 < (view self.old).pages.spare }

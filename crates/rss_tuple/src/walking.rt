@@ -1,10 +1,10 @@
 // The next tuple of a segment.
 ghost use Rattle.std.specs.Prelude.{◌≡◌, ◌↔◌, ◌<◌, ◌≤◌, true, MatchOption, IfOk};
 ghost use Rattle.rss_base.specs.DiskRule.{IsTold};
-ghost use Rattle.rss_base.specs.Sizes.{segments};
+ghost use Rattle.rss_base.specs.Sizes.{segments, page_entries};
 ghost use Rattle.rss_base.specs.Steps.{PagesCall, no_page};
 ghost use Rattle.rss_base.specs.declared.tid.Tid.{Tid as Identifier};
-ghost use Rattle.rss_page.specs.Slotted.{slot_count, entries};
+ghost use Rattle.rss_page.specs.Slotted.{entries};
 ghost use Rattle.rss_tuple.specs.Directory.{contents};
 ghost use Rattle.rss_tuple.specs.Heaps.{AreHeaps};
 ghost use Rattle.rss_tuple.specs.TupleSteps.{TuplesCall, IsLeast, NoneIs, tuples_in, no_tuple};
@@ -17,9 +17,9 @@ use rss_page::ENTRIES;
 
 /// The first identifier behind this one, or the first of all.
 fn start_of(after: Option<Tid>) -> Tid
-    ensures from { (tid : Identifier) → tid.slot < slot_count
+    ensures from { (tid : Identifier) → tid.slot < page_entries
         → IsFrom result tid ↔ IsAfter after tid }
-    ensures low { result.slot ≤ slot_count }
+    ensures low { result.slot ≤ page_entries }
 {
     match after {
         None => Tid { page: 0, slot: 0 },
@@ -57,7 +57,7 @@ fn taken_in<P: Pages>(pages: &mut P, key: PageKey, from: u8) -> Result<Option<u8
 
 /// Where to begin in a page: at the slot of `from`, where it is its page, else at the first one.
 fn slot_in(from: Tid, number: u32) -> u8
-    requires { from.slot ≤ slot_count }
+    requires { from.slot ≤ page_entries }
     ensures same { from.page ≡ number → result ≡ from.slot }
     ensures other { (from.page ≡ number → ⊥) → result ≡ 0 }
 {
