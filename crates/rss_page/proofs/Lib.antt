@@ -6,3 +6,5 @@ pub mod Cleared
 pub mod Moves
 pub mod Walks
 pub mod Claimed
+pub mod Bits
+pub mod Ordered

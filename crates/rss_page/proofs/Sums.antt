@@ -9,7 +9,7 @@ use Rattle.std.proofs.lemmas.List.Sums.{sum_by_more, sum_by-set}
 use Rattle.std.proofs.lemmas.Map.Keys.{IsDistinct-push}
 use Rattle.std.proofs.lemmas.Map.Steps.{length-le_from_distinct_below}
 use Rattle.rss_page.specs.Content.{Empty, body_length}
-use Rattle.rss_page.specs.Slotted.{entry_of, entries, body_bytes, place_of, length_of, IsInBody, IsSlotted}
+use Rattle.rss_page.specs.Slotted.{entry_of, entries, body_bytes, place_of, length_of, IsInBody, IsAllowed, IsSlotted}
 use Rattle.rss_page.proofs.Contents.{length-entries, entries_at, body_within, body_long}
 
 -- ---- numbers in a row, put behind others
@@ -55,8 +55,8 @@ record IsBodyOf (page : List ℕ) (count byte : ℕ) : Type 0 where
   pub inside : IsInBody (entry_of page slot) byte
 
 -- one body more
-pub body_more : (page : List ℕ) (slot : ℕ) → IsSlotted page → slot < 128 → body_bytes (take (slot + 1) (entries page)) ≡ body_bytes (take slot (entries page)) + length_of (entry_of page slot)
-body_more page slot is low = omega (arith, sum_by_more body_length (entries page) slot Empty (omega (arith, length-entries page)), ap body_length (entries_at page slot low), body_long page (get_or page 0 0) (entry_of page slot) is.size (is.spelled slot low).allowed)
+pub body_more : (page : List ℕ) (slot : ℕ) → length page ≡ 4096 → IsAllowed (get_or page 0 0) (entry_of page slot) → slot < 128 → body_bytes (take (slot + 1) (entries page)) ≡ body_bytes (take slot (entries page)) + length_of (entry_of page slot)
+body_more page slot size allowed low = omega (arith, sum_by_more body_length (entries page) slot Empty (omega (arith, length-entries page)), ap body_length (entries_at page slot low), body_long page (get_or page 0 0) (entry_of page slot) size allowed)
 
 covered : List ℕ → ℕ → List ℕ
 covered page zero = []
@@ -92,7 +92,7 @@ covered_distinct page (suc count) is few =
 length-covered : (page : List ℕ) (count : ℕ) → IsSlotted page → count ≤ 128 → length (covered page count) ≡ body_bytes (take count (entries page))
 unfolding covered
 length-covered page zero is few = refl
-length-covered page (suc count) is few = omega (arith, length-with_row (covered page count) (place_of (entry_of page count) - 1040) (length_of (entry_of page count)), length-covered page count is (omega arith), body_more page count is (omega arith), ap (λ (n : ℕ). body_bytes (take n (entries page))) (add-one count))
+length-covered page (suc count) is few = omega (arith, length-with_row (covered page count) (place_of (entry_of page count) - 1040) (length_of (entry_of page count)), length-covered page count is (omega arith), body_more page count is.size (is.spelled count (omega arith)).allowed (omega arith), ap (λ (n : ℕ). body_bytes (take n (entries page))) (add-one count))
 
 -- the bodies have 3,056 bytes at most
 pub bodies_fit : (page : List ℕ) → IsSlotted page → body_bytes (entries page) ≤ 3056

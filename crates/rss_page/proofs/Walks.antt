@@ -1,12 +1,12 @@
 -- A walk over the directory.
-use Rattle.std.proofs.Common.{◌≡◌, inl, inr, ℕ, ◌+◌, ◌<◌, ◌≤◌, max, Bool, true, false, Option, Some, None, List, get_or, sym, ap, subst, arith}
+use Rattle.std.proofs.Common.{◌≡◌, inl, inr, ℕ, ◌+◌, ◌<◌, ◌≤◌, max, Bool, true, false, Option, Some, None, List, length, get_or, sym, ap, subst, arith}
 use Rattle.std.specs.Prelude.{◌↔◌, IsTrue, MatchOption, unwrap_or}
 use Rattle.std.proofs.lemmas.Bool.{cases_lt, cases_eq, false≢true}
 use Rattle.std.proofs.lemmas.List.{take_all, get_or_past}
 use Rattle.std.proofs.lemmas.List.Sums.{sum_by-take-le}
 use Rattle.rss_page.specs.declared.surveying.Survey.{Survey}
 use Rattle.rss_page.specs.Content.{Content, Empty, body_length}
-use Rattle.rss_page.specs.Slotted.{entry_of, entries, body_bytes, place_of, length_of, IsSlotted}
+use Rattle.rss_page.specs.Slotted.{entry_of, entries, body_bytes, place_of, length_of, IsAllowed, IsSlotted}
 use Rattle.rss_page.specs.Surveyed.{held_at, AllTaken, IsFirstEmpty, IsSurvey, IsSurveyOf}
 use Rattle.rss_page.proofs.Contents.{length-entries, body_within}
 use Rattle.rss_page.proofs.Sums.{body_more, bodies_fit}
@@ -31,18 +31,18 @@ walk_none page found free end first vacant = record {
 
 -- the next slot's body fits in what was free
 pub walk_fits : (page : List ℕ) (slot : ℕ) (found : Survey) → IsSlotted page → slot < 128 → IsSurveyOf page slot found → length_of (entry_of page slot) ≤ found.free
-walk_fits page slot found is low before = omega (arith, before.free, body_more page slot is low, sum_by-take-le body_length (entries page) (slot + 1), bodies_fit page is)
+walk_fits page slot found is low before = omega (arith, before.free, body_more page slot is.size (is.spelled slot low).allowed low, sum_by-take-le body_length (entries page) (slot + 1), bodies_fit page is)
 
 -- the walk goes on, where the least empty slot and the vacancy are known
-pub walk_more : (page : List ℕ) (slot : ℕ) (found now : Survey) → IsSlotted page → slot < 128 → IsSurveyOf page slot found → now.free + length_of (entry_of page slot) ≡ found.free → now.end ≡ max found.end (place_of (entry_of page slot) + length_of (entry_of page slot))
+pub walk_more : (page : List ℕ) (slot : ℕ) (found now : Survey) → length page ≡ 4096 → IsAllowed (get_or page 0 0) (entry_of page slot) → slot < 128 → IsSurveyOf page slot found → now.free + length_of (entry_of page slot) ≡ found.free → now.end ≡ max found.end (place_of (entry_of page slot) + length_of (entry_of page slot))
     → MatchOption now.first_empty (AllTaken (entries page) (slot + 1)) (IsFirstEmpty (entries page)) → (IsTrue now.is_vacant ↔ ((other : ℕ) → other < slot + 1 → held_at (entries page) other ≡ Empty)) → IsSurveyOf page (slot + 1) now
-walk_more page slot found now is low before free end empty vacant =
-    let within = elim (body_within (get_or page 0 0) (entry_of page slot) (is.spelled slot low).allowed) as (λ _. place_of (entry_of page slot) + length_of (entry_of page slot) ≤ 4096) [
+walk_more page slot found now size allowed low before free end empty vacant =
+    let within = elim (body_within (get_or page 0 0) (entry_of page slot) allowed) as (λ _. place_of (entry_of page slot) + length_of (entry_of page slot) ≤ 4096) [
       | inl none_there ↦ omega arith
       | inr body ↦ body.high
     ] in
     record {
-      free = omega (arith, before.free, free, body_more page slot is low);
+      free = omega (arith, before.free, free, body_more page slot size allowed low);
       low = omega (arith, before.low, end);
       high = omega (arith, before.high, end, within);
       ends = first_more (λ n. place_of (entry_of page n) + length_of (entry_of page n) ≤ now.end) slot (λ other few. omega (arith, before.ends other few, end)) (omega (arith, end));

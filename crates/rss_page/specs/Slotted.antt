@@ -125,6 +125,11 @@ IsHeapKey key = (key.space ≡ Home) ⊎ (key.space ≡ Overflow)
 abbrev pub IsHome : List ℕ → Type 0
 IsHome page = slice_index page 0 ≡ 1
 
+-- the key names a home or an overflow page, whose header this is
+pub record IsHeader (key : PageKey) (page : List ℕ) : Type 0 where
+  pub space : IsHeapKey key
+  pub header : part page 0 16 ≡ header_bytes key
+
 -- the page of this key, by itself
 pub record IsWellFormed (key : PageKey) (page : List ℕ) : Type 0 where
   pub space : IsHeapKey key
@@ -154,3 +159,14 @@ EndBy page end = (slot : ℕ) → slot < page_entries → place_of (entry_of pag
 -- every other body stays in its place
 abbrev pub OthersStay : List ℕ → List ℕ → ℕ → Type 0
 OthersStay old new slot = (other : ℕ) → other < page_entries → (other ≡ slot → ⊥) → entry_of new other ≡ entry_of old other
+
+-- the same, where a place behind them leaves room for so many bytes
+abbrev pub OthersStayIfRoom : List ℕ → List ℕ → ℕ → ℕ → Type 0
+OthersStayIfRoom old new slot length = (end : ℕ) → OthersEndBy old slot end → end + length ≤ page_bytes → OthersStay old new slot
+
+-- a body may be put at a slot of a page
+pub record MayPut (page : List ℕ) (slot : ℕ) (body : List ℕ) : Type 0 where
+  pub slotted : IsSlotted page
+  pub slot_low : slot < page_entries
+  pub some : 1 ≤ length body
+  pub room : HasRoom (entries page) slot (length body)

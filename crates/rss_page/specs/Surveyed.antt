@@ -1,9 +1,11 @@
 -- What one walk over the directory of a page finds.
 use Rattle.std.specs.Prelude.{◌≡◌, ◌↔◌, ℕ, ◌+◌, ◌<◌, ◌≤◌, List, take, slice_index_or, IsTrue, MatchOption}
 use Rattle.rss_base.specs.Sizes.{page_entries, page_bytes}
+use Rattle.rss_page.specs.declared.entry_form.Entry.{Entry}
+use Rattle.rss_page.specs.declared.entry_form.Entry.TheVariants.{Empty as EmptyEntry, Here as HereEntry, Forward as ForwardEntry}
 use Rattle.rss_page.specs.declared.surveying.Survey.{Survey}
 use Rattle.rss_page.specs.Content.{Content, Empty}
-use Rattle.rss_page.specs.Slotted.{bodies_at, bodies_room, entries, entry_of, body_bytes, place_of, length_of, EndBy}
+use Rattle.rss_page.specs.Slotted.{bodies_at, bodies_room, entries, entry_at, entry_of, body_bytes, place_of, length_of, IsEntry, IsSlotted, EndBy}
 
 -- what the entry of a slot holds
 abbrev pub held_at : List Content → ℕ → Content
@@ -33,6 +35,19 @@ pub record IsSurvey (page : List ℕ) (survey : Survey) : Type 0 where
   pub empty : MatchOption survey.first_empty (AllTaken (entries page) page_entries) (IsFirstEmpty (entries page))
   pub vacant : IsTrue survey.is_vacant ↔ IsVacant (entries page)
 
+-- ---- the order of bodies
+
+-- the body, if there is one, begins at this place or behind it
+abbrev pub StandsFrom : ℕ → Entry → Type 0
+StandsFrom from EmptyEntry = Unit {0}
+StandsFrom from (HereEntry place length) = from ≤ place
+StandsFrom from (ForwardEntry page slot) = Unit {0}
+
+-- a page, in which each body stands behind those of all lower slots
+pub record IsOrdered (page : List ℕ) : Type 0 where
+  pub slotted : IsSlotted page
+  pub order : (low high : ℕ) → low < high → high < page_entries → StandsFrom (place_of (entry_of page low) + length_of (entry_of page low)) (entry_of page high)
+
 -- ---- the walk
 
 -- the bodies of the first slots end at this place or before it
@@ -48,3 +63,10 @@ pub record IsSurveyOf (page : List ℕ) (count : ℕ) (survey : Survey) : Type 0
   pub least : (end : ℕ) → bodies_at ≤ end → FirstEndBy page count end → survey.end ≤ end
   pub empty : MatchOption survey.first_empty (AllTaken (entries page) count) (IsFirstEmpty (entries page))
   pub vacant : IsTrue survey.is_vacant ↔ ((slot : ℕ) → slot < count → held_at (entries page) slot ≡ Empty)
+
+-- The same of any bytes, so long as bodies stand in the order of their slots. What is free of the 3,056 bytes is at least what stands behind the last body.
+pub record IsOrderedSurveyOf (page : List ℕ) (count : ℕ) (found : Survey) : Type 0 where
+  pub spelled : (slot : ℕ) → slot < count → IsEntry (slice_index_or page 0 0) (entry_at page slot)
+  pub order : (low high : ℕ) → low < high → high < count → StandsFrom (place_of (entry_of page low) + length_of (entry_of page low)) (entry_of page high)
+  pub survey : IsSurveyOf page count found
+  pub room : page_bytes ≤ found.free + found.end

@@ -1,10 +1,10 @@
 // Entries of bytes that may be no page.
-ghost use Rattle.std.specs.Prelude.{◌≡◌, ◌<◌, IfSome, IfNone, slice_index_or};
+ghost use Rattle.std.specs.Prelude.{◌≡◌, ◌↔◌, ◌<◌, IsSome, IfSome, IfNone, slice_index_or};
 ghost use Rattle.rss_base.specs.Sizes.{page_entries};
-ghost use Rattle.rss_page.specs.Slotted.{part, entry_of, content_of, entries, IsAllowed, IsBody, IsSlotted};
+ghost use Rattle.rss_page.specs.Slotted.{part, entry_at, entry_of, content_of, entries, IsAllowed, IsBody, IsEntry, IsSlotted};
 ghost use Rattle.rss_page.specs.Surveyed.{held_at};
 
-use crate::directory::{entry, entry_bytes_at};
+use crate::directory::entry_bytes_at;
 use crate::entry_form::Entry;
 use rss_base::Page;
 
@@ -16,8 +16,19 @@ pub fn checked_entry(page: &Page, slot: u8) -> Option<Entry>
     ensures allowed { IfSome result (IsAllowed (slice_index_or page.now 0 0)) }
     ensures none { IfNone result (IsSlotted page.now → ⊥) }
 {
-    if Entry::is_spelled(&entry_bytes_at(page, slot), page[0]) {
-        Some(entry(page, slot))
+    formed_entry(page, slot)
+}
+
+/// The same, by the bytes of the entry.
+#[inline(always)]
+pub(crate) fn formed_entry(page: &Page, slot: u8) -> Option<Entry>
+    requires { slot < page_entries }
+    ensures some { IfSome result (λ found. found ≡ entry_of page.now slot) }
+    ensures exact { IsSome result ↔ IsEntry (slice_index_or page.now 0 0) (entry_at page.now slot) }
+{
+    let found = Entry::spelled(&entry_bytes_at(page, slot))?;
+    if found.is_allowed(page[0]) {
+        Some(found)
     } else {
         None
     }

@@ -2,8 +2,8 @@
 ghost use Rattle.std.specs.Prelude.{◌≡◌, ◌+◌, ◌-◌, ◌<◌, ◌≤◌, ℕ, length, replicate};
 ghost use Rattle.rss_base.specs.Sizes.{page_entries, page_bytes};
 ghost use Rattle.rss_page.specs.Content.{Empty, Here, Forward, body_length};
-ghost use Rattle.rss_page.specs.Slotted.{bodies_at, bodies_room, part, entries, body_bytes, HasRoom, IsBody, IsSlotted, IsHome, Becomes, Sets, EndBy, OthersEndBy, OthersStay};
-ghost use Rattle.rss_page.specs.Surveyed.{held_at};
+ghost use Rattle.rss_page.specs.Slotted.{bodies_at, bodies_room, part, entries, body_bytes, HasRoom, IsBody, IsSlotted, IsHome, Becomes, Sets, EndBy, MayPut, OthersEndBy, OthersStay, OthersStayIfRoom};
+ghost use Rattle.rss_page.specs.Surveyed.{held_at, IsSurvey};
 
 use crate::directory::{HEADER_BYTES, entry, set_entry};
 use crate::entry_form::{BODIES_AT, ENTRIES, Entry, PAGE_END};
@@ -47,12 +47,26 @@ pub fn put_at(page: &mut Page, slot: u8, body: &[u8])
     requires some { 1 ≤ length body.now }
     requires room { HasRoom (entries page.old) slot (length body.now) }
     ensures becomes { Sets page.old page.new slot (Here body.now) }
-    ensures stay { (end : ℕ) → OthersEndBy page.old slot end → end + length body.now ≤ page_bytes
-        → OthersStay page.old page.new slot }
+    ensures stay { OthersStayIfRoom page.old page.new slot (length body.now) }
 {
     remove(page, slot);
     let end = make_room(page, body.len() as u16);
     append(page, slot, end, body);
+}
+
+/// The same, by what a walk has found in the page. Where the free bytes behind the last body
+/// suffice, no other entry is looked at.
+pub fn put_found(page: &mut Page, slot: u8, body: &[u8], found: &Survey)
+    requires may { MayPut page.old slot body.now }
+    requires found { IsSurvey page.old found.now }
+    ensures becomes { Sets page.old page.new slot (Here body.now) }
+    ensures stay { OthersStayIfRoom page.old page.new slot (length body.now) }
+{
+    if found.end <= PAGE_END - body.len() as u16 {
+        append(page, slot, found.end, body);
+    } else {
+        put_at(page, slot, body);
+    }
 }
 
 /// Finds the place behind all bodies, with so many free bytes there.

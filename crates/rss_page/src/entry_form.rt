@@ -1,6 +1,7 @@
 // The entry of a slot.
-ghost use Rattle.std.specs.Prelude.{◌≡◌, ◌↔◌, ◌+◌, IsTrue};
-ghost use Rattle.rss_page.specs.Slotted.{entry_bytes, entry_from, place_of, length_of, IsAllowed, IsEntry};
+ghost use Rattle.std.specs.Prelude.{◌≡◌, ◌↔◌, ◌+◌, IsTrue, IsSome, IfSome};
+ghost use Rattle.rss_page.specs.Slotted.{entry_bytes, entry_from, place_of, length_of, IsAllowed};
+ghost use Rattle.rss_page.specs.Surveyed.{StandsFrom};
 
 use rss_base::{PAGE_BYTES, PAGE_ENTRIES};
 
@@ -15,6 +16,12 @@ pub const BODIES_AT: u16 = 1040;
 
 /// How many bytes a page has.
 pub const PAGE_END: u16 = PAGE_BYTES as u16;
+
+/// The first two bytes of an entry with a body.
+const HERE: u16 = 0x0100;
+
+/// The first byte of an entry with a forward.
+const FORWARD: u8 = 2;
 
 /// The code of the home space, the one in which entries may be forwards.
 const HOME: u8 = 1;
@@ -66,12 +73,26 @@ impl Entry {
         }
     }
 
-    /// Whether the bytes are those of an entry that may stand in a page of the space with this code.
-    pub(crate) fn is_spelled(bytes: &[u8; ENTRY_BYTES], space: u8) -> bool
-        ensures { IsTrue result ↔ IsEntry space bytes.now }
+    /// The entry that the bytes are, where they are those of one.
+    pub(crate) fn spelled(bytes: &[u8; ENTRY_BYTES]) -> Option<Self>
+        ensures some { IfSome result (λ entry. entry ≡ entry_from bytes.now) }
+        ensures exact { IsSome result ↔ (bytes.now ≡ entry_bytes (entry_from bytes.now)) }
     {
-        let entry = Entry::decode(bytes);
-        *bytes == entry.encode() && entry.is_allowed(space)
+        if u64::from_be_bytes(*bytes) == 0 {
+            return Some(Entry::Empty);
+        }
+        let [kind, slot, a, b, c, d, e, f] = *bytes;
+        let place = u16::from_be_bytes([a, b]);
+        let length = u16::from_be_bytes([c, d]);
+        let last = u16::from_be_bytes([e, f]);
+        if u16::from_be_bytes([kind, slot]) == HERE && last == 0 {
+            return Some(Entry::Here { place, length });
+        }
+        if kind == FORWARD && place == 0 {
+            let page = u32::from_be_bytes([c, d, e, f]);
+            return Some(Entry::Forward { page, slot });
+        }
+        None
     }
 
     /// How many bytes the body has, if there is one.
@@ -84,6 +105,16 @@ impl Entry {
         }
     }
 
+    /// Whether the body, if there is one, begins at this place or behind it.
+    pub(crate) fn stands_from(self, from: u16) -> bool
+        ensures { IsTrue result ↔ StandsFrom from self }
+    {
+        match self {
+            Entry::Here { place, .. } => place >= from,
+            Entry::Empty | Entry::Forward { .. } => true,
+        }
+    }
+
     /// Whether the entry may stand in a page of the space with this code.
     pub(crate) fn is_allowed(self, space: u8) -> bool
         ensures { IsTrue result ↔ IsAllowed space self }
@@ -91,10 +122,8 @@ impl Entry {
         match self {
             Entry::Empty => true,
             Entry::Here { place, length } => {
-                place >= BODIES_AT
-                    && length >= 1
-                    && PAGE_END >= length
-                    && place <= PAGE_END - length
+                let end = u32::from(place) + u32::from(length);
+                place >= BODIES_AT && length >= 1 && end <= u32::from(PAGE_END)
             }
             Entry::Forward { slot, .. } => space == HOME && slot < ENTRIES,
         }

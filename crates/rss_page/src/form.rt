@@ -1,17 +1,16 @@
 // When a page is well-formed.
-ghost use Rattle.std.specs.Prelude.{◌≡◌, ◌≢◌, ◌↔◌, ◌+◌, ◌<◌, ◌≤◌, ℕ, Bool, true, false, replicate, slice_index_or, IsTrue};
-ghost use Rattle.std.specs.Bool.{OnTrue, OnFalse};
+ghost use Rattle.std.specs.Prelude.{◌≡◌, ◌≢◌, ◌↔◌, ◌+◌, ◌<◌, ◌≤◌, ℕ, Bool, true, false, replicate, slice_index_or, IsTrue, IsSome, IfSome};
 ghost use Rattle.rss_base.specs.Sizes.{page_entries};
 ghost use Rattle.rss_page.specs.Content.{Empty};
-ghost use Rattle.rss_page.specs.Slotted.{entries, header_bytes, IsAllowed, IsHeapKey, IsSlotted, IsWellFormed};
-ghost use Rattle.rss_page.specs.Marks.{IsWithin, Claims, IsClaimed};
+ghost use Rattle.rss_page.specs.Slotted.{entries, header_bytes, IsAllowed, IsHeader, IsHeapKey, IsSlotted, IsWellFormed};
+ghost use Rattle.rss_page.specs.Surveyed.{IsSurvey};
 
-use crate::directory::{HEADER_BYTES, entry_bytes_at};
-use crate::entry_form::{ENTRIES, Entry};
+use crate::checked::formed_entry;
+use crate::directory::HEADER_BYTES;
+use crate::entry_form::ENTRIES;
+use crate::marks::{Marks, claim};
+use crate::surveying::Survey;
 use rss_base::{PAGE_BYTES, Page, PageKey, Space, put_bytes};
-
-/// For each byte of a page, whether a body was found to have it.
-type Marks = [bool; PAGE_BYTES];
 
 /// The page of a key of the home or the overflow space, with all its entries empty.
 pub fn blank(key: PageKey) -> Page
@@ -31,12 +30,39 @@ pub fn blank(key: PageKey) -> Page
 pub fn well_formed(page: &Page, key: PageKey) -> bool
     ensures { IsTrue result ↔ IsWellFormed key page.now }
 {
+    survey(page, key).is_some()
+}
+
+/// What a walk over the directory finds, where the bytes are a well-formed page of this key. One walk
+/// is enough where the bodies stand in the order of their slots, as in a page that was filled slot
+/// by slot or compacted.
+pub fn survey(page: &Page, key: PageKey) -> Option<Survey>
+    ensures formed { IsSome result ↔ IsWellFormed key page.now }
+    ensures found { IfSome result (IsSurvey page.now) }
+{
+    if !has_header(page, key) {
+        return None;
+    }
+    if let Some(found) = Survey::of_ordered(page) {
+        return Some(found);
+    }
+    if is_slotted(page) {
+        Some(Survey::of(page))
+    } else {
+        None
+    }
+}
+
+/// Whether a page begins with the header of a key that names a home or an overflow page.
+fn has_header(page: &Page, key: PageKey) -> bool
+    ensures { IsTrue result ↔ IsHeader key page.now }
+{
     let heap = match key.space {
         Space::Home | Space::Overflow => true,
         Space::Image | Space::System => false,
     };
     let expected = header(key);
-    heap && &page[..HEADER_BYTES] == &expected[..] && is_slotted(page)
+    heap && &page[..HEADER_BYTES] == &expected[..]
 }
 
 /// The header of a page.
@@ -57,34 +83,14 @@ fn header(key: PageKey) -> [u8; HEADER_BYTES]
 fn is_slotted(page: &Page) -> bool
     ensures { IsTrue result ↔ IsSlotted page.now }
 {
-    let mut marks: Marks = [false; PAGE_BYTES];
+    let mut marks: Marks = [0; PAGE_BYTES / 64];
     for slot in 0..ENTRIES {
-        let bytes = entry_bytes_at(page, slot);
-        if !Entry::is_spelled(&bytes, page[0]) {
+        let Some(entry) = formed_entry(page, slot) else {
+            return false;
+        };
+        if !claim(&mut marks, entry) {
             return false;
         }
-        if !claim(&mut marks, Entry::decode(&bytes)) {
-            return false;
-        }
-    }
-    true
-}
-
-/// Marks the bytes of an entry's body, where none of them is marked yet.
-fn claim(marks: &mut Marks, entry: Entry) -> bool
-    requires { IsWithin entry }
-    ensures claimed { OnTrue result (Claims marks.old entry marks.new) }
-    ensures taken { OnFalse result (IsClaimed marks.old entry) }
-{
-    let Entry::Here { place, length } = entry else {
-        return true;
-    };
-    for byte in place..place + length {
-        let at = usize::from(byte);
-        if marks[at] {
-            return false;
-        }
-        marks[at] = true;
     }
     true
 }

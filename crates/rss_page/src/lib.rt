@@ -6,11 +6,12 @@ mod directory;
 mod editing;
 mod entry_form;
 mod form;
+mod marks;
 mod surveying;
 
 pub use checked::{bytes_at, checked_entry};
 pub use directory::{body, entry};
-pub use editing::{compact, forward_at, put_at, remove};
+pub use editing::{compact, forward_at, put_at, put_found, remove};
 pub use entry_form::{ENTRIES, Entry};
-pub use form::{blank, well_formed};
+pub use form::{blank, survey, well_formed};
 pub use surveying::{Survey, fits};

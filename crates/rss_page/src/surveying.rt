@@ -1,13 +1,22 @@
 // What one walk over the directory of a page finds.
-ghost use Rattle.std.specs.Prelude.{◌≡◌, ◌↔◌, ◌+◌, ◌-◌, ◌<◌, ◌≤◌, ℕ, max, slice_set, IsTrue, Option, Some, None, unwrap_or};
+ghost use Rattle.std.specs.Prelude.{◌≡◌, ◌↔◌, ◌+◌, ◌-◌, ◌<◌, ◌≤◌, ℕ, max, slice_index_or, slice_set, IsTrue, IsSome, IfSome, Option, Some, None, unwrap_or};
 ghost use Rattle.rss_base.specs.Sizes.{page_entries};
 ghost use Rattle.rss_page.specs.Content.{Content, Empty};
-ghost use Rattle.rss_page.specs.Slotted.{entries, HasRoom, IsSlotted};
-ghost use Rattle.rss_page.specs.Surveyed.{IsSurvey, IsSurveyOf};
+ghost use Rattle.rss_page.specs.Slotted.{entries, entry_of, length_of, HasRoom, IsAllowed, IsSlotted};
+ghost use Rattle.rss_page.specs.Surveyed.{IsOrdered, IsSurvey, IsSurveyOf};
 
+use crate::checked::formed_entry;
 use crate::directory::entry;
 use crate::entry_form::{BODIES_AT, ENTRIES, Entry, PAGE_END};
 use rss_base::Page;
+
+/// What a walk has found in front of the first entry.
+const NOTHING: Survey = Survey {
+    free: PAGE_END - BODIES_AT,
+    end: BODIES_AT,
+    first_empty: None,
+    is_vacant: true,
+};
 
 /// What one walk over the directory of a page finds.
 #[derive(Clone, Copy, Debug, PartialEq, Eq)]
@@ -28,22 +37,46 @@ impl Survey {
         requires { IsSlotted page.now }
         ensures { IsSurvey page.now result }
     {
-        let mut found = Survey {
-            free: PAGE_END - BODIES_AT,
-            end: BODIES_AT,
-            first_empty: None,
-            is_vacant: true,
-        };
+        let mut found = NOTHING;
         for slot in 0..ENTRIES {
             found = found.with(page, slot);
         }
         found
     }
 
-    /// Goes on with the next slot.
-    fn with(self, page: &Page, slot: u8) -> Self
+    /// Looks at each entry of any bytes, where they are a page's and the bodies stand in the order
+    /// of their slots.
+    pub(crate) fn of_ordered(page: &Page) -> Option<Self>
+        ensures ordered { IsSome result ↔ IsOrdered page.now }
+        ensures found { IfSome result (IsSurvey page.now) }
+    {
+        let mut found = NOTHING;
+        for slot in 0..ENTRIES {
+            let entry = formed_entry(page, slot)?;
+            if !entry.stands_from(found.end) {
+                return None;
+            }
+            found = found.with(page, slot);
+        }
+        Some(found)
+    }
+
+    /// Whether a body of this length fits at a slot, where what the slot holds now is given up. The
+    /// page is that of the walk, as it was then.
+    pub fn has_room(&self, page: &Page, slot: u8, length: u16) -> bool
         requires slotted { IsSlotted page.now }
         requires slot { slot < page_entries }
+        requires found { IsSurvey page.now self.now }
+        ensures { IsTrue result ↔ HasRoom (entries page.now) slot length }
+    {
+        length <= self.free + entry(page, slot).body_length()
+    }
+
+    /// Goes on with the next slot.
+    fn with(self, page: &Page, slot: u8) -> Self
+        requires slot { slot < page_entries }
+        requires allowed { IsAllowed (slice_index_or page.now 0 0) (entry_of page.now slot) }
+        requires room { length_of (entry_of page.now slot) ≤ self.free }
         requires before { IsSurveyOf page.now slot self }
         ensures { IsSurveyOf page.now (slot + 1) result }
     {
@@ -72,5 +105,5 @@ pub fn fits(page: &Page, slot: u8, length: u16) -> bool
     requires slot { slot < page_entries }
     ensures { IsTrue result ↔ HasRoom (entries page.now) slot length }
 {
-    length <= Survey::of(page).free + entry(page, slot).body_length()
+    Survey::of(page).has_room(page, slot, length)
 }

@@ -1,7 +1,7 @@
-use Rattle.std.proofs.Common.{◌≡◌, ℕ, get_or, refl, subst, sym, ◌∙◌, ap, arith}
+use Rattle.std.proofs.Common.{◌≡◌, ℕ, get_or, refl, subst, sym, arith}
 use Rattle.std.proofs.lemmas.Bool.{false≢true}
 use Rattle.rss_page.specs.declared.entry_form.Entry.{Entry}
-use Rattle.rss_page.specs.Slotted.{entry_from, entry_of, IsEntry}
+use Rattle.rss_page.specs.Slotted.{entry_of}
 use Rattle.rss_page.specs.Marks.{IsWithin, Claims, IsClaimed, AreSlotted}
 use Rattle.rss_page.proofs.Claimed.{slots_none, slots_more, slots_all, entry_within, not_claimed}
 use Rattle.rss_page.proofs.form.is_slotted.Goals as goal
@@ -10,21 +10,15 @@ pub loop-slot-init : goal.loop-slot-init
 loop-slot-init c = slots_none c.args.page.now
 
 pub claim-requires : goal.claim-requires
-claim-requires c =
-    let here = c.decode.ensures ∙ ap entry_from c.entry_bytes_at-bytes.ensures in
-    let is = subst (IsEntry (get_or c.args.page.now 0 0)) c.entry_bytes_at-bytes.ensures (c.if-not-is_spelled.ensures.0 refl) in
-    subst IsWithin (sym here) (entry_within (get_or c.args.page.now 0 0) (entry_of c.args.page.now c.loop-slot.slot) is.allowed)
+claim-requires c = subst IsWithin (sym c.in-Some.ensures.some) (entry_within (get_or c.args.page.now 0 0) (entry_of c.args.page.now c.loop-slot.slot) (c.in-Some.ensures.exact.0 refl).allowed)
 
 pub loop-slot-preserved : goal.loop-slot-preserved
-loop-slot-preserved c =
-    let here = c.decode.ensures ∙ ap entry_from c.entry_bytes_at-bytes.ensures in
-    let is = subst (IsEntry (get_or c.args.page.now 0 0)) c.entry_bytes_at-bytes.ensures (c.if-not-is_spelled.ensures.0 refl) in
-    slots_more c.args.page.now c.loop-slot.slot c.loop-slot.marks c.claim.new.marks c.loop-slot.invariant is (subst (λ (e : Entry). Claims c.loop-slot.marks e c.claim.new.marks) here c.if-not-claim.ensures.claimed)
+loop-slot-preserved c = slots_more c.args.page.now c.loop-slot.slot c.loop-slot.marks c.claim.new.marks c.loop-slot.invariant (c.in-Some.ensures.exact.0 refl) (subst (λ (e : Entry). Claims c.loop-slot.marks e c.claim.new.marks) c.in-Some.ensures.some c.if-not-claim.ensures.claimed)
 
 pub returns-then-not-claim : goal.returns-then-not-claim
 returns-then-not-claim c =
-    let here = c.decode.ensures ∙ ap entry_from c.entry_bytes_at-bytes.ensures in
-    (λ is. absurd (false≢true is), λ slotted. absurd (not_claimed c.args.page.now c.loop-slot.slot c.loop-slot.marks c.loop-slot-test.true c.loop-slot.invariant (subst (IsClaimed c.loop-slot.marks) here c.if-not-claim.ensures.taken) slotted))
+    let taken = subst (IsClaimed c.loop-slot.marks) c.in-Some.ensures.some c.if-not-claim.ensures.taken in
+    (λ is. absurd (false≢true is), λ slotted. absurd (not_claimed c.args.page.now c.loop-slot.slot c.loop-slot.marks c.loop-slot-test.true c.loop-slot.invariant taken slotted))
 
 pub returns : goal.returns
 returns c =
