@@ -1,7 +1,7 @@
 // Pages that are not as they should be, each of one kind.
 use rss_asserts::assert_same;
 use rss_base::{PAGE_BYTES, Page, PageKey, Space};
-use rss_page::well_formed;
+use rss_page::{survey, well_formed};
 use std::test::Fail;
 
 const HOME: PageKey = PageKey {
@@ -35,6 +35,14 @@ fn patch(page: &mut Page, at: usize, bytes: &[u8]) -> Result<(), Fail> {
         *there = *byte;
     }
     Ok(())
+}
+
+/// The entry of a body with this place and this length.
+fn entry_of(body: [u16; 2]) -> [u8; 8] {
+    let [place, length] = body;
+    let [a, b] = place.to_be_bytes();
+    let [c, d] = length.to_be_bytes();
+    [1, 0, a, b, c, d, 0, 0]
 }
 
 /// Bytes that are put in the place of others, and whether the page is well-formed then.
@@ -88,6 +96,32 @@ fn a_body_in_the_midst_of_another_is_told(rt: HostRuntime) -> Result<(), Fail> {
     assert_same(&well_formed(&page, HOME), &false, "two bodies")?;
     patch(&mut page, 24, &[0; 8])?;
     assert_same(&well_formed(&page, HOME), &true, "one of them")?;
+    Ok(())
+}
+
+/// Two bodies, each with its place and its length, that of the lesser slot behind the other, and
+/// whether they are apart: within one word of 64 bytes, at its ends, and over many.
+const PAIRS: [([u16; 2], [u16; 2], bool); 9] = [
+    ([1100, 9], [1091, 9], true),
+    ([1100, 9], [1091, 10], false),
+    ([1088, 64], [1040, 48], true),
+    ([1088, 64], [1040, 49], false),
+    ([1151, 2], [1087, 64], true),
+    ([1151, 2], [1087, 65], false),
+    ([4095, 1], [1040, 3055], true),
+    ([4095, 1], [1040, 3056], false),
+    ([2000, 5], [1040, 3056], false),
+];
+
+#[test]
+fn bodies_in_another_order_than_their_slots_are_told_apart(rt: HostRuntime) -> Result<(), Fail> {
+    for (first, second, want) in PAIRS {
+        let mut page = sound();
+        patch(&mut page, 16, &entry_of(first))?;
+        patch(&mut page, 24, &entry_of(second))?;
+        assert_same(&well_formed(&page, HOME), &want, (first, second))?;
+        assert_same(&survey(&page, HOME).is_some(), &want, (first, second))?;
+    }
     Ok(())
 }
 

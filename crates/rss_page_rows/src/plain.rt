@@ -1,7 +1,7 @@
 // What a page holds, as a plain list.
 use crate::slotted::{ENTRIES, KEY, Slotted};
 use rss_asserts::assert_same;
-use rss_page::{Entry, well_formed};
+use rss_page::{Entry, survey, well_formed};
 use std::test::Fail;
 
 /// What an entry holds. The bytes of a body count up from the first one.
@@ -87,11 +87,12 @@ pub(crate) fn assert_holds(page: &Slotted, plain: &Plain, case: u32) -> Result<(
         assert_same(&holds(page, slot, held), &true, (case, slot))?;
     }
     assert_same(&well_formed(page.page(), KEY), &true, case)?;
-    let survey = page.survey();
+    let found = page.survey();
+    assert_same(&survey(page.page(), KEY), &Some(found), case)?;
     let free = 3056u32.saturating_sub(bytes_of(plain));
-    assert_same(&u32::from(survey.free), &free, case)?;
-    assert_same(&survey.first_empty, &first_empty(plain), case)?;
-    assert_same(&survey.is_vacant, &is_vacant(plain), case)?;
+    assert_same(&u32::from(found.free), &free, case)?;
+    assert_same(&found.first_empty, &first_empty(plain), case)?;
+    assert_same(&found.is_vacant, &is_vacant(plain), case)?;
     Ok(())
 }
 

@@ -3,7 +3,9 @@ ghost use Rattle.std.specs.Prelude.{◌<◌};
 ghost use Rattle.rss_base.specs.Sizes.{page_entries};
 
 use rss_base::{PAGE_BYTES, Page, PageKey, Space};
-use rss_page::{Entry, Survey, blank, body, compact, entry, fits, forward_at, put_at, remove};
+use rss_page::{
+    Entry, Survey, blank, body, compact, entry, fits, forward_at, put_at, put_found, remove,
+};
 use std::marker::Model;
 
 /// How many entries a page has.
@@ -65,17 +67,22 @@ impl Slotted {
         fits(&self.page, slot, length)
     }
 
-    /// Puts a body, where it fits.
+    /// Puts a body, where it fits, by a survey at each other slot.
     pub(crate) fn put(&mut self, slot: u8, body: &[u8]) -> bool
         requires { slot < page_entries }
     {
         if body.is_empty() || body.len() > PAGE_BYTES {
             return false;
         }
-        if !fits(&self.page, slot, body.len() as u16) {
+        let found = Survey::of(&self.page);
+        if !found.has_room(&self.page, slot, body.len() as u16) {
             return false;
         }
-        put_at(&mut self.page, slot, body);
+        if slot % 2 == 0 {
+            put_at(&mut self.page, slot, body);
+        } else {
+            put_found(&mut self.page, slot, body, &found);
+        }
         true
     }
 
