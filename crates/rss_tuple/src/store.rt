@@ -10,14 +10,13 @@ use crate::tuples::Tuples;
 use crate::walking::next_live;
 use rss_base::{Body, PageFault, Pages, Tid};
 
-/// The tuples of any pages. It is made by its literal, for one use or for many.
-#[derive(Drop)]
-pub struct Store<'p, P: Pages> {
-    pub pages: &'p mut P,
+/// The tuples of any pages. It is made by its literal.
+pub struct Store<P: Pages> {
+    pub pages: P,
 }
 
-impl<'p, P: Pages> Tuples for Store<'p, P> {
-    ghost view = { λ store. tuples_in (P.view store.pages.now) };
+impl<P: Pages> Tuples for Store<P> {
+    ghost view = { λ store. tuples_in (P.view store.pages) };
 
     fn choose(
         &mut self,
@@ -25,27 +24,27 @@ impl<'p, P: Pages> Tuples for Store<'p, P> {
         length: u16,
         barred: &[Tid],
     ) -> Result<Option<Tid>, PageFault> {
-        choose(self.pages, segment, length, barred)
+        choose(&mut self.pages, segment, length, barred)
     }
 
     fn insert_at(&mut self, segment: u8, tid: Tid, body: &[u8]) -> Result<(), PageFault> {
-        insert_at(self.pages, segment, tid, body)
+        insert_at(&mut self.pages, segment, tid, body)
     }
 
     fn fetch(&mut self, segment: u8, tid: Tid, into: &mut Body) -> Result<bool, PageFault> {
-        fetch(self.pages, segment, tid, into)
+        fetch(&mut self.pages, segment, tid, into)
     }
 
     fn replace(&mut self, segment: u8, tid: Tid, body: &[u8]) -> Result<(), PageFault> {
-        replace(self.pages, segment, tid, body)
+        replace(&mut self.pages, segment, tid, body)
     }
 
     fn remove(&mut self, segment: u8, tid: Tid) -> Result<(), PageFault> {
-        remove(self.pages, segment, tid)
+        remove(&mut self.pages, segment, tid)
     }
 
     fn next_live(&mut self, segment: u8, after: Option<Tid>) -> Result<Option<Tid>, PageFault> {
-        next_live(self.pages, segment, after)
+        next_live(&mut self.pages, segment, after)
     }
 
     ghost are_in_pages = { λ store. refl };
