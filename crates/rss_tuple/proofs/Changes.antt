@@ -1,5 +1,5 @@
 -- One tuple has changed: all pages are still those of a tuple store, and all other bodies stay.
-use Rattle.std.proofs.Common.{◌≡◌, ◌≢◌, inl, inr, ⊎_elim, ℕ, ◌≤◌, true, false, ◌&&◌, ◌==◌, List, Option, None, refl, sym, ◌∙◌, ap, subst, arith, rules}
+use Rattle.std.proofs.Common.{◌≡◌, ◌≢◌, inl, inr, ⊎_elim, ℕ, ◌≤◌, true, false, ◌&&◌, ◌==◌, List, Option, Some, None, refl, sym, ◌∙◌, ap, subst, arith, rules}
 use Rattle.std.specs.Prelude.{Result, OnOk, IsSome}
 use Rattle.std.proofs.lemmas.Bool.{cases_Bool, cases_eq, cond-true, cond-false}
 use Rattle.rss_base.specs.DiskRule.{IsTold}
@@ -15,9 +15,10 @@ use Rattle.rss_page.specs.Slotted.{HasRoom}
 use Rattle.rss_tuple.specs.Directory.{Entries, contents_in, homes, overflows, body_in, body_by, bodies_of, is_same_tid, with_body}
 use Rattle.rss_tuple.specs.Heaps.{HasBody, AreLinked, AreHeaps}
 use Rattle.rss_tuple.specs.TupleSteps.{TuplesCall, tuples_in, only_tuple, pages_for}
-use Rattle.rss_tuple.specs.Puts.{Changed}
+use Rattle.rss_tuple.specs.Calls.{MayInsert, HasTuple, PutsTuple}
+use Rattle.rss_tuple.specs.Puts.{Changed, MovesBody}
 use Rattle.rss_tuple.proofs.Links.{linked_now, body_same}
-use Rattle.rss_tuple.proofs.Seen.{on_ok_then}
+use Rattle.rss_tuple.proofs.Seen.{on_ok_then, content_after}
 use Rattle.rss_tuple.proofs.Placed.{same_at}
 
 same_tuple : (s segment : ℕ) (t tid : Tid) → (s == segment) && is_same_tid t tid ≡ true → (s ≡ segment) × (t ≡ tid)
@@ -76,6 +77,15 @@ changed_call now {result = result} are call changed = record {
   others = on_ok_then result (λ did told s t off. other_bodies call.step told (are told) (did told) s t off) changed;
 }
 
+pub puts_tuple : {T : Type 0} {cost segment : ℕ} {tid : Tid} {body : List ℕ} {old new : PagesView} {result : Result T PageFault} → (IsTold old.disk → AreHeaps old) → MovesBody segment tid body cost old new result → PutsTuple segment tid body cost (tuples_in old) (tuples_in new) result
+puts_tuple {body = body} {result = result} are moves =
+    let changed = on_ok_then result (λ moved told. (moved told).changed) moves.moved in
+    record {
+      put = on_ok_then result (λ did told. bodies_now moves.did.step told (are told) (did told)) changed;
+      placed = on_ok_then result (λ moved told. (moved told).placed) moves.moved;
+      did = changed_call (Some body) are moves.did changed;
+    }
+
 -- ---- what stands at an identifier
 
 pub absent_empty : (overflow : Entries) (content : Content) → ((p s : ℕ) → content ≡ Forward p s → HasBody (overflow p s)) → body_by overflow content ≡ None → content ≡ Empty
@@ -90,6 +100,20 @@ pub live_some : (overflow : Entries) (content : Content) → IsSome (body_by ove
 live_some overflow Empty live is = absurd (cc)
 live_some overflow (Here body) live is = absurd (cc)
 live_some overflow (Forward p s) live is = absurd (cc)
+
+-- the home entry of a tuple holds something
+pub entry_there : (view : PagesView) (segment : ℕ) (tid : Tid) → HasTuple (tuples_in view) segment tid → IsTold view.disk → homes view.held segment tid.page tid.slot ≡ Empty → ⊥
+entry_there view segment tid has told = live_some (overflows view.held segment) (homes view.held segment tid.page tid.slot) (has.live told)
+
+-- the home entry where no tuple stands holds nothing
+pub entry_free : (view : PagesView) (segment : ℕ) (tid : Tid) (count : ℕ) → MayInsert (tuples_in view) segment tid count → IsTold view.disk → homes view.held segment tid.page tid.slot ≡ Empty
+entry_free view segment tid count may told = absent_empty (overflows view.held segment) (homes view.held segment tid.page tid.slot) (λ p s is. ((may.heaps told).linked segment).leads tid.page tid.slot p s is) (may.absent told)
+
+-- nor after a page was read
+pub free_after : {asks writes count segment : ℕ} {tid : Tid} {old new : PagesView} → PagesStep no_page asks writes old new → MayInsert (tuples_in old) segment tid count → IsTold new.disk → homes new.held segment tid.page tid.slot ≡ Empty
+free_after {count = count} {segment = segment} {tid = tid} {old = old} step may told =
+    let before = step.passes.leaves.told.1 told in
+    content_after step (page_key segment Home tid.page) tid.slot before ∙ entry_free old segment tid count may before
 
 pub fits_unmapped : (held : Held) (key : PageKey) (slot count : ℕ) → held key ≡ None → count ≤ 2400 → HasRoom (contents_in (held key)) slot count
 fits_unmapped held key slot count none few = subst (λ (page : Option (List ℕ)). HasRoom (contents_in page) slot count) (sym none) (omega arith)

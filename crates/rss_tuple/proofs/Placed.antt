@@ -305,3 +305,8 @@ held_there key one slot at held content is = subst (λ (k : PageKey). content_at
 
 pub read_key : {view : PagesView} {key one : PageKey} {bytes : List ℕ} → key ≡ one → IsRead view key bytes → IsRead view one bytes
 read_key {view = view} {bytes = bytes} at read = subst (λ (k : PageKey). IsRead view k bytes) at read
+
+-- an entry of a page that was read has a body, and leads nowhere
+pub stands_here : {view : PagesView} {segment : ℕ} (tid : Tid) {bytes body : List ℕ} → IsRead view (page_key segment Home tid.page) bytes → held_at (entries bytes) tid.slot ≡ Here body → IsTold view.disk → (p s : ℕ) → homes view.held segment tid.page tid.slot ≡ Forward p s → ⊥
+stands_here tid {body = body} read is told p s leads =
+    let never : Here body ≡ Forward p s = sym is ∙ sym (ap (λ (page : Option (List ℕ)). held_at (contents_in page) tid.slot) (read.held told)) ∙ leads in absurd (cc)

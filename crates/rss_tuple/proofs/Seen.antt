@@ -1,6 +1,6 @@
 -- What pages say, through calls that change none of them.
 use Rattle.std.proofs.Common.{◌≡◌, ℕ, ◌≤◌, true, List, Option, Some, None, get_or, refl, sym, ◌∙◌, ap, subst, arith}
-use Rattle.std.specs.Prelude.{is_some, Result, Ok, Err, IfOk, OnOk}
+use Rattle.std.specs.Prelude.{is_some, Result, Ok, Err, IfOk, OnOk, IsErrAnd}
 use Rattle.std.proofs.lemmas.List.{get_or_past}
 use Rattle.rss_base.specs.DiskRule.{IsTold}
 use Rattle.rss_base.specs.Paged.{Held}
@@ -81,6 +81,11 @@ found_damaged {place = place} fault is step never = record {
 pub on_ok_then : {T E : Type 0} {P Q : Type 0} (result : Result T E) → (P → Q) → OnOk result P → OnOk result Q
 on_ok_then (Ok value) follows fact = follows fact
 on_ok_then (Err e) follows fact = tt
+
+-- nothing is said of a failure
+pub not_ok : {U : Type 0} (fault : PageFault) (P : Type 0) (result : Result U PageFault) → IsErrAnd result (λ why. why ≡ fault) → OnOk result P
+not_ok fault P (Ok value) is = absurd is
+not_ok fault P (Err e) is = tt
 
 pub if_ok_then : {T E : Type 0} {P Q : T → Type 0} (result : Result T E) → ((value : T) → P value → Q value) → IfOk result P → IfOk result Q
 if_ok_then (Ok value) follows fact = follows value fact

@@ -1,6 +1,6 @@
 -- A page of which one entry was changed, among the others.
-use Rattle.std.proofs.Common.{◌≡◌, ◌≢◌, inl, inr, ℕ, ◌*◌, ◌≤◌, ◌<◌, true, false, List, Option, Some, None, length, set, get_or, replicate, refl, sym, ◌∙◌, ap, subst, arith, get_or-set_same, get_or-set_other}
-use Rattle.std.specs.Prelude.{is_some}
+use Rattle.std.proofs.Common.{◌≡◌, ◌≢◌, inl, inr, ℕ, ◌+◌, ◌*◌, ◌≤◌, ◌<◌, true, false, List, Option, Some, None, length, set, get_or, replicate, refl, sym, ◌∙◌, ap, subst, arith, get_or-set_same, get_or-set_other}
+use Rattle.std.specs.Prelude.{is_some, Result, Err, IsErrAnd}
 use Rattle.std.proofs.lemmas.Bool.{cases_Bool, cases_eq, cases_lt}
 use Rattle.std.proofs.lemmas.List.{get_or_past, get_or-replicate}
 use Rattle.std.proofs.lemmas.List.Sums.{sum_by-set}
@@ -8,10 +8,11 @@ use Rattle.std.proofs.lemmas.List.Folds.{sum_by-replicate}
 use Rattle.rss_base.specs.DiskRule.{IsTold}
 use Rattle.rss_base.specs.Paged.{Held, is_same}
 use Rattle.rss_base.specs.Notes.{Noted}
-use Rattle.rss_base.specs.Steps.{PagesView, only, WritesPage, GivesPage, PagesStep}
+use Rattle.rss_base.specs.Steps.{PagesView, Keys, no_page, only, WritesPage, GivesPage, PagesStep, PagesCall}
+use Rattle.rss_base.specs.declared.fault.PageFault.{PageFault}
 use Rattle.rss_base.specs.declared.key.PageKey.{PageKey}
 use Rattle.rss_base.proofs.Keys.{is_same-true, is_same-itself}
-use Rattle.rss_base.proofs.Steps.{written_here}
+use Rattle.rss_base.proofs.Steps.{written_here, untouched, then_call, fails}
 use Rattle.std.proofs.lemmas.Bool.{cond-true}
 use Rattle.rss_page.specs.Content.{Content, Empty, Here, body_length}
 use Rattle.rss_page.specs.Slotted.{entries, body_bytes, HasRoom, Sets}
@@ -19,7 +20,8 @@ use Rattle.rss_page.specs.Surveyed.{held_at, IsVacant}
 use Rattle.rss_page.proofs.Contents.{length-entries}
 use Rattle.rss_tuple.specs.Directory.{contents_in, content_at}
 use Rattle.rss_tuple.specs.Heaps.{IsHeap, AreFormed}
-use Rattle.rss_tuple.specs.Edits.{IsRead, SetsEntry, FillsPage}
+use Rattle.rss_tuple.specs.Edits.{IsRead, SetsEntry, FillsPage, Edits}
+use Rattle.rss_tuple.proofs.Seen.{not_ok, on_ok_then, content_after}
 
 -- ---- all pages, where one was changed
 
@@ -123,3 +125,27 @@ sets_taken key slot body old mid new none fills mid_told step formed told =
 pub none_held : (page : Option (List ℕ)) → is_some page ≡ false → page ≡ None
 none_held None is = refl
 none_held (Some bytes) is = absurd (cc)
+
+-- ---- a call that edits
+
+-- it failed
+pub edits_fails : {T U : Type 0} {touched : Keys} {asks writes cost : ℕ} {key : PageKey} {slot : ℕ} {content : Content} {old new : PagesView} {fault : PageFault} (result : Result U PageFault) → IsErrAnd result (λ why. why ≡ fault) → ((one : PageKey) → touched one → only key one) → asks ≤ cost → writes ≤ cost
+    → PagesCall {T = T} touched asks writes old new (Err fault) → Edits key slot content cost old new result
+edits_fails {key = key} {slot = slot} {content = content} {old = old} {new = new} {fault = fault} result is wider few_asks few_writes call = record {
+  sets = not_ok fault (IsTold old.disk → SetsEntry key slot content old new) result is;
+  did = fails result is wider few_asks few_writes call;
+}
+
+-- a page was read before
+pub edits_after : {T : Type 0} {cost : ℕ} {key : PageKey} {slot : ℕ} {content : Content} {old mid new : PagesView} {result : Result T PageFault} → PagesStep no_page 1 1 old mid → Edits key slot content cost mid new result → Edits key slot content (1 + cost) old new result
+edits_after {key = key} {result = result} step edits = record {
+  sets = on_ok_then result (λ sets told.
+      let there = sets (step.passes.leaves.told.0 told) in
+      record {
+        here = there.here;
+        others = λ other off. there.others other off ∙ content_after step key other told;
+        formed = there.formed;
+      })
+      edits.sets;
+  did = then_call (untouched step) edits.did;
+}

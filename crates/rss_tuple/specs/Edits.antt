@@ -1,10 +1,12 @@
 -- How one entry of a page is changed, and what the pages are that a call has read.
-use Rattle.std.specs.Prelude.{◌≡◌, ℕ, true, List, Some, None}
+use Rattle.std.specs.Prelude.{◌≡◌, ℕ, ◌<◌, true, List, Some, None, Result, OnOk}
 use Rattle.rss_base.specs.DiskRule.{IsTold}
-use Rattle.rss_base.specs.Steps.{PagesView, WritesPage}
+use Rattle.rss_base.specs.Sizes.{page_entries}
+use Rattle.rss_base.specs.Steps.{PagesView, WritesPage, PagesCall, only}
+use Rattle.rss_base.specs.declared.fault.PageFault.{PageFault}
 use Rattle.rss_base.specs.declared.key.PageKey.{PageKey}
 use Rattle.rss_page.specs.Content.{Content, Empty, Here, Forward}
-use Rattle.rss_page.specs.Slotted.{entries, IsWellFormed}
+use Rattle.rss_page.specs.Slotted.{entries, IsHeapKey, IsWellFormed}
 use Rattle.rss_page.specs.Surveyed.{held_at}
 use Rattle.rss_tuple.specs.Directory.{Entries, content_at}
 use Rattle.rss_tuple.specs.Heaps.{IsHeap, AreFormed, HasBody}
@@ -15,11 +17,32 @@ pub record IsRead (view : PagesView) (key : PageKey) (bytes : List ℕ) : Type 0
   pub formed : IsWellFormed key bytes
   pub held : IsTold view.disk → view.held key ≡ Some bytes
 
+-- what a call may be given that reads a page, looks at an entry of one, or changes an entry of one that was read
+pub record MayRead (view : PagesView) (key : PageKey) : Type 0 where
+  pub heap : IsHeapKey key
+  pub mapped : IsTold view.disk → view.mapped key ≡ true
+  pub formed : IsTold view.disk → AreFormed view
+
+pub record NamesEntry (view : PagesView) (key : PageKey) (slot : ℕ) : Type 0 where
+  pub heap : IsHeapKey key
+  pub low : slot < page_entries
+  pub formed : IsTold view.disk → AreFormed view
+
+pub record MayEdit (view : PagesView) (key : PageKey) (slot : ℕ) (bytes : List ℕ) : Type 0 where
+  pub read : IsRead view key bytes
+  pub low : slot < page_entries
+  pub formed : IsTold view.disk → AreFormed view
+
 -- one entry of a page holds this now, and all pages are still well-formed by themselves
 pub record SetsEntry (key : PageKey) (slot : ℕ) (content : Content) (old new : PagesView) : Type 0 where
   pub here : content_at new.held key slot ≡ content
   pub others : (other : ℕ) → (other ≡ slot → ⊥) → content_at new.held key other ≡ content_at old.held key other
   pub formed : AreFormed new
+
+-- so does a call, where it succeeds, at a cost of so many asks and writes
+pub record Edits {T : Type 0} (key : PageKey) (slot : ℕ) (content : Content) (cost : ℕ) (old new : PagesView) (result : Result T PageFault) : Type 0 where
+  pub sets : OnOk result (IsTold old.disk → SetsEntry key slot content old new)
+  pub did : PagesCall (only key) cost cost old new result
 
 -- The page holds one body now, and nothing else.
 pub record FillsPage (key : PageKey) (slot : ℕ) (body : List ℕ) (old new : PagesView) : Type 0 where

@@ -4,7 +4,7 @@ use Rattle.rss_base.specs.Sizes.{page_entries}
 use Rattle.rss_base.specs.declared.tid.Tid.{Tid}
 use Rattle.rss_page.specs.Content.{Content, Empty, Here, Forward}
 use Rattle.rss_page.specs.Surveyed.{held_at}
-use Rattle.rss_tuple.specs.TupleSteps.{TuplesView, IsLive, IsBelow}
+use Rattle.rss_tuple.specs.TupleSteps.{TuplesView, IsLive, IsBelow, IsLeast, NoneIs}
 use Rattle.rss_tuple.specs.declared.reading.Found.{Found}
 use Rattle.rss_tuple.specs.declared.reading.Found.TheVariants.{Nothing, Body, Elsewhere}
 
@@ -41,6 +41,10 @@ IsFrom from tid = (from.page < tid.page) ⊎ ((from.page ≡ tid.page) × (from.
 pub record IsNext (view : TuplesView) (segment : ℕ) (after : Option Tid) (tid : Tid) : Type 0 where
   pub behind : IsAfter after tid
   pub live : IsLive view segment tid
+
+-- the least of them, if there is one
+abbrev pub FindsNext : TuplesView → ℕ → Option Tid → Option Tid → Type 0
+FindsNext view segment after found = MatchOption found (NoneIs (IsNext view segment after)) (IsLeast (IsNext view segment after))
 
 -- the first slot from one on that holds something
 pub record IsFirstTaken (contents : List Content) (from slot : ℕ) : Type 0 where

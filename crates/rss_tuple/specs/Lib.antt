@@ -2,6 +2,7 @@ pub mod Directory
 pub mod Heaps
 pub mod TupleSteps
 pub mod Placing
+pub mod Calls
 pub mod Edits
 pub mod Finding
 pub mod Spots

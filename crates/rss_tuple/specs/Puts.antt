@@ -1,17 +1,20 @@
 -- What becomes of the entries of a segment where a tuple is put, moved or taken away.
-use Rattle.std.specs.Prelude.{◌≡◌, ◌⊎◌, ℕ, false, List, length, Option, Some}
+use Rattle.std.specs.Prelude.{◌≡◌, ◌⊎◌, ℕ, ◌<◌, false, List, length, Option, Some, Result, OnOk}
+use Rattle.rss_base.specs.DiskRule.{IsTold}
 use Rattle.rss_base.specs.Paged.{page_key}
-use Rattle.rss_base.specs.Steps.{PagesView}
+use Rattle.rss_base.specs.Sizes.{page_entries}
+use Rattle.rss_base.specs.Steps.{PagesView, PagesCall}
+use Rattle.rss_base.specs.declared.fault.PageFault.{PageFault}
 use Rattle.rss_base.specs.declared.key.PageKey.{PageKey}
-use Rattle.rss_base.specs.declared.key.Space.TheVariants.{Overflow}
+use Rattle.rss_base.specs.declared.key.Space.TheVariants.{Home, Overflow}
 use Rattle.rss_base.specs.declared.tid.Tid.{Tid}
 use Rattle.rss_page.specs.Content.{Content, Empty, Here, Forward}
 use Rattle.rss_page.specs.Slotted.{HasRoom}
 use Rattle.rss_tuple.specs.Directory.{homes, overflows, bodies_of}
 use Rattle.rss_tuple.specs.Heaps.{AreFormed}
-use Rattle.rss_tuple.specs.TupleSteps.{IsLeast, NoneIs}
+use Rattle.rss_tuple.specs.TupleSteps.{IsLeast, NoneIs, pages_for}
 use Rattle.rss_tuple.specs.Placing.{IsSpot, IsPlaced, overflow_for}
-use Rattle.rss_tuple.specs.Edits.{SetsEntry, Moves}
+use Rattle.rss_tuple.specs.Edits.{IsRead, SetsEntry, Moves}
 
 -- The tuple has this body now, or none; its entries are those of no other tuple.
 pub record Changed (segment : ℕ) (tid : Tid) (now : Option (List ℕ)) (old new : PagesView) : Type 0 where
@@ -56,6 +59,16 @@ pub record Puts (segment : ℕ) (tid : Tid) (body : List ℕ) (old new : PagesVi
 pub record Moved (segment : ℕ) (tid : Tid) (body : List ℕ) (old new : PagesView) : Type 0 where
   pub changed : Changed segment tid (Some body) old new
   pub placed : IsPlaced old segment tid body (homes new.held segment tid.page tid.slot)
+
+-- so does a call, where it succeeds, at a cost of so many asks and writes
+pub record MovesBody {T : Type 0} (segment : ℕ) (tid : Tid) (body : List ℕ) (cost : ℕ) (old new : PagesView) (result : Result T PageFault) : Type 0 where
+  pub moved : OnOk result (IsTold old.disk → Moved segment tid body old new)
+  pub did : PagesCall (pages_for segment tid) cost cost old new result
+
+-- the home page of a tuple was read
+pub record HomeRead (view : PagesView) (segment : ℕ) (tid : Tid) (bytes : List ℕ) : Type 0 where
+  pub read : IsRead view (page_key segment Home tid.page) bytes
+  pub low : tid.slot < page_entries
 
 -- a body of this length fits in the overflow page where it stands, and not at home
 pub record Stays (home : List Content) (slot : ℕ) (away : List Content) (to_slot length : ℕ) : Type 0 where

@@ -1,5 +1,5 @@
 -- What is found in a page of free entries and of room.
-use Rattle.std.specs.Prelude.{◌≡◌, ◌↔◌, ℕ, ◌+◌, ◌<◌, ◌≤◌, Bool, true, false, List, Contains, slice_index_or}
+use Rattle.std.specs.Prelude.{◌≡◌, ◌↔◌, ℕ, ◌+◌, ◌<◌, ◌≤◌, Bool, true, false, List, Option, MatchOption, Contains, slice_index_or}
 use Rattle.rss_base.specs.Sizes.{page_entries}
 use Rattle.rss_base.specs.DiskRule.{IsTold}
 use Rattle.rss_base.specs.Paged.{page_key}
@@ -9,7 +9,7 @@ use Rattle.rss_page.specs.Content.{Content, Empty}
 use Rattle.rss_page.specs.Slotted.{bodies_room, entries, body_bytes}
 use Rattle.rss_page.specs.Surveyed.{held_at}
 use Rattle.rss_tuple.specs.Directory.{tid_at}
-use Rattle.rss_tuple.specs.TupleSteps.{IsLeast}
+use Rattle.rss_tuple.specs.TupleSteps.{IsLeast, NoneIs}
 use Rattle.rss_tuple.specs.Placing.{Wanted, IsOpen, IsSpot}
 use Rattle.rss_tuple.specs.Edits.{IsRead}
 
@@ -45,3 +45,7 @@ pub record IsFoundSpot (old new : PagesView) (wanted : Wanted) (bytes : List ℕ
   pub read : IsRead new (page_key wanted.segment wanted.space tid.page) bytes
   pub spot : HasSpot (entries bytes) wanted.length wanted.barred tid.page tid.slot
   pub least : IsTold old.disk → IsLeast (IsSpot old wanted) tid
+
+-- It was looked for, and if no page has it, there was none before the search.
+abbrev pub FindsSpot : PagesView → PagesView → Wanted → List ℕ → Option Tid → Type 0
+FindsSpot old new wanted bytes found = MatchOption found (IsTold old.disk → NoneIs (IsSpot old wanted)) (IsFoundSpot old new wanted bytes)

@@ -1,12 +1,12 @@
 // The identifier of a new tuple.
-ghost use Rattle.std.specs.Prelude.{◌≡◌, ◌*◌, ◌<◌, ◌≤◌, None, MatchOption, IfOk, IfSome};
+ghost use Rattle.std.specs.Prelude.{◌*◌, MatchOption, IfOk};
 ghost use Rattle.rss_base.specs.DiskRule.{IsTold};
-ghost use Rattle.rss_base.specs.Sizes.{segments};
 ghost use Rattle.rss_base.specs.Steps.{PagesCall, pages_in};
 ghost use Rattle.rss_base.specs.declared.key.Space.TheVariants.{Home};
-ghost use Rattle.rss_tuple.specs.Heaps.{body_most, AreFormed, AreHeaps};
-ghost use Rattle.rss_tuple.specs.TupleSteps.{TuplesCall, IsLeast, NoneIs, tuples_in, no_tuple};
-ghost use Rattle.rss_tuple.specs.Placing.{IsNew, IsNameable, IsFree, IsChosen};
+ghost use Rattle.rss_tuple.specs.Heaps.{AreFormed};
+ghost use Rattle.rss_tuple.specs.TupleSteps.{IsLeast, NoneIs};
+ghost use Rattle.rss_tuple.specs.Placing.{IsNew};
+ghost use Rattle.rss_tuple.specs.Calls.{IsSegment, MayPut};
 ghost use Rattle.rss_tuple.specs.Edits.{KeepsEntries};
 ghost use Rattle.rss_tuple.specs.Picks.{Picks};
 
@@ -17,8 +17,7 @@ use rss_page::blank;
 
 /// The first identifier of a home page that isn't mapped, of those that aren't barred.
 fn first_new<P: Pages>(pages: &P, segment: u8, barred: &[Tid]) -> Option<Tid>
-    requires low { 1 ≤ segment }
-    requires high { segment ≤ segments }
+    requires { IsSegment segment }
     ensures { MatchOption result (NoneIs (IsNew (P.view pages.now) segment barred.now))
         (IsLeast (IsNew (P.view pages.now) segment barred.now)) }
 {
@@ -46,37 +45,7 @@ pub(crate) fn choose<P: Pages>(
     length: u16,
     barred: &[Tid],
 ) -> Result<Option<Tid>, PageFault>
-    requires low { 1 ≤ segment }
-    requires high { segment ≤ segments }
-    requires most { length ≤ body_most }
-    requires heaps { IsTold (P.view pages.old).disk → AreHeaps (P.view pages.old) }
-    ensures named { IfOk result (λ found. IfSome found
-        (IsNameable (P.view pages.old).slots barred.now)) }
-    ensures free { IfOk result (λ found. IfSome found (λ tid. IsTold (P.view pages.old).disk
-        → IsFree (tuples_in (P.view pages.old)) segment barred.now tid)) }
-    ensures chosen { IfOk result (λ found. IfSome found (λ tid. IsTold (P.view pages.old).disk
-        → IsChosen (P.view pages.old) segment length barred.now tid)) }
-    ensures none { IfOk result (λ found. found ≡ None → IsTold (P.view pages.old).disk
-        → NoneIs (IsFree (tuples_in (P.view pages.old)) segment barred.now)) }
-    ensures mapped { (P.view pages.new).mapped ≡ (P.view pages.old).mapped }
-    ensures held { IsTold (P.view pages.old).disk
-        → (P.view pages.new).held ≡ (P.view pages.old).held }
-    ensures did { TuplesCall (pages_in segment Home) no_tuple (2 * (P.view pages.old).slots)
-        (tuples_in (P.view pages.old)) (tuples_in (P.view pages.new)) result }
-{
-    pick(pages, segment, length, barred)
-}
-
-/// The same, by the pages.
-fn pick<P: Pages>(
-    pages: &mut P,
-    segment: u8,
-    length: u16,
-    barred: &[Tid],
-) -> Result<Option<Tid>, PageFault>
-    requires low { 1 ≤ segment }
-    requires high { segment ≤ segments }
-    requires most { length ≤ body_most }
+    requires may { MayPut segment length }
     requires formed { IsTold (P.view pages.old).disk → AreFormed (P.view pages.old) }
     ensures picks { IfOk result (Picks (P.view pages.old) segment length barred.now) }
     ensures kept { KeepsEntries (P.view pages.old) (P.view pages.new) }

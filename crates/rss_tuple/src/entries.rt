@@ -1,15 +1,14 @@
 // One entry of a page that is changed.
-ghost use Rattle.std.specs.Prelude.{◌≡◌, ◌↔◌, ◌<◌, ◌≤◌, length, true, false, IsTrue, OnOk};
+ghost use Rattle.std.specs.Prelude.{◌≡◌, ◌↔◌, ◌<◌, length, true, false, IsTrue, OnOk};
 ghost use Rattle.rss_base.specs.Sizes.{page_entries};
-ghost use Rattle.rss_base.specs.DiskRule.{IsTold};
 ghost use Rattle.rss_base.specs.PageMap.{IsKey};
 ghost use Rattle.rss_base.specs.Steps.{PagesCall, no_page, only};
 ghost use Rattle.rss_base.specs.declared.key.Space.TheVariants.{Home};
 ghost use Rattle.rss_page.specs.Content.{Empty, Here, Forward};
 ghost use Rattle.rss_page.specs.Slotted.{entries, HasRoom, IsHeapKey, IsSlotted};
 ghost use Rattle.rss_page.specs.Surveyed.{IsVacant};
-ghost use Rattle.rss_tuple.specs.Heaps.{body_most, AreFormed};
-ghost use Rattle.rss_tuple.specs.Edits.{IsRead, SetsEntry, FillsPage};
+ghost use Rattle.rss_tuple.specs.Calls.{IsBodyLength};
+ghost use Rattle.rss_tuple.specs.Edits.{IsRead, MayRead, NamesEntry, MayEdit, Edits, FillsPage};
 
 use crate::keys::damaged;
 use rss_base::{PAGE_BYTES, Page, PageFault, PageKey, Pages, Tid};
@@ -21,9 +20,7 @@ pub(crate) fn read_formed<P: Pages>(
     key: PageKey,
     page: &mut Page,
 ) -> Result<(), PageFault>
-    requires heap { IsHeapKey key }
-    requires mapped { IsTold (P.view pages.old).disk → (P.view pages.old).mapped key ≡ true }
-    requires formed { IsTold (P.view pages.old).disk → AreFormed (P.view pages.old) }
+    requires { MayRead (P.view pages.old) key }
     ensures read { OnOk result (IsRead (P.view pages.new) key page.new) }
     ensures did { PagesCall no_page 1 1 (P.view pages.old) (P.view pages.new) result }
 {
@@ -46,15 +43,10 @@ pub(crate) fn put_here<P: Pages>(
     slot: u8,
     body: &[u8],
 ) -> Result<(), PageFault>
-    requires read { IsRead (P.view pages.old) key page.old }
-    requires slot { slot < page_entries }
-    requires some { 1 ≤ length body.now }
-    requires most { length body.now ≤ body_most }
+    requires may { MayEdit (P.view pages.old) key slot page.old }
+    requires length { IsBodyLength (length body.now) }
     requires room { HasRoom (entries page.old) slot (length body.now) }
-    requires formed { IsTold (P.view pages.old).disk → AreFormed (P.view pages.old) }
-    ensures sets { OnOk result (IsTold (P.view pages.old).disk
-        → SetsEntry key slot (Here body.now) (P.view pages.old) (P.view pages.new)) }
-    ensures did { PagesCall (only key) 0 1 (P.view pages.old) (P.view pages.new) result }
+    ensures { Edits key slot (Here body.now) 1 (P.view pages.old) (P.view pages.new) result }
 {
     put_at(page, slot, body);
     pages.write(key, page)?;
@@ -70,14 +62,11 @@ pub(crate) fn put_forward<P: Pages>(
     slot: u8,
     to: Tid,
 ) -> Result<(), PageFault>
-    requires read { IsRead (P.view pages.old) key page.old }
+    requires may { MayEdit (P.view pages.old) key slot page.old }
     requires home { key.space ≡ Home }
-    requires slot { slot < page_entries }
     requires to { to.slot < page_entries }
-    requires formed { IsTold (P.view pages.old).disk → AreFormed (P.view pages.old) }
-    ensures sets { OnOk result (IsTold (P.view pages.old).disk
-        → SetsEntry key slot (Forward to.page to.slot) (P.view pages.old) (P.view pages.new)) }
-    ensures did { PagesCall (only key) 0 1 (P.view pages.old) (P.view pages.new) result }
+    ensures { Edits key slot (Forward to.page to.slot) 1 (P.view pages.old)
+        (P.view pages.new) result }
 {
     forward_at(page, slot, to.page, to.slot as u8);
     pages.write(key, page)?;
@@ -99,12 +88,8 @@ pub(crate) fn clear_in<P: Pages>(
     page: &mut Page,
     slot: u8,
 ) -> Result<(), PageFault>
-    requires read { IsRead (P.view pages.old) key page.old }
-    requires slot { slot < page_entries }
-    requires formed { IsTold (P.view pages.old).disk → AreFormed (P.view pages.old) }
-    ensures sets { OnOk result (IsTold (P.view pages.old).disk
-        → SetsEntry key slot Empty (P.view pages.old) (P.view pages.new)) }
-    ensures did { PagesCall (only key) 0 1 (P.view pages.old) (P.view pages.new) result }
+    requires { MayEdit (P.view pages.old) key slot page.old }
+    ensures { Edits key slot Empty 1 (P.view pages.old) (P.view pages.new) result }
 {
     remove(page, slot);
     if is_vacant(page) {
@@ -117,13 +102,9 @@ pub(crate) fn clear_in<P: Pages>(
 
 /// Empties an entry of a page.
 pub(crate) fn clear<P: Pages>(pages: &mut P, key: PageKey, slot: u8) -> Result<(), PageFault>
-    requires heap { IsHeapKey key }
-    requires slot { slot < page_entries }
-    requires mapped { IsTold (P.view pages.old).disk → (P.view pages.old).mapped key ≡ true }
-    requires formed { IsTold (P.view pages.old).disk → AreFormed (P.view pages.old) }
-    ensures sets { OnOk result (IsTold (P.view pages.old).disk
-        → SetsEntry key slot Empty (P.view pages.old) (P.view pages.new)) }
-    ensures did { PagesCall (only key) 1 2 (P.view pages.old) (P.view pages.new) result }
+    requires may { MayRead (P.view pages.old) key }
+    requires low { slot < page_entries }
+    ensures { Edits key slot Empty 2 (P.view pages.old) (P.view pages.new) result }
 {
     let mut page = [0u8; PAGE_BYTES];
     read_formed(pages, key, &mut page)?;
@@ -138,9 +119,8 @@ pub(crate) fn fill<P: Pages>(
     body: &[u8],
 ) -> Result<(), PageFault>
     requires heap { IsHeapKey key }
-    requires slot { slot < page_entries }
-    requires some { 1 ≤ length body.now }
-    requires most { length body.now ≤ body_most }
+    requires low { slot < page_entries }
+    requires length { IsBodyLength (length body.now) }
     requires mapped { (P.view pages.old).mapped key ≡ true }
     ensures fills { OnOk result (FillsPage key slot body.now (P.view pages.old)
         (P.view pages.new)) }
@@ -159,17 +139,12 @@ pub(crate) fn take_here<P: Pages>(
     slot: u8,
     body: &[u8],
 ) -> Result<(), PageFault>
-    requires heap { IsHeapKey key }
+    requires may { NamesEntry (P.view pages.old) key slot }
+    requires length { IsBodyLength (length body.now) }
     requires allowed { IsKey (P.view pages.old).slots key }
     requires unmapped { (P.view pages.old).mapped key ≡ false }
     requires room { 0 < (P.view pages.old).spare }
-    requires slot { slot < page_entries }
-    requires some { 1 ≤ length body.now }
-    requires most { length body.now ≤ body_most }
-    requires formed { IsTold (P.view pages.old).disk → AreFormed (P.view pages.old) }
-    ensures sets { OnOk result (IsTold (P.view pages.old).disk
-        → SetsEntry key slot (Here body.now) (P.view pages.old) (P.view pages.new)) }
-    ensures did { PagesCall (only key) 0 2 (P.view pages.old) (P.view pages.new) result }
+    ensures { Edits key slot (Here body.now) 2 (P.view pages.old) (P.view pages.new) result }
 {
     pages.take_at(key)?;
     fill(pages, key, slot, body)

@@ -1,19 +1,18 @@
 // The first page of a space with a free entry and enough free bytes.
-ghost use Rattle.std.specs.Prelude.{◌≡◌, ℕ, ◌+◌, ◌<◌, ◌≤◌, ◌↔◌, true, IsTrue, MatchOption, IfOk};
+ghost use Rattle.std.specs.Prelude.{◌≡◌, ◌<◌, ◌≤◌, ◌↔◌, true, IsTrue, MatchOption, IfOk};
 ghost use Rattle.std.specs.Prelude.{OnOk};
 ghost use Rattle.rss_base.specs.DiskRule.{IsTold};
-ghost use Rattle.rss_base.specs.Sizes.{segments, page_entries};
+ghost use Rattle.rss_base.specs.Sizes.{page_entries};
 ghost use Rattle.rss_base.specs.Notes.{is_noted_space};
 ghost use Rattle.rss_base.specs.Steps.{PagesCall, only, pages_in};
 ghost use Rattle.rss_page.specs.Slotted.{entries};
 ghost use Rattle.rss_page.specs.Content.{Empty};
 ghost use Rattle.rss_page.specs.Surveyed.{held_at, IsSurvey};
 ghost use Rattle.rss_tuple.specs.Heaps.{body_most, AreFormed};
-ghost use Rattle.rss_tuple.specs.TupleSteps.{NoneIs};
-ghost use Rattle.rss_tuple.specs.Placing.{IsSpot};
+ghost use Rattle.rss_tuple.specs.Calls.{IsSegment};
 ghost use Rattle.rss_tuple.specs.Edits.{IsRead, KeepsEntries};
 ghost use Rattle.rss_tuple.specs.Spots.{AreBarred, IsFirstOpen, NoneOpen, HasSpot, HasNoSpot};
-ghost use Rattle.rss_tuple.specs.Spots.{IsRoom, IsFoundSpot};
+ghost use Rattle.rss_tuple.specs.Spots.{IsRoom, FindsSpot};
 
 use crate::entries::read_formed;
 use rss_base::{PAGE_ENTRIES, Page, PageFault, PageKey, Pages, Space, Tid};
@@ -117,16 +116,13 @@ pub(crate) fn find_page<P: Pages>(
     barred: &[Tid],
     page: &mut Page,
 ) -> Result<Option<Tid>, PageFault>
-    requires low { 1 ≤ segment }
-    requires high { segment ≤ segments }
+    requires segment { IsSegment segment }
     requires noted { is_noted_space space ≡ true }
     requires most { length ≤ body_most }
     requires formed { IsTold (P.view pages.old).disk → AreFormed (P.view pages.old) }
-    ensures found { IfOk result (λ found. MatchOption found
-        (IsTold (P.view pages.old).disk → NoneIs (IsSpot (P.view pages.old)
-        (record { segment = segment; space = space; length = length; barred = barred.now })))
-        (IsFoundSpot (P.view pages.old) (P.view pages.new)
-        (record { segment = segment; space = space; length = length; barred = barred.now }) page.new)) }
+    ensures found { IfOk result (FindsSpot (P.view pages.old) (P.view pages.new)
+        (record { segment = segment; space = space; length = length; barred = barred.now })
+        page.new) }
     ensures kept { KeepsEntries (P.view pages.old) (P.view pages.new) }
     ensures did { PagesCall (pages_in segment space) (P.view pages.old).slots
         (P.view pages.old).slots (P.view pages.old) (P.view pages.new) result }

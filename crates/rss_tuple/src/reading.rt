@@ -1,15 +1,15 @@
 // A tuple that is read by its identifier.
-ghost use Rattle.std.specs.Prelude.{◌≡◌, ◌<◌, ◌≤◌, ℕ, List, length, true, Option, IfSome, IfNone};
+ghost use Rattle.std.specs.Prelude.{◌≡◌, ◌<◌, ◌≤◌, ℕ, List, length, IfSome, IfNone};
 ghost use Rattle.std.specs.Prelude.{IfOk, OnOk};
 ghost use Rattle.rss_base.specs.DiskRule.{IsTold};
-ghost use Rattle.rss_base.specs.Sizes.{segments, page_entries};
+ghost use Rattle.rss_base.specs.Sizes.{page_entries};
 ghost use Rattle.rss_base.specs.Steps.{PagesCall, no_page};
 ghost use Rattle.rss_page.specs.Content.{Here};
-ghost use Rattle.rss_page.specs.Slotted.{entries, IsHeapKey, IsSlotted};
+ghost use Rattle.rss_page.specs.Slotted.{entries, IsSlotted};
 ghost use Rattle.rss_page.specs.Surveyed.{held_at};
 ghost use Rattle.rss_tuple.specs.Directory.{content_at, bodies_of};
-ghost use Rattle.rss_tuple.specs.Heaps.{body_most, AreFormed, AreHeaps, HasBody};
-ghost use Rattle.rss_tuple.specs.TupleSteps.{TuplesCall, tuples_in, no_tuple};
+ghost use Rattle.rss_tuple.specs.Heaps.{body_most, AreHeaps, HasBody};
+ghost use Rattle.rss_tuple.specs.Edits.{NamesEntry};
 ghost use Rattle.rss_tuple.specs.Finding.{IsFetched, IsFound, IsLow};
 
 use crate::keys::{damaged, home, overflow};
@@ -34,11 +34,10 @@ pub(crate) fn fetch<P: Pages>(
     tid: Tid,
     into: &mut Body,
 ) -> Result<bool, PageFault>
-    requires heaps { IsTold (P.view pages.old).disk → AreHeaps (P.view pages.old) }
+    requires { IsTold (P.view pages.old).disk → AreHeaps (P.view pages.old) }
     ensures fetched { IfOk result (λ live. IsTold (P.view pages.old).disk
         → IsFetched (bodies_of (P.view pages.old).held segment tid) live into.new) }
-    ensures did { TuplesCall no_page no_tuple 2 (tuples_in (P.view pages.old))
-        (tuples_in (P.view pages.new)) result }
+    ensures did { PagesCall no_page 2 2 (P.view pages.old) (P.view pages.new) result }
 {
     if tid.slot >= u16::from(ENTRIES) {
         return Ok(false);
@@ -55,9 +54,7 @@ pub(crate) fn fetch<P: Pages>(
 
 /// Copies the body that stands in an entry of an overflow page.
 fn follow<P: Pages>(pages: &mut P, key: PageKey, slot: u8, into: &mut Body) -> Result<(), PageFault>
-    requires heap { IsHeapKey key }
-    requires slot { slot < page_entries }
-    requires formed { IsTold (P.view pages.old).disk → AreFormed (P.view pages.old) }
+    requires may { NamesEntry (P.view pages.old) key slot }
     requires body { IsTold (P.view pages.old).disk
         → HasBody (content_at (P.view pages.old).held key slot) }
     ensures body { OnOk result (IsTold (P.view pages.old).disk
@@ -77,9 +74,7 @@ fn look<P: Pages>(
     slot: u8,
     into: &mut Body,
 ) -> Result<Found, PageFault>
-    requires heap { IsHeapKey key }
-    requires slot { slot < page_entries }
-    requires formed { IsTold (P.view pages.old).disk → AreFormed (P.view pages.old) }
+    requires { NamesEntry (P.view pages.old) key slot }
     ensures found { IfOk result (λ found. IsTold (P.view pages.old).disk
         → IsFound found (content_at (P.view pages.old).held key slot) into.new) }
     ensures low { IfOk result IsLow }

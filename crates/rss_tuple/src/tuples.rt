@@ -1,16 +1,13 @@
 // Tuples by their segments and identifiers.
-ghost use Rattle.std.specs.Prelude.{◌≡◌, ◌+◌, ◌*◌, ◌<◌, ◌≤◌, ◌≢◌, length, Some, None, Contains};
-ghost use Rattle.std.specs.Prelude.{MatchOption, IfOk, IfSome, OnOk};
+ghost use Rattle.std.specs.Prelude.{◌≡◌, ◌+◌, length, None, IfOk, OnOk};
 ghost use Rattle.rss_base.specs.DiskRule.{IsTold};
-ghost use Rattle.rss_base.specs.Sizes.{segments, page_entries};
-ghost use Rattle.rss_base.specs.Steps.{no_page, pages_in};
-ghost use Rattle.rss_base.specs.declared.key.Space.TheVariants.{Home};
-ghost use Rattle.rss_tuple.specs.Directory.{bodies_of, with_body, homes};
-ghost use Rattle.rss_tuple.specs.Heaps.{body_most, AreHeaps};
-ghost use Rattle.rss_tuple.specs.TupleSteps.{TuplesView, TuplesCall, IsLive, IsLeast, NoneIs};
-ghost use Rattle.rss_tuple.specs.TupleSteps.{no_tuple, only_tuple, pages_for};
-ghost use Rattle.rss_tuple.specs.Placing.{IsChosen, IsFree, IsNameable, IsPlaced};
-ghost use Rattle.rss_tuple.specs.Finding.{IsFetched, IsNext};
+ghost use Rattle.rss_base.specs.Steps.{no_page};
+ghost use Rattle.rss_tuple.specs.Directory.{bodies_of, with_body};
+ghost use Rattle.rss_tuple.specs.Heaps.{AreHeaps};
+ghost use Rattle.rss_tuple.specs.TupleSteps.{TuplesView, TuplesCall, no_tuple, only_tuple, pages_for};
+ghost use Rattle.rss_tuple.specs.Finding.{IsFetched, FindsNext};
+ghost use Rattle.rss_tuple.specs.Calls.{IsSegment, MayPut, MayInsert, HasTuple, MayReplace};
+ghost use Rattle.rss_tuple.specs.Calls.{Chooses, PutsTuple};
 
 use rss_base::{Body, PageFault, Tid};
 
@@ -27,45 +24,15 @@ pub trait Tuples {
     /// The identifier that a new tuple with a body of this length gets: one that no tuple has and
     /// that isn't barred. None exactly where there is none.
     fn choose(&mut self, segment: u8, length: u16, barred: &[Tid]) -> Result<Option<Tid>, PageFault>
-        requires low { 1 ≤ segment }
-        requires high { segment ≤ segments }
-        requires some { 1 ≤ length }
-        requires most { length ≤ body_most }
+        requires may { MayPut segment length }
         requires heaps { IsTold (view self.old).pages.disk → AreHeaps (view self.old).pages }
-        ensures named { IfOk result (λ found. IfSome found
-            (IsNameable (view self.old).pages.slots barred.now)) }
-        ensures free { IfOk result (λ found. IfSome found (λ tid. IsTold (view self.old).pages.disk
-            → IsFree (view self.old) segment barred.now tid)) }
-        ensures chosen { IfOk result (λ found. IfSome found
-            (λ tid. IsTold (view self.old).pages.disk
-            → IsChosen (view self.old).pages segment length barred.now tid)) }
-        ensures none { IfOk result (λ found. found ≡ None → IsTold (view self.old).pages.disk
-            → NoneIs (IsFree (view self.old) segment barred.now)) }
-        ensures mapped { (view self.new).pages.mapped ≡ (view self.old).pages.mapped }
-        ensures held { IsTold (view self.old).pages.disk
-            → (view self.new).pages.held ≡ (view self.old).pages.held }
-        ensures did { TuplesCall (pages_in segment Home) no_tuple (2 * (view self.old).pages.slots)
-            (view self.old) (view self.new) result };
+        ensures { Chooses segment length barred.now (view self.old) (view self.new) result };
 
     /// Puts a tuple at an identifier that none has. The home page is taken where it isn't mapped.
     fn insert_at(&mut self, segment: u8, tid: Tid, body: &[u8]) -> Result<(), PageFault>
-        requires low { 1 ≤ segment }
-        requires high { segment ≤ segments }
-        requires page { tid.page < (view self.old).pages.slots }
-        requires slot { tid.slot < page_entries }
-        requires some { 1 ≤ length body.now }
-        requires most { length body.now ≤ body_most }
-        requires room { 0 < (view self.old).pages.spare }
-        requires heaps { IsTold (view self.old).pages.disk → AreHeaps (view self.old).pages }
-        requires absent { IsTold (view self.old).pages.disk
-            → (view self.old).bodies segment tid ≡ None }
-        ensures put { OnOk result (IsTold (view self.old).pages.disk → (view self.new).bodies
-            ≡ with_body (view self.old).bodies segment tid (Some body.now)) }
-        ensures placed { OnOk result (IsTold (view self.old).pages.disk
-            → IsPlaced (view self.old).pages segment tid body.now
-            (homes (view self.new).pages.held segment tid.page tid.slot)) }
-        ensures did { TuplesCall (pages_for segment tid) (only_tuple segment tid)
-            ((view self.old).pages.slots + 4) (view self.old) (view self.new) result };
+        requires { MayInsert (view self.old) segment tid (length body.now) }
+        ensures { PutsTuple segment tid body.now ((view self.old).pages.slots + 4)
+            (view self.old) (view self.new) result };
 
     /// Finds out whether a tuple stands at an identifier, and if so, copies its body. Asks for two
     /// pages at most.
@@ -77,25 +44,13 @@ pub trait Tuples {
 
     /// Puts another body in place of that of a tuple.
     fn replace(&mut self, segment: u8, tid: Tid, body: &[u8]) -> Result<(), PageFault>
-        requires low { 1 ≤ segment }
-        requires high { segment ≤ segments }
-        requires some { 1 ≤ length body.now }
-        requires most { length body.now ≤ body_most }
-        requires room { 0 < (view self.old).pages.spare }
-        requires heaps { IsTold (view self.old).pages.disk → AreHeaps (view self.old).pages }
-        requires live { IsTold (view self.old).pages.disk → IsLive (view self.old) segment tid }
-        ensures put { OnOk result (IsTold (view self.old).pages.disk → (view self.new).bodies
-            ≡ with_body (view self.old).bodies segment tid (Some body.now)) }
-        ensures placed { OnOk result (IsTold (view self.old).pages.disk
-            → IsPlaced (view self.old).pages segment tid body.now
-            (homes (view self.new).pages.held segment tid.page tid.slot)) }
-        ensures did { TuplesCall (pages_for segment tid) (only_tuple segment tid)
-            ((view self.old).pages.slots + 7) (view self.old) (view self.new) result };
+        requires { MayReplace (view self.old) segment tid (length body.now) }
+        ensures { PutsTuple segment tid body.now ((view self.old).pages.slots + 7)
+            (view self.old) (view self.new) result };
 
     /// Takes a tuple away. A page whose entries are all empty then is given back.
     fn remove(&mut self, segment: u8, tid: Tid) -> Result<(), PageFault>
-        requires heaps { IsTold (view self.old).pages.disk → AreHeaps (view self.old).pages }
-        requires live { IsTold (view self.old).pages.disk → IsLive (view self.old) segment tid }
+        requires { HasTuple (view self.old) segment tid }
         ensures gone { OnOk result (IsTold (view self.old).pages.disk → (view self.new).bodies
             ≡ with_body (view self.old).bodies segment tid None) }
         ensures did { TuplesCall (pages_for segment tid) (only_tuple segment tid) 4
@@ -104,12 +59,10 @@ pub trait Tuples {
     /// The least identifier behind this one at which a tuple stands, or the least of all where there
     /// is none to stand behind.
     fn next_live(&mut self, segment: u8, after: Option<Tid>) -> Result<Option<Tid>, PageFault>
-        requires low { 1 ≤ segment }
-        requires high { segment ≤ segments }
+        requires segment { IsSegment segment }
         requires heaps { IsTold (view self.old).pages.disk → AreHeaps (view self.old).pages }
         ensures next { IfOk result (λ found. IsTold (view self.old).pages.disk
-            → MatchOption found (NoneIs (IsNext (view self.old) segment after))
-            (IsLeast (IsNext (view self.old) segment after))) }
+            → FindsNext (view self.old) segment after found) }
         ensures did { TuplesCall no_page no_tuple (view self.old).pages.slots
             (view self.old) (view self.new) result };
 

@@ -1,19 +1,23 @@
 // The next tuple of a segment.
 ghost use Rattle.std.specs.Prelude.{◌≡◌, ◌↔◌, ◌<◌, ◌≤◌, true, MatchOption, IfOk};
 ghost use Rattle.rss_base.specs.DiskRule.{IsTold};
-ghost use Rattle.rss_base.specs.Sizes.{segments, page_entries};
+ghost use Rattle.rss_base.specs.Sizes.{page_entries};
 ghost use Rattle.rss_base.specs.Steps.{PagesCall, no_page};
 ghost use Rattle.rss_base.specs.declared.tid.Tid.{Tid as Identifier};
 ghost use Rattle.rss_page.specs.Slotted.{entries};
 ghost use Rattle.rss_tuple.specs.Directory.{contents};
 ghost use Rattle.rss_tuple.specs.Heaps.{AreHeaps};
-ghost use Rattle.rss_tuple.specs.TupleSteps.{TuplesCall, IsLeast, NoneIs, tuples_in, no_tuple};
-ghost use Rattle.rss_tuple.specs.Finding.{IsAfter, IsFrom, IsNext, IsFirstTaken, NoneTaken};
+ghost use Rattle.rss_tuple.specs.TupleSteps.{tuples_in};
+ghost use Rattle.rss_tuple.specs.Finding.{IsAfter, IsFrom, IsFirstTaken, NoneTaken, FindsNext};
+ghost use Rattle.rss_tuple.specs.Calls.{IsSegment};
 
 use crate::finding::is_empty;
 use crate::keys::home;
 use rss_base::{Page, PageFault, PageKey, Pages, Space, Tid};
 use rss_page::ENTRIES;
+
+/// The last slot of a page.
+const LAST_SLOT: u16 = ENTRIES as u16 - 1;
 
 /// The first identifier behind this one, or the first of all.
 fn start_of(after: Option<Tid>) -> Tid
@@ -25,7 +29,7 @@ fn start_of(after: Option<Tid>) -> Tid
         None => Tid { page: 0, slot: 0 },
         Some(tid) => Tid {
             page: tid.page,
-            slot: tid.slot.min(127) + 1,
+            slot: tid.slot.min(LAST_SLOT) + 1,
         },
     }
 }
@@ -75,14 +79,12 @@ pub(crate) fn next_live<P: Pages>(
     segment: u8,
     after: Option<Tid>,
 ) -> Result<Option<Tid>, PageFault>
-    requires low { 1 ≤ segment }
-    requires high { segment ≤ segments }
+    requires segment { IsSegment segment }
     requires heaps { IsTold (P.view pages.old).disk → AreHeaps (P.view pages.old) }
     ensures next { IfOk result (λ found. IsTold (P.view pages.old).disk
-        → MatchOption found (NoneIs (IsNext (tuples_in (P.view pages.old)) segment after))
-        (IsLeast (IsNext (tuples_in (P.view pages.old)) segment after))) }
-    ensures did { TuplesCall no_page no_tuple (P.view pages.old).slots
-        (tuples_in (P.view pages.old)) (tuples_in (P.view pages.new)) result }
+        → FindsNext (tuples_in (P.view pages.old)) segment after found) }
+    ensures did { PagesCall no_page (P.view pages.old).slots (P.view pages.old).slots
+        (P.view pages.old) (P.view pages.new) result }
 {
     // Numbers of pages are below this, so the one behind each is a number too.
     let _slots = pages.slots();

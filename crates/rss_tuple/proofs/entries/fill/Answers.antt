@@ -4,7 +4,7 @@ use Rattle.rss_tuple.proofs.Sets.{entry_set, entry_kept, set_short, set_some, bl
 use Rattle.rss_tuple.proofs.entries.fill.Goals as goal
 
 pub put_at-requires-clause-room : goal.put_at-requires-clause-room
-put_at-requires-clause-room g c = blank_room c.blank-page.result c.args.slot (length c.args.body.now) c.blank-page.ensures.empty c.requires.slot c.requires.most
+put_at-requires-clause-room g c = blank_room c.blank-page.result c.args.slot (length c.args.body.now) c.blank-page.ensures.empty c.requires.low c.requires.length.most
 
 pub returns-clause-fills : goal.returns-clause-fills
 returns-clause-fills g c =
@@ -12,16 +12,16 @@ returns-clause-fills g c =
     let now = c.put_at.new.page in
     let sets = c.put_at.ensures.becomes in
     let empty = blank_empty page c.blank-page.ensures.empty in
-    let here = entry_set page now c.args.slot (Here c.args.body.now) c.requires.slot sets.holds in
+    let here = entry_set page now c.args.slot (Here c.args.body.now) c.requires.low sets.holds in
     record {
       bytes = now;
       written = c.in_ok-write.ensures.written;
       heap = record {
         formed = sets.formed c.args.key c.blank-page.ensures.formed;
         some = set_some now c.args.slot (Here c.args.body.now) (λ is. absurd (cc)) here;
-        short = set_short page now c.args.slot (Here c.args.body.now) c.requires.slot sets.holds
+        short = set_short page now c.args.slot (Here c.args.body.now) c.requires.low sets.holds
             (λ other body is. let never : Empty ≡ Here body = sym (empty other) ∙ is in absurd (cc))
-            (λ body is. let same : c.args.body.now ≡ body = cc in subst (λ (b : List ℕ). length b ≤ 2400) same c.requires.most);
+            (λ body is. let same : c.args.body.now ≡ body = cc in subst (λ (b : List ℕ). length b ≤ 2400) same c.requires.length.most);
         noted = tt;
       };
       here = here;

@@ -1,36 +1,70 @@
-use Rattle.std.proofs.Common.{◌≡◌, ◌∙◌, Some, sym}
-use Rattle.std.specs.Prelude.{OnOk}
-use Rattle.rss_base.specs.DiskRule.{IsTold}
+use Rattle.std.proofs.Common.{rules, false, ◌≡◌, ◌∙◌, inl, sym, arith, length}
+use Rattle.rss_base.specs.Paged.{page_key}
+use Rattle.rss_base.specs.declared.key.Space.TheVariants.{Home}
+use Rattle.rss_base.proofs.Steps.{widens, all_mapped}
 use Rattle.rss_page.specs.Content.{Empty, Forward}
-use Rattle.rss_tuple.specs.Directory.{homes, overflows}
-use Rattle.rss_tuple.specs.Puts.{Changed}
-use Rattle.rss_tuple.proofs.Seen.{on_ok_then}
-use Rattle.rss_tuple.proofs.Placed.{changed_puts}
-use Rattle.rss_tuple.proofs.Changes.{absent_empty, changed_call, bodies_now}
+use Rattle.rss_tuple.proofs.Seen.{on_ok_then, formed_after}
+use Rattle.rss_tuple.proofs.Sets.{none_held}
+use Rattle.rss_tuple.proofs.Placed.{puts_home, read_key}
+use Rattle.rss_tuple.proofs.Changes.{entry_free, free_after, fits_unmapped, spare_after}
+use Rattle.rss_tuple.proofs.Moved.{moves_fails, moves_puts, moves_after}
 use Rattle.rss_tuple.proofs.placing.insert_at.Goals as goal
-use Rattle.rss_tuple.proofs.placing.insert_at.Goals.{After-insert}
 
-pub insert-requires-clause-absent : goal.insert-requires-clause-absent
-insert-requires-clause-absent g c = λ told.
-    let held = (g.P.Pages.view c.args.pages.now).held in
-    absent_empty (overflows held c.args.segment) (homes held c.args.segment c.args.tid.page c.args.tid.slot)
-    (λ p s is. ((c.requires.heaps told).linked c.args.segment).leads c.args.tid.page c.args.tid.slot p s is) (c.requires.absent told)
+-- ---- where the home page isn't mapped
 
-changed : (g : _) (c : After-insert g) → OnOk c.insert.result (IsTold (g.P.Pages.view c.args.pages.now).disk → Changed c.args.segment c.args.tid (Some c.args.body.now) (g.P.Pages.view c.args.pages.now) (g.P.Pages.view c.insert.new.pages))
-changed g c =
-    let held = (g.P.Pages.view c.args.pages.now).held in
-    on_ok_then c.insert.result (λ puts told.
-    changed_puts c.args.segment c.args.tid c.args.body.now _ _ (λ p s is.
-    let empty = absent_empty (overflows held c.args.segment) (homes held c.args.segment c.args.tid.page c.args.tid.slot)
-    (λ p s is. ((c.requires.heaps told).linked c.args.segment).leads c.args.tid.page c.args.tid.slot p s is) (c.requires.absent told) in
-    let never : Empty ≡ Forward p s = sym empty ∙ is in absurd (cc)) (puts told))
-    c.insert.ensures.puts
+pub take_here-requires-clause-may : goal.take_here-requires-clause-may
+take_here-requires-clause-may g c = record {
+  heap = search rules;
+  low = search rules;
+  formed = λ told. (c.requires.heaps told).formed;
+}
 
-pub returns-clause-put : goal.returns-clause-put
-returns-clause-put g c = on_ok_then c.insert.result (λ did told. bodies_now c.insert.ensures.did.step told (c.requires.heaps told) (did told)) (changed g c)
+pub returns-then-not-has : goal.returns-then-not-has
+returns-then-not-has g c =
+    let old = g.P.Pages.view c.args.pages.now in
+    let key = page_key c.args.segment Home c.args.tid.page in
+    moves_puts
+    (λ told p s is. let never : Empty ≡ Forward p s = sym (entry_free old c.args.segment c.args.tid (length c.args.body.now) c.requires told) ∙ is in absurd (cc))
+    (on_ok_then c.take_here.result (λ sets told.
+    let unmapped : old.mapped key ≡ false = search rules in
+    let none = none_held (old.held key) (g.met.P.Pages.holds c.args.pages.now told key ∙ unmapped) in
+    puts_home c.args.segment c.args.tid c.args.body.now c.home-key.result _ _ c.home-key.ensures (fits_unmapped old.held key c.args.tid.slot (length c.args.body.now) none c.requires.may.length.most) (sets told) c.take_here.ensures.did.step told)
+    c.take_here.ensures.sets)
+    (widens (λ key is. inl (is ∙ c.home-key.ensures)) (omega arith) (omega arith) c.take_here.ensures.did)
 
-pub returns-clause-placed : goal.returns-clause-placed
-returns-clause-placed g c = on_ok_then c.insert.result (λ puts told. (puts told).placed) c.insert.ensures.puts
+-- ---- where it is
 
-pub returns-clause-did : goal.returns-clause-did
-returns-clause-did g c = changed_call _ c.requires.heaps c.insert.ensures.did (changed g c)
+pub read_formed-requires : goal.read_formed-requires
+read_formed-requires g c = record {
+  heap = search rules;
+  mapped = λ told. search rules;
+  formed = λ told. (c.requires.heaps told).formed;
+}
+
+pub returns-in_err-read_formed : goal.returns-in_err-read_formed
+returns-in_err-read_formed g c = moves_fails _ c.from_residual.ensures.1 (λ key none. absurd none) (omega arith) (omega arith) c.in_err-read_formed.ensures.did
+
+pub place-requires-clause-home : goal.place-requires-clause-home
+place-requires-clause-home g c = record {
+  read = read_key c.home-key.ensures c.in_ok-read_formed.ensures.read;
+  low = c.requires.slot;
+}
+
+pub place-requires-clause-room : goal.place-requires-clause-room
+place-requires-clause-room g c =
+    let step = c.in_ok-read_formed.ensures.did.step in
+    omega (arith, c.requires.room, spare_after step (all_mapped step) (g.met.P.Pages.are_counted c.args.pages.now) (g.met.P.Pages.are_counted c.read_formed.new.pages))
+
+pub place-requires-clause-formed : goal.place-requires-clause-formed
+place-requires-clause-formed g c = formed_after c.in_ok-read_formed.ensures.did.step (λ told. (c.requires.heaps told).formed)
+
+pub place-requires-clause-away : goal.place-requires-clause-away
+place-requires-clause-away g c = λ told full page slot fits.
+    let never : Empty ≡ Forward page slot = sym (free_after c.in_ok-read_formed.ensures.did.step c.requires told) ∙ fits.leads in absurd (cc)
+
+pub returns : goal.returns
+returns g c =
+    let step = c.in_ok-read_formed.ensures.did.step in
+    moves_after step (moves_puts
+    (λ told p s is. let never : Empty ≡ Forward p s = sym (free_after step c.requires told) ∙ is in absurd (cc))
+    c.place.ensures.puts c.place.ensures.did) (omega (arith, step.passes.slots))

@@ -1,11 +1,11 @@
-use Rattle.std.proofs.Common.{◌≡◌, ◌∙◌, ◌+◌, ◌≤◌, ℕ, List, Option, sym, ap, subst, arith, length}
+use Rattle.std.proofs.Common.{◌≡◌, ◌∙◌, inr, ◌+◌, ◌≤◌, ℕ, List, Option, sym, ap, subst, arith, length}
 use Rattle.rss_base.specs.DiskRule.{IsTold}
 use Rattle.rss_base.specs.Paged.{Held, page_key}
 use Rattle.rss_base.specs.Steps.{PagesView}
 use Rattle.rss_base.specs.declared.tid.Tid.{Tid}
 use Rattle.rss_base.specs.declared.key.PageKey.{PageKey}
 use Rattle.rss_base.specs.declared.key.Space.TheVariants.{Home, Overflow}
-use Rattle.rss_base.proofs.Steps.{untouched, within, then, then_call, widens, fails, all_held, all_mapped}
+use Rattle.rss_base.proofs.Steps.{untouched, within, then, then_call, widens, all_held, all_mapped}
 use Rattle.rss_page.specs.Content.{Forward}
 use Rattle.rss_page.specs.Slotted.{entries, HasRoom}
 use Rattle.rss_page.specs.Surveyed.{held_at}
@@ -15,7 +15,7 @@ use Rattle.rss_tuple.proofs.Links.{not_empty}
 use Rattle.rss_tuple.proofs.Seen.{on_ok_then, formed_after}
 use Rattle.rss_tuple.proofs.Placed.{read_off, puts_before, mapped_there, over}
 use Rattle.rss_tuple.proofs.Changes.{spare_after}
-use Rattle.rss_tuple.proofs.Moved.{moved_before, moved_stays, moved_away, never_away, still_there}
+use Rattle.rss_tuple.proofs.Moved.{moved_stays, moved_away, never_away, still_there, moves_fails, moves_after}
 use Rattle.rss_tuple.proofs.placing.move_on.Goals as goal
 
 -- where the home entry leads
@@ -29,42 +29,56 @@ room_read view key page slot count read told room = subst (λ (p : Option (List 
 room_back : (view : PagesView) (key : PageKey) (page : List ℕ) (slot count : ℕ) → IsRead view key page → IsTold view.disk → HasRoom (entries page) slot count → HasRoom (contents_in (view.held key)) slot count
 room_back view key page slot count read told room = subst (λ (p : Option (List ℕ)). HasRoom (contents_in p) slot count) (sym (read.held told)) room
 
-pub stays-requires-clause-mapped : goal.stays-requires-clause-mapped
-stays-requires-clause-mapped g c = λ told.
+pub stays-requires-clause-may : goal.stays-requires-clause-may
+stays-requires-clause-may g c =
     let view = g.P.Pages.view c.args.pages.now in
     let one = page_key c.args.segment Overflow c.args.to in
-    let lead = leads view c.args.segment c.args.tid c.args.page.now c.args.to c.args.to_slot c.requires.read c.requires.leads told in
-    mapped_there view c.overflow-key.result one c.args.to_slot c.overflow-key.ensures (g.met.P.Pages.holds c.args.pages.now told one)
-    (not_empty (content_at view.held one c.args.to_slot) (((c.requires.heaps told).linked c.args.segment).leads c.args.tid.page c.args.tid.slot c.args.to c.args.to_slot lead))
+    record {
+      heap = inr (ap (λ (k : PageKey). k.space) c.overflow-key.ensures);
+      mapped = λ told.
+          let lead = leads view c.args.segment c.args.tid c.args.page.now c.args.to c.args.to_slot c.requires.home.read c.requires.leads told in
+          mapped_there view c.overflow-key.result one c.args.to_slot c.overflow-key.ensures (g.met.P.Pages.holds c.args.pages.now told one)
+          (not_empty (content_at view.held one c.args.to_slot) (((c.requires.heaps told).linked c.args.segment).leads c.args.tid.page c.args.tid.slot c.args.to c.args.to_slot lead));
+      formed = λ told. (c.requires.heaps told).formed;
+    }
 
-pub stays-requires-clause-formed : goal.stays-requires-clause-formed
-stays-requires-clause-formed g c = λ told. (c.requires.heaps told).formed
+pub returns-in_err-stays : goal.returns-in_err-stays
+returns-in_err-stays g c = moves_fails _ c.from_residual.ensures.1 (λ key none. absurd none) (omega arith) (omega arith) c.in_err-stays.ensures.did
 
-pub returns-in_err-stays-clause-did : goal.returns-in_err-stays-clause-did
-returns-in_err-stays-clause-did g c = fails _ c.from_residual.ensures.1 (λ key none. absurd none) (omega arith) (omega arith) c.in_err-stays.ensures.did
+-- ---- where the body stays
 
-pub put_here-requires-clause-formed : goal.put_here-requires-clause-formed
-put_here-requires-clause-formed g c = formed_after c.in_ok-stays.ensures.did.step (λ told. (c.requires.heaps told).formed)
+pub put_here-requires-clause-may : goal.put_here-requires-clause-may
+put_here-requires-clause-may g c = record {
+  read = c.in_ok-stays.ensures.read c.if-branch.true;
+  low = c.requires.to_slot;
+  formed = formed_after c.in_ok-stays.ensures.did.step (λ told. (c.requires.heaps told).formed);
+}
 
-pub returns-then-branch-clause-moved : goal.returns-then-branch-clause-moved
-returns-then-branch-clause-moved g c =
+pub returns-then-branch : goal.returns-then-branch
+returns-then-branch g c =
     let step = c.in_ok-stays.ensures.did.step in
     let there = c.in_ok-stays.ensures.stays c.if-branch.true in
     let read_away = c.in_ok-stays.ensures.read c.if-branch.true in
-    on_ok_then c.put_here.result (λ sets told.
-    let mid = step.passes.leaves.told.0 told in
-    let read = read_off step (λ none. none) c.requires.read in
-    let lead = leads (g.P.Pages.view c.stays.new.pages) c.args.segment c.args.tid c.args.page.now c.args.to c.args.to_slot read c.requires.leads mid in
-    moved_before c.args.segment c.args.tid c.args.body.now _ _ _ (all_mapped step) (all_held step told)
-    (moved_stays c.args.segment c.args.tid c.args.body.now c.args.to c.args.to_slot c.overflow-key.result _ _ c.overflow-key.ensures lead
-    (λ fits. there.not_home (room_read (g.P.Pages.view c.stays.new.pages) (page_key c.args.segment Home c.args.tid.page) c.args.page.now c.args.tid.slot (length c.args.body.now) read mid fits))
-    (room_back (g.P.Pages.view c.stays.new.pages) c.overflow-key.result c.stays.new.away c.args.to_slot (length c.args.body.now) read_away mid there.room)
-    (sets mid) c.put_here.ensures.did.step mid))
-    c.put_here.ensures.sets
+    let view = g.P.Pages.view c.stays.new.pages in
+    moves_after {cost = 1} step (record {
+      moved = on_ok_then c.put_here.result (λ sets mid.
+          let read = read_off step (λ none. none) c.requires.home.read in
+          let lead = leads view c.args.segment c.args.tid c.args.page.now c.args.to c.args.to_slot read c.requires.leads mid in
+          moved_stays c.args.segment c.args.tid c.args.body.now c.args.to c.args.to_slot c.overflow-key.result _ _ c.overflow-key.ensures lead
+          (λ fits. there.not_home (room_read view (page_key c.args.segment Home c.args.tid.page) c.args.page.now c.args.tid.slot (length c.args.body.now) read mid fits))
+          (room_back view c.overflow-key.result c.stays.new.away c.args.to_slot (length c.args.body.now) read_away mid there.room)
+          (sets mid) c.put_here.ensures.did.step mid)
+          c.put_here.ensures.sets;
+      did = widens (over c.args.segment c.args.to c.args.tid c.overflow-key.result c.overflow-key.ensures) (omega arith) (omega arith) c.put_here.ensures.did;
+    }) (omega arith)
 
-pub returns-then-branch-clause-did : goal.returns-then-branch-clause-did
-returns-then-branch-clause-did g c =
-    widens (λ key there. there) (omega arith) (omega arith) (then_call {asks_then = 0} {writes_then = 1} (untouched c.in_ok-stays.ensures.did.step) (widens (over c.args.segment c.args.to c.args.tid c.overflow-key.result c.overflow-key.ensures) (omega arith) (omega arith) c.put_here.ensures.did))
+-- ---- where it is put elsewhere
+
+pub place-requires-clause-home : goal.place-requires-clause-home
+place-requires-clause-home g c = record {
+  read = read_off c.in_ok-stays.ensures.did.step (λ none. none) c.requires.home.read;
+  low = c.requires.home.low;
+}
 
 pub place-requires-clause-room : goal.place-requires-clause-room
 place-requires-clause-room g c =
@@ -78,7 +92,7 @@ pub place-requires-clause-away : goal.place-requires-clause-away
 place-requires-clause-away g c = λ mid full.
     let step = c.in_ok-stays.ensures.did.step in
     let told = step.passes.leaves.told.1 mid in
-    let read = read_off step (λ none. none) c.requires.read in
+    let read = read_off step (λ none. none) c.requires.home.read in
     let lead = leads (g.P.Pages.view c.stays.new.pages) c.args.segment c.args.tid c.args.page.now c.args.to c.args.to_slot read c.requires.leads mid in
     never_away (g.P.Pages.view c.stays.new.pages) c.args.segment c.args.tid (length c.args.body.now) c.args.to c.args.to_slot c.overflow-key.result c.overflow-key.ensures lead
     (λ room. c.in_ok-stays.ensures.leaves c.if-branch.false told (record {
@@ -86,44 +100,48 @@ place-requires-clause-away g c = λ mid full.
       room = subst (λ (h : Held). HasRoom (contents_in (h c.overflow-key.result)) c.args.to_slot (length c.args.body.now)) (all_held step told) room;
     }))
 
-pub returns-in_err-place-clause-did : goal.returns-in_err-place-clause-did
-returns-in_err-place-clause-did g c =
+pub returns-in_err-place : goal.returns-in_err-place
+returns-in_err-place g c =
     let slots = c.in_ok-stays.ensures.did.step.passes.slots in
-    let fewer : (g.P.Pages.view c.stays.new.pages).slots + 3 ≤ (g.P.Pages.view c.args.pages.now).slots + 3 = omega (arith, slots) in
-    fails _ c.from_residual-in_err-place.ensures.1 (λ key there. there) (omega arith) (omega arith) (then_call {asks_then = (g.P.Pages.view c.args.pages.now).slots + 3} {writes_then = (g.P.Pages.view c.args.pages.now).slots + 3} (untouched c.in_ok-stays.ensures.did.step) (widens (λ key there. there) fewer fewer c.in_err-place.ensures.did))
-
-pub clear-requires-clause-formed : goal.clear-requires-clause-formed
-clear-requires-clause-formed g c = λ told. (c.in_ok-place.ensures.puts (c.in_ok-place.ensures.did.step.passes.leaves.told.1 told)).formed
+    let most = (g.P.Pages.view c.args.pages.now).slots + 3 in
+    let fewer : (g.P.Pages.view c.stays.new.pages).slots + 3 ≤ most = omega (arith, slots) in
+    moves_fails _ c.from_residual-in_err-place.ensures.1 (λ key there. there) (omega arith) (omega arith) (then_call {asks_then = most} {writes_then = most} (untouched c.in_ok-stays.ensures.did.step) (widens (λ key there. there) fewer fewer c.in_err-place.ensures.did))
 
 -- the body that is left stands where it stood
-pub clear-requires-clause-mapped : goal.clear-requires-clause-mapped
-clear-requires-clause-mapped g c = λ next.
+pub clear-requires-clause-may : goal.clear-requires-clause-may
+clear-requires-clause-may g c =
+    let old = g.P.Pages.view c.args.pages.now in
     let step = c.in_ok-stays.ensures.did.step in
     let placed = c.in_ok-place.ensures in
-    let mid = placed.did.step.passes.leaves.told.1 next in
-    let told = step.passes.leaves.told.1 mid in
     let one = page_key c.args.segment Overflow c.args.to in
-    let lead = leads (g.P.Pages.view c.args.pages.now) c.args.segment c.args.tid c.args.page.now c.args.to c.args.to_slot c.requires.read c.requires.leads told in
-    let body = ((c.requires.heaps told).linked c.args.segment).leads c.args.tid.page c.args.tid.slot c.args.to c.args.to_slot lead in
-    let puts = puts_before c.args.segment c.args.tid c.args.body.now (g.P.Pages.view c.args.pages.now) (g.P.Pages.view c.stays.new.pages) (g.P.Pages.view c.place.new.pages) (all_mapped step) (all_held step told) (placed.puts mid) in
-    mapped_there (g.P.Pages.view c.place.new.pages) c.overflow-key.result one c.args.to_slot c.overflow-key.ensures (g.met.P.Pages.holds c.place.new.pages next one)
-    (not_empty (content_at (g.P.Pages.view c.place.new.pages).held one c.args.to_slot) (still_there c.args.segment c.args.tid c.args.body.now c.args.to c.args.to_slot _ _ body puts))
+    record {
+      heap = inr (ap (λ (k : PageKey). k.space) c.overflow-key.ensures);
+      mapped = λ next.
+          let mid = placed.did.step.passes.leaves.told.1 next in
+          let told = step.passes.leaves.told.1 mid in
+          let lead = leads old c.args.segment c.args.tid c.args.page.now c.args.to c.args.to_slot c.requires.home.read c.requires.leads told in
+          let body = ((c.requires.heaps told).linked c.args.segment).leads c.args.tid.page c.args.tid.slot c.args.to c.args.to_slot lead in
+          let puts = puts_before c.args.segment c.args.tid c.args.body.now old (g.P.Pages.view c.stays.new.pages) (g.P.Pages.view c.place.new.pages) (all_mapped step) (all_held step told) (placed.puts mid) in
+          mapped_there (g.P.Pages.view c.place.new.pages) c.overflow-key.result one c.args.to_slot c.overflow-key.ensures (g.met.P.Pages.holds c.place.new.pages next one)
+          (not_empty (content_at (g.P.Pages.view c.place.new.pages).held one c.args.to_slot) (still_there c.args.segment c.args.tid c.args.body.now c.args.to c.args.to_slot _ _ body puts));
+      formed = λ told. (placed.puts (placed.did.step.passes.leaves.told.1 told)).formed;
+    }
 
-pub returns-clause-moved : goal.returns-clause-moved
-returns-clause-moved g c =
+pub returns : goal.returns
+returns g c =
+    let old = g.P.Pages.view c.args.pages.now in
     let step = c.in_ok-stays.ensures.did.step in
     let placed = c.in_ok-place.ensures in
-    on_ok_then c.clear.result (λ sets told.
-    let mid = step.passes.leaves.told.0 told in
-    let next = placed.did.step.passes.leaves.told.0 mid in
-    let lead = leads (g.P.Pages.view c.args.pages.now) c.args.segment c.args.tid c.args.page.now c.args.to c.args.to_slot c.requires.read c.requires.leads told in
-    let body = ((c.requires.heaps told).linked c.args.segment).leads c.args.tid.page c.args.tid.slot c.args.to c.args.to_slot lead in
-    moved_away c.args.segment c.args.tid c.args.body.now c.args.to c.args.to_slot c.overflow-key.result _ _ _ c.overflow-key.ensures lead body
-    (puts_before c.args.segment c.args.tid c.args.body.now _ _ _ (all_mapped step) (all_held step told) (placed.puts mid)) (sets next) c.clear.ensures.did.step next)
-    c.clear.ensures.sets
-
-pub returns-clause-did : goal.returns-clause-did
-returns-clause-did g c =
-    let slots = c.in_ok-stays.ensures.did.step.passes.slots in
-    let fewer : (g.P.Pages.view c.stays.new.pages).slots + 3 ≤ (g.P.Pages.view c.args.pages.now).slots + 3 = omega (arith, slots) in
-    widens (λ key there. there) (omega arith) (omega arith) (then_call {asks_then = 1} {writes_then = 2} (then {asks_then = (g.P.Pages.view c.args.pages.now).slots + 3} {writes_then = (g.P.Pages.view c.args.pages.now).slots + 3} (untouched c.in_ok-stays.ensures.did.step) (within (λ key there. there) fewer fewer c.in_ok-place.ensures.did.step)) (widens (over c.args.segment c.args.to c.args.tid c.overflow-key.result c.overflow-key.ensures) (omega arith) (omega arith) c.clear.ensures.did))
+    let most = old.slots + 3 in
+    let fewer : (g.P.Pages.view c.stays.new.pages).slots + 3 ≤ most = omega (arith, step.passes.slots) in
+    record {
+      moved = on_ok_then c.clear.result (λ sets told.
+          let mid = step.passes.leaves.told.0 told in
+          let next = placed.did.step.passes.leaves.told.0 mid in
+          let lead = leads old c.args.segment c.args.tid c.args.page.now c.args.to c.args.to_slot c.requires.home.read c.requires.leads told in
+          let body = ((c.requires.heaps told).linked c.args.segment).leads c.args.tid.page c.args.tid.slot c.args.to c.args.to_slot lead in
+          moved_away c.args.segment c.args.tid c.args.body.now c.args.to c.args.to_slot c.overflow-key.result _ _ _ c.overflow-key.ensures lead body
+          (puts_before c.args.segment c.args.tid c.args.body.now _ _ _ (all_mapped step) (all_held step told) (placed.puts mid)) (sets next) c.clear.ensures.did.step next)
+          c.clear.ensures.sets;
+      did = widens (λ key there. there) (omega arith) (omega arith) (then_call {asks_then = 2} {writes_then = 2} (then {asks_then = most} {writes_then = most} (untouched step) (within (λ key there. there) fewer fewer placed.did.step)) (widens (over c.args.segment c.args.to c.args.tid c.overflow-key.result c.overflow-key.ensures) (omega arith) (omega arith) c.clear.ensures.did));
+    }

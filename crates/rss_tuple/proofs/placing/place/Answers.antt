@@ -1,20 +1,50 @@
-use Rattle.std.proofs.Common.{◌∙◌, inl, List, sym, ap, subst, arith, length}
-use Rattle.rss_base.proofs.Steps.{widens}
+use Rattle.std.proofs.Common.{◌≡◌, ◌∙◌, true, false, inl, inr, List, sym, ap, subst, arith, length}
+use Rattle.rss_base.proofs.Steps.{then_call, among, widens, fails}
 use Rattle.rss_page.specs.Content.{Content}
 use Rattle.rss_page.specs.Slotted.{HasRoom}
 use Rattle.rss_tuple.specs.Directory.{contents_in}
+use Rattle.rss_tuple.specs.Placing.{FitsHome}
 use Rattle.rss_tuple.proofs.Seen.{on_ok_then}
-use Rattle.rss_tuple.proofs.Placed.{puts_home}
+use Rattle.rss_tuple.proofs.Placed.{home_off, puts_home, puts_forward, read_off, read_key}
 use Rattle.rss_tuple.proofs.placing.place.Goals as goal
 
 pub returns-then-fits-clause-puts : goal.returns-then-fits-clause-puts
 returns-then-fits-clause-puts g c =
     on_ok_then c.put_here.result (λ sets told.
-    let there = c.requires.read.held told in
-    puts_home c.args.segment c.args.tid c.args.body.now c.home.result _ _ c.home.ensures
+    let there = c.requires.home.read.held told in
+    puts_home c.args.segment c.args.tid c.args.body.now c.home-key.result _ _ c.home-key.ensures
     (subst (λ (l : List Content). HasRoom l c.args.tid.slot (length c.args.body.now)) (sym (ap contents_in there)) (c.fits.ensures.0 c.if-fits.true))
     (sets told) c.put_here.ensures.did.step told)
     c.put_here.ensures.sets
 
 pub returns-then-fits-clause-did : goal.returns-then-fits-clause-did
-returns-then-fits-clause-did g c = widens (λ key is. inl (is ∙ c.home.ensures)) (omega arith) (omega arith) c.put_here.ensures.did
+returns-then-fits-clause-did g c = widens (λ key is. inl (is ∙ c.home-key.ensures)) (omega arith) (omega arith) c.put_here.ensures.did
+
+-- ---- where it doesn't fit at home
+
+pub returns-in_err-to-clause-did : goal.returns-in_err-to-clause-did
+returns-in_err-to-clause-did g c = fails _ c.from_residual.ensures.1 (λ key is. inr is) (omega arith) (omega arith) c.in_err-to.ensures.did
+
+pub put_forward-requires-clause-may : goal.put_forward-requires-clause-may
+put_forward-requires-clause-may g c =
+    let step = c.in_ok-to.ensures.did.step in
+    record {
+      read = read_key (sym c.home-key.ensures) (read_off step (home_off c.args.segment c.args.tid.page c.args.segment) c.requires.home.read);
+      low = c.requires.home.low;
+      formed = λ told. (c.in_ok-to.ensures.puts (step.passes.leaves.told.1 told)).formed;
+    }
+
+pub returns-clause-puts : goal.returns-clause-puts
+returns-clause-puts g c =
+    let step = c.in_ok-to.ensures.did.step in
+    on_ok_then c.put_forward.result (λ sets told.
+    let mid = step.passes.leaves.told.0 told in
+    let there = c.requires.home.read.held told in
+    let full : FitsHome (g.P.Pages.view c.args.pages.now) c.args.segment c.args.tid (length c.args.body.now) → ⊥ = λ fits.
+    let never : c.fits.result ≡ true = c.fits.ensures.1 (subst (λ (l : List Content). HasRoom l c.args.tid.slot (length c.args.body.now)) (ap contents_in there) fits) in
+    let not : c.fits.result ≡ false = c.if-fits.false in absurd (cc) in
+    puts_forward c.args.segment c.args.tid c.args.body.now c.in_ok-to.to c.home-key.result _ _ _ c.home-key.ensures full (c.requires.away told full) (c.in_ok-to.ensures.puts told) step (sets mid) c.put_forward.ensures.did.step told mid)
+    c.put_forward.ensures.sets
+
+pub returns-clause-did : goal.returns-clause-did
+returns-clause-did g c = widens (λ key is. is) (omega arith) (omega arith) (then_call {asks_then = 1} {writes_then = 1} (among (λ key is. inr is) c.in_ok-to.ensures.did.step) (widens (λ key is. inl (is ∙ c.home-key.ensures)) (omega arith) (omega arith) c.put_forward.ensures.did))

@@ -1,18 +1,24 @@
-use Rattle.std.proofs.Common.{refl, arith}
+use Rattle.std.proofs.Common.{refl, sym, arith}
 use Rattle.rss_base.proofs.Steps.{then, then_call, among, widens, done, fails, is_in}
-use Rattle.rss_tuple.proofs.Seen.{if_ok_then}
-use Rattle.rss_tuple.proofs.Placed.{puts_found, puts_taken}
+use Rattle.rss_tuple.specs.Directory.{tid_at}
+use Rattle.rss_tuple.proofs.Placed.{puts_found, puts_taken, read_key}
 use Rattle.rss_tuple.proofs.placing.put_away.Goals as goal
 
-pub put_here-requires-clause-formed : goal.put_here-requires-clause-formed
-put_here-requires-clause-formed g c = λ told. c.find_page.ensures.kept.formed (c.find_page.ensures.did.step.passes.leaves.told.1 told)
+pub put_here-requires-clause-may : goal.put_here-requires-clause-may
+put_here-requires-clause-may g c =
+    let found = rw c.in-Some.is at c.in_ok-to.ensures.found in
+    record {
+      read = read_key (sym c.overflow.ensures) found.read;
+      low = found.spot.first.is.low;
+      formed = λ told. c.find_page.ensures.kept.formed (c.find_page.ensures.did.step.passes.leaves.told.1 told);
+    }
 
 pub put_on_new-requires-clause-formed : goal.put_on_new-requires-clause-formed
 put_on_new-requires-clause-formed g c = λ told. c.find_page.ensures.kept.formed (c.find_page.ensures.did.step.passes.leaves.told.1 told)
 
 pub returns-in_err-put_here-in-Some-clause-did : goal.returns-in_err-put_here-in-Some-clause-did
 returns-in_err-put_here-in-Some-clause-did g c =
-    fails _ c.from_residual-in_err-put_here-in-Some.ensures.1 (λ key there. there) (omega arith) (omega arith) (then_call {asks_then = 0} {writes_then = 1} c.find_page.ensures.did.step (widens (is_in c.overflow.result c.overflow.ensures) (omega arith) (omega arith) c.in_err-put_here-in-Some.ensures.did))
+    fails _ c.from_residual-in_err-put_here-in-Some.ensures.1 (λ key there. there) (omega arith) (omega arith) (then_call {asks_then = 1} {writes_then = 1} c.find_page.ensures.did.step (widens (is_in c.overflow.result c.overflow.ensures) (omega arith) (omega arith) c.in_err-put_here-in-Some.ensures.did))
 
 pub returns-in_ok-put_here-in-Some-clause-puts : goal.returns-in_ok-put_here-in-Some-clause-puts
 returns-in_ok-put_here-in-Some-clause-puts g c = λ told.
@@ -24,12 +30,11 @@ returns-in_ok-put_here-in-Some-clause-puts g c = λ told.
 pub returns-in_ok-put_here-in-Some-clause-did : goal.returns-in_ok-put_here-in-Some-clause-did
 returns-in_ok-put_here-in-Some-clause-did g c = widens (λ key there. there) (omega arith) (omega arith) (done _ (then c.find_page.ensures.did.step (among (is_in c.overflow.result c.overflow.ensures) c.in_ok-put_here-in-Some.ensures.did.step)))
 
-pub returns-in-None-clause-puts : goal.returns-in-None-clause-puts
-returns-in-None-clause-puts g c =
-    let step = c.find_page.ensures.did.step in
-    if_ok_then c.put_on_new.result (λ to takes told.
-    puts_taken c.args.segment _ c.args.body.now to _ _ _ refl (rw c.in-None.is at c.in_ok-to.ensures.found) c.find_page.ensures.kept (λ key. g.met.P.Pages.holds c.args.pages.now told key) told (takes (step.passes.leaves.told.0 told)))
-    c.put_on_new.ensures.takes
+pub returns-in_err-page-in-None-clause-did : goal.returns-in_err-page-in-None-clause-did
+returns-in_err-page-in-None-clause-did g c =
+    fails _ c.from_residual-in_err-page-in-None.ensures.1 (λ key there. there) (omega arith) (omega arith) (then_call c.find_page.ensures.did.step c.in_err-page-in-None.ensures.did)
 
-pub returns-in-None-clause-did : goal.returns-in-None-clause-did
-returns-in-None-clause-did g c = widens (λ key there. there) (omega arith) (omega arith) (then_call c.find_page.ensures.did.step c.put_on_new.ensures.did)
+pub returns-in_ok-page-in-None-clause-puts : goal.returns-in_ok-page-in-None-clause-puts
+returns-in_ok-page-in-None-clause-puts g c = λ told.
+    let mid = c.find_page.ensures.did.step.passes.leaves.told.0 told in
+    puts_taken c.args.segment _ c.args.body.now (tid_at c.in_ok-page-in-None.page 0) _ _ _ refl (rw c.in-None.is at c.in_ok-to.ensures.found) c.find_page.ensures.kept (λ key. g.met.P.Pages.holds c.args.pages.now told key) told (c.in_ok-page-in-None.ensures.takes mid)

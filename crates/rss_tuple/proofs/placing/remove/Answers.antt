@@ -1,15 +1,113 @@
-use Rattle.rss_tuple.specs.Directory.{homes, overflows}
-use Rattle.rss_tuple.proofs.Seen.{on_ok_then}
-use Rattle.rss_tuple.proofs.Changes.{live_some, changed_call, bodies_now}
+use Rattle.std.proofs.Common.{◌≡◌, ◌∙◌, inl, inr, sym, ap, arith}
+use Rattle.rss_base.specs.DiskRule.{IsTold}
+use Rattle.rss_base.specs.Paged.{page_key}
+use Rattle.rss_base.specs.declared.key.PageKey.{PageKey}
+use Rattle.rss_base.specs.declared.key.Space.TheVariants.{Home, Overflow}
+use Rattle.rss_base.proofs.Steps.{rests, untouched, among, then, then_call, widens, fails, all_held}
+use Rattle.rss_page.specs.Content.{Forward}
+use Rattle.rss_tuple.specs.Directory.{content_at, homes}
+use Rattle.rss_tuple.proofs.Links.{not_empty}
+use Rattle.rss_tuple.proofs.Seen.{on_ok_then, found_damaged, high_empty, formed_after}
+use Rattle.rss_tuple.proofs.Placed.{read_at, changed_before, changed_here, changed_away, mapped_there, entry_off, over_apart, over, low_forward, held_there}
+use Rattle.rss_tuple.proofs.Changes.{entry_there}
 use Rattle.rss_tuple.proofs.placing.remove.Goals as goal
+use Rattle.rss_tuple.proofs.placing.remove.Goals.{In-Forward}
 
-pub take_out-requires-clause-live : goal.take_out-requires-clause-live
-take_out-requires-clause-live g c = λ told.
-    let held = (g.P.Pages.view c.args.pages.now).held in
-    live_some (overflows held c.args.segment) (homes held c.args.segment c.args.tid.page c.args.tid.slot) (c.requires.live told)
+pub returns-then-tid-from-clause-did : goal.returns-then-tid-from-clause-did
+returns-then-tid-from-clause-did g c =
+    let view = g.P.Pages.view c.args.pages.now in
+    found_damaged c.damaged.result c.damaged.ensures (rests view) (λ told.
+    entry_there view c.args.segment c.args.tid c.requires told (high_empty view.held (page_key c.args.segment Home c.args.tid.page) c.args.tid.slot (omega (arith, c.from.ensures, c.if-tid-from.true))))
 
-pub returns-clause-gone : goal.returns-clause-gone
-returns-clause-gone g c = on_ok_then c.take_out.result (λ changed told. bodies_now c.take_out.ensures.did.step told (c.requires.heaps told) (changed told)) c.take_out.ensures.changed
+pub read_formed-requires : goal.read_formed-requires
+read_formed-requires g c =
+    let view = g.P.Pages.view c.args.pages.now in
+    let key = page_key c.args.segment Home c.args.tid.page in
+    record {
+      heap = inl (ap (λ (k : PageKey). k.space) c.home-key.ensures);
+      mapped = λ told. mapped_there view c.home-key.result key c.args.tid.slot c.home-key.ensures (g.met.P.Pages.holds c.args.pages.now told key) (entry_there view c.args.segment c.args.tid c.requires told);
+      formed = λ told. (c.requires.heaps told).formed;
+    }
 
-pub returns-clause-did : goal.returns-clause-did
-returns-clause-did g c = changed_call _ c.requires.heaps c.take_out.ensures.did c.take_out.ensures.changed
+pub returns-in_err-read_formed-clause-did : goal.returns-in_err-read_formed-clause-did
+returns-in_err-read_formed-clause-did g c = fails _ c.from_residual.ensures.1 (λ key none. absurd none) (omega arith) (omega arith) c.in_err-read_formed.ensures.did
+
+pub clear_in-requires : goal.clear_in-requires
+clear_in-requires g c = record {
+  read = c.in_ok-read_formed.ensures.read;
+  low = omega (arith, c.from.ensures, c.if-tid-from.false);
+  formed = formed_after c.in_ok-read_formed.ensures.did.step (λ told. (c.requires.heaps told).formed);
+}
+
+pub clear_in-requires-in-Forward : goal.clear_in-requires-in-Forward
+clear_in-requires-in-Forward g c = record {
+  read = c.in_ok-read_formed.ensures.read;
+  low = omega (arith, c.from.ensures, c.if-tid-from.false);
+  formed = formed_after c.in_ok-read_formed.ensures.did.step (λ told. (c.requires.heaps told).formed);
+}
+
+-- where the home entry leads
+leads : (g : _) (c : In-Forward g) → IsTold (g.P.Pages.view c.args.pages.now).disk → homes (g.P.Pages.view c.args.pages.now).held c.args.segment c.args.tid.page c.args.tid.slot ≡ Forward c.in-Forward.to c.in-Forward.to_slot
+leads g c told = held_there c.home-key.result _ c.args.tid.slot c.home-key.ensures (g.P.Pages.view c.args.pages.now).held _ (read_at c.in_ok-read_formed.ensures.did.step c.in_ok-read_formed.ensures.read told c.args.tid.slot ∙ c.in-Forward.ensures.holds)
+
+pub returns-in_err-clear_in-in-Forward-clause-did : goal.returns-in_err-clear_in-in-Forward-clause-did
+returns-in_err-clear_in-in-Forward-clause-did g c =
+    fails _ c.from_residual-in_err-clear_in-in-Forward.ensures.1 (λ key there. there) (omega arith) (omega arith) (then_call {asks_then = 1} {writes_then = 1} (untouched c.in_ok-read_formed.ensures.did.step) (widens (λ key is. inl (is ∙ c.home-key.ensures)) (omega arith) (omega arith) c.in_err-clear_in-in-Forward.ensures.did))
+
+pub clear-requires-clause-low : goal.clear-requires-clause-low
+clear-requires-clause-low g c = low_forward _ c.read_formed.new.page c.args.tid.slot c.in-Forward.to c.in-Forward.to_slot c.in_ok-read_formed.ensures.read.formed (omega (arith, c.from.ensures, c.if-tid-from.false)) c.in-Forward.ensures.spelled
+
+pub clear-requires-clause-may : goal.clear-requires-clause-may
+clear-requires-clause-may g c =
+    let read = c.in_ok-read_formed.ensures.did.step in
+    let cleared = c.in_ok-clear_in-in-Forward.ensures in
+    let key = page_key c.args.segment Overflow c.in-Forward.to in
+    let off = λ (same : key ≡ c.home-key.result). over_apart c.args.segment c.in-Forward.to c.args.segment c.args.tid.page (same ∙ c.home-key.ensures) in
+    record {
+      heap = inr (ap (λ (k : PageKey). k.space) c.overflow.ensures);
+      mapped = λ told_new.
+          let told_mid = cleared.did.step.passes.leaves.told.1 told_new in
+          let told = read.passes.leaves.told.1 told_mid in
+          let body = ((c.requires.heaps told).linked c.args.segment).leads c.args.tid.page c.args.tid.slot c.in-Forward.to c.in-Forward.to_slot (leads g (goal.at.clear-requires-clause-may g c).In-Forward told) in
+          mapped_there (g.P.Pages.view c.clear_in-in-Forward.new.pages) c.overflow.result key c.in-Forward.to_slot c.overflow.ensures (g.met.P.Pages.holds c.clear_in-in-Forward.new.pages told_new key)
+          (λ none. not_empty _ body (sym (entry_off (cleared.sets told_mid) cleared.did.step told_mid key c.in-Forward.to_slot (λ same. absurd (off same)) ∙ ap (λ (h : _). content_at h key c.in-Forward.to_slot) (all_held read told)) ∙ none));
+      formed = λ told_new. (cleared.sets (cleared.did.step.passes.leaves.told.1 told_new)).formed;
+    }
+
+pub returns-in-Empty-clause-did : goal.returns-in-Empty-clause-did
+returns-in-Empty-clause-did g c =
+    let step = c.in_ok-read_formed.ensures.did.step in
+    widens {asks_now = 4} {writes_now = 4} (λ key there. there) (omega arith) (omega arith) (found_damaged c.damaged-in-Empty.result c.damaged-in-Empty.ensures (untouched step) (λ told.
+    entry_there (g.P.Pages.view c.args.pages.now) c.args.segment c.args.tid c.requires told (held_there c.home-key.result _ c.args.tid.slot c.home-key.ensures (g.P.Pages.view c.args.pages.now).held _ (read_at step c.in_ok-read_formed.ensures.read told c.args.tid.slot ∙ c.in-Empty.ensures.holds))))
+
+pub returns-in-Here-clause-changed : goal.returns-in-Here-clause-changed
+returns-in-Here-clause-changed g c =
+    let step = c.in_ok-read_formed.ensures.did.step in
+    on_ok_then c.clear_in.result (λ sets told.
+    let mid = step.passes.leaves.told.0 told in
+    let held = all_held step told in
+    let here = read_at step c.in_ok-read_formed.ensures.read told c.args.tid.slot ∙ c.in-Here.ensures.holds in
+    changed_before c.args.segment c.args.tid _ _ _ _ held (changed_here c.args.segment c.args.tid c.home-key.result _ _ c.home-key.ensures
+    (λ p s is. let never = sym here ∙ ap (λ (k : PageKey). content_at (g.P.Pages.view c.args.pages.now).held k c.args.tid.slot) c.home-key.ensures ∙ ap (λ (h : _). homes h c.args.segment c.args.tid.page c.args.tid.slot) (sym held) ∙ is in absurd (cc))
+    (sets mid) c.clear_in.ensures.did.step mid))
+    c.clear_in.ensures.sets
+
+pub returns-in-Here-clause-did : goal.returns-in-Here-clause-did
+returns-in-Here-clause-did g c = widens (λ key there. there) (omega arith) (omega arith) (then_call {asks_then = 1} {writes_then = 1} (untouched c.in_ok-read_formed.ensures.did.step) (widens (λ key is. inl (is ∙ c.home-key.ensures)) (omega arith) (omega arith) c.clear_in.ensures.did))
+
+pub returns-in_ok-clear_in-in-Forward-clause-changed : goal.returns-in_ok-clear_in-in-Forward-clause-changed
+returns-in_ok-clear_in-in-Forward-clause-changed g c =
+    let read = c.in_ok-read_formed.ensures.did.step in
+    let cleared = c.in_ok-clear_in-in-Forward.ensures in
+    on_ok_then c.clear.result (λ sets told.
+    let held = all_held read told in
+    let mid = read.passes.leaves.told.0 told in
+    let next = cleared.did.step.passes.leaves.told.0 mid in
+    changed_before c.args.segment c.args.tid _ _ _ _ held (changed_away c.args.segment c.args.tid c.in-Forward.to c.in-Forward.to_slot c.home-key.result c.overflow.result _ _ _ c.home-key.ensures c.overflow.ensures
+    (ap (λ (h : _). homes h c.args.segment c.args.tid.page c.args.tid.slot) held ∙ leads g (goal.at.returns-in_ok-clear_in-in-Forward-clause-changed g c).In-Forward told)
+    (cleared.sets mid) cleared.did.step (sets next) c.clear.ensures.did.step mid next))
+    c.clear.ensures.sets
+
+pub returns-in_ok-clear_in-in-Forward-clause-did : goal.returns-in_ok-clear_in-in-Forward-clause-did
+returns-in_ok-clear_in-in-Forward-clause-did g c =
+    widens (λ key there. there) (omega arith) (omega arith) (then_call {asks_then = 2} {writes_then = 2} (then (untouched c.in_ok-read_formed.ensures.did.step) (among (λ key is. inl (is ∙ c.home-key.ensures)) c.in_ok-clear_in-in-Forward.ensures.did.step)) (widens (over c.args.segment c.in-Forward.to c.args.tid c.overflow.result c.overflow.ensures) (omega arith) (omega arith) c.clear.ensures.did))

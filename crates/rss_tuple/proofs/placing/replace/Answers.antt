@@ -1,18 +1,95 @@
-use Rattle.rss_tuple.specs.Directory.{homes, overflows}
-use Rattle.rss_tuple.proofs.Seen.{on_ok_then}
-use Rattle.rss_tuple.proofs.Changes.{live_some, changed_call, bodies_now}
+use Rattle.std.proofs.Common.{◌∙◌, rules, inl, ap, arith}
+use Rattle.rss_base.specs.Paged.{page_key}
+use Rattle.rss_base.specs.declared.key.PageKey.{PageKey}
+use Rattle.rss_base.specs.declared.key.Space.TheVariants.{Home}
+use Rattle.rss_base.proofs.Steps.{rests, untouched, widens, all_mapped}
+use Rattle.rss_tuple.proofs.Seen.{found_damaged, high_empty, formed_after, heaps_after}
+use Rattle.rss_tuple.proofs.Placed.{read_at, mapped_there, low_forward, held_there, read_key, stands_here}
+use Rattle.rss_tuple.proofs.Changes.{entry_there, spare_after}
+use Rattle.rss_tuple.proofs.Moved.{moves_fails, moves_puts, moves_after}
 use Rattle.rss_tuple.proofs.placing.replace.Goals as goal
 
-pub exchange-requires-clause-live : goal.exchange-requires-clause-live
-exchange-requires-clause-live g c = λ told.
-    let held = (g.P.Pages.view c.args.pages.now).held in
-    live_some (overflows held c.args.segment) (homes held c.args.segment c.args.tid.page c.args.tid.slot) (c.requires.live told)
+pub returns-then-tid-from : goal.returns-then-tid-from
+returns-then-tid-from g c =
+    let view = g.P.Pages.view c.args.pages.now in
+    record {
+      moved = search rules;
+      did = found_damaged c.damaged.result c.damaged.ensures (rests view) (λ told.
+          entry_there view c.args.segment c.args.tid c.requires.there told (high_empty view.held (page_key c.args.segment Home c.args.tid.page) c.args.tid.slot (omega (arith, c.from.ensures, c.if-tid-from.true))));
+    }
 
-pub returns-clause-put : goal.returns-clause-put
-returns-clause-put g c = on_ok_then c.exchange.result (λ moved told. bodies_now c.exchange.ensures.did.step told (c.requires.heaps told) (moved told).changed) c.exchange.ensures.moved
+pub read_formed-requires : goal.read_formed-requires
+read_formed-requires g c =
+    let view = g.P.Pages.view c.args.pages.now in
+    let key = page_key c.args.segment Home c.args.tid.page in
+    record {
+      heap = inl (ap (λ (k : PageKey). k.space) c.home-key.ensures);
+      mapped = λ told. mapped_there view c.home-key.result key c.args.tid.slot c.home-key.ensures (g.met.P.Pages.holds c.args.pages.now told key) (entry_there view c.args.segment c.args.tid c.requires.there told);
+      formed = λ told. (c.requires.there.heaps told).formed;
+    }
 
-pub returns-clause-placed : goal.returns-clause-placed
-returns-clause-placed g c = on_ok_then c.exchange.result (λ moved told. (moved told).placed) c.exchange.ensures.moved
+pub returns-in_err-read_formed : goal.returns-in_err-read_formed
+returns-in_err-read_formed g c = moves_fails _ c.from_residual.ensures.1 (λ key none. absurd none) (omega arith) (omega arith) c.in_err-read_formed.ensures.did
 
-pub returns-clause-did : goal.returns-clause-did
-returns-clause-did g c = changed_call _ c.requires.heaps c.exchange.ensures.did (on_ok_then c.exchange.result (λ moved told. (moved told).changed) c.exchange.ensures.moved)
+pub returns-in-Empty : goal.returns-in-Empty
+returns-in-Empty g c =
+    let step = c.in_ok-read_formed.ensures.did.step in
+    let view = g.P.Pages.view c.args.pages.now in
+    record {
+      moved = search rules;
+      did = widens (λ key there. there) (omega arith) (omega arith) (found_damaged c.damaged-in-Empty.result c.damaged-in-Empty.ensures (untouched step) (λ told.
+          entry_there view c.args.segment c.args.tid c.requires.there told (held_there c.home-key.result _ c.args.tid.slot c.home-key.ensures view.held _ (read_at step c.in_ok-read_formed.ensures.read told c.args.tid.slot ∙ c.in-Empty.ensures.holds))));
+    }
+
+-- ---- where the body stands at home
+
+pub place-requires-clause-home : goal.place-requires-clause-home
+place-requires-clause-home g c = record {
+  read = read_key c.home-key.ensures c.in_ok-read_formed.ensures.read;
+  low = omega (arith, c.from.ensures, c.if-tid-from.false);
+}
+
+pub place-requires-clause-room : goal.place-requires-clause-room
+place-requires-clause-room g c =
+    let step = c.in_ok-read_formed.ensures.did.step in
+    omega (arith, c.requires.room, spare_after step (all_mapped step) (g.met.P.Pages.are_counted c.args.pages.now) (g.met.P.Pages.are_counted c.read_formed.new.pages))
+
+pub place-requires-clause-formed : goal.place-requires-clause-formed
+place-requires-clause-formed g c = formed_after c.in_ok-read_formed.ensures.did.step (λ told. (c.requires.there.heaps told).formed)
+
+pub place-requires-clause-away : goal.place-requires-clause-away
+place-requires-clause-away g c = λ told full p s fits.
+    let here = stands_here c.args.tid (read_key c.home-key.ensures c.in_ok-read_formed.ensures.read) c.in-Here.ensures.holds told in
+    here p s fits.leads
+
+pub returns-in-Here : goal.returns-in-Here
+returns-in-Here g c =
+    let step = c.in_ok-read_formed.ensures.did.step in
+    moves_after step (moves_puts (stands_here c.args.tid (read_key c.home-key.ensures c.in_ok-read_formed.ensures.read) c.in-Here.ensures.holds) c.place.ensures.puts c.place.ensures.did) (omega (arith, step.passes.slots))
+
+-- ---- where it stands in an overflow page
+
+pub move_on-requires-clause-home : goal.move_on-requires-clause-home
+move_on-requires-clause-home g c = record {
+  read = read_key c.home-key.ensures c.in_ok-read_formed.ensures.read;
+  low = omega (arith, c.from.ensures, c.if-tid-from.false);
+}
+
+pub move_on-requires-clause-leads : goal.move_on-requires-clause-leads
+move_on-requires-clause-leads g c = c.in-Forward.ensures.holds
+
+pub move_on-requires-clause-to_slot : goal.move_on-requires-clause-to_slot
+move_on-requires-clause-to_slot g c = low_forward _ c.read_formed.new.page c.args.tid.slot c.in-Forward.to c.in-Forward.to_slot c.in_ok-read_formed.ensures.read.formed (omega (arith, c.from.ensures, c.if-tid-from.false)) c.in-Forward.ensures.spelled
+
+pub move_on-requires-clause-room : goal.move_on-requires-clause-room
+move_on-requires-clause-room g c =
+    let step = c.in_ok-read_formed.ensures.did.step in
+    omega (arith, c.requires.room, spare_after step (all_mapped step) (g.met.P.Pages.are_counted c.args.pages.now) (g.met.P.Pages.are_counted c.read_formed.new.pages))
+
+pub move_on-requires-clause-heaps : goal.move_on-requires-clause-heaps
+move_on-requires-clause-heaps g c = heaps_after c.in_ok-read_formed.ensures.did.step c.requires.there.heaps
+
+pub returns-in-Forward : goal.returns-in-Forward
+returns-in-Forward g c =
+    let step = c.in_ok-read_formed.ensures.did.step in
+    moves_after step c.move_on.ensures (omega (arith, step.passes.slots))

@@ -4,7 +4,6 @@ use Rattle.rss_base.specs.declared.key.Space.TheVariants.{Home}
 use Rattle.rss_base.proofs.Steps.{within, done}
 use Rattle.rss_page.specs.Content.{Content}
 use Rattle.rss_tuple.specs.Finding.{IsFirstTaken, NoneTaken}
-use Rattle.rss_tuple.proofs.Seen.{looked}
 use Rattle.rss_tuple.proofs.Walks.{walked_none, none_next, found_next, walked_more, walk_call, walk_fails, contents_before, low_home}
 use Rattle.rss_tuple.proofs.walking.next_live.Goals as goal
 use Rattle.rss_tuple.proofs.walking.next_live.Goals.{In-Some}
@@ -33,7 +32,7 @@ loop-number-preserved g c =
 pub returns-in_err-slot-clause-did : goal.returns-in_err-slot-clause-did
 returns-in_err-slot-clause-did g c =
     let so = c.loop-number.invariant in
-    looked c.requires.heaps (walk_fails _ _ c.args.segment c.args.after c.loop-number.from so (λ told key. g.met.P.Pages.holds c.args.pages.now told key) c.in-Some.number c.slot_in-low.result c.in-Some.ensures.some c.slot_in-low.ensures.same c.slot_in-low.ensures.other _ _ c.from_residual.ensures.1 (low g (goal.at.returns-in_err-slot-clause-did g c).In-Some) c.in_err-slot.ensures.did)
+    walk_fails _ _ c.args.segment c.args.after c.loop-number.from so (λ told key. g.met.P.Pages.holds c.args.pages.now told key) c.in-Some.number c.slot_in-low.result c.in-Some.ensures.some c.slot_in-low.ensures.same c.slot_in-low.ensures.other _ _ c.from_residual.ensures.1 (low g (goal.at.returns-in_err-slot-clause-did g c).In-Some) c.in_err-slot.ensures.did
 
 pub returns-in-Some-2-clause-next : goal.returns-in-Some-2-clause-next
 returns-in-Some-2-clause-next g c = λ told.
@@ -44,10 +43,10 @@ returns-in-Some-2-clause-next g c = λ told.
 pub returns-in-Some-2-clause-did : goal.returns-in-Some-2-clause-did
 returns-in-Some-2-clause-did g c =
     let so = c.loop-number.invariant in
-    looked c.requires.heaps (done _ (walk_call _ _ c.args.segment c.args.after c.loop-number.from so (λ told key. g.met.P.Pages.holds c.args.pages.now told key) c.in-Some.number c.slot_in-low.result c.in-Some.ensures.some c.slot_in-low.ensures.same c.slot_in-low.ensures.other _ (low g (goal.at.returns-in-Some-2-clause-did g c).In-Some) c.in_ok-slot.ensures.did))
+    done _ (walk_call _ _ c.args.segment c.args.after c.loop-number.from so (λ told key. g.met.P.Pages.holds c.args.pages.now told key) c.in-Some.number c.slot_in-low.result c.in-Some.ensures.some c.slot_in-low.ensures.same c.slot_in-low.ensures.other _ (low g (goal.at.returns-in-Some-2-clause-did g c).In-Some) c.in_ok-slot.ensures.did)
 
 pub returns-clause-next : goal.returns-clause-next
 returns-clause-next g c = none_next _ _ c.args.segment c.args.after c.loop-number.from c.loop-number.invariant (λ told key. g.met.P.Pages.holds c.args.pages.now told key) c.in_default.ensures.none
 
 pub returns-clause-did : goal.returns-clause-did
-returns-clause-did g c = looked c.requires.heaps (done _ (within (λ key there. there) c.loop-number.invariant.few c.loop-number.invariant.few c.loop-number.invariant.step))
+returns-clause-did g c = done _ (within (λ key there. there) c.loop-number.invariant.few c.loop-number.invariant.few c.loop-number.invariant.step)

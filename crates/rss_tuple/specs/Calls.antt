@@ -1,0 +1,66 @@
+-- What the calls on tuples may be given, and what those that put or choose ensure.
+use Rattle.std.specs.Prelude.{◌≡◌, ℕ, ◌*◌, ◌<◌, ◌≤◌, List, Option, Some, None, Result, IfOk, IfSome, OnOk}
+use Rattle.rss_base.specs.DiskRule.{IsTold}
+use Rattle.rss_base.specs.Sizes.{segments, page_entries}
+use Rattle.rss_base.specs.Steps.{pages_in}
+use Rattle.rss_base.specs.declared.fault.PageFault.{PageFault}
+use Rattle.rss_base.specs.declared.key.Space.TheVariants.{Home}
+use Rattle.rss_base.specs.declared.tid.Tid.{Tid}
+use Rattle.rss_tuple.specs.Directory.{with_body, homes}
+use Rattle.rss_tuple.specs.Heaps.{body_most, AreHeaps}
+use Rattle.rss_tuple.specs.TupleSteps.{TuplesView, TuplesCall, IsLive, NoneIs, no_tuple, only_tuple, pages_for}
+use Rattle.rss_tuple.specs.Placing.{IsNameable, IsFree, IsChosen, IsPlaced}
+
+-- ---- what they may be given
+
+pub record IsSegment (number : ℕ) : Type 0 where
+  pub low : 1 ≤ number
+  pub high : number ≤ segments
+
+-- how many bytes the body of a tuple may have
+pub record IsBodyLength (count : ℕ) : Type 0 where
+  pub some : 1 ≤ count
+  pub most : count ≤ body_most
+
+-- a body of so many bytes may be put into this segment
+pub record MayPut (number count : ℕ) : Type 0 where
+  pub segment : IsSegment number
+  pub length : IsBodyLength count
+
+-- a body of so many bytes may be put at an identifier that no tuple has
+pub record MayInsert (view : TuplesView) (segment : ℕ) (tid : Tid) (count : ℕ) : Type 0 where
+  pub may : MayPut segment count
+  pub page : tid.page < view.pages.slots
+  pub slot : tid.slot < page_entries
+  pub room : 0 < view.pages.spare
+  pub heaps : IsTold view.pages.disk → AreHeaps view.pages
+  pub absent : IsTold view.pages.disk → view.bodies segment tid ≡ None
+
+-- a tuple stands at this identifier
+pub record HasTuple (view : TuplesView) (segment : ℕ) (tid : Tid) : Type 0 where
+  pub heaps : IsTold view.pages.disk → AreHeaps view.pages
+  pub live : IsTold view.pages.disk → IsLive view segment tid
+
+-- a body of so many bytes may be put in place of that of a tuple
+pub record MayReplace (view : TuplesView) (segment : ℕ) (tid : Tid) (count : ℕ) : Type 0 where
+  pub may : MayPut segment count
+  pub there : HasTuple view segment tid
+  pub room : 0 < view.pages.spare
+
+-- ---- what they ensure
+
+-- The identifier of a new tuple was looked for: a free one that isn't barred. Nothing was changed.
+pub record Chooses (segment length : ℕ) (barred : List Tid) (old new : TuplesView) (result : Result (Option Tid) PageFault) : Type 0 where
+  pub named : IfOk result (λ found. IfSome found (IsNameable old.pages.slots barred))
+  pub free : IfOk result (λ found. IfSome found (λ tid. IsTold old.pages.disk → IsFree old segment barred tid))
+  pub chosen : IfOk result (λ found. IfSome found (λ tid. IsTold old.pages.disk → IsChosen old.pages segment length barred tid))
+  pub none : IfOk result (λ found. found ≡ None → IsTold old.pages.disk → NoneIs (IsFree old segment barred))
+  pub mapped : new.pages.mapped ≡ old.pages.mapped
+  pub held : IsTold old.pages.disk → new.pages.held ≡ old.pages.held
+  pub did : TuplesCall (pages_in segment Home) no_tuple (2 * old.pages.slots) old new result
+
+-- A tuple has this body now, whatever it had, and the body stands where it is to be.
+pub record PutsTuple {T : Type 0} (segment : ℕ) (tid : Tid) (body : List ℕ) (cost : ℕ) (old new : TuplesView) (result : Result T PageFault) : Type 0 where
+  pub put : OnOk result (IsTold old.pages.disk → new.bodies ≡ with_body old.bodies segment tid (Some body))
+  pub placed : OnOk result (IsTold old.pages.disk → IsPlaced old.pages segment tid body (homes new.pages.held segment tid.page tid.slot))
+  pub did : TuplesCall (pages_for segment tid) (only_tuple segment tid) cost old new result
