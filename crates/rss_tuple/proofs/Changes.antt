@@ -1,7 +1,7 @@
 -- One tuple has changed: all pages are still those of a tuple store, and all other bodies stay.
-use Rattle.std.proofs.Common.{◌≡◌, ◌≢◌, inl, inr, ⊎_elim, ℕ, ◌≤◌, true, false, ◌&&◌, ◌==◌, List, Option, Some, None, refl, sym, ◌∙◌, ap, subst, arith, rules}
+use Rattle.std.proofs.Common.{◌≡◌, ◌≢◌, inl, inr, ⊎_elim, ℕ, ◌<◌, ◌≤◌, length, true, false, ◌&&◌, ◌==◌, List, Option, Some, None, refl, sym, ◌∙◌, ap, subst, arith, rules}
 use Rattle.std.specs.Prelude.{Result, OnOk, IsSome}
-use Rattle.std.proofs.lemmas.Bool.{cases_Bool, cases_eq, cond-true, cond-false}
+use Rattle.std.proofs.lemmas.Bool.{cases_Bool, cases_lt, cases_eq, cond-true, cond-false}
 use Rattle.rss_base.specs.DiskRule.{IsTold}
 use Rattle.rss_base.specs.PageMap.{page_count}
 use Rattle.rss_base.specs.Paged.{Held, Backing, page_key, mapped_pages}
@@ -10,15 +10,20 @@ use Rattle.rss_base.specs.declared.fault.PageFault.{PageFault}
 use Rattle.rss_base.specs.declared.key.PageKey.{PageKey}
 use Rattle.rss_base.specs.declared.key.Space.TheVariants.{Home, Overflow}
 use Rattle.rss_base.specs.declared.tid.Tid.{Tid}
-use Rattle.rss_page.specs.Content.{Content, Empty, Here, Forward}
-use Rattle.rss_page.specs.Slotted.{HasRoom}
+use Rattle.std.proofs.lemmas.List.Sums.{sum_by-set}
+use Rattle.rss_page.specs.Content.{Content, Empty, Here, Forward, body_length}
+use Rattle.rss_page.specs.Slotted.{entries, HasRoom, IsSlotted}
+use Rattle.rss_page.specs.Surveyed.{held_at}
+use Rattle.rss_page.proofs.Contents.{length-entries}
+use Rattle.rss_page.proofs.Sums.{bodies_fit}
 use Rattle.rss_tuple.specs.Directory.{Entries, contents_in, homes, overflows, body_in, body_by, bodies_of, is_same_tid, with_body}
 use Rattle.rss_tuple.specs.Heaps.{HasBody, AreLinked, AreHeaps}
 use Rattle.rss_tuple.specs.TupleSteps.{TuplesCall, tuples_in, only_tuple, pages_for}
-use Rattle.rss_tuple.specs.Calls.{MayInsert, HasTuple, PutsTuple}
+use Rattle.rss_tuple.specs.Calls.{MayInsert, HasTuple, HasSpare, PutsTuple}
 use Rattle.rss_tuple.specs.Puts.{Changed, MovesBody}
-use Rattle.rss_tuple.proofs.Links.{linked_now, body_same}
-use Rattle.rss_tuple.proofs.Seen.{on_ok_then, content_after}
+use Rattle.rss_tuple.proofs.Links.{linked_now, body_same, not_empty}
+use Rattle.rss_tuple.proofs.Spots.{the_bytes}
+use Rattle.rss_tuple.proofs.Seen.{on_ok_then, content_after, some_there}
 use Rattle.rss_tuple.proofs.Placed.{same_at}
 
 same_tuple : (s segment : ℕ) (t tid : Tid) → (s == segment) && is_same_tid t tid ≡ true → (s ≡ segment) × (t ≡ tid)
@@ -120,8 +125,34 @@ fits_unmapped held key slot count none few = subst (λ (page : Option (List ℕ)
 
 -- ---- the room
 
+-- a body that isn't longer fits where one stands
+pub fits_again : (page : List ℕ) (slot count : ℕ) (body : List ℕ) → IsSlotted page → slot < 128 → held_at (entries page) slot ≡ Here body → count ≤ length body → HasRoom (entries page) slot count
+fits_again page slot count body slotted low here few =
+    let sums = sum_by-set body_length (entries page) slot Empty Empty (omega (arith, length-entries page)) in
+    let long : body_length (held_at (entries page) slot) ≡ length body = ap body_length here in
+    omega (arith, sums, long, few, bodies_fit page slotted)
+
+-- so a body for which a page is wanted is longer
+pub spare_longer : (view : PagesView) (segment : ℕ) (tid : Tid) (count : ℕ) (page : List ℕ) (slot : ℕ) (body : List ℕ) → HasSpare (tuples_in view) segment tid count → IsTold view.disk → bodies_of view.held segment tid ≡ Some body → IsSlotted page → slot < 128 → held_at (entries page) slot ≡ Here body → (HasRoom (entries page) slot count → ⊥) → 0 < view.spare
+spare_longer view segment tid count page slot body spare told is slotted low here full = elim (cases_lt (length body) count) [
+  | inl longer ↦ spare told body is longer
+  | inr few ↦ absurd (full (fits_again page slot count body slotted low here few))
+]
+
 pub spare_after : {asks writes : ℕ} {old new : PagesView} → PagesStep no_page asks writes old new → new.mapped ≡ old.mapped → AreCounted old → AreCounted new → new.spare ≡ old.spare
 spare_after {old = old} {new = new} step mapped before after =
     let pages : mapped_pages new.slots new.mapped ≡ mapped_pages old.slots old.mapped = (λ i. mapped_pages (step.passes.slots i) (mapped i)) in
     let shadow : page_count new.backing.shadow ≡ page_count old.backing.shadow = ap (λ (b : Backing). page_count b.shadow) step.passes.backing in
     omega (arith, before, after, pages, shadow, step.passes.slots)
+
+-- the same where it stands in an overflow page
+pub spare_away : (view : PagesView) (segment : ℕ) (tid : Tid) (count page slot : ℕ) (key : PageKey) → key ≡ page_key segment Overflow page → HasSpare (tuples_in view) segment tid count → IsTold view.disk → AreHeaps view → homes view.held segment tid.page tid.slot ≡ Forward page slot → slot < 128 → (HasRoom (contents_in (view.held key)) slot count → ⊥) → 0 < view.spare
+spare_away view segment tid count page slot key at spare told are leads low full =
+    let one = page_key segment Overflow page in
+    let has = (are.linked segment).leads tid.page tid.slot page slot leads in
+    let there = the_bytes (view.held one) (some_there view.held one slot (not_empty (overflows view.held segment page slot) has)) in
+    let heap = are.formed one there.0 (inr refl) there.1 in
+    let here : held_at (entries there.0) slot ≡ Here has.body = sym (ap (λ (p : Option (List ℕ)). held_at (contents_in p) slot) there.1) ∙ has.is in
+    let body = ap (body_by (overflows view.held segment)) leads ∙ ap body_in has.is in
+    spare_longer view segment tid count there.0 slot has.body spare told body heap.formed.slotted low here
+    (λ room. full (subst (λ (k : PageKey). HasRoom (contents_in (view.held k)) slot count) (sym at) (subst (λ (p : Option (List ℕ)). HasRoom (contents_in p) slot count) (sym there.1) room)))

@@ -310,3 +310,14 @@ read_key {view = view} {bytes = bytes} at read = subst (λ (k : PageKey). IsRead
 pub stands_here : {view : PagesView} {segment : ℕ} (tid : Tid) {bytes body : List ℕ} → IsRead view (page_key segment Home tid.page) bytes → held_at (entries bytes) tid.slot ≡ Here body → IsTold view.disk → (p s : ℕ) → homes view.held segment tid.page tid.slot ≡ Forward p s → ⊥
 stands_here tid {body = body} read is told p s leads =
     let never : Here body ≡ Forward p s = sym is ∙ sym (ap (λ (page : Option (List ℕ)). held_at (contents_in page) tid.slot) (read.held told)) ∙ leads in absurd (cc)
+
+-- what a page that was read has room for
+pub room_read : (view : PagesView) (key : PageKey) (page : List ℕ) (slot count : ℕ) → IsRead view key page → IsTold view.disk → HasRoom (contents_in (view.held key)) slot count → HasRoom (entries page) slot count
+room_read view key page slot count read told room = subst (λ (p : Option (List ℕ)). HasRoom (contents_in p) slot count) (read.held told) room
+
+pub room_back : (view : PagesView) (key : PageKey) (page : List ℕ) (slot count : ℕ) → IsRead view key page → IsTold view.disk → HasRoom (entries page) slot count → HasRoom (contents_in (view.held key)) slot count
+room_back view key page slot count read told room = subst (λ (p : Option (List ℕ)). HasRoom (contents_in p) slot count) (sym (read.held told)) room
+
+-- the body of a tuple whose home page was read
+pub body_read : {asks writes : ℕ} {old new : PagesView} {segment : ℕ} (tid : Tid) {bytes body : List ℕ} → PagesStep no_page asks writes old new → IsRead new (page_key segment Home tid.page) bytes → held_at (entries bytes) tid.slot ≡ Here body → IsTold old.disk → body_by (overflows old.held segment) (homes old.held segment tid.page tid.slot) ≡ Some body
+body_read {old = old} {segment = segment} tid step read is told = ap (body_by (overflows old.held segment)) (read_at step read told tid.slot ∙ is)

@@ -1,5 +1,5 @@
 -- What the calls on tuples may be given, and what those that put or choose ensure.
-use Rattle.std.specs.Prelude.{◌≡◌, ℕ, ◌*◌, ◌<◌, ◌≤◌, List, Option, Some, None, Result, IfOk, IfSome, OnOk}
+use Rattle.std.specs.Prelude.{◌≡◌, ℕ, ◌*◌, ◌<◌, ◌≤◌, List, length, Option, Some, None, Result, IfOk, IfSome, OnOk}
 use Rattle.rss_base.specs.DiskRule.{IsTold}
 use Rattle.rss_base.specs.Sizes.{segments, page_entries}
 use Rattle.rss_base.specs.Steps.{pages_in}
@@ -41,11 +41,15 @@ pub record HasTuple (view : TuplesView) (segment : ℕ) (tid : Tid) : Type 0 whe
   pub heaps : IsTold view.pages.disk → AreHeaps view.pages
   pub live : IsTold view.pages.disk → IsLive view segment tid
 
+-- a page is spare where the body of a tuple is to be longer
+abbrev pub HasSpare : TuplesView → ℕ → Tid → ℕ → Type 0
+HasSpare view segment tid count = IsTold view.pages.disk → (bytes : List ℕ) → view.bodies segment tid ≡ Some bytes → length bytes < count → 0 < view.pages.spare
+
 -- a body of so many bytes may be put in place of that of a tuple
 pub record MayReplace (view : TuplesView) (segment : ℕ) (tid : Tid) (count : ℕ) : Type 0 where
   pub may : MayPut segment count
   pub there : HasTuple view segment tid
-  pub room : 0 < view.pages.spare
+  pub room : HasSpare view segment tid count
 
 -- ---- what they ensure
 

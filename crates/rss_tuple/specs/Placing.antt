@@ -82,6 +82,11 @@ pub record FitsAway (view : PagesView) (segment : ℕ) (tid : Tid) (length page 
 abbrev pub NeverFitsAway : PagesView → ℕ → Tid → ℕ → Type 0
 NeverFitsAway view segment tid length = (page slot : ℕ) → FitsAway view segment tid length page slot → ⊥
 
+-- a body of this length doesn't fit in an overflow page where it stands, and a page is spare
+pub record MayMove (view : PagesView) (segment : ℕ) (tid : Tid) (length : ℕ) : Type 0 where
+  pub never : NeverFitsAway view segment tid length
+  pub room : 0 < view.spare
+
 -- What the home entry of a tuple holds once its body was put: the body, where it fits there; else where it stands, where it fits there; else a way to the least overflow page with a free entry and the bytes, and there the least free entry; else to a new one.
 pub data IsPlaced (view : PagesView) (segment : ℕ) (tid : Tid) (body : List ℕ) : Content → Type 0 where
   at_home : FitsHome view segment tid (length body) → IsPlaced view segment tid body (Here body)

@@ -10,8 +10,8 @@ ghost use Rattle.rss_page.specs.Surveyed.{held_at};
 ghost use Rattle.rss_tuple.specs.Directory.{contents, tid_at};
 ghost use Rattle.rss_tuple.specs.Heaps.{AreFormed, AreHeaps};
 ghost use Rattle.rss_tuple.specs.TupleSteps.{tuples_in, pages_for};
-ghost use Rattle.rss_tuple.specs.Placing.{FitsHome, NeverFitsAway};
-ghost use Rattle.rss_tuple.specs.Calls.{MayPut, MayInsert, HasTuple, MayReplace};
+ghost use Rattle.rss_tuple.specs.Placing.{FitsHome, MayMove};
+ghost use Rattle.rss_tuple.specs.Calls.{MayPut, MayInsert, HasTuple, HasSpare, MayReplace};
 ghost use Rattle.rss_tuple.specs.Edits.{IsRead, MayRead};
 ghost use Rattle.rss_tuple.specs.Puts.{Changed, TakesAway, PutsAway, Puts, MovesBody, HomeRead, Stays};
 
@@ -39,10 +39,10 @@ fn put_on_new<P: Pages>(pages: &mut P, segment: u8, body: &[u8]) -> Result<u32, 
 }
 
 /// Puts a body into the first overflow page with a free entry and the bytes, or into a new one, and
-/// answers where it stands.
-fn put_away<P: Pages>(pages: &mut P, segment: u8, body: &[u8]) -> Result<Tid, PageFault>
+/// answers where it stands. Where no page is spare, the tuple's home page isn't what it should be.
+fn put_away<P: Pages>(pages: &mut P, segment: u8, tid: Tid, body: &[u8]) -> Result<Tid, PageFault>
     requires may { MayPut segment (length body.now) }
-    requires room { 0 < (P.view pages.old).spare }
+    requires room { IsTold (P.view pages.old).disk → 0 < (P.view pages.old).spare }
     requires formed { IsTold (P.view pages.old).disk → AreFormed (P.view pages.old) }
     ensures puts { IfOk result (λ to. IsTold (P.view pages.old).disk
         → PutsAway segment body.now to (P.view pages.old) (P.view pages.new)) }
@@ -70,6 +70,9 @@ fn put_away<P: Pages>(pages: &mut P, segment: u8, body: &[u8]) -> Result<Tid, Pa
             Ok(to)
         }
         None => {
+            if pages.spare() == 0 {
+                return Err(damaged(home(segment, tid.page)));
+            }
             let page = put_on_new(pages, segment, body)?;
             Ok(Tid { page, slot: 0 })
         }
@@ -87,11 +90,10 @@ fn place<P: Pages>(
 ) -> Result<(), PageFault>
     requires may { MayPut segment (length body.now) }
     requires home { HomeRead (P.view pages.old) segment tid page.old }
-    requires room { 0 < (P.view pages.old).spare }
     requires formed { IsTold (P.view pages.old).disk → AreFormed (P.view pages.old) }
     requires away { IsTold (P.view pages.old).disk
         → (FitsHome (P.view pages.old) segment tid (length body.now) → ⊥)
-        → NeverFitsAway (P.view pages.old) segment tid (length body.now) }
+        → MayMove (P.view pages.old) segment tid (length body.now) }
     ensures puts { OnOk result (IsTold (P.view pages.old).disk
         → Puts segment tid body.now (P.view pages.old) (P.view pages.new)) }
     ensures did { PagesCall (pages_for segment tid) ((P.view pages.old).slots + 3)
@@ -102,7 +104,7 @@ fn place<P: Pages>(
     if fits(page, slot, body.len() as u16) {
         return put_here(pages, key, page, slot, body);
     }
-    let to = put_away(pages, segment, body)?;
+    let to = put_away(pages, segment, tid, body)?;
     put_forward(pages, key, page, slot, to)
 }
 
@@ -227,8 +229,8 @@ fn move_on<P: Pages>(
     requires home { HomeRead (P.view pages.old) segment tid page.old }
     requires leads { held_at (entries page.old) tid.slot ≡ Forward to to_slot }
     requires to_slot { to_slot < page_entries }
-    requires room { 0 < (P.view pages.old).spare }
     requires heaps { IsTold (P.view pages.old).disk → AreHeaps (P.view pages.old) }
+    requires room { HasSpare (tuples_in (P.view pages.old)) segment tid (length body.now) }
     ensures { MovesBody segment tid body.now ((P.view pages.old).slots + 6) (P.view pages.old)
         (P.view pages.new) result }
 {

@@ -42,7 +42,7 @@ pub trait Tuples {
             → IsFetched ((view self.old).bodies segment tid) live into.new) }
         ensures did { TuplesCall no_page no_tuple 2 (view self.old) (view self.new) result };
 
-    /// Puts another body in place of that of a tuple.
+    /// Puts another body in place of that of a tuple. Takes no page where the body isn't longer.
     fn replace(&mut self, segment: u8, tid: Tid, body: &[u8]) -> Result<(), PageFault>
         requires { MayReplace (view self.old) segment tid (length body.now) }
         ensures { PutsTuple segment tid body.now ((view self.old).pages.slots + 7)

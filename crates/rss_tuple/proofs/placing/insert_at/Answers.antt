@@ -50,17 +50,16 @@ place-requires-clause-home g c = record {
   low = c.requires.slot;
 }
 
-pub place-requires-clause-room : goal.place-requires-clause-room
-place-requires-clause-room g c =
-    let step = c.in_ok-read_formed.ensures.did.step in
-    omega (arith, c.requires.room, spare_after step (all_mapped step) (g.met.P.Pages.are_counted c.args.pages.now) (g.met.P.Pages.are_counted c.read_formed.new.pages))
-
 pub place-requires-clause-formed : goal.place-requires-clause-formed
 place-requires-clause-formed g c = formed_after c.in_ok-read_formed.ensures.did.step (λ told. (c.requires.heaps told).formed)
 
 pub place-requires-clause-away : goal.place-requires-clause-away
-place-requires-clause-away g c = λ told full page slot fits.
-    let never : Empty ≡ Forward page slot = sym (free_after c.in_ok-read_formed.ensures.did.step c.requires told) ∙ fits.leads in absurd (cc)
+place-requires-clause-away g c = λ told full.
+    let step = c.in_ok-read_formed.ensures.did.step in
+    record {
+      never = λ page slot fits. let never : Empty ≡ Forward page slot = sym (free_after step c.requires told) ∙ fits.leads in absurd (cc);
+      room = omega (arith, c.requires.room, spare_after step (all_mapped step) (g.met.P.Pages.are_counted c.args.pages.now) (g.met.P.Pages.are_counted c.read_formed.new.pages));
+    }
 
 pub returns : goal.returns
 returns g c =

@@ -1,4 +1,4 @@
-use Rattle.std.proofs.Common.{◌≡◌, ◌∙◌, inr, ◌+◌, ◌≤◌, ℕ, List, Option, sym, ap, subst, arith, length}
+use Rattle.std.proofs.Common.{◌≡◌, ◌∙◌, inr, ◌+◌, ◌<◌, ◌≤◌, ℕ, List, Option, ap, subst, arith, length}
 use Rattle.rss_base.specs.DiskRule.{IsTold}
 use Rattle.rss_base.specs.Paged.{Held, page_key}
 use Rattle.rss_base.specs.Steps.{PagesView}
@@ -13,21 +13,14 @@ use Rattle.rss_tuple.specs.Directory.{contents_in, content_at, homes}
 use Rattle.rss_tuple.specs.Edits.{IsRead}
 use Rattle.rss_tuple.proofs.Links.{not_empty}
 use Rattle.rss_tuple.proofs.Seen.{on_ok_then, formed_after}
-use Rattle.rss_tuple.proofs.Placed.{read_off, puts_before, mapped_there, over}
-use Rattle.rss_tuple.proofs.Changes.{spare_after}
+use Rattle.rss_tuple.proofs.Placed.{read_off, room_read, room_back, puts_before, mapped_there, over}
+use Rattle.rss_tuple.proofs.Changes.{spare_after, spare_away}
 use Rattle.rss_tuple.proofs.Moved.{moved_stays, moved_away, never_away, still_there, moves_fails, moves_after}
 use Rattle.rss_tuple.proofs.placing.move_on.Goals as goal
 
 -- where the home entry leads
 leads : (view : PagesView) (segment : ℕ) (tid : Tid) (page : List ℕ) (to to_slot : ℕ) → IsRead view (page_key segment Home tid.page) page → held_at (entries page) tid.slot ≡ Forward to to_slot → IsTold view.disk → homes view.held segment tid.page tid.slot ≡ Forward to to_slot
 leads view segment tid page to to_slot read is told = ap (λ (p : Option (List ℕ)). held_at (contents_in p) tid.slot) (read.held told) ∙ is
-
--- what a page that was read has room for
-room_read : (view : PagesView) (key : PageKey) (page : List ℕ) (slot count : ℕ) → IsRead view key page → IsTold view.disk → HasRoom (contents_in (view.held key)) slot count → HasRoom (entries page) slot count
-room_read view key page slot count read told room = subst (λ (p : Option (List ℕ)). HasRoom (contents_in p) slot count) (read.held told) room
-
-room_back : (view : PagesView) (key : PageKey) (page : List ℕ) (slot count : ℕ) → IsRead view key page → IsTold view.disk → HasRoom (entries page) slot count → HasRoom (contents_in (view.held key)) slot count
-room_back view key page slot count read told room = subst (λ (p : Option (List ℕ)). HasRoom (contents_in p) slot count) (sym (read.held told)) room
 
 pub stays-requires-clause-may : goal.stays-requires-clause-may
 stays-requires-clause-may g c =
@@ -80,25 +73,28 @@ place-requires-clause-home g c = record {
   low = c.requires.home.low;
 }
 
-pub place-requires-clause-room : goal.place-requires-clause-room
-place-requires-clause-room g c =
-    let step = c.in_ok-stays.ensures.did.step in
-    omega (arith, c.requires.room, spare_after step (all_mapped step) (g.met.P.Pages.are_counted c.args.pages.now) (g.met.P.Pages.are_counted c.stays.new.pages))
-
 pub place-requires-clause-formed : goal.place-requires-clause-formed
 place-requires-clause-formed g c = formed_after c.in_ok-stays.ensures.did.step (λ told. (c.requires.heaps told).formed)
 
 pub place-requires-clause-away : goal.place-requires-clause-away
 place-requires-clause-away g c = λ mid full.
+    let old = g.P.Pages.view c.args.pages.now in
+    let now = g.P.Pages.view c.stays.new.pages in
     let step = c.in_ok-stays.ensures.did.step in
     let told = step.passes.leaves.told.1 mid in
     let read = read_off step (λ none. none) c.requires.home.read in
-    let lead = leads (g.P.Pages.view c.stays.new.pages) c.args.segment c.args.tid c.args.page.now c.args.to c.args.to_slot read c.requires.leads mid in
-    never_away (g.P.Pages.view c.stays.new.pages) c.args.segment c.args.tid (length c.args.body.now) c.args.to c.args.to_slot c.overflow-key.result c.overflow-key.ensures lead
-    (λ room. c.in_ok-stays.ensures.leaves c.if-branch.false told (record {
-      not_home = λ fits. full (room_back (g.P.Pages.view c.stays.new.pages) (page_key c.args.segment Home c.args.tid.page) c.args.page.now c.args.tid.slot (length c.args.body.now) read mid fits);
-      room = subst (λ (h : Held). HasRoom (contents_in (h c.overflow-key.result)) c.args.to_slot (length c.args.body.now)) (all_held step told) room;
-    }))
+    let lead = leads now c.args.segment c.args.tid c.args.page.now c.args.to c.args.to_slot read c.requires.leads mid in
+    let never : HasRoom (contents_in (old.held c.overflow-key.result)) c.args.to_slot (length c.args.body.now) → ⊥ = λ room. c.in_ok-stays.ensures.leaves c.if-branch.false told (record {
+      not_home = λ fits. full (room_back now (page_key c.args.segment Home c.args.tid.page) c.args.page.now c.args.tid.slot (length c.args.body.now) read mid fits);
+      room = room;
+    }) in
+    let lead_old = leads old c.args.segment c.args.tid c.args.page.now c.args.to c.args.to_slot c.requires.home.read c.requires.leads told in
+    let spare : 0 < old.spare = spare_away old c.args.segment c.args.tid (length c.args.body.now) c.args.to c.args.to_slot c.overflow-key.result c.overflow-key.ensures c.requires.room told (c.requires.heaps told) lead_old c.requires.to_slot never in
+    record {
+      never = never_away now c.args.segment c.args.tid (length c.args.body.now) c.args.to c.args.to_slot c.overflow-key.result c.overflow-key.ensures lead
+          (λ room. never (subst (λ (h : Held). HasRoom (contents_in (h c.overflow-key.result)) c.args.to_slot (length c.args.body.now)) (all_held step told) room));
+      room = omega (arith, spare, spare_after step (all_mapped step) (g.met.P.Pages.are_counted c.args.pages.now) (g.met.P.Pages.are_counted c.stays.new.pages));
+    }
 
 pub returns-in_err-place : goal.returns-in_err-place
 returns-in_err-place g c =

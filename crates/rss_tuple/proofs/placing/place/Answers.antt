@@ -43,7 +43,7 @@ returns-clause-puts g c =
     let full : FitsHome (g.P.Pages.view c.args.pages.now) c.args.segment c.args.tid (length c.args.body.now) → ⊥ = λ fits.
     let never : c.fits.result ≡ true = c.fits.ensures.1 (subst (λ (l : List Content). HasRoom l c.args.tid.slot (length c.args.body.now)) (ap contents_in there) fits) in
     let not : c.fits.result ≡ false = c.if-fits.false in absurd (cc) in
-    puts_forward c.args.segment c.args.tid c.args.body.now c.in_ok-to.to c.home-key.result _ _ _ c.home-key.ensures full (c.requires.away told full) (c.in_ok-to.ensures.puts told) step (sets mid) c.put_forward.ensures.did.step told mid)
+    puts_forward c.args.segment c.args.tid c.args.body.now c.in_ok-to.to c.home-key.result _ _ _ c.home-key.ensures full (c.requires.away told full).never (c.in_ok-to.ensures.puts told) step (sets mid) c.put_forward.ensures.did.step told mid)
     c.put_forward.ensures.sets
 
 pub returns-clause-did : goal.returns-clause-did

@@ -1,11 +1,12 @@
-use Rattle.std.proofs.Common.{◌∙◌, rules, inl, ap, arith}
-use Rattle.rss_base.specs.Paged.{page_key}
+use Rattle.std.proofs.Common.{◌∙◌, ◌<◌, length, rules, inl, sym, ap, arith}
+use Rattle.rss_base.specs.Paged.{Held, page_key}
+use Rattle.rss_tuple.specs.Directory.{bodies_of}
 use Rattle.rss_base.specs.declared.key.PageKey.{PageKey}
 use Rattle.rss_base.specs.declared.key.Space.TheVariants.{Home}
-use Rattle.rss_base.proofs.Steps.{rests, untouched, widens, all_mapped}
+use Rattle.rss_base.proofs.Steps.{rests, untouched, widens, all_held, all_mapped}
 use Rattle.rss_tuple.proofs.Seen.{found_damaged, high_empty, formed_after, heaps_after}
-use Rattle.rss_tuple.proofs.Placed.{read_at, mapped_there, low_forward, held_there, read_key, stands_here}
-use Rattle.rss_tuple.proofs.Changes.{entry_there, spare_after}
+use Rattle.rss_tuple.proofs.Placed.{read_at, mapped_there, low_forward, held_there, read_key, stands_here, body_read, room_back}
+use Rattle.rss_tuple.proofs.Changes.{entry_there, spare_after, spare_longer}
 use Rattle.rss_tuple.proofs.Moved.{moves_fails, moves_puts, moves_after}
 use Rattle.rss_tuple.proofs.placing.replace.Goals as goal
 
@@ -49,18 +50,22 @@ place-requires-clause-home g c = record {
   low = omega (arith, c.from.ensures, c.if-tid-from.false);
 }
 
-pub place-requires-clause-room : goal.place-requires-clause-room
-place-requires-clause-room g c =
-    let step = c.in_ok-read_formed.ensures.did.step in
-    omega (arith, c.requires.room, spare_after step (all_mapped step) (g.met.P.Pages.are_counted c.args.pages.now) (g.met.P.Pages.are_counted c.read_formed.new.pages))
-
 pub place-requires-clause-formed : goal.place-requires-clause-formed
 place-requires-clause-formed g c = formed_after c.in_ok-read_formed.ensures.did.step (λ told. (c.requires.there.heaps told).formed)
 
 pub place-requires-clause-away : goal.place-requires-clause-away
-place-requires-clause-away g c = λ told full p s fits.
-    let here = stands_here c.args.tid (read_key c.home-key.ensures c.in_ok-read_formed.ensures.read) c.in-Here.ensures.holds told in
-    here p s fits.leads
+place-requires-clause-away g c = λ told full.
+    let step = c.in_ok-read_formed.ensures.did.step in
+    let before = step.passes.leaves.told.1 told in
+    let view = g.P.Pages.view c.args.pages.now in
+    let read = read_key c.home-key.ensures c.in_ok-read_formed.ensures.read in
+    let here = c.in-Here.ensures.holds in
+    let spare : 0 < view.spare = spare_longer view c.args.segment c.args.tid (length c.args.body.now) c.read_formed.new.page c.args.tid.slot _ c.requires.room before
+    (body_read c.args.tid step read here before) read.formed.slotted (omega (arith, c.from.ensures, c.if-tid-from.false)) here (λ room. full (room_back (g.P.Pages.view c.read_formed.new.pages) _ c.read_formed.new.page c.args.tid.slot (length c.args.body.now) read told room)) in
+    record {
+      never = λ p s fits. stands_here c.args.tid read here told p s fits.leads;
+      room = omega (arith, spare, spare_after step (all_mapped step) (g.met.P.Pages.are_counted c.args.pages.now) (g.met.P.Pages.are_counted c.read_formed.new.pages));
+    }
 
 pub returns-in-Here : goal.returns-in-Here
 returns-in-Here g c =
@@ -82,9 +87,11 @@ pub move_on-requires-clause-to_slot : goal.move_on-requires-clause-to_slot
 move_on-requires-clause-to_slot g c = low_forward _ c.read_formed.new.page c.args.tid.slot c.in-Forward.to c.in-Forward.to_slot c.in_ok-read_formed.ensures.read.formed (omega (arith, c.from.ensures, c.if-tid-from.false)) c.in-Forward.ensures.spelled
 
 pub move_on-requires-clause-room : goal.move_on-requires-clause-room
-move_on-requires-clause-room g c =
+move_on-requires-clause-room g c = λ told bytes is longer.
     let step = c.in_ok-read_formed.ensures.did.step in
-    omega (arith, c.requires.room, spare_after step (all_mapped step) (g.met.P.Pages.are_counted c.args.pages.now) (g.met.P.Pages.are_counted c.read_formed.new.pages))
+    let before = step.passes.leaves.told.1 told in
+    let spare = c.requires.room before bytes (ap (λ (h : Held). bodies_of h c.args.segment c.args.tid) (sym (all_held step before)) ∙ is) longer in
+    omega (arith, spare, spare_after step (all_mapped step) (g.met.P.Pages.are_counted c.args.pages.now) (g.met.P.Pages.are_counted c.read_formed.new.pages))
 
 pub move_on-requires-clause-heaps : goal.move_on-requires-clause-heaps
 move_on-requires-clause-heaps g c = heaps_after c.in_ok-read_formed.ensures.did.step c.requires.there.heaps
