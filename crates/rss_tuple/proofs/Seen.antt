@@ -10,7 +10,8 @@ use Rattle.rss_base.specs.declared.place.Place.{Place}
 use Rattle.rss_base.specs.declared.fault.PageFault.{PageFault}
 use Rattle.rss_base.specs.declared.fault.PageFault.TheVariants.{Device as DeviceFailed, Damaged}
 use Rattle.rss_base.specs.declared.key.PageKey.{PageKey}
-use Rattle.rss_base.proofs.Steps.{all_held, all_notes}
+use Rattle.rss_base.proofs.Steps.{all_mapped, all_held, all_notes}
+use Rattle.rss_tuple.specs.Edits.{KeepsEntries}
 use Rattle.rss_page.specs.Content.{Empty}
 use Rattle.rss_page.proofs.Contents.{length-entries}
 use Rattle.rss_tuple.specs.Directory.{contents_in, content_at, homes, overflows, bodies_of}
@@ -62,6 +63,13 @@ module _ {asks writes : ℕ} {old new : PagesView} (step : PagesStep no_page ask
   content_after key slot told = ap (λ (h : Held). content_at h key slot) (all_held step told)
 
 -- a call that touched nothing
+pub kept_after : {asks writes : ℕ} {old new : PagesView} → PagesStep no_page asks writes old new → (IsTold old.disk → AreFormed old) → KeepsEntries old new
+kept_after step formed = record {
+  mapped = all_mapped step;
+  held = λ told. all_held step told;
+  formed = λ told. formed_after step formed (step.passes.leaves.told.0 told);
+}
+
 pub looked : {T : Type 0} {cost : ℕ} {old new : PagesView} {result : Result T PageFault} → (IsTold old.disk → AreHeaps old) → PagesCall no_page cost cost old new result → TuplesCall no_page no_tuple cost (tuples_in old) (tuples_in new) result
 looked {old = old} {new = new} {result = result} are call = record {
   below = call;

@@ -1,6 +1,6 @@
 -- Pages that were looked at for a free entry and room, and those that were passed over by their notes.
 use Rattle.std.proofs.Common.{◌≡◌, ◌⊎◌, inl, inr, ℕ, ◌+◌, ◌≤◌, ◌<◌, true, List, Option, Some, None, refl, sym, ◌∙◌, ap, subst, arith}
-use Rattle.std.specs.Prelude.{is_some, IfSome, Result, Err, IsErrAnd}
+use Rattle.std.specs.Prelude.{is_some, IfSome, MatchOption, Result, Err, IsErrAnd}
 use Rattle.std.proofs.lemmas.Bool.{cases_lt, cases_eq, cond-true}
 use Rattle.rss_base.specs.DiskRule.{IsTold}
 use Rattle.rss_base.specs.PageMap.{IsKey}
@@ -99,6 +99,18 @@ module _ (start now : PagesView) (wanted : Wanted) (from : ℕ) (so : Searched s
   pub kept_too : (new : PagesView) → KeepsEntries now new → KeepsEntries start new
   kept_too new kept = kept_all new kept
 
+  pub searched_more : {T : Type 0} {result : Result T PageFault} (new : PagesView) (number : ℕ) → IsFirstFrom (MayDo now.mapped now.notes (wanted.length + 1) wanted.segment wanted.space) from number → KeepsEntries now new → number < start.slots → (IsTold start.disk → HasNoSpot (contents start.held (key_of wanted number)) wanted.length wanted.barred number)
+      → PagesCall (only (key_of wanted number)) 1 1 now new result → Searched start new wanted (number + 1)
+  searched_more new number first kept low none call = record {
+    within_slots = omega arith;
+    step = within (λ key there. there) (omega (arith, first.later)) (omega (arith, first.later)) (then so.step (among (is_in (key_of wanted number) refl) call.step));
+    kept = kept_all new kept;
+    lesser = λ told tid page spot. elim (cases_eq tid.page number) [
+      | inl at ↦ none told (subst (λ (n : ℕ). body_bytes (contents start.held (key_of wanted n)) + wanted.length ≤ 3056) at spot.bytes) tid.slot (subst (λ (n : ℕ). IsOpen (contents start.held (key_of wanted n)) wanted.barred (tid_at n tid.slot)) at spot.open_there)
+      | inr off ↦ before number first told tid (omega (arith, off)) spot
+    ];
+  }
+
   module _ (new : PagesView) (number : ℕ) (bytes : List ℕ) (first : IsFirstFrom (MayDo now.mapped now.notes (wanted.length + 1) wanted.segment wanted.space) from number) (read : IsRead new (key_of wanted number) bytes) (kept : KeepsEntries now new) (told_new : IsTold start.disk → IsTold new.disk) where
     same_contents : IsTold start.disk → contents start.held (key_of wanted number) ≡ entries bytes
     same_contents told = ap (λ (h : Held). contents h (key_of wanted number)) (sym ((kept_all new kept).held told)) ∙ ap contents_in (read.held (told_new told))
@@ -120,20 +132,6 @@ module _ (start now : PagesView) (wanted : Wanted) (from : ℕ) (so : Searched s
               | inr at ↦ spot.first.lesser other.slot at.1 (subst (λ (l : List Content). IsOpen l wanted.barred (tid_at number other.slot)) same (subst (λ (n : ℕ). IsOpen (contents start.held (key_of wanted n)) wanted.barred (tid_at n other.slot)) at.0 there.open_there))
             ];
           };
-    }
-
-    pub searched_more : {T : Type 0} {result : Result T PageFault} → number < start.slots → HasNoSpot (entries bytes) wanted.length wanted.barred number → PagesCall (only (key_of wanted number)) 1 1 now new result → Searched start new wanted (number + 1)
-    searched_more low none call = record {
-      within_slots = omega arith;
-      step = within (λ key there. there) (omega (arith, first.later)) (omega (arith, first.later)) (then so.step (among (is_in (key_of wanted number) refl) call.step));
-      kept = kept_all new kept;
-      lesser = λ told tid page spot. elim (cases_eq tid.page number) [
-        | inl at ↦
-            let same = same_contents told in
-            let here = subst (λ (n : ℕ). contents start.held (key_of wanted n) ≡ entries bytes) (sym at) same in
-            none (subst (λ (l : List Content). body_bytes l + wanted.length ≤ 3056) here spot.bytes) tid.slot (subst (λ (n : ℕ). IsOpen (entries bytes) wanted.barred (tid_at n tid.slot)) at (subst (λ (l : List Content). IsOpen l wanted.barred tid) here spot.open_there))
-        | inr off ↦ before number first told tid (omega (arith, off)) spot
-      ];
     }
 
 -- the last page was looked at
@@ -178,3 +176,8 @@ noted_kept key number bytes mid new notes step read room told formed =
       short = heap.short;
       noted = subst (λ (n : Option ℕ). IfSome n (CoversRoom (entries other))) (sym (ap (λ (n : Noted). n key) notes.notes ∙ cond-true (is_same key key) (Some number) (mid.notes key) (is_same-itself key))) (subst (λ (b : List ℕ). CoversRoom (entries b) number) same room);
     })
+
+-- what was found in a page is what a copy of it has
+pub found_copied : (N M : Type 0) (P : List Content → ℕ → Type 0) (page into : List ℕ) (found : Option ℕ) → (N → M) → MatchOption found N (P (entries page)) → IfSome found (λ _. into ≡ page) → MatchOption found M (P (entries into))
+found_copied N M P page into None none is copied = none is
+found_copied N M P page into (Some slot) none is copied = subst (λ (bytes : List ℕ). P (entries bytes) slot) (sym copied) is

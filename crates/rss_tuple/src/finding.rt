@@ -1,11 +1,11 @@
 // The first page of a space with a free entry and enough free bytes.
-ghost use Rattle.std.specs.Prelude.{◌≡◌, ◌<◌, ◌≤◌, ◌↔◌, true, IsTrue, MatchOption, IfOk};
-ghost use Rattle.std.specs.Prelude.{OnOk};
+ghost use Rattle.std.specs.Prelude.{◌≡◌, ◌<◌, ◌≤◌, ◌↔◌, true, IsTrue, MatchOption, IfOk, IfSome};
 ghost use Rattle.rss_base.specs.DiskRule.{IsTold};
 ghost use Rattle.rss_base.specs.Sizes.{page_entries};
 ghost use Rattle.rss_base.specs.Notes.{is_noted_space};
 ghost use Rattle.rss_base.specs.Steps.{PagesCall, only, pages_in};
-ghost use Rattle.rss_page.specs.Slotted.{entries};
+ghost use Rattle.rss_page.specs.Slotted.{entries, IsSlotted};
+ghost use Rattle.rss_tuple.specs.Directory.{contents};
 ghost use Rattle.rss_page.specs.Content.{Empty};
 ghost use Rattle.rss_page.specs.Surveyed.{held_at, IsSurvey};
 ghost use Rattle.rss_tuple.specs.Heaps.{body_most, AreFormed};
@@ -14,9 +14,9 @@ ghost use Rattle.rss_tuple.specs.Edits.{IsRead, KeepsEntries};
 ghost use Rattle.rss_tuple.specs.Spots.{AreBarred, IsFirstOpen, NoneOpen, HasSpot, HasNoSpot};
 ghost use Rattle.rss_tuple.specs.Spots.{IsRoom, FindsSpot};
 
-use crate::entries::read_formed;
+use crate::keys::damaged;
 use rss_base::{PAGE_ENTRIES, Page, PageFault, PageKey, Pages, Space, Tid};
-use rss_page::{ENTRIES, Entry, Survey, entry};
+use rss_page::{ENTRIES, Entry, Survey, entry, well_formed};
 
 /// For each slot of a page, whether its identifier is barred.
 type Slots = [bool; PAGE_ENTRIES];
@@ -82,28 +82,65 @@ fn room_of(page: &Page, found: &Survey) -> u16
     }
 }
 
-/// Looks for such a slot in a mapped page, and notes the page's room.
+/// What was found in a page.
+#[derive(Clone, Copy)]
+struct Looked {
+    /// What is to be noted on it.
+    room: u16,
+    /// The slot that was looked for.
+    slot: Option<u8>,
+}
+
+/// Looks for such a slot in a page. Where there is one, the page is copied.
+fn look_over(page: &Page, number: u32, length: u16, barred: &[Tid], into: &mut Page) -> Looked
+    requires { IsSlotted page.now }
+    ensures room { IsRoom (entries page.now) result.room }
+    ensures slot { MatchOption result.slot (HasNoSpot (entries page.now) length barred.now number)
+        (HasSpot (entries page.now) length barred.now number) }
+    ensures copied { IfSome result.slot (λ _. into.new ≡ page.now) }
+{
+    let found = Survey::of(page);
+    let room = room_of(page, &found);
+    match spot_in(page, number, length, barred, &found) {
+        None => Looked { room, slot: None },
+        Some(slot) => {
+            *into = *page;
+            Looked {
+                room,
+                slot: Some(slot),
+            }
+        }
+    }
+}
+
+/// Looks for such a slot in a mapped page, and notes the page's room. Where there is one, the page is
+/// left in `into`.
 fn try_page<P: Pages>(
     pages: &mut P,
     key: PageKey,
     length: u16,
     barred: &[Tid],
-    page: &mut Page,
+    into: &mut Page,
 ) -> Result<Option<u8>, PageFault>
     requires noted { is_noted_space key.space ≡ true }
     requires mapped { (P.view pages.old).mapped key ≡ true }
     requires formed { IsTold (P.view pages.old).disk → AreFormed (P.view pages.old) }
-    ensures read { OnOk result (IsRead (P.view pages.new) key page.new) }
-    ensures found { IfOk result (λ found. MatchOption found
-        (HasNoSpot (entries page.new) length barred.now key.number)
-        (HasSpot (entries page.new) length barred.now key.number)) }
+    ensures found { IfOk result (λ found. MatchOption found (IsTold (P.view pages.old).disk
+        → HasNoSpot (contents (P.view pages.old).held key) length barred.now key.number)
+        (HasSpot (entries into.new) length barred.now key.number)) }
+    ensures read { IfOk result (λ found. IfSome found
+        (λ _. IsRead (P.view pages.new) key into.new)) }
     ensures kept { KeepsEntries (P.view pages.old) (P.view pages.new) }
     ensures did { PagesCall (only key) 1 1 (P.view pages.old) (P.view pages.new) result }
 {
-    read_formed(pages, key, page)?;
-    let found = Survey::of(page);
-    pages.note(key, room_of(page, &found));
-    Ok(spot_in(page, key.number, length, barred, &found))
+    pages.load(key)?;
+    let page = pages.loaded(key);
+    if !well_formed(page, key) {
+        return Err(damaged(key));
+    }
+    let looked = look_over(page, key.number, length, barred, into);
+    pages.note(key, looked.room);
+    Ok(looked.slot)
 }
 
 /// Finds the first page of a segment and a space that has a free entry whose identifier isn't barred

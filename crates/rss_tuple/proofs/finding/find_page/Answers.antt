@@ -1,6 +1,8 @@
-use Rattle.std.proofs.Common.{◌<◌, arith}
-use Rattle.rss_base.specs.Paged.{page_key}
+use Rattle.std.proofs.Common.{◌<◌, subst, arith}
+use Rattle.rss_base.specs.Paged.{Held, page_key}
 use Rattle.rss_base.proofs.Steps.{done}
+use Rattle.rss_tuple.specs.Directory.{contents}
+use Rattle.rss_tuple.specs.Spots.{HasNoSpot}
 use Rattle.rss_tuple.proofs.Spots.{low_number, none_found, kept_too, found_spot, searched_more, search_step, search_fails}
 use Rattle.rss_tuple.proofs.finding.find_page.Goals as goal
 use Rattle.rss_tuple.proofs.finding.find_page.Goals.{In-Some}
@@ -26,7 +28,7 @@ pub returns-in-Some-2-clause-found : goal.returns-in-Some-2-clause-found
 returns-in-Some-2-clause-found g c =
     let first = c.in-Some.ensures.some in
     let told = λ (told : _). c.in_ok-slot.ensures.did.step.passes.leaves.told.0 (c.loop-number.invariant.step.passes.leaves.told.0 told) in
-    rw c.from.ensures (found_spot _ _ _ _ c.loop-number.invariant (λ told key. g.met.P.Pages.holds c.loop-number.pages told key) c.requires.noted _ c.in-Some.number _ first c.in_ok-slot.ensures.read c.in_ok-slot.ensures.kept told c.in-Some-2.slot (rw c.in-Some-2.is at c.in_ok-slot.ensures.found))
+    rw c.from.ensures (found_spot _ _ _ _ c.loop-number.invariant (λ told key. g.met.P.Pages.holds c.loop-number.pages told key) c.requires.noted _ c.in-Some.number _ first (rw c.in-Some-2.is at c.in_ok-slot.ensures.read) c.in_ok-slot.ensures.kept told c.in-Some-2.slot (rw c.in-Some-2.is at c.in_ok-slot.ensures.found))
 
 pub returns-in-Some-2-clause-kept : goal.returns-in-Some-2-clause-kept
 returns-in-Some-2-clause-kept g c = kept_too _ _ _ _ c.loop-number.invariant (λ told key. g.met.P.Pages.holds c.loop-number.pages told key) c.requires.noted _ c.in_ok-slot.ensures.kept
@@ -38,9 +40,10 @@ returns-in-Some-2-clause-did g c =
 
 pub loop-number-preserved : goal.loop-number-preserved
 loop-number-preserved g c =
-    let first = c.in-Some.ensures.some in
-    let told = λ (told : _). c.in_ok-slot.ensures.did.step.passes.leaves.told.0 (c.loop-number.invariant.step.passes.leaves.told.0 told) in
-    searched_more _ _ _ _ c.loop-number.invariant (λ told key. g.met.P.Pages.holds c.loop-number.pages told key) c.requires.noted _ c.in-Some.number _ first c.in_ok-slot.ensures.read c.in_ok-slot.ensures.kept told (low g (goal.at.loop-number-preserved g c).In-Some) (rw c.in_default-2.is at c.in_ok-slot.ensures.found) c.in_ok-slot.ensures.did
+    let so = c.loop-number.invariant in
+    searched_more _ _ _ _ so (λ told key. g.met.P.Pages.holds c.loop-number.pages told key) c.requires.noted _ c.in-Some.number c.in-Some.ensures.some c.in_ok-slot.ensures.kept (low g (goal.at.loop-number-preserved g c).In-Some)
+    (λ told. subst (λ (h : Held). HasNoSpot (contents h (page_key c.args.segment c.args.space c.in-Some.number)) c.args.length c.args.barred.now c.in-Some.number) (so.kept.held told) ((rw c.in_default-2.is at c.in_ok-slot.ensures.found) (so.step.passes.leaves.told.0 told)))
+    c.in_ok-slot.ensures.did
 
 pub returns-clause-found : goal.returns-clause-found
 returns-clause-found g c = none_found _ _ _ _ c.loop-number.invariant (λ told key. g.met.P.Pages.holds c.loop-number.pages told key) c.requires.noted c.in_default.ensures.none

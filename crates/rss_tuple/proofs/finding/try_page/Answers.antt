@@ -1,29 +1,60 @@
-use Rattle.std.proofs.Common.{◌∙◌}
+use Rattle.std.proofs.Common.{◌≡◌, ◌∙◌, rules, true, false, ℕ, List, sym, ap, subst}
+use Rattle.rss_base.specs.DiskRule.{IsTold}
+use Rattle.rss_base.specs.Paged.{Held}
 use Rattle.rss_base.proofs.Steps.{untouched, then, done, all_mapped, all_held}
-use Rattle.rss_tuple.proofs.Seen.{formed_after}
-use Rattle.rss_tuple.proofs.Spots.{covers, noted_kept}
+use Rattle.rss_page.specs.Content.{Content}
+use Rattle.rss_page.specs.Slotted.{entries}
+use Rattle.rss_tuple.specs.Directory.{contents, contents_in}
+use Rattle.rss_tuple.specs.Edits.{IsRead}
+use Rattle.rss_tuple.specs.Spots.{HasSpot, HasNoSpot}
+use Rattle.rss_tuple.proofs.Seen.{formed_after, found_damaged, kept_after}
+use Rattle.rss_tuple.proofs.Spots.{noted_heap, covers, noted_kept, found_copied}
 use Rattle.rss_tuple.proofs.finding.try_page.Goals as goal
 
-pub returns-in_err-read_formed-clause-kept : goal.returns-in_err-read_formed-clause-kept
-returns-in_err-read_formed-clause-kept g c =
-    let step = c.in_err-read_formed.ensures.did.step in
-    record {
-      mapped = all_mapped step;
-      held = λ told. all_held step told;
-      formed = λ told. formed_after step c.requires.formed (step.passes.leaves.told.0 told);
-    }
+pub returns-in_err-load-clause-kept : goal.returns-in_err-load-clause-kept
+returns-in_err-load-clause-kept g c = kept_after c.in_err-load.ensures.did.step c.requires.formed
+
+pub returns-then-not-well_formed-clause-kept : goal.returns-then-not-well_formed-clause-kept
+returns-then-not-well_formed-clause-kept g c = kept_after c.in_ok-load.ensures.did.step c.requires.formed
+
+pub returns-then-not-well_formed-clause-did : goal.returns-then-not-well_formed-clause-did
+returns-then-not-well_formed-clause-did g c =
+    let key = c.args.key in
+    let step = c.in_ok-load.ensures.did.step in
+    found_damaged c.damaged.result c.damaged.ensures (untouched step) (λ told.
+    let there = ap (λ (h : Held). h key) (sym (all_held step told)) ∙ c.loaded-page.ensures (step.passes.leaves.told.0 told) in
+    let heap = c.requires.formed told key _ (noted_heap key.space c.requires.noted) there in
+    let formed : c.well_formed-2.result ≡ true = c.well_formed-2.ensures.1 heap.formed in
+    let not : c.well_formed-2.result ≡ false = search rules in absurd (cc))
+
+pub returns-clause-found : goal.returns-clause-found
+returns-clause-found g c =
+    let step = c.in_ok-load.ensures.did.step in
+    let old = g.P.Pages.view c.args.pages.now in
+    let page = c.loaded-page.result.now in
+    found_copied (HasNoSpot (entries page) c.args.length c.args.barred.now c.args.key.number) (IsTold old.disk → HasNoSpot (contents old.held c.args.key) c.args.length c.args.barred.now c.args.key.number)
+    (λ (l : List Content) (slot : ℕ). HasSpot l c.args.length c.args.barred.now c.args.key.number slot) page c.look_over-looked.new.into c.look_over-looked.result.slot
+    (λ none told.
+    let there = ap (λ (h : Held). h c.args.key) (sym (all_held step told)) ∙ c.loaded-page.ensures (step.passes.leaves.told.0 told) in
+    subst (λ (l : List Content). HasNoSpot l c.args.length c.args.barred.now c.args.key.number) (sym (ap contents_in there)) none)
+    c.look_over-looked.ensures.slot c.look_over-looked.ensures.copied
 
 pub returns-clause-kept : goal.returns-clause-kept
 returns-clause-kept g c =
-    let step = c.in_ok-read_formed.ensures.did.step in
+    let step = c.in_ok-load.ensures.did.step in
     let noted = c.note.ensures.noted in
+    let read : IsRead (g.P.Pages.view c.load.new.self) c.args.key c.loaded-page.result.now = record {
+      mapped = search rules;
+      formed = c.well_formed-2.ensures.0 (search rules);
+      held = c.loaded-page.ensures;
+    } in
     record {
       mapped = noted.mapped ∙ all_mapped step;
       held = λ told. noted.held ∙ all_held step told;
       formed = λ told.
           let now = step.passes.leaves.told.0 told in
-          noted_kept c.args.key c.room_of.result c.read_formed.new.page _ _ noted c.note.ensures.did c.in_ok-read_formed.ensures.read (covers _ c.room_of.result c.room_of.ensures) now (formed_after step c.requires.formed now);
+          noted_kept c.args.key c.look_over-looked.result.room c.loaded-page.result.now _ _ noted c.note.ensures.did read (covers _ c.look_over-looked.result.room c.look_over-looked.ensures.room) now (formed_after step c.requires.formed now);
     }
 
 pub returns-clause-did : goal.returns-clause-did
-returns-clause-did g c = done _ (then (untouched c.in_ok-read_formed.ensures.did.step) c.note.ensures.did)
+returns-clause-did g c = done _ (then (untouched c.in_ok-load.ensures.did.step) c.note.ensures.did)
