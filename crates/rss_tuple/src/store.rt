@@ -11,6 +11,7 @@ use crate::walking::next_live;
 use rss_base::{Body, PageFault, Pages, Tid};
 
 /// The tuples of any pages. It is made by its literal.
+#[derive(Drop)]
 pub struct Store<P: Pages> {
     pub pages: P,
 }
