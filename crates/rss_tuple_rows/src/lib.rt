@@ -1,0 +1,17 @@
+//! Tests over tuples by their identifiers: what no clause says.
+#![tactic(auto)]
+
+#[cfg(test)]
+mod calls;
+#[cfg(test)]
+mod changes;
+#[cfg(test)]
+mod damaged;
+#[cfg(test)]
+mod draws;
+#[cfg(test)]
+mod identifiers;
+#[cfg(test)]
+mod plain;
+#[cfg(test)]
+mod untold;
