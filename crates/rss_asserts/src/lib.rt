@@ -1,41 +1,9 @@
-//! Assertions of tests: each says of a case what was found in place of what was wanted.
+//! What tests have in common: assertions, each of which says of a case what was found in place of
+//! what was wanted, and numbers that look random.
 #![tactic(auto)]
 
-use std::fmt::Debug;
-use std::test::Fail;
+mod asserts;
+mod draws;
 
-/// What is found in a case is what is wanted.
-pub fn assert_same<T: PartialEq + Debug, C: Debug + Drop>(
-    found: &T,
-    want: &T,
-    case: C,
-) -> Result<(), Fail> {
-    if *found == *want {
-        return Ok(());
-    }
-    Err(Fail::new(format_args!("in the case {case:?}: {found:?}, and not {want:?}")))
-}
-
-/// The same of slices.
-pub fn assert_same_slices<T: PartialEq + Debug, C: Debug + Drop>(
-    found: &[T],
-    want: &[T],
-    case: C,
-) -> Result<(), Fail> {
-    if found == want {
-        return Ok(());
-    }
-    Err(Fail::new(format_args!("in the case {case:?}: {found:?}, and not {want:?}")))
-}
-
-/// What is found in a case is anything else.
-pub fn assert_other<T: PartialEq + Debug, C: Debug + Drop>(
-    found: &T,
-    unwanted: &T,
-    case: C,
-) -> Result<(), Fail> {
-    if *found != *unwanted {
-        return Ok(());
-    }
-    Err(Fail::new(format_args!("in the case {case:?}: {found:?}")))
-}
+pub use asserts::{assert_other, assert_same, assert_same_slices, assert_some};
+pub use draws::Draws;

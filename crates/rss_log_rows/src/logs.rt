@@ -1,11 +1,12 @@
 // The log over a device, as it runs.
 use crate::harness::{append, body_of, bytes_of, load, piece, set_head, try_at};
+use rss_asserts::{Draws, assert_same, assert_same_slices, assert_some};
 use rss_base::{Body, Change, Device, LogRecord, Marks, OpenFault, Page, Tail, Tid};
 use rss_device::MemDevice;
+use rss_images::{failing_at, filled_pages};
 use rss_log::Log;
 use std::alloc::Global;
 use std::collections::VecDeque;
-use std::process::Abort;
 use std::test::Fail;
 
 /// How many records each ring gets, and the sizes of the rings.
@@ -13,35 +14,18 @@ const RECORDS: usize = 2500;
 
 const RINGS: [u32; 4] = [8, 13, 29, 64];
 
-/// Numbers that look like random ones.
-#[derive(Drop)]
-struct Draws(u64);
-
-impl Draws {
-    fn below(&mut self, limit: u64) -> u64 {
-        self.0 = self
-            .0
-            .wrapping_mul(6_364_136_223_846_793_005)
-            .wrapping_add(1_442_695_040_888_963_407);
-        (self.0 >> 33) % limit.max(1)
-    }
-}
-
 /// Values of a length up to 2,048, mostly short ones.
 fn any_values(draws: &mut Draws) -> Result<Body, Fail> {
-    let byte = draws.below(256).to_be_bytes()[7];
+    let byte = draws.below(256) as u8;
     let most = if draws.below(4) == 0 { 2049 } else { 64 };
     let size = draws.below(most) as usize;
-    let bytes = [byte; 2048];
-    body_of(&bytes[..size.min(2048)])
+    body_of(&[byte; 2048][..size])
 }
 
 fn any_tid(draws: &mut Draws) -> Tid {
-    let page = draws.below(65_536).to_be_bytes();
-    let slot = draws.below(128).to_be_bytes();
     Tid {
-        page: u32::from_be_bytes([page[4], page[5], page[6], page[7]]),
-        slot: u16::from_be_bytes([slot[6], slot[7]]),
+        page: draws.below(65_536),
+        slot: draws.below(128) as u16,
     }
 }
 
@@ -77,7 +61,7 @@ fn any_change(draws: &mut Draws) -> Result<Change, Fail> {
 fn any_record(draws: &mut Draws) -> Result<LogRecord, Fail> {
     let record_value = match draws.below(8) {
         0 => LogRecord::End(7),
-        1 => LogRecord::Restore(7, draws.below(1 << 31)),
+        1 => LogRecord::Restore(7, u64::from(draws.below(1 << 31))),
         2 => LogRecord::Checkpoint(any_marks(draws)),
         _ => LogRecord::Change(1, any_change(draws)?),
     };
@@ -88,7 +72,7 @@ fn any_marks(draws: &mut Draws) -> Marks {
     let mut marks = Marks::new();
     for _ in 0..draws.below(33) {
         if marks.as_slice().len() < 32 {
-            marks.push((9, draws.below(1 << 31)));
+            marks.push((9, u64::from(draws.below(1 << 31))));
         }
     }
     marks
@@ -117,22 +101,16 @@ fn drop_oldest(trial: &mut Trial) -> Result<(), Fail> {
 }
 
 /// Appends a record to both, where the log has room once the oldest ones are given up.
-fn add(
-    rt: &impl Abort,
-    alloc: Global,
-    trial: &mut Trial,
-    record_value: &LogRecord,
-) -> Result<(), Fail> {
-    let bytes = bytes_of(alloc, record_value)?;
+fn add(alloc: Global, trial: &mut Trial, added: &LogRecord) -> Result<(), Fail> {
+    let bytes = bytes_of(alloc, added)?;
     for _ in 0..RECORDS {
-        if let Some(position) = append(alloc, &mut trial.log, record_value)? {
+        if let Some(position) = append(alloc, &mut trial.log, added)? {
             trial.list.push_back((position, bytes))?;
             return Ok(());
         }
         drop_oldest(trial)?;
     }
-    assert!(rt; false, "no room");
-    Ok(())
+    Err("no room".into())
 }
 
 /// Writes the pieces that became full since the last time, and loads the log anew.
@@ -154,23 +132,30 @@ fn save_and_load(alloc: Global, trial: &mut Trial) -> Result<(), Fail> {
     Ok(())
 }
 
+/// The log has a record at a position. Answers the position behind it.
+fn assert_at(alloc: Global, trial: &Trial, position: u64, want: &[u8]) -> Result<u64, Fail> {
+    let case = ("log pages", trial.pages, "position", position);
+    let (found, next) = assert_some(try_at(&trial.log, position)?, case)?;
+    let bytes = bytes_of(alloc, &found)?;
+    assert_same_slices(bytes.as_slice(), want, case)?;
+    Ok(next)
+}
+
 /// The log has the records of the list, one behind the other from head to end.
-fn assert_listed(rt: &impl Abort, alloc: Global, trial: &Trial) -> Result<(), Fail> {
+fn assert_listed(alloc: Global, trial: &Trial) -> Result<(), Fail> {
     let mut position = trial.log.head();
     for (at, bytes) in &trial.list {
-        assert_eq!(rt; position, *at);
-        let (found, next) = try_at(&trial.log, position)?.ok_or("no record")?;
-        assert_eq!(rt; bytes_of(alloc, &found)?.as_slice(), bytes.as_slice());
-        position = next;
+        assert_same(&position, at, ("log pages", trial.pages))?;
+        position = assert_at(alloc, trial, position, bytes.as_slice())?;
     }
-    assert_eq!(rt; position, trial.log.end());
-    assert!(rt; try_at(&trial.log, position)?.is_none());
+    let case = ("log pages", trial.pages, "the end");
+    assert_same(&position, &trial.log.end(), case)?;
+    assert_same(&try_at(&trial.log, position)?.is_some(), &false, case)?;
     Ok(())
 }
 
 fn new_trial(alloc: Global, pages: u32) -> Result<Trial, Fail> {
-    let all = vec![in alloc; [0x55u8; 4096]; pages as usize]?;
-    let mut device = MemDevice::new(alloc, all)?;
+    let mut device = MemDevice::new(alloc, filled_pages(alloc, pages as usize, 0x55)?)?;
     let log = load(alloc, &mut device, pages, 0, 0, &Tail::new())??;
     Ok(Trial {
         pages,
@@ -181,49 +166,86 @@ fn new_trial(alloc: Global, pages: u32) -> Result<Trial, Fail> {
     })
 }
 
-fn run(rt: &impl Abort, alloc: Global, pages: u32) -> Result<(), Fail> {
-    let mut draws = Draws(u64::from(pages));
+/// Appends so many records to a log over so many log pages, and loads it anew now and then.
+fn assert_ring(alloc: Global, pages: u32) -> Result<(), Fail> {
+    let mut draws = Draws::new(u64::from(pages));
     let mut trial = new_trial(alloc, pages)?;
     for _ in 0..RECORDS {
-        let record_value = any_record(&mut draws)?;
-        add(rt, alloc, &mut trial, &record_value)?;
+        let added = any_record(&mut draws)?;
+        add(alloc, &mut trial, &added)?;
         if draws.below(200) == 0 {
             save_and_load(alloc, &mut trial)?;
-            assert_listed(rt, alloc, &trial)?;
+            assert_listed(alloc, &trial)?;
         }
     }
-    assert_listed(rt, alloc, &trial)
+    assert_listed(alloc, &trial)
 }
 
 #[test]
 fn ten_thousand_records_are_those_of_a_list(rt: HostRuntime) -> Result<(), Fail> {
     for pages in RINGS {
-        run(&rt, rt.alloc(), pages)?;
+        assert_ring(rt.alloc(), pages)?;
     }
     Ok(())
 }
 
-/// A log from the fourth byte of its second piece up to the fourth of its sixth. Four pieces are read,
-/// after the device's size: the tenth call of the device is none of the second load's.
+/// The head and the end of a log from the fourth byte of its second piece up to the fourth of its
+/// sixth, and its last bytes.
+const HEAD: u64 = 4003;
+
+const END: u64 = 20_003;
+
+const LAST: &[u8] = b"\x09\0\x09";
+
+/// Positions of it, and whether a record begins there.
+const POSITIONS: [(u64, bool); 3] = [(HEAD, false), (20_000, true), (20_002, false)];
+
+/// Bytes of the page of its third piece, by their places: the last of the piece, and the first
+/// behind it, which is as it was.
+const BYTES: [(usize, u8); 2] = [(3999, 0x55), (4000, 0xee)];
+
+/// The calls of a load of it, where one fails: behind the one that asks for the size it reads four
+/// pages, and there is no sixth.
+const CALLS: [(u64, Option<OpenFault>); 5] = [
+    (1, Some(OpenFault::Device)),
+    (2, Some(OpenFault::Device)),
+    (3, Some(OpenFault::Device)),
+    (4, Some(OpenFault::Device)),
+    (5, None),
+];
+
+/// A device of eight log pages.
+fn eight_pages(alloc: Global) -> Result<MemDevice, Fail> {
+    Ok(MemDevice::new(alloc, filled_pages(alloc, 8, 0x55)?)?)
+}
+
+/// Loads the log from such a device.
+fn load_part(alloc: Global, device: &mut MemDevice) -> Result<Result<Log, OpenFault>, Fail> {
+    load(alloc, device, 8, HEAD, END, &Tail::from_slice(LAST))
+}
+
 #[test]
-fn a_load_reads_the_pages_of_its_pieces_alone(rt: HostRuntime) -> Result<(), Fail> {
-    let alloc = rt.alloc();
-    let tail = Tail::from_slice(b"\x09\0\x09");
-    let pages = vec![in alloc; [0x55u8; 4096]; 8]?;
-    let mut device = MemDevice::new(alloc, pages)?;
-    let log = load(alloc, &mut device, 8, 4003, 20_003, &tail)??;
-    assert_eq!(rt; log.free(), 19_996);
-    assert!(rt; try_at(&log, 4003)?.is_none());
-    assert!(rt; try_at(&log, 20_000)?.is_some());
-    assert!(rt; try_at(&log, 20_002)?.is_none());
+fn a_load_has_what_its_pages_have(rt: HostRuntime) -> Result<(), Fail> {
+    let log = load_part(rt.alloc(), &mut eight_pages(rt.alloc())?)??;
+    assert_same(&log.free(), &19_996, "the free bytes")?;
+    for (position, want) in POSITIONS {
+        let found = try_at(&log, position)?.is_some();
+        assert_same(&found, &want, ("position", position))?;
+    }
     let mut page = [0xee; 4096];
     piece(&log, 2, &mut page)?;
-    assert_eq!(rt; page[3999], 0x55);
-    assert_eq!(rt; page[4000], 0xee);
-    let mut device = device.failing_at(vec![in alloc; 10]?);
-    assert!(rt; load(alloc, &mut device, 8, 4003, 20_003, &tail)?.is_ok());
-    let mut device = device.failing_at(vec![in alloc; 14]?);
-    let refused = load(alloc, &mut device, 8, 4003, 20_003, &tail)?;
-    assert!(rt; matches!(refused, Err(OpenFault::Device)));
+    for (at, want) in BYTES {
+        assert_same(&page.get(at), &Some(&want), ("byte", at))?;
+    }
+    Ok(())
+}
+
+#[test]
+fn a_load_reads_the_pages_of_its_pieces_alone(rt: HostRuntime) -> Result<(), Fail> {
+    for (call, want) in CALLS {
+        let mut device = failing_at(rt.alloc(), eight_pages(rt.alloc())?, call)?;
+        let fault = load_part(rt.alloc(), &mut device)?.err();
+        assert_same(&fault, &want, ("call", call))?;
+    }
     Ok(())
 }

@@ -16,6 +16,12 @@ const OVERFLOW: PageKey = PageKey {
     number: 5,
 };
 
+const IMAGE: PageKey = PageKey {
+    segment: 1,
+    space: Space::Image,
+    number: 5,
+};
+
 /// A home page: a body of 9 bytes at slot 0, one of 3,047 bytes at slot 1, and a forward at slot
 /// 127.
 fn sound() -> Page {
@@ -89,13 +95,72 @@ fn each_kind_of_malformed_page_is_told(rt: HostRuntime) -> Result<(), Fail> {
     Ok(())
 }
 
-#[test]
-fn a_body_in_the_midst_of_another_is_told(rt: HostRuntime) -> Result<(), Fail> {
+/// Bytes that are put in the place of others, and whether the page is well-formed under a key then.
+struct Row {
+    name: &'static str,
+    at: usize,
+    bytes: &'static [u8],
+    key: PageKey,
+    want: bool,
+}
+
+/// Of two bodies one begins in the midst of the other.
+const BODIES: [Row; 2] = [
+    Row {
+        name: "two bodies",
+        at: 32,
+        bytes: &[1, 0, 8, 0, 0, 5, 0, 0],
+        key: HOME,
+        want: false,
+    },
+    Row {
+        name: "one of them",
+        at: 24,
+        bytes: &[0; 8],
+        key: HOME,
+        want: true,
+    },
+];
+
+/// The page is that of another space.
+const SPACES: [Row; 4] = [
+    Row {
+        name: "an overflow page with a forward",
+        at: 0,
+        bytes: &[2],
+        key: OVERFLOW,
+        want: false,
+    },
+    Row {
+        name: "an overflow page with no forward",
+        at: 1032,
+        bytes: &[0; 8],
+        key: OVERFLOW,
+        want: true,
+    },
+    Row {
+        name: "an overflow page as a home page",
+        at: 0,
+        bytes: &[2],
+        key: HOME,
+        want: false,
+    },
+    Row {
+        name: "an image page",
+        at: 0,
+        bytes: &[3],
+        key: IMAGE,
+        want: false,
+    },
+];
+
+/// Does so to a sound page, one after another.
+fn assert_patched(patches: &[Row]) -> Result<(), Fail> {
     let mut page = sound();
-    patch(&mut page, 32, &[1, 0, 8, 0, 0, 5, 0, 0])?;
-    assert_same(&well_formed(&page, HOME), &false, "two bodies")?;
-    patch(&mut page, 24, &[0; 8])?;
-    assert_same(&well_formed(&page, HOME), &true, "one of them")?;
+    for row in patches {
+        patch(&mut page, row.at, row.bytes)?;
+        assert_same(&well_formed(&page, row.key), &row.want, row.name)?;
+    }
     Ok(())
 }
 
@@ -126,19 +191,11 @@ fn bodies_in_another_order_than_their_slots_are_told_apart(rt: HostRuntime) -> R
 }
 
 #[test]
-fn an_overflow_page_has_no_forward(rt: HostRuntime) -> Result<(), Fail> {
-    let mut page = sound();
-    patch(&mut page, 0, &[2])?;
-    assert_same(&well_formed(&page, OVERFLOW), &false, "a forward")?;
-    patch(&mut page, 1032, &[0; 8])?;
-    assert_same(&well_formed(&page, OVERFLOW), &true, "no forward")?;
-    assert_same(&well_formed(&page, HOME), &false, "another space")?;
-    patch(&mut page, 0, &[3])?;
-    let image = PageKey {
-        segment: 1,
-        space: Space::Image,
-        number: 5,
-    };
-    assert_same(&well_formed(&page, image), &false, "an image page")?;
-    Ok(())
+fn a_body_in_the_midst_of_another_is_told() -> Result<(), Fail> {
+    assert_patched(&BODIES)
+}
+
+#[test]
+fn an_overflow_page_has_no_forward() -> Result<(), Fail> {
+    assert_patched(&SPACES)
 }

@@ -1,6 +1,5 @@
 // Numbers that are found by their size, against a plain scan.
-use crate::draws::Draws;
-use rss_asserts::assert_same;
+use rss_asserts::{Draws, assert_same};
 use rss_maxima::{Maxima, NUMBERS_MOST};
 use std::test::Fail;
 
@@ -63,17 +62,28 @@ fn the_first_number_is_that_of_a_scan(rt: HostRuntime) -> Result<(), Fail> {
     Ok(())
 }
 
+/// One number of 7 at a place is found exactly where it is looked for from that place or before, by
+/// no more than 7.
+fn assert_alone(numbers: &Maxima, place: usize) -> Result<(), Fail> {
+    for (from, least, want) in [
+        (0, 7, Some(place)),
+        (place, 7, Some(place)),
+        (place.saturating_add(1), 1, None),
+        (0, 8, None),
+    ] {
+        let found = numbers.first(from, least);
+        assert_same(&found, &want, (place, "from", from, "least", least))?;
+    }
+    Ok(())
+}
+
 #[test]
 fn one_number_is_found_wherever_it_stands(rt: HostRuntime) -> Result<(), Fail> {
     let mut numbers = Maxima::new(rt.alloc(), NUMBERS_MOST)?;
     for step in 0..63usize {
-        let place = step * 1041;
-        set(&mut numbers, place, 7);
-        assert_same(&numbers.first(0, 7), &Some(place), place)?;
-        assert_same(&numbers.first(place, 7), &Some(place), place)?;
-        assert_same(&numbers.first(place + 1, 1), &None, place)?;
-        assert_same(&numbers.first(0, 8), &None, place)?;
-        set(&mut numbers, place, 0);
+        set(&mut numbers, step * 1041, 7);
+        assert_alone(&numbers, step * 1041)?;
+        set(&mut numbers, step * 1041, 0);
     }
     Ok(())
 }

@@ -1,8 +1,7 @@
 // Pages that are filled, emptied and filled again, against a plain list.
-use crate::draws::Draws;
 use crate::plain::{Held, Plain, assert_holds, byte_at, bytes_of, has_room};
 use crate::slotted::{ENTRIES, Slotted};
-use rss_asserts::assert_same;
+use rss_asserts::{Draws, assert_same};
 use std::test::Fail;
 
 /// The bytes of the longest body.
@@ -29,11 +28,8 @@ fn put(
     }
     let fits = has_room(plain, slot, usize::from(length));
     assert_same(&page.fits(slot, length), &fits, (slot, length))?;
-    assert_same(
-        &page.put(slot, &buffer[..usize::from(length)]),
-        &fits,
-        (slot, length),
-    )?;
+    let is_put = page.put(slot, &buffer[..usize::from(length)]);
+    assert_same(&is_put, &fits, (slot, length, "put"))?;
     if fits {
         plain[usize::from(slot)] = Held::Here { length, first };
     }
@@ -87,6 +83,14 @@ fn a_page_holds_what_a_plain_list_holds(rt: HostRuntime) -> Result<(), Fail> {
     Ok(())
 }
 
+/// By slot and length, whether a body fits where the longest one stands at slot 5.
+const BESIDE_LONGEST: [(u8, u16, bool); 4] = [
+    (6, 0, true),
+    (6, 1, false),
+    (5, 3056, true),
+    (5, 3057, false),
+];
+
 #[test]
 fn a_body_of_each_length_fits_alone(rt: HostRuntime) -> Result<(), Fail> {
     let mut page = Slotted::new();
@@ -96,10 +100,9 @@ fn a_body_of_each_length_fits_alone(rt: HostRuntime) -> Result<(), Fail> {
         assert_same(&bytes_of(&plain), &u32::from(length), length)?;
     }
     assert_holds(&page, &plain, 3056)?;
-    assert_same(&page.fits(6, 0), &true, 0)?;
-    assert_same(&page.fits(6, 1), &false, 1)?;
-    assert_same(&page.fits(5, 3056), &true, 3056)?;
-    assert_same(&page.fits(5, 3057), &false, 3057)?;
+    for (slot, length, want) in BESIDE_LONGEST {
+        assert_same(&page.fits(slot, length), &want, (slot, length))?;
+    }
     Ok(())
 }
 

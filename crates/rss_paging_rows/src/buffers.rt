@@ -1,12 +1,11 @@
 // Pages over a device and in memory, as they run.
 use crate::caller::keep;
-use crate::harness::{
-    failing_at, first_root, home, image_at, is_half_free, page_at, pages_with_root,
-};
+use crate::harness::{first_root, home, is_half_free, page_at, pages_with_root};
 use rss_asserts::{assert_same, assert_same_slices};
 use rss_base::{Page, PageFault, PageKey, Pages, Space, log_at};
 use rss_buffer::{Buffer, Saving, Stage};
 use rss_device::{MemDevice, MemPages, Unsynced};
+use rss_images::{UNSYNCED, copy_of_pages, failing_at, image_at};
 use rss_pagemap::read_table;
 use rss_root::load;
 use std::alloc::Global;
@@ -37,13 +36,21 @@ type Rounds = [Option<u8>; KEPT];
 
 const FIRST_ROUND: Rounds = [Some(1); KEPT];
 
-/// What a stop may leave of the pages that were not synced. Of a selector the fill of 0 names
-/// root 1, and the fill of 255 names root 2.
-const UNSYNCED: [Unsynced; 4] = [
-    Unsynced::Old,
-    Unsynced::New,
-    Unsynced::Filled(0),
-    Unsynced::Filled(255),
+/// Reads where the device's second one fails: the page that is read, and whether it is found.
+const READS_OF_TWO: [(&str, u32, bool); 6] = [
+    ("once", 0, true),
+    ("twice", 0, true),
+    ("three times", 0, true),
+    ("the second read of the device", 1, false),
+    ("its third read", 1, true),
+    ("at last", 0, true),
+];
+
+/// Reads behind those of nine pages, where the device's tenth one fails. The first page is in
+/// memory and the second isn't, which wasn't used for the longest time.
+const READS_AFTER_NINE: [(&str, u32, bool); 2] = [
+    ("the first page", 0, true),
+    ("the second page", 1, false),
 ];
 
 /// Why something wasn't done to pages.
@@ -345,8 +352,7 @@ fn first_device(alloc: Global) -> Result<MemDevice, Fail> {
 
 /// The pages of that device.
 fn first_store(alloc: Global) -> Result<Vec<Page>, Fail> {
-    let device = first_device(alloc)?;
-    Ok(Vec::from_slice(alloc, device.pages())?)
+    Ok(copy_of_pages(alloc, &first_device(alloc)?)?)
 }
 
 /// A device of these pages.
@@ -490,28 +496,16 @@ fn assert_fails<S: Saving>(pages: &mut S, call: u64) -> Result<(), Fail> {
     Ok(())
 }
 
-/// Reads a page, and finds it as it was written in the first round.
-fn assert_read<P: Pages>(pages: &mut P, number: u32, when: &str) -> Result<(), Fail> {
-    let page = read(pages, home(1, number));
-    assert_same(&page, &Ok(page_of(number, 1)), when)?;
-    Ok(())
-}
-
-/// Reads a page, and the device fails.
-fn assert_unread<P: Pages>(pages: &mut P, number: u32, when: &str) -> Result<(), Fail> {
-    let page = read(pages, home(1, number));
-    assert_same(&page, &Err(Undone::Fault(PageFault::Device)), when)?;
-    Ok(())
-}
-
-/// Reads a page three times, and then another one, where the device's second read fails.
-fn assert_read_once<P: Pages>(pages: &mut P) -> Result<(), Fail> {
-    for when in ["once", "twice", "three times"] {
-        assert_read(pages, 0, when)?;
+/// Reads these pages, and finds each as it was written in the first round, or the device fails.
+fn assert_reads<P: Pages>(pages: &mut P, reads: &[(&str, u32, bool)]) -> Result<(), Fail> {
+    for (when, number, is_read) in reads {
+        let want = if *is_read {
+            Ok(page_of(*number, 1))
+        } else {
+            Err(Undone::Fault(PageFault::Device))
+        };
+        assert_same(&read(pages, home(1, *number)), &want, *when)?;
     }
-    assert_unread(pages, 1, "the second read of the device")?;
-    assert_read(pages, 1, "its third read")?;
-    assert_read(pages, 0, "at last")?;
     Ok(())
 }
 
@@ -522,12 +516,13 @@ fn read_nine_pages<P: Pages>(pages: &mut P) -> Result<(), Undone> {
     read_pages(pages, 8, 9)
 }
 
-/// Reads nine pages so, where the device's tenth read fails. The first is then in memory and the second isn't, which wasn't used for the longest time.
-fn assert_eldest_leaves<P: Pages>(pages: &mut P) -> Result<(), Fail> {
+/// Reads nine pages so, and then these.
+fn assert_reads_after_nine<P: Pages>(
+    pages: &mut P,
+    reads: &[(&str, u32, bool)],
+) -> Result<(), Fail> {
     read_nine_pages(pages)?;
-    assert_read(pages, 0, "the first page")?;
-    assert_unread(pages, 1, "the second page")?;
-    Ok(())
+    assert_reads(pages, reads)
 }
 
 /// Reads all pages twice.
@@ -583,13 +578,11 @@ fn assert_pieces(alloc: Global, store: &[Page]) -> Result<(), Fail> {
 
 /// The first and the last log page are as they were written on the way, and so are all pages.
 fn assert_saved_with_pieces(alloc: Global, device: &MemDevice) -> Result<(), Fail> {
-    assert_same(&page_at(device, LOG_AT)?, &[7; 4096], "the first log page")?;
-    assert_same(
-        &page_at(device, LOG_AT + 7)?,
-        &[8; 4096],
-        "the last log page",
-    )?;
-    let rounds = rounds_in(alloc, Vec::from_slice(alloc, device.pages())?)?;
+    for (number, byte) in [(0, 7), (7, 8)] {
+        let page = page_at(device, LOG_AT + number)?;
+        assert_same(&page, &[byte; 4096], ("log page", number))?;
+    }
+    let rounds = rounds_in(alloc, copy_of_pages(alloc, device)?)?;
     assert_same_slices(&rounds, &second_round(), "the pages")?;
     Ok(())
 }
@@ -686,8 +679,7 @@ fn a_second_save_has_no_further_call_of_the_device(rt: HostRuntime) -> Result<()
 #[test]
 fn a_page_in_memory_is_not_read_again(rt: HostRuntime) -> Result<(), Fail> {
     let mut pages = open_first(rt.alloc(), OPENING + 1)?;
-    assert_read_once(&mut pages)?;
-    Ok(())
+    assert_reads(&mut pages, &READS_OF_TWO)
 }
 
 #[test]
@@ -695,7 +687,7 @@ fn the_page_that_was_not_used_for_the_longest_time_leaves_memory(
     rt: HostRuntime,
 ) -> Result<(), Fail> {
     let mut pages = open_first(rt.alloc(), OPENING + 9)?;
-    assert_eldest_leaves(&mut pages)
+    assert_reads_after_nine(&mut pages, &READS_AFTER_NINE)
 }
 
 #[test]

@@ -3,7 +3,7 @@ use crate::buffers::{
     FIRST_SAVE, OPENING, SLOTS, Undone, device_after, do_steps, empty, give, open, open_first,
     page_of, write,
 };
-use crate::harness::home;
+use crate::harness::{home, key_of};
 use rss_asserts::assert_same;
 use rss_base::{Page, PageKey, Pages, Space};
 use rss_buffer::Saving;
@@ -53,14 +53,6 @@ const FIRSTS: [(u32, Option<u32>, Option<u32>); 8] = [
     (128, None, None),
 ];
 
-fn key_of(space: Space, number: u32) -> PageKey {
-    PageKey {
-        segment: 1,
-        space,
-        number,
-    }
-}
-
 /// Takes a page of segment 1, where one can be taken.
 fn take<P: Pages>(pages: &mut P, space: Space) -> Result<u32, Undone> {
     if pages.spare() == 0 || space == Space::System {
@@ -108,9 +100,9 @@ fn do_act<P: Pages>(pages: &mut P, space: Space, act: Act) -> Result<(), Undone>
             take(pages, space)?;
             Ok(())
         }
-        Act::Write(number) => write(pages, key_of(space, number), &page_of(number, 1)),
-        Act::Give(number) => give(pages, key_of(space, number)),
-        Act::Note(number, noted) => note(pages, key_of(space, number), noted),
+        Act::Write(number) => write(pages, key_of(1, space, number), &page_of(number, 1)),
+        Act::Give(number) => give(pages, key_of(1, space, number)),
+        Act::Note(number, noted) => note(pages, key_of(1, space, number), noted),
     }
 }
 
@@ -135,8 +127,8 @@ fn take_some<P: Pages>(pages: &mut P) -> Result<(), Undone> {
     for _ in 0..5 {
         take(pages, Space::Image)?;
     }
-    give(pages, key_of(Space::Image, 0))?;
-    give(pages, key_of(Space::Image, 3))
+    give(pages, key_of(1, Space::Image, 0))?;
+    give(pages, key_of(1, Space::Image, 3))
 }
 
 /// Each number is answered that is wanted.

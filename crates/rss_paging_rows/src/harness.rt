@@ -3,7 +3,8 @@ ghost use Rattle.std.specs.Prelude.{◌*◌, ◌≤◌, length, IsTrue};
 ghost use Rattle.rss_base.specs.PageMap.{page_count};
 
 use rss_base::{Device, Failed, OpenFault, Page, PageKey, Root, Space, Tail, map_pages};
-use rss_device::{MemDevice, Unsynced};
+use rss_device::MemDevice;
+use rss_images::filled_pages;
 use rss_pagemap::{SlotTable, read_table};
 use rss_root::{encode, load, switch};
 use rss_shadow::Shadow;
@@ -26,11 +27,19 @@ pub(crate) fn first_root(slots: u32, area: u8) -> Root {
 
 /// So many pages. The selector names root 1, which is this one, and all others are zeros.
 pub(crate) fn pages_with_root(alloc: Global, pages: usize, root: &Root) -> Result<Vec<Page>, Fail> {
-    let mut all = vec![in alloc; [0u8; 4096]; pages]?;
+    let mut all = filled_pages(alloc, pages, 0)?;
     if let Some(page) = all.get_mut(1) {
         *page = encode(root);
     }
     Ok(all)
+}
+
+/// How many pages the device of a store of 64 slots and 8 log pages has.
+pub(crate) const SMALL_PAGES: usize = 77;
+
+/// The pages of such a store with its first root.
+pub(crate) fn small_store(alloc: Global) -> Result<Vec<Page>, Fail> {
+    pages_with_root(alloc, SMALL_PAGES, &first_root(64, 0))
 }
 
 /// Puts an entry of a map into pages: the one at this place of this page.
@@ -67,24 +76,6 @@ pub(crate) fn page_at(device: &MemDevice, at: usize) -> Result<Page, Fail> {
         Some(page) => Ok(*page),
         None => Err("a page that isn't there".into()),
     }
-}
-
-/// The device, but that this call of it fails.
-pub(crate) fn failing_at(alloc: Global, device: MemDevice, call: u64) -> Result<MemDevice, Fail> {
-    Ok(device.failing_at(vec![in alloc; call]?))
-}
-
-/// What a stop leaves at a moment, where there is such a moment.
-pub(crate) fn image_at(
-    alloc: Global,
-    device: &MemDevice,
-    moment: usize,
-    unsynced: Unsynced,
-) -> Result<Vec<Page>, Fail> {
-    if moment > device.moment() {
-        return Err("a moment that isn't there".into());
-    }
-    Ok(device.image_at(alloc, moment, unsynced)?)
 }
 
 /// Switches a device to a root, where the device has the pages of the roots and the number is that
@@ -148,12 +139,16 @@ pub(crate) fn shadow_of(alloc: Global, table: SlotTable) -> Result<Shadow, Fail>
     Ok(Shadow::new(alloc, table)?)
 }
 
-pub(crate) fn home(segment: u8, number: u32) -> PageKey {
+pub(crate) fn key_of(segment: u8, space: Space, number: u32) -> PageKey {
     PageKey {
         segment,
-        space: Space::Home,
+        space,
         number,
     }
+}
+
+pub(crate) fn home(segment: u8, number: u32) -> PageKey {
+    key_of(segment, Space::Home, number)
 }
 
 /// The two maps of a store. What asks for something of them is done where it may be done.

@@ -1,19 +1,17 @@
 // Maps, as bytes and on a device.
 use crate::harness::{
-    failing_at, first_root, load_table, others_from, page_at, pages_with_root, put_entry,
+    first_root, key_of, load_table, others_from, page_at, pages_with_root, put_entry, small_store,
     switch_from, write_to,
 };
 use rss_asserts::{assert_same, assert_same_slices};
 use rss_base::{Device, Failed, OpenFault, Page, PageKey, Place, Space};
 use rss_device::MemDevice;
+use rss_images::{failing_at, filled_pages, turn};
 use rss_pagemap::SlotTable;
 use std::alloc::Global;
 use std::test::Fail;
 
 type Entry = [u8; 8];
-
-/// How many pages the device of a store of 64 slots has. Page 3 holds its map area 0.
-const PAGES: usize = 77;
 
 /// The page of the system space that has the greatest number.
 const LAST_SYSTEM: PageKey = PageKey {
@@ -22,40 +20,20 @@ const LAST_SYSTEM: PageKey = PageKey {
     number: 9,
 };
 
-/// The bytes of a map area that aren't 0, where slot 9 has that page, by their places.
-const OF_LAST_SYSTEM: [(usize, u8); 2] = [(72, 4), (79, 9)];
+/// The pages of both map areas, and their bytes that aren't 0, by their places, where slot 9 has
+/// that page in area 0.
+const AREAS: [(usize, &[(usize, u8)]); 2] = [(3, &[(72, 4), (79, 9)]), (4, &[])];
 
 /// The entry of slot 0 in the tests of single entries: home page 0 of segment 1.
 const FIRST: Entry = [1, 1, 0, 0, 0, 0, 0, 0];
 
-/// Entries of a map of 64 slots, and the pages that they spell.
-const SOUND: [(Entry, Option<PageKey>); 5] = [
+/// Entries of a map of 64 slots, and the pages that they spell by segment, space and number.
+const SOUND: [(Entry, Option<(u8, Space, u32)>); 5] = [
     ([0, 0, 0, 0, 0, 0, 0, 0], None),
-    (
-        [1, 8, 0, 0, 0, 0, 0, 63],
-        Some(PageKey {
-            segment: 8,
-            space: Space::Home,
-            number: 63,
-        }),
-    ),
-    (
-        [2, 1, 0, 0, 0, 0, 0, 0],
-        Some(PageKey {
-            segment: 1,
-            space: Space::Overflow,
-            number: 0,
-        }),
-    ),
-    (
-        [3, 1, 0, 0, 0, 0, 0, 0],
-        Some(PageKey {
-            segment: 1,
-            space: Space::Image,
-            number: 0,
-        }),
-    ),
-    ([4, 0, 0, 0, 0, 0, 0, 9], Some(LAST_SYSTEM)),
+    ([1, 8, 0, 0, 0, 0, 0, 63], Some((8, Space::Home, 63))),
+    ([2, 1, 0, 0, 0, 0, 0, 0], Some((1, Space::Overflow, 0))),
+    ([3, 1, 0, 0, 0, 0, 0, 0], Some((1, Space::Image, 0))),
+    ([4, 0, 0, 0, 0, 0, 0, 9], Some((0, Space::System, 9))),
 ];
 
 /// Entries that are none, in a map of 64 slots.
@@ -106,25 +84,17 @@ fn bytes_at(alloc: Global, device: &MemDevice, at: usize) -> Result<Vec<(usize, 
 
 /// The device of a store of 64 slots whose slot 0 has a page, and another slot this entry.
 fn device_with(alloc: Global, slot: u32, entry: Entry) -> Result<MemDevice, Fail> {
-    let mut pages = pages_with_root(alloc, PAGES, &first_root(64, 0))?;
+    let mut pages = small_store(alloc)?;
     put_entry(pages.as_mut_slice(), 3, 0, FIRST)?;
     put_entry(pages.as_mut_slice(), 3, slot as usize, entry)?;
     Ok(MemDevice::new(alloc, pages)?)
 }
 
-/// The same pages, but that a byte of the map area isn't 0.
-fn put_byte(pages: &mut [Page], offset: usize) -> Result<(), Fail> {
-    put_entry(pages, 3, 0, FIRST)?;
-    let page = pages.get_mut(3).ok_or("a page that isn't there")?;
-    let byte = page.get_mut(offset).ok_or("a byte that isn't there")?;
-    *byte = 1;
-    Ok(())
-}
-
-/// The device of a store of 64 slots whose slot 0 has a page, and that has such a byte.
+/// The same device, but that slot 0 alone has an entry, and a byte of the map area isn't 0.
 fn device_with_byte(alloc: Global, offset: usize) -> Result<MemDevice, Fail> {
-    let mut pages = pages_with_root(alloc, PAGES, &first_root(64, 0))?;
-    put_byte(pages.as_mut_slice(), offset)?;
+    let mut pages = small_store(alloc)?;
+    put_entry(pages.as_mut_slice(), 3, 0, FIRST)?;
+    turn(pages.as_mut_slice(), 3, offset, 1)?;
     Ok(MemDevice::new(alloc, pages)?)
 }
 
@@ -184,29 +154,19 @@ fn table_of_last_system(alloc: Global) -> Result<SlotTable, Fail> {
 
 /// The device of a store of 64 slots with this table in area 0.
 fn device_of(alloc: Global, table: &SlotTable) -> Result<MemDevice, Fail> {
-    let pages = pages_with_root(alloc, PAGES, &first_root(64, 0))?;
-    let mut device = MemDevice::new(alloc, pages)?;
+    let mut device = MemDevice::new(alloc, small_store(alloc)?)?;
     write_to(&mut device, table, 0)??;
     Ok(device)
-}
-
-/// A page of a device has these bytes that aren't 0.
-fn assert_bytes(
-    alloc: Global,
-    device: &MemDevice,
-    at: usize,
-    want: &[(usize, u8)],
-) -> Result<(), Fail> {
-    let bytes = bytes_at(alloc, device, at)?;
-    assert_same_slices(bytes.as_slice(), want, ("page", at))?;
-    Ok(())
 }
 
 /// Both areas of a device on which a table was written to area 0.
 fn assert_areas(alloc: Global, table: &SlotTable) -> Result<(), Fail> {
     let device = device_of(alloc, table)?;
-    assert_bytes(alloc, &device, 3, &OF_LAST_SYSTEM)?;
-    assert_bytes(alloc, &device, 4, &[])
+    for (at, want) in &AREAS {
+        let bytes = bytes_at(alloc, &device, *at)?;
+        assert_same_slices(bytes.as_slice(), want, ("page", *at))?;
+    }
+    Ok(())
 }
 
 /// An entry is read as its page in each of the slots.
@@ -239,8 +199,8 @@ const WRITE_CALLS: [(u64, Result<(), Failed>); 4] = [
 
 /// A device of nine pages of which this call fails.
 fn nine_pages(alloc: Global, call: u64) -> Result<MemDevice, Fail> {
-    let pages = vec![in alloc; [0u8; 4096]; 9]?;
-    failing_at(alloc, MemDevice::new(alloc, pages)?, call)
+    let device = MemDevice::new(alloc, filled_pages(alloc, 9, 0)?)?;
+    Ok(failing_at(alloc, device, call)?)
 }
 
 /// Writes a table to a device of which this call fails.
@@ -274,7 +234,8 @@ fn an_entry_has_the_bytes_of_its_format(rt: HostRuntime) -> Result<(), Fail> {
 #[test]
 fn a_sound_entry_is_read_as_its_page(rt: HostRuntime) -> Result<(), Fail> {
     for (entry, want) in &SOUND {
-        assert_sound(rt.alloc(), *entry, *want)?;
+        let want = want.map(|(segment, space, number)| key_of(segment, space, number));
+        assert_sound(rt.alloc(), *entry, want)?;
     }
     Ok(())
 }
@@ -396,11 +357,8 @@ fn first_other(table: &SlotTable) -> Option<usize> {
 fn assert_read<D: Device>(alloc: Global, device: &mut D, area: u8) -> Result<SlotTable, Fail> {
     let table = load_table(alloc, device)?;
     assert_same(&table.slots(), &65_536, ("slots in area", area))?;
-    assert_same(
-        &first_other(&table),
-        &None,
-        ("as it was read from area", area),
-    )?;
+    let other = first_other(&table);
+    assert_same(&other, &None, ("as it was read from area", area))?;
     Ok(table)
 }
 

@@ -1,8 +1,11 @@
 // Roots, as bytes and on a device.
-use crate::harness::{failing_at, first_root, image_at, others_from, pages_with_root, switch_from};
+use crate::harness::{
+    SMALL_PAGES, first_root, others_from, pages_with_root, small_store, switch_from,
+};
 use rss_asserts::{assert_same, assert_same_slices};
 use rss_base::{Device, Failed, OpenFault, Page, Place, Root, Tail};
 use rss_device::{MemDevice, Unsynced};
+use rss_images::{UNSYNCED, copy_of_pages, failing_at, image_at, turn};
 use rss_root::{decode, encode, load};
 use std::alloc::Global;
 use std::test::Fail;
@@ -15,9 +18,6 @@ const FRONT: [u8; 24] = [
 
 /// Its other bytes that aren't 0, by their places.
 const REST: [(usize, u8); 2] = [(47, 2), (96, 9)];
-
-/// How many pages the device of that store has.
-const PAGES: usize = 77;
 
 /// What is compared of a root that was loaded: its number, its area, its checkpoint, its end and the
 /// first byte of its tail.
@@ -38,37 +38,16 @@ const LOADS: Loaded = Loaded {
     first: 9,
 };
 
-const OTHER_AREA: Loaded = Loaded {
-    number: 1,
-    area: 1,
-    checkpoint: 0,
-    end: 2,
-    first: 9,
-};
+const OTHER_AREA: Loaded = Loaded { area: 1, ..LOADS };
 
 const LATER_CHECKPOINT: Loaded = Loaded {
-    number: 1,
-    area: 0,
     checkpoint: 1,
-    end: 2,
-    first: 9,
+    ..LOADS
 };
 
-const LATER_END: Loaded = Loaded {
-    number: 1,
-    area: 0,
-    checkpoint: 0,
-    end: 3,
-    first: 9,
-};
+const LATER_END: Loaded = Loaded { end: 3, ..LOADS };
 
-const OTHER_TAIL: Loaded = Loaded {
-    number: 1,
-    area: 0,
-    checkpoint: 0,
-    end: 2,
-    first: 8,
-};
+const OTHER_TAIL: Loaded = Loaded { first: 8, ..LOADS };
 
 type Answer = Result<Loaded, OpenFault>;
 
@@ -143,33 +122,27 @@ enum Found {
     After,
 }
 
-/// What a stop may leave of the pages that were not synced. Of a selector the fill of 0 names
-/// root 1, and the fill of 255 names root 2.
-const UNSYNCED: [Unsynced; 4] = [
-    Unsynced::Old,
-    Unsynced::New,
-    Unsynced::Filled(0),
-    Unsynced::Filled(255),
-];
+/// What a load finds after a stop, for each of `UNSYNCED`.
+type Finds = [Found; 4];
 
-/// A moment of two switches, the one from root 1 and then the one back, and what a load finds after a
-/// stop then, for each of `UNSYNCED`.
-#[derive(Drop)]
-struct Stop {
-    when: &'static str,
-    moment: usize,
-    finds: [Found; 4],
-}
+const OLD_ROOT: Finds = [Found::Before; 4];
+
+const NEW_ROOT: Finds = [Found::After; 4];
+
+/// The same while a selector isn't synced that names root 2, or one that names root 1.
+const TO_2_UNSYNCED: Finds = [Found::Before, Found::After, Found::Before, Found::After];
+
+const TO_1_UNSYNCED: Finds = [Found::Before, Found::After, Found::After, Found::Before];
 
 /// A switch: the number of the root before it, the ends of the logs of both roots, and what a stop
-/// at each of its moments leaves.
-#[derive(Drop)]
+/// leaves at each of its moments, of the two switches that follow one another.
+#[derive(Clone, Copy)]
 struct Switch {
     name: &'static str,
     valid: u8,
     before: u64,
     after: u64,
-    stops: [Stop; 5],
+    stops: [(&'static str, usize, Finds); 5],
 }
 
 const TO_ROOT_2: Switch = Switch {
@@ -178,31 +151,11 @@ const TO_ROOT_2: Switch = Switch {
     before: 2,
     after: 3,
     stops: [
-        Stop {
-            when: "entry",
-            moment: 0,
-            finds: [Found::Before; 4],
-        },
-        Stop {
-            when: "root 2 written",
-            moment: 1,
-            finds: [Found::Before; 4],
-        },
-        Stop {
-            when: "root 2 synced",
-            moment: 2,
-            finds: [Found::Before; 4],
-        },
-        Stop {
-            when: "the selector written",
-            moment: 3,
-            finds: [Found::Before, Found::After, Found::Before, Found::After],
-        },
-        Stop {
-            when: "the selector synced",
-            moment: 4,
-            finds: [Found::After; 4],
-        },
+        ("entry", 0, OLD_ROOT),
+        ("root 2 written", 1, OLD_ROOT),
+        ("root 2 synced", 2, OLD_ROOT),
+        ("the selector written", 3, TO_2_UNSYNCED),
+        ("the selector synced", 4, NEW_ROOT),
     ],
 };
 
@@ -212,31 +165,11 @@ const TO_ROOT_1: Switch = Switch {
     before: 3,
     after: 5,
     stops: [
-        Stop {
-            when: "entry",
-            moment: 4,
-            finds: [Found::Before; 4],
-        },
-        Stop {
-            when: "root 1 written",
-            moment: 5,
-            finds: [Found::Before; 4],
-        },
-        Stop {
-            when: "root 1 synced",
-            moment: 6,
-            finds: [Found::Before; 4],
-        },
-        Stop {
-            when: "the selector written",
-            moment: 7,
-            finds: [Found::Before, Found::After, Found::After, Found::Before],
-        },
-        Stop {
-            when: "the selector synced",
-            moment: 8,
-            finds: [Found::After; 4],
-        },
+        ("entry", 4, OLD_ROOT),
+        ("root 1 written", 5, OLD_ROOT),
+        ("root 1 synced", 6, OLD_ROOT),
+        ("the selector written", 7, TO_1_UNSYNCED),
+        ("the selector synced", 8, NEW_ROOT),
     ],
 };
 
@@ -276,8 +209,7 @@ fn root_between(head: u64, end: u64) -> Root {
 
 /// The device of a store of 64 slots with its first root.
 fn first_device(alloc: Global) -> Result<MemDevice, Fail> {
-    let pages = pages_with_root(alloc, PAGES, &first_root(64, 0))?;
-    Ok(MemDevice::new(alloc, pages)?)
+    Ok(MemDevice::new(alloc, small_store(alloc)?)?)
 }
 
 /// Loads the root of a device.
@@ -298,17 +230,9 @@ fn answer_in(alloc: Global, pages: Vec<Page>) -> Result<Answer, Fail> {
     Ok(answer_of(&mut device))
 }
 
-/// Turns bits of a byte of pages.
-fn turn(pages: &mut [Page], at: usize, offset: usize, bits: u8) -> Result<(), Fail> {
-    let page = pages.get_mut(at).ok_or("a page that isn't there")?;
-    let byte = page.get_mut(offset).ok_or("a byte that isn't there")?;
-    *byte ^= bits;
-    Ok(())
-}
-
 /// Loads the root of a store of which bits of a byte are turned.
 fn answer_turned(alloc: Global, at: usize, offset: usize, bits: u8) -> Result<Answer, Fail> {
-    let mut pages = pages_with_root(alloc, PAGES, &first_root(64, 0))?;
+    let mut pages = small_store(alloc)?;
     turn(pages.as_mut_slice(), at, offset, bits)?;
     answer_in(alloc, pages)
 }
@@ -320,7 +244,7 @@ fn answer_of_size(alloc: Global, size: usize) -> Result<Answer, Fail> {
 
 /// The device of a store of 64 slots of which this call fails.
 fn failing_device(alloc: Global, call: u64) -> Result<MemDevice, Fail> {
-    failing_at(alloc, first_device(alloc)?, call)
+    Ok(failing_at(alloc, first_device(alloc)?, call)?)
 }
 
 /// Loads the root of a device of which this call fails.
@@ -359,7 +283,7 @@ fn found_after(
 
 /// Which of a switch's roots is found where no stop comes.
 fn found_on(alloc: Global, device: &MemDevice, switch: &Switch) -> Result<Found, Fail> {
-    found_in(alloc, Vec::from_slice(alloc, device.pages())?, switch)
+    found_in(alloc, copy_of_pages(alloc, device)?, switch)
 }
 
 /// Stops a device at a moment.
@@ -367,19 +291,19 @@ fn assert_stop(
     alloc: Global,
     device: &MemDevice,
     switch: &Switch,
-    stop: &Stop,
+    (when, moment, finds): (&str, usize, &Finds),
 ) -> Result<(), Fail> {
-    for (unsynced, want) in UNSYNCED.iter().zip(&stop.finds) {
-        let found = found_after(alloc, device, switch, stop.moment, *unsynced)?;
-        assert_same(&found, want, (switch.name, stop.when, *unsynced))?;
+    for (unsynced, want) in UNSYNCED.iter().zip(finds) {
+        let found = found_after(alloc, device, switch, moment, *unsynced)?;
+        assert_same(&found, want, (switch.name, when, *unsynced))?;
     }
     Ok(())
 }
 
 /// Stops it at each moment of a switch.
 fn assert_stops(alloc: Global, device: &MemDevice, switch: &Switch) -> Result<(), Fail> {
-    for stop in &switch.stops {
-        assert_stop(alloc, device, switch, stop)?;
+    for (when, moment, finds) in &switch.stops {
+        assert_stop(alloc, device, switch, (when, *moment, finds))?;
     }
     Ok(())
 }
@@ -387,11 +311,8 @@ fn assert_stops(alloc: Global, device: &MemDevice, switch: &Switch) -> Result<()
 /// The writes of both switches have their moments, and after the last one comes a sync.
 fn assert_writes(device: &MemDevice) -> Result<(), Fail> {
     for (write, moment) in &WRITES {
-        assert_same(
-            &device.moment_of_write(*write),
-            &Some(*moment),
-            ("write", *write),
-        )?;
+        let found = device.moment_of_write(*write);
+        assert_same(&found, &Some(*moment), ("write", *write))?;
     }
     assert_same(&device.moment(), &8, "the last moment")?;
     Ok(())
@@ -454,7 +375,7 @@ fn a_root_has_the_bytes_of_its_format(rt: HostRuntime) -> Result<(), Fail> {
 
 #[test]
 fn each_field_turned_names_its_place(rt: HostRuntime) -> Result<(), Fail> {
-    let answer = answer_of_size(rt.alloc(), PAGES)?;
+    let answer = answer_of_size(rt.alloc(), SMALL_PAGES)?;
     assert_same(&answer, &Ok(LOADS), "as it was made")?;
     for (at, offset, bits, want) in &TURNED {
         let answer = answer_turned(rt.alloc(), *at, *offset, *bits)?;

@@ -1,10 +1,9 @@
 // The current map and the shadow map, as they run.
 use crate::harness::{
-    Counts, Firsts, Maps, first_root, home, load_table, no_pages, pages_with_root, put_entry,
-    shadow_of,
+    Counts, Firsts, Maps, home, key_of, load_table, no_pages, put_entry, shadow_of, small_store,
 };
 use rss_asserts::{assert_other, assert_same};
-use rss_base::{Device, Page, PageKey, Space};
+use rss_base::{Device, Page, Space};
 use rss_device::MemDevice;
 use rss_shadow::Shadow;
 use std::alloc::Global;
@@ -80,6 +79,23 @@ const FIRSTS_OF_MANY: [(u8, Space, u32, Option<u32>, Option<u32>); 5] = [
     (1, Space::Home, 30_000, None, Some(30_000)),
     (1, Space::Home, 65_535, None, Some(65_535)),
     (2, Space::Home, 0, None, Some(0)),
+];
+
+/// Pages that are taken one after another where home pages of segment 1 have holes: their segments,
+/// their spaces, and the numbers that they get.
+const IN_HOLES: [(u8, Space, u32); 5] = [
+    (1, Space::Home, 0),
+    (1, Space::Home, 64),
+    (1, Space::Home, 127),
+    (1, Space::Home, 130),
+    (1, Space::Home, 132),
+];
+
+/// The same of another segment, and of another space.
+const ELSEWHERE: [(u8, Space, u32); 3] = [
+    (8, Space::Home, 0),
+    (1, Space::Image, 0),
+    (1, Space::Image, 1),
 ];
 
 /// Takes home pages of segment 1. Answers the first turn whose number isn't its own.
@@ -196,7 +212,7 @@ fn maps_on<D: Device>(alloc: Global, device: &mut D) -> Result<Shadow, Fail> {
 
 /// The maps of a store of 64 slots with four pages.
 fn four_pages(alloc: Global) -> Result<Shadow, Fail> {
-    let mut pages = pages_with_root(alloc, 77, &first_root(64, 0))?;
+    let mut pages = small_store(alloc)?;
     put_four_pages(pages.as_mut_slice())?;
     let mut device = MemDevice::new(alloc, pages)?;
     maps_on(alloc, &mut device)
@@ -205,11 +221,7 @@ fn four_pages(alloc: Global) -> Result<Shadow, Fail> {
 fn assert_four_pages<M: Maps>(maps: &M) -> Result<(), Fail> {
     assert_same(&maps.counts(), &FOUR_SAVED, "the counts")?;
     for (segment, space, number, want) in &SLOTS_OF_FOUR {
-        let key = PageKey {
-            segment: *segment,
-            space: *space,
-            number: *number,
-        };
+        let key = key_of(*segment, *space, *number);
         assert_same(&maps.slot_of(key), want, key)?;
     }
     Ok(())
@@ -224,7 +236,8 @@ fn assert_firsts<M: Maps>(
             mapped: *mapped,
             unmapped: *unmapped,
         };
-        assert_same(&maps.try_firsts(*segment, *space, *from)?, &want, *from)?;
+        let found = maps.try_firsts(*segment, *space, *from)?;
+        assert_same(&found, &want, (*segment, *space, *from))?;
     }
     Ok(())
 }
@@ -262,19 +275,12 @@ fn assert_many_written<M: Maps>(alloc: Global, maps: &mut M) -> Result<(), Fail>
     Ok(())
 }
 
-fn assert_least_numbers<M: Maps>(maps: &mut M) -> Result<(), Fail> {
+/// Takes these pages, each with the least number that its segment and its space have free.
+fn assert_taken<M: Maps>(maps: &mut M, rows: &[(u8, Space, u32)]) -> Result<(), Fail> {
     take_with_holes(maps)?;
-    for want in &[0, 64, 127, 130, 132] {
-        assert_same(&maps.try_take(1, Space::Home)?, want, "the least")?;
-    }
-    Ok(())
-}
-
-fn assert_own_numbers<M: Maps>(maps: &mut M) -> Result<(), Fail> {
-    take_with_holes(maps)?;
-    assert_same(&maps.try_take(8, Space::Home)?, &0, "another segment")?;
-    for want in &[0, 1] {
-        assert_same(&maps.try_take(1, Space::Image)?, want, "another space")?;
+    for (segment, space, want) in rows {
+        let number = maps.try_take(*segment, *space)?;
+        assert_same(&number, want, (*segment, *space, *want))?;
     }
     Ok(())
 }
@@ -357,13 +363,13 @@ fn a_first_write_of_each_page_finds_a_slot_that_no_map_uses(rt: HostRuntime) -> 
 #[test]
 fn take_finds_the_least_number(rt: HostRuntime) -> Result<(), Fail> {
     let mut maps = no_pages(rt.alloc(), 256)?;
-    assert_least_numbers(&mut maps)
+    assert_taken(&mut maps, &IN_HOLES)
 }
 
 #[test]
 fn each_segment_and_each_space_has_numbers_of_its_own(rt: HostRuntime) -> Result<(), Fail> {
     let mut maps = no_pages(rt.alloc(), 256)?;
-    assert_own_numbers(&mut maps)
+    assert_taken(&mut maps, &ELSEWHERE)
 }
 
 #[test]

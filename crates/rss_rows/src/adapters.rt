@@ -1,12 +1,12 @@
 // Devices, sources, sinks and lists as they run.
 ghost use Rattle.std.specs.Prelude.{◌≡◌, ◌<◌};
 
-use crate::harness::image_at;
 use rss_asserts::{assert_same, assert_same_slices};
 use rss_base::{Device, Failed, Page, Sink, Source, Text, Tuple, Value, write_all};
 use rss_device::{
     FileDevice, MemDevice, MemSink, MemSource, ReaderSource, StoreFiles, Unsynced, WriterSink,
 };
+use rss_images::image_at;
 use std::alloc::Global;
 use std::rt::Files;
 use std::test::Fail;
@@ -14,30 +14,29 @@ use std::{env, fs, process};
 
 const TEXT: &[u8] = b"begin 1\nend 1\n";
 
-/// What a stop may leave of pages that aren't synced, and the byte that fills the second page then:
-/// before it was written, after that, and once it was synced.
-static BEFORE: [(Unsynced, u8); 1] = [(Unsynced::Filled(255), 2)];
-
-static WRITTEN: [(Unsynced, u8); 3] = [
-    (Unsynced::Old, 2),
-    (Unsynced::New, 3),
-    (Unsynced::Filled(255), 255),
+/// Stops of a device of two pages, of which the second is written and synced: the moment, what the
+/// stop leaves of a page that isn't synced, and the byte that fills the second page then.
+static STOPS: [(&str, usize, Unsynced, u8); 6] = [
+    ("entry", 0, Unsynced::Filled(255), 2),
+    ("written", 1, Unsynced::Old, 2),
+    ("written", 1, Unsynced::New, 3),
+    ("written", 1, Unsynced::Filled(255), 255),
+    ("synced", 2, Unsynced::Old, 3),
+    ("synced", 2, Unsynced::Filled(255), 3),
 ];
 
-static SYNCED: [(Unsynced, u8); 2] = [(Unsynced::Old, 3), (Unsynced::Filled(255), 3)];
-
-/// The same after a write that failed, and after the next one, which didn't.
-static TORN: [(Unsynced, u8); 3] = [
-    (Unsynced::Old, 2),
-    (Unsynced::New, 2),
-    (Unsynced::Filled(255), 255),
+/// The same of a write that fails, of the next one, which doesn't, and of a sync that fails.
+static STOPS_OF_FAILURES: [(&str, usize, Unsynced, u8); 6] = [
+    ("torn", 1, Unsynced::Old, 2),
+    ("torn", 1, Unsynced::New, 2),
+    ("torn", 1, Unsynced::Filled(255), 255),
+    ("written", 2, Unsynced::Old, 2),
+    ("written", 2, Unsynced::New, 4),
+    ("written", 2, Unsynced::Filled(255), 255),
 ];
 
-static WRITTEN_AFTER: [(Unsynced, u8); 3] = [
-    (Unsynced::Old, 2),
-    (Unsynced::New, 4),
-    (Unsynced::Filled(255), 255),
-];
+/// The writes of such a device, and the moments that they made.
+static WRITES_OF_FAILURES: [(usize, Option<usize>); 3] = [(0, Some(1)), (1, Some(2)), (2, None)];
 
 /// Puts what a source gives up to its end, read through a buffer, behind what was read before.
 fn read_on<S: Source>(source: &mut S, buffer: &mut [u8], all: &mut Vec<u8>) -> Result<(), Fail> {
@@ -166,58 +165,35 @@ fn write_second(device: &mut MemDevice, byte: u8) -> Result<(), Failed> {
     device.write(1, &page_full_of(byte))
 }
 
-/// A stop at a moment leaves these bytes in the second page.
-fn assert_images(
+/// Each stop leaves its byte in the second page.
+fn assert_stops(
     alloc: Global,
     device: &MemDevice,
-    moment: usize,
-    left: &[(Unsynced, u8)],
+    stops: &[(&str, usize, Unsynced, u8)],
 ) -> Result<(), Fail> {
-    for (unsynced, byte) in left {
-        let image = image_at(alloc, device, moment, *unsynced)?;
+    for (when, moment, unsynced, byte) in stops {
+        let image = image_at(alloc, device, *moment, *unsynced)?;
         let is_left = image.as_slice() == [page_full_of(1), page_full_of(*byte)].as_slice();
-        assert_same(&is_left, &true, (*unsynced, "at moment", moment))?;
+        assert_same(&is_left, &true, (*when, *unsynced))?;
     }
     Ok(())
 }
 
-/// Writes and syncs the second page, and stops that.
-fn assert_stops(alloc: Global, device: &mut MemDevice) -> Result<(), Fail> {
+/// Writes the second page, and syncs it.
+fn write_and_sync(device: &mut MemDevice) -> Result<(), Fail> {
     assert_same(&write_second(device, 3), &Ok(()), "the write")?;
-    let written = device.moment();
+    assert_same(&device.moment(), &1, "the write")?;
     assert_same(&device.sync(), &Ok(()), "the sync")?;
-    let synced = device.moment();
-    assert_images(alloc, device, 0, &BEFORE)?;
-    assert_images(alloc, device, written, &WRITTEN)?;
-    assert_images(alloc, device, synced, &SYNCED)?;
-    Ok(())
+    assert_same(&device.moment(), &2, "the sync")
 }
 
-/// Writes the second page, which fails, and again, and syncs it, which fails. Answers the moments of
-/// the writes.
-fn fail_calls(device: &mut MemDevice) -> Result<(usize, usize), Fail> {
+/// Writes the second page, which fails, and again, and syncs it, which fails.
+fn fail_calls(device: &mut MemDevice) -> Result<(), Fail> {
     assert_same(&write_second(device, 3), &Err(Failed), "a write")?;
-    let torn = device.moment();
+    assert_same(&device.moment(), &1, "a write")?;
     assert_same(&write_second(device, 4), &Ok(()), "the next one")?;
     assert_same(&device.sync(), &Err(Failed), "the sync")?;
-    Ok((torn, device.moment()))
-}
-
-/// The device has two writes, which made these moments.
-fn assert_two_writes(device: &MemDevice, torn: usize, written: usize) -> Result<(), Fail> {
-    assert_same(&device.moment_of_write(0), &Some(torn), "a write")?;
-    assert_same(&device.moment_of_write(1), &Some(written), "the next one")?;
-    assert_same(&device.moment_of_write(2), &None, "no write")?;
-    Ok(())
-}
-
-/// Does so, and stops it.
-fn assert_failures(alloc: Global, device: &mut MemDevice) -> Result<(), Fail> {
-    let (torn, written) = fail_calls(device)?;
-    assert_two_writes(device, torn, written)?;
-    assert_images(alloc, device, torn, &TORN)?;
-    assert_images(alloc, device, written, &WRITTEN_AFTER)?;
-    Ok(())
+    assert_same(&device.moment(), &2, "the sync")
 }
 
 fn push_bytes(text: &mut Text, bytes: &[u8]) -> Result<(), Fail> {
@@ -282,16 +258,19 @@ fn memory_fails_where_it_is_told_to(rt: HostRuntime) -> Result<(), Fail> {
 #[test]
 fn a_stop_leaves_unsynced_pages_open(rt: HostRuntime) -> Result<(), Fail> {
     let mut device = two_pages(rt.alloc())?;
-    assert_stops(rt.alloc(), &mut device)?;
-    Ok(())
+    write_and_sync(&mut device)?;
+    assert_stops(rt.alloc(), &device, &STOPS)
 }
 
 #[test]
 fn a_call_that_fails_brings_nothing_to_the_disk(rt: HostRuntime) -> Result<(), Fail> {
     let calls = vec![in rt.alloc(); 0, 2]?;
     let mut device = two_pages(rt.alloc())?.failing_at(calls);
-    assert_failures(rt.alloc(), &mut device)?;
-    Ok(())
+    fail_calls(&mut device)?;
+    for (write, moment) in &WRITES_OF_FAILURES {
+        assert_same(&device.moment_of_write(*write), moment, ("write", *write))?;
+    }
+    assert_stops(rt.alloc(), &device, &STOPS_OF_FAILURES)
 }
 
 #[test]

@@ -2,6 +2,7 @@
 ghost use Rattle.std.specs.Prelude.{◌≤◌, true, IfOk};
 
 use crate::adapters::{assert_three, has_three, new_path, write_two};
+use crate::harness::NEVER;
 use rss_asserts::assert_same;
 use rss_base::{Device, Failed};
 use rss_device::{FileDevice, StoreFile, StoreFiles};
@@ -25,9 +26,6 @@ enum Fault {
 }
 
 static FAULTS: [Fault; 4] = [Fault::Error, Fault::Interrupt, Fault::Short, Fault::Nothing];
-
-/// No call has this number.
-const NEVER: u64 = u64::MAX;
 
 /// The call that goes wrong, and the descriptors that files get.
 #[derive(Drop)]
@@ -94,6 +92,12 @@ impl Plan {
 struct FaultyFiles<'a, S> {
     system: &'a S,
     plan: &'a Plan,
+}
+
+impl<'a, S> FaultyFiles<'a, S> {
+    fn new(system: &'a S, plan: &'a Plan) -> Self {
+        FaultyFiles { system, plan }
+    }
 }
 
 #[derive(Drop)]
@@ -225,10 +229,7 @@ fn assert_written<S: StoreFiles<File = File> + Files + Drop>(
     fault: Fault,
 ) -> Result<(), Fail> {
     let plan = Plan::failing_at(call, fault);
-    let files = FaultyFiles {
-        system: rt,
-        plan: &plan,
-    };
+    let files = FaultyFiles::new(rt, &plan);
     let is_written = write_two(&mut FileDevice::new(&files, path)).is_ok();
     let case = ("writing", call, fault);
     assert_same(&is_written, &WRITING.goes_well(call, fault), case)?;
@@ -247,10 +248,7 @@ fn assert_read<S: StoreFiles<File = File> + Drop>(
     fault: Fault,
 ) -> Result<(), Fail> {
     let plan = Plan::failing_at(call, fault);
-    let files = FaultyFiles {
-        system: rt,
-        plan: &plan,
-    };
+    let files = FaultyFiles::new(rt, &plan);
     let read = has_three(&mut FileDevice::new(&files, path));
     let want = if READING.goes_well(call, fault) {
         Ok(true)
@@ -268,10 +266,7 @@ fn size_under<S: StoreFiles<File = File> + Drop>(
     cloned: i32,
 ) -> Result<u64, Failed> {
     let plan = Plan::with_descriptors(opened, cloned);
-    let files = FaultyFiles {
-        system: rt,
-        plan: &plan,
-    };
+    let files = FaultyFiles::new(rt, &plan);
     FileDevice::new(&files, path).size()
 }
 

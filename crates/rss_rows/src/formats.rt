@@ -1,9 +1,8 @@
 // Devices that are made stores.
-use crate::harness::{
-    ABSENT, assert_probe, assert_untouched, failing_at, has_writes, store_with_tuple,
-};
+use crate::harness::{ABSENT, assert_probe, assert_untouched, has_writes, store_with_tuple};
 use rss_asserts::{assert_same, assert_same_slices};
 use rss_device::{MemDevice, MemSink, MemSource};
+use rss_images::failing_at;
 use rss_scripts::{format_device, run_words};
 use rss_top::Status;
 use std::alloc::Global;

@@ -1,7 +1,8 @@
 // Stores in memory, and what they answer.
 use rss_asserts::{assert_same, assert_same_slices};
 use rss_base::{Device, Page, Source};
-use rss_device::{MemDevice, MemSink, MemSource, Unsynced};
+use rss_device::{MemDevice, MemSink, MemSource};
+use rss_images::copy_of_pages;
 use rss_scripts::{format_device, run_script, run_words, without_moments};
 use rss_top::Status;
 use std::alloc::Global;
@@ -13,6 +14,9 @@ pub(crate) const SMALL: u32 = 64;
 
 /// A piece that holds a whole script.
 pub(crate) const WHOLE: usize = 65_536;
+
+/// No call has this number.
+pub(crate) const NEVER: u64 = u64::MAX;
 
 /// A script with one commit, and one that tells whether it was made.
 const COMMIT: &[u8] = b"begin 1\ninsert 1 r 8\nend 1\n";
@@ -106,29 +110,7 @@ fn committed(alloc: Global) -> Result<MemDevice, Fail> {
 /// The pages of a small store with one tuple, whose value is 8.
 pub(crate) fn store_with_tuple(alloc: Global) -> Result<Vec<Page>, Fail> {
     let device = committed(alloc)?;
-    copy_of_pages(alloc, &device)
-}
-
-pub(crate) fn copy_of_pages(alloc: Global, device: &MemDevice) -> Result<Vec<Page>, Fail> {
-    Ok(Vec::from_slice(alloc, device.pages())?)
-}
-
-/// The device, but that this call of it fails.
-pub(crate) fn failing_at(alloc: Global, device: MemDevice, call: u64) -> Result<MemDevice, Fail> {
-    Ok(device.failing_at(vec![in alloc; call]?))
-}
-
-/// What a stop leaves at a moment.
-pub(crate) fn image_at(
-    alloc: Global,
-    device: &MemDevice,
-    moment: usize,
-    unsynced: Unsynced,
-) -> Result<Vec<Page>, Fail> {
-    if moment > device.moment() {
-        return Err("a moment that isn't there".into());
-    }
-    Ok(device.image_at(alloc, moment, unsynced)?)
+    Ok(copy_of_pages(alloc, &device)?)
 }
 
 /// Whether there were exactly so many writes.

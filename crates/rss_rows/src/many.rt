@@ -3,9 +3,8 @@ use crate::harness::{Row, empty_store};
 use crate::lines::{
     write_absent, write_fetched, write_fetches, write_inserted, write_inserts, write_lines,
 };
-use crate::stops::{Commit, Probe, assert_stops, run_commit};
+use crate::stops::{Commit, Probe, assert_commit};
 use rss_device::{MemDevice, Unsynced};
-use rss_scripts::without_moments;
 use std::alloc::Global;
 use std::test::Fail;
 
@@ -75,20 +74,8 @@ fn home_pages(first: u32, end: u32) -> u32 {
     (last / 128).saturating_sub(first / 128) + 1
 }
 
-/// Makes a commit over a store, and stops it. Answers the store, with no moments yet.
-fn assert_commit(
-    alloc: Global,
-    device: MemDevice,
-    commit: &Commit,
-    unsynced: Unsynced,
-) -> Result<MemDevice, Fail> {
-    let after = run_commit(alloc, device, commit)?;
-    assert_stops(alloc, &after, commit, &[unsynced])?;
-    Ok(without_moments(alloc, &after)?)
-}
-
-/// The same with the transaction of this number, counted from 0, which inserts the tuples from this
-/// place on.
+/// Commits the transaction of this number, counted from 0, which inserts the tuples from this place
+/// on, and stops it. Answers the store, with no moments yet.
 fn assert_transaction(
     alloc: Global,
     device: MemDevice,
@@ -112,7 +99,7 @@ fn assert_transaction(
         writes: home_pages(first, end) as usize + MAP_PAGES + 2,
         root: if number % 2 == 0 { 2 } else { 1 },
     };
-    assert_commit(alloc, device, &commit, unsynced)
+    assert_commit(alloc, device, &commit, &[unsynced])
 }
 
 /// Makes all transactions over an empty store, and stops each.

@@ -1,10 +1,9 @@
 // Devices that hold no store, and the places that are named.
-use crate::harness::{
-    ABSENT, PRESENT, PROBE, SMALL, copy_of_pages, empty_store, has_writes, store_with_tuple,
-};
+use crate::harness::{ABSENT, PRESENT, PROBE, SMALL, empty_store, has_writes, store_with_tuple};
 use rss_asserts::assert_same;
 use rss_base::{Page, Place, Source};
 use rss_device::{MemDevice, MemSink, MemSource};
+use rss_images::{copy_of_pages, filled_pages, turn};
 use rss_scripts::run_words;
 use rss_top::Status;
 use std::alloc::Global;
@@ -44,11 +43,20 @@ const NOT_ROOT_1: Ending = Ending::NotAStore(Place::Root(1), b"not a store root 
 
 const NOT_ROOT_2: Ending = Ending::NotAStore(Place::Root(2), b"not a store root 2\n");
 
+const NOT_SLOT_0: Ending = Ending::NotAStore(Place::Slot(0), b"not a store slot 0\n");
+
+const NOT_SLOT_1: Ending = Ending::NotAStore(Place::Slot(1), b"not a store slot 1\n");
+
+const NOT_SLOT_64: Ending = Ending::NotAStore(Place::Slot(64), b"not a store slot 64\n");
+
 const OPENS: Ending = Ending::Opens(PRESENT);
 
 const OPENS_EMPTY: Ending = Ending::Opens(ABSENT);
 
 const NO_ROOM: Ending = Ending::Damaged(Place::Room, b"damaged room\n");
+
+/// How many pages the device of a store of 64 slots has.
+const PAGES: usize = 77;
 
 /// The pages of the selector and the roots, the two maps, the first log page, the first and the last
 /// slot of the system space, that of the tuple, and one that is free.
@@ -98,25 +106,10 @@ static TURNED: [(usize, usize, u8, Ending); 34] = [
     (ROOT_2, 98, 1, NOT_ROOT_2),
     (ROOT_2, 4095, 1, NOT_ROOT_2),
     // The entries of the map, and the bytes behind the last one.
-    (
-        MAP_1,
-        0,
-        1,
-        Ending::NotAStore(Place::Slot(0), b"not a store slot 0\n"),
-    ),
-    (
-        MAP_1,
-        7,
-        1,
-        Ending::NotAStore(Place::Slot(1), b"not a store slot 1\n"),
-    ),
+    (MAP_1, 0, 1, NOT_SLOT_0),
+    (MAP_1, 7, 1, NOT_SLOT_1),
     (MAP_1, 87, 1, Ending::DamagedSomewhere),
-    (
-        MAP_1,
-        512,
-        1,
-        Ending::NotAStore(Place::Slot(64), b"not a store slot 64\n"),
-    ),
+    (MAP_1, 512, 1, NOT_SLOT_64),
     // The pages of the system space, and the page of the tuple: its mark, its count, its value and
     // the zeros behind it.
     (FIRST_SYSTEM, 0, 1, Ending::DamagedSomewhere),
@@ -135,14 +128,6 @@ static TURNED: [(usize, usize, u8, Ending); 34] = [
     // That bit selects the other root, which is that of the empty store.
     (SELECTOR, 0, 1, OPENS_EMPTY),
 ];
-
-/// Turns bits of a byte of pages.
-fn turn(pages: &mut [Page], at: usize, offset: usize, bits: u8) -> Result<(), Fail> {
-    let page = pages.get_mut(at).ok_or("a page that isn't there")?;
-    let byte = page.get_mut(offset).ok_or("a byte that isn't there")?;
-    *byte ^= bits;
-    Ok(())
-}
 
 /// The pages of a store with one tuple, with bits of a byte turned.
 fn turned(alloc: Global, at: usize, offset: usize, bits: u8) -> Result<Vec<Page>, Fail> {
@@ -169,18 +154,35 @@ fn mapped(alloc: Global, homes: u8) -> Result<Vec<Page>, Fail> {
     Ok(pages)
 }
 
-/// A store with one tuple and a page more.
-fn a_page_more(alloc: Global) -> Result<Vec<Page>, Fail> {
-    let mut pages = store_with_tuple(alloc)?;
-    pages.push([0; 4096])?;
-    Ok(pages)
+/// What the pages of a device have.
+#[derive(Clone, Copy, Debug)]
+enum Held {
+    Zeros,
+    /// A store with one tuple, and zeros behind it where there are more pages.
+    Store,
 }
 
-/// A store with one tuple and a page less.
-fn a_page_less(alloc: Global) -> Result<Vec<Page>, Fail> {
-    let mut pages = store_with_tuple(alloc)?;
-    let _ = pages.pop();
-    Ok(pages)
+/// Devices of another size than that of a store, and one that is no store: what they hold, how many
+/// pages they have, and how the probe ends.
+static SIZES: [(Held, usize, Ending); 6] = [
+    (Held::Zeros, 0, NOT_THE_SIZE),
+    (Held::Zeros, 1, NOT_THE_SIZE),
+    (Held::Zeros, 2, NOT_THE_SIZE),
+    (Held::Store, PAGES + 1, NOT_THE_SIZE),
+    (Held::Store, PAGES - 1, NOT_THE_SIZE),
+    (Held::Zeros, PAGES, NOT_ROOT_1),
+];
+
+/// So many pages that hold this.
+fn pages_with(alloc: Global, held: Held, count: usize) -> Result<Vec<Page>, Fail> {
+    match held {
+        Held::Zeros => Ok(filled_pages(alloc, count, 0)?),
+        Held::Store => {
+            let mut pages = store_with_tuple(alloc)?;
+            pages.resize(count, [0; 4096])?;
+            Ok(pages)
+        }
+    }
 }
 
 /// Runs the probe. Where it is refused, it is to have read nothing.
@@ -202,46 +204,30 @@ fn assert_ending<C: Debug + Copy>(
     Ok(())
 }
 
-/// Runs the probe over so many zeros.
-fn assert_zeros(alloc: Global, pages: usize, ending: &Ending) -> Result<(), Fail> {
-    let zeros = vec![in alloc; [0; 4096]; pages]?;
-    assert_ending(alloc, zeros, ending, ("zeros", pages))
-}
-
-/// Runs the probe over a store of which bits of a byte are turned.
-fn assert_turned(
-    alloc: Global,
-    (at, offset, bits): (usize, usize, u8),
-    ending: &Ending,
-) -> Result<(), Fail> {
-    let pages = turned(alloc, at, offset, bits)?;
-    assert_ending(alloc, pages, ending, ("page and byte", at, offset))
-}
-
 #[test]
 fn a_device_of_another_size_is_no_store(rt: HostRuntime) -> Result<(), Fail> {
-    for pages in &[0, 1, 2] {
-        assert_zeros(rt.alloc(), *pages, &NOT_THE_SIZE)?;
+    for (held, count, ending) in &SIZES {
+        let pages = pages_with(rt.alloc(), *held, *count)?;
+        assert_ending(rt.alloc(), pages, ending, (*held, "pages", *count))?;
     }
-    let pages = a_page_more(rt.alloc())?;
-    assert_ending(rt.alloc(), pages, &NOT_THE_SIZE, "a page more")?;
-    let pages = a_page_less(rt.alloc())?;
-    assert_ending(rt.alloc(), pages, &NOT_THE_SIZE, "a page less")?;
-    assert_zeros(rt.alloc(), 77, &NOT_ROOT_1)
+    Ok(())
 }
 
 #[test]
 fn a_byte_that_is_turned_is_found_where_it_matters(rt: HostRuntime) -> Result<(), Fail> {
     for (at, offset, bits, ending) in &TURNED {
-        assert_turned(rt.alloc(), (*at, *offset, *bits), ending)?;
+        let pages = turned(rt.alloc(), *at, *offset, *bits)?;
+        let case = ("page", *at, "byte", *offset, "bits", *bits);
+        assert_ending(rt.alloc(), pages, ending, case)?;
     }
     Ok(())
 }
 
 #[test]
 fn a_map_of_more_than_half_the_slots_has_no_room(rt: HostRuntime) -> Result<(), Fail> {
-    let pages = mapped(rt.alloc(), 23)?;
-    assert_ending(rt.alloc(), pages, &NO_ROOM, "33 pages")?;
-    let pages = mapped(rt.alloc(), 42)?;
-    assert_ending(rt.alloc(), pages, &NO_ROOM, "52 pages")
+    for homes in [23, 42] {
+        let pages = mapped(rt.alloc(), homes)?;
+        assert_ending(rt.alloc(), pages, &NO_ROOM, ("home pages", homes))?;
+    }
+    Ok(())
 }

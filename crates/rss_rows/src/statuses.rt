@@ -1,5 +1,5 @@
 // How a run ends, and what it leaves.
-use crate::harness::{ABSENT, PRESENT, SMALL, assert_probe, assert_untouched, empty_store};
+use crate::harness::{ABSENT, NEVER, PRESENT, SMALL, assert_probe, assert_untouched, empty_store};
 use rss_asserts::{assert_same, assert_same_slices};
 use rss_device::{MemDevice, MemSink, MemSource};
 use rss_scripts::run_words;
@@ -23,9 +23,6 @@ struct Fault {
     /// What the probe gets afterwards.
     leaves: &'static [u8],
 }
-
-/// No call has this number.
-const NEVER: u64 = u64::MAX;
 
 static FAULTS: [Fault; 6] = [
     Fault {

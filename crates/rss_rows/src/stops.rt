@@ -1,10 +1,9 @@
 // Stops in the middle of a run, and the tables that an opening finds after them.
-use crate::harness::{
-    Row, SMALL, WHOLE, assert_script, copy_of_pages, empty_store, failing_at, has_writes, image_at,
-};
+use crate::harness::{Row, SMALL, WHOLE, assert_script, empty_store, has_writes};
 use rss_asserts::{assert_same, assert_same_slices};
 use rss_base::Page;
 use rss_device::{MemDevice, Unsynced};
+use rss_images::{UNSYNCED, copy_of_pages, failing_at, image_at};
 use rss_scripts::{run_script, without_moments};
 use rss_top::Status;
 use std::alloc::Global;
@@ -16,15 +15,6 @@ pub(crate) enum Tables {
     Before,
     After,
 }
-
-/// What a stop may leave of the pages that were not synced. Of a selector the fill of 0 names
-/// root 1, and the fill of 255 names root 2.
-const UNSYNCED: [Unsynced; 4] = [
-    Unsynced::Old,
-    Unsynced::New,
-    Unsynced::Filled(0),
-    Unsynced::Filled(255),
-];
 
 /// A script that tells the tables before a commit from those after it.
 #[derive(Clone, Copy)]
@@ -187,7 +177,7 @@ ok
 };
 
 /// A call of the device that fails in the run of the first commit, and what the run leaves.
-#[derive(Drop)]
+#[derive(Clone, Copy)]
 struct Failure {
     call: &'static str,
     replies: &'static [u8],
@@ -198,68 +188,62 @@ struct Failure {
 }
 
 /// A call of the opening.
-static OPENING: Failure = Failure {
+const OPENING: Failure = Failure {
     call: "a call of the opening",
     replies: b"",
     held: Tables::Before,
     finds: [Tables::Before; 4],
 };
 
+/// A call of the commit, before the selector's.
+const UNSELECTED: Failure = Failure {
+    call: "a call of the commit",
+    replies: b"ok\nok 0.0\nok 7\n",
+    ..OPENING
+};
+
 /// The last calls of the device in the run of the first commit, in their order.
 static FAILURES: [Failure; 6] = [
     Failure {
         call: "the write of the home page",
-        replies: b"ok\nok 0.0\nok 7\n",
-        held: Tables::Before,
-        finds: [Tables::Before; 4],
+        ..UNSELECTED
     },
     Failure {
         call: "the write of the map",
-        replies: b"ok\nok 0.0\nok 7\n",
-        held: Tables::Before,
-        finds: [Tables::Before; 4],
+        ..UNSELECTED
     },
     Failure {
         call: "the write of root 2",
-        replies: b"ok\nok 0.0\nok 7\n",
-        held: Tables::Before,
-        finds: [Tables::Before; 4],
+        ..UNSELECTED
     },
     Failure {
         call: "the sync of root 2",
-        replies: b"ok\nok 0.0\nok 7\n",
-        held: Tables::Before,
-        finds: [Tables::Before; 4],
+        ..UNSELECTED
     },
     // A write that fails tears its page, which still reads as before.
     Failure {
         call: "the write of the selector",
-        replies: b"ok\nok 0.0\nok 7\n",
-        held: Tables::Before,
         finds: [
             Tables::Before,
             Tables::Before,
             Tables::Before,
             Tables::After,
         ],
+        ..UNSELECTED
     },
     Failure {
         call: "the sync of the selector",
-        replies: b"ok\nok 0.0\nok 7\n",
         held: Tables::After,
         finds: [Tables::Before, Tables::After, Tables::Before, Tables::After],
+        ..UNSELECTED
     },
 ];
 
 /// No run has as many calls of the device.
 const MANY_CALLS: u64 = 1000;
 
-/// Makes a commit.
-pub(crate) fn run_commit(
-    alloc: Global,
-    device: MemDevice,
-    commit: &Commit,
-) -> Result<MemDevice, Fail> {
+/// Runs a commit.
+fn run_commit(alloc: Global, device: MemDevice, commit: &Commit) -> Result<MemDevice, Fail> {
     let case = ("commit", commit.number);
     let after = assert_script(alloc, device, &commit.row, WHOLE, case)?;
     assert_same(&has_writes(&after, commit.writes), &true, case)?;
@@ -305,7 +289,7 @@ fn assert_stops_at(
 }
 
 /// Stops the run of a commit that is over, at each of its moments, with what the stop may leave.
-pub(crate) fn assert_stops(
+fn assert_stops(
     alloc: Global,
     device: &MemDevice,
     commit: &Commit,
@@ -318,9 +302,21 @@ pub(crate) fn assert_stops(
     Ok(())
 }
 
+/// Makes a commit over a store, and stops it. Answers the store, with no moments yet.
+pub(crate) fn assert_commit(
+    alloc: Global,
+    device: MemDevice,
+    commit: &Commit,
+    left: &[Unsynced],
+) -> Result<MemDevice, Fail> {
+    let after = run_commit(alloc, device, commit)?;
+    assert_stops(alloc, &after, commit, left)?;
+    Ok(without_moments(alloc, &after)?)
+}
+
 /// An empty store of which this call fails.
 fn failing_store(alloc: Global, call: u64) -> Result<MemDevice, Fail> {
-    failing_at(alloc, empty_store(alloc, SMALL)?, call)
+    Ok(failing_at(alloc, empty_store(alloc, SMALL)?, call)?)
 }
 
 /// Runs the first commit over an empty store of which this call fails.
@@ -340,15 +336,10 @@ fn calls_of_first(alloc: Global) -> Result<u64, Fail> {
     Err("the run has too many calls".into())
 }
 
-/// Opens what a run that met a failure leaves, with no stop.
-fn assert_held(alloc: Global, device: &MemDevice, failure: &Failure) -> Result<(), Fail> {
+/// Opens what a run that met a failure leaves, with no stop and after one.
+fn assert_left(alloc: Global, device: &MemDevice, failure: &Failure) -> Result<(), Fail> {
     let found = FIRST.probe.finds(alloc, copy_of_pages(alloc, device)?)?;
     assert_same(&found, &Some(failure.held), (failure.call, "with no stop"))?;
-    Ok(())
-}
-
-/// Opens it after a stop.
-fn assert_left(alloc: Global, device: &MemDevice, failure: &Failure) -> Result<(), Fail> {
     for (unsynced, tables) in UNSYNCED.iter().zip(&failure.finds) {
         let found = FIRST
             .probe
@@ -369,48 +360,29 @@ fn fail_first(alloc: Global, call: u64, failure: &Failure) -> Result<MemDevice, 
 /// Fails a call, and opens what that leaves, with no stop and after one.
 fn assert_failure(alloc: Global, call: u64, failure: &Failure) -> Result<(), Fail> {
     let device = fail_first(alloc, call, failure)?;
-    assert_held(alloc, &device, failure)?;
     assert_left(alloc, &device, failure)
-}
-
-/// Fails each call of the opening.
-fn assert_opening(alloc: Global, calls: u64) -> Result<(), Fail> {
-    for call in 0..calls {
-        assert_failure(alloc, call, &OPENING)?;
-    }
-    Ok(())
-}
-
-/// Fails each of the last calls, of which this is the first.
-fn assert_failures(alloc: Global, first: u64) -> Result<(), Fail> {
-    let mut call = first;
-    for failure in &FAILURES {
-        assert_failure(alloc, call, failure)?;
-        call = call.saturating_add(1);
-    }
-    Ok(())
-}
-
-/// Makes the first commit over an empty store, and stops it.
-fn assert_first(alloc: Global) -> Result<MemDevice, Fail> {
-    let device = run_commit(alloc, empty_store(alloc, SMALL)?, &FIRST)?;
-    assert_stops(alloc, &device, &FIRST, &UNSYNCED)?;
-    Ok(without_moments(alloc, &device)?)
 }
 
 #[test]
 fn a_commit_stopped_at_each_moment_opens_to_the_tables_before_or_after(
     rt: HostRuntime,
 ) -> Result<(), Fail> {
-    let device = assert_first(rt.alloc())?;
-    let device = run_commit(rt.alloc(), device, &SECOND)?;
-    assert_stops(rt.alloc(), &device, &SECOND, &UNSYNCED)
+    let mut device = empty_store(rt.alloc(), SMALL)?;
+    for commit in [&FIRST, &SECOND] {
+        device = assert_commit(rt.alloc(), device, commit, &UNSYNCED)?;
+    }
+    Ok(())
 }
 
 #[test]
 fn a_device_call_that_fails_ends_the_run_with_status_4(rt: HostRuntime) -> Result<(), Fail> {
     let calls = calls_of_first(rt.alloc())?;
     let opening = calls.checked_sub(6).ok_or("the run has too few calls")?;
-    assert_opening(rt.alloc(), opening)?;
-    assert_failures(rt.alloc(), opening)
+    for call in 0..opening {
+        assert_failure(rt.alloc(), call, &OPENING)?;
+    }
+    for (call, failure) in (opening..calls).zip(&FAILURES) {
+        assert_failure(rt.alloc(), call, failure)?;
+    }
+    Ok(())
 }

@@ -1,6 +1,6 @@
 // Tuples as bytes, by bytes written out.
 use crate::harness::{Written, body_of, field, tuple_of};
-use rss_asserts::{assert_same, assert_same_slices};
+use rss_asserts::{assert_same, assert_same_slices, assert_some};
 use rss_base::{FieldDef, FieldKind};
 use rss_value::decode;
 use std::alloc::Global;
@@ -9,44 +9,46 @@ use std::test::Fail;
 /// A text of 255 bytes.
 const LONG: [u8; 255] = [b'x'; 255];
 
+/// Values of an INT and a TEXT 5, and their bytes.
+const SPELLED: [(&str, [Written; 2], &[u8]); 3] = [
+    (
+        "two letters",
+        [Written::Int(7), Written::Text(b"ab")],
+        b"\0\0\0\0\0\0\0\x07\x02ab",
+    ),
+    (
+        "one character of three bytes",
+        [Written::Int(-1), Written::Text(b"\xe2\x82\xac")],
+        b"\xff\xff\xff\xff\xff\xff\xff\xff\x03\xe2\x82\xac",
+    ),
+    (
+        "the least number and no text",
+        [Written::Int(i64::MIN), Written::Text(b"")],
+        b"\x80\0\0\0\0\0\0\0\0",
+    ),
+];
+
 /// A tuple has these bytes, and they give a tuple that has them again.
 fn assert_spelled(
     alloc: Global,
     fields: &[FieldDef],
-    values: &[Written],
-    want: &[u8],
+    (name, values, want): (&str, &[Written], &[u8]),
 ) -> Result<(), Fail> {
-    let body = body_of(fields, &tuple_of(alloc, values)?).ok_or("a tuple that doesn't fit")?;
-    assert_same_slices(body.as_slice(), want, values.len())?;
-    let again = decode(alloc, fields, want)?.ok_or("no tuple")?;
-    let bytes = body_of(fields, &again).ok_or("a tuple that doesn't fit")?;
-    assert_same_slices(bytes.as_slice(), want, values.len())?;
+    let body = assert_some(body_of(fields, &tuple_of(alloc, values)?), name)?;
+    assert_same_slices(body.as_slice(), want, name)?;
+    let again = assert_some(decode(alloc, fields, want)?, (name, "as a tuple"))?;
+    let bytes = assert_some(body_of(fields, &again), (name, "again"))?;
+    assert_same_slices(bytes.as_slice(), want, (name, "again"))?;
     Ok(())
 }
 
 #[test]
 fn tuples_have_these_bytes(rt: HostRuntime) -> Result<(), Fail> {
     let fields = [field(FieldKind::Int), field(FieldKind::Text(5))];
-    let least = Written::Int(i64::MIN);
-    assert_spelled(
-        rt.alloc(),
-        &fields,
-        &[Written::Int(7), Written::Text(b"ab")],
-        b"\0\0\0\0\0\0\0\x07\x02ab",
-    )?;
-    assert_spelled(
-        rt.alloc(),
-        &fields,
-        &[Written::Int(-1), Written::Text(b"\xe2\x82\xac")],
-        b"\xff\xff\xff\xff\xff\xff\xff\xff\x03\xe2\x82\xac",
-    )?;
-    assert_spelled(
-        rt.alloc(),
-        &fields,
-        &[least, Written::Text(b"")],
-        b"\x80\0\0\0\0\0\0\0\0",
-    )?;
-    assert_spelled(rt.alloc(), &[], &[], b"")
+    for (name, values, want) in &SPELLED {
+        assert_spelled(rt.alloc(), &fields, (name, values, want))?;
+    }
+    assert_spelled(rt.alloc(), &[], ("no fields", &[], b""))
 }
 
 /// How many of eight texts have 255 bytes while the others are empty, and how many bytes they are.
@@ -68,7 +70,7 @@ fn texts_take_their_bytes_and_one_more(rt: HostRuntime) -> Result<(), Fail> {
     let fields = [field(FieldKind::Text(255)); 8];
     for (full, want) in SIZES {
         let tuple = tuple_of(rt.alloc(), &texts(full))?;
-        let body = body_of(&fields, &tuple).ok_or("a tuple that doesn't fit")?;
+        let body = assert_some(body_of(&fields, &tuple), full)?;
         assert_same(&body.as_slice().len(), &want, full)?;
     }
     Ok(())

@@ -16,7 +16,7 @@ fn assert_fits(
     if fields.len() > 16 {
         Err("too many fields")?;
     }
-    assert_same(&fits(fields, &tuple), &want, values.len())?;
+    assert_same(&fits(fields, &tuple), &want, (fields.len(), values))?;
     Ok(())
 }
 
@@ -51,6 +51,27 @@ fn a_text_fits_by_its_bytes_and_characters(rt: HostRuntime) -> Result<(), Fail> 
     Ok(())
 }
 
+const INT: Written = Written::Int(-1);
+
+const TEXT: Written = Written::Text(b"ab");
+
+const LONG: Written = Written::Text(b"abc");
+
+/// How many of the fields INT, TEXT 2 and INT a relation has, values of a tuple, and what `fits`
+/// says.
+const MISFITS: [(usize, &[Written], Result<(), u8>); 10] = [
+    (3, &[INT, TEXT, INT], Ok(())),
+    (3, &[TEXT, TEXT, INT], Err(1)),
+    (3, &[INT, INT, INT], Err(2)),
+    (3, &[INT, LONG, TEXT], Err(2)),
+    (3, &[INT, TEXT, TEXT], Err(3)),
+    (3, &[INT, TEXT], Err(3)),
+    (3, &[], Err(1)),
+    (3, &[INT, TEXT, INT, INT], Err(4)),
+    (0, &[], Ok(())),
+    (0, &[INT], Err(1)),
+];
+
 #[test]
 fn the_first_misfit_is_named(rt: HostRuntime) -> Result<(), Fail> {
     let fields = [
@@ -58,17 +79,9 @@ fn the_first_misfit_is_named(rt: HostRuntime) -> Result<(), Fail> {
         field(FieldKind::Text(2)),
         field(FieldKind::Int),
     ];
-    let int = Written::Int(-1);
-    let text = Written::Text(b"ab");
-    let long = Written::Text(b"abc");
-    assert_fits(rt.alloc(), &fields, &[int, text, int], Ok(()))?;
-    assert_fits(rt.alloc(), &fields, &[text, text, int], Err(1))?;
-    assert_fits(rt.alloc(), &fields, &[int, int, int], Err(2))?;
-    assert_fits(rt.alloc(), &fields, &[int, long, text], Err(2))?;
-    assert_fits(rt.alloc(), &fields, &[int, text, text], Err(3))?;
-    assert_fits(rt.alloc(), &fields, &[int, text], Err(3))?;
-    assert_fits(rt.alloc(), &fields, &[], Err(1))?;
-    assert_fits(rt.alloc(), &fields, &[int, text, int, int], Err(4))?;
-    assert_fits(rt.alloc(), &[], &[], Ok(()))?;
-    assert_fits(rt.alloc(), &[], &[int], Err(1))
+    for (count, values, want) in &MISFITS {
+        let fields = fields.get(..*count).ok_or("too many fields")?;
+        assert_fits(rt.alloc(), fields, values, *want)?;
+    }
+    Ok(())
 }

@@ -1,6 +1,6 @@
 // Keys, by bytes written out and by the order of the values.
 use crate::harness::{Written, field, key_of, tuple_of};
-use rss_asserts::{assert_same, assert_same_slices};
+use rss_asserts::{assert_same, assert_same_slices, assert_some};
 use rss_base::{FieldKind, Key};
 use rss_value::compare_keys;
 use std::alloc::Global;
@@ -21,11 +21,18 @@ const NUMBERS: [(i64, &[u8]); 6] = [
 fn a_number_has_its_sign_inverted(rt: HostRuntime) -> Result<(), Fail> {
     for (number, want) in NUMBERS {
         let tuple = tuple_of(rt.alloc(), &[Written::Int(number)])?;
-        let key = key_of(&[field(FieldKind::Int)], &[1], &tuple).ok_or("no key")?;
+        let key = assert_some(key_of(&[field(FieldKind::Int)], &[1], &tuple), number)?;
         assert_same_slices(key.as_slice(), want, number)?;
     }
     Ok(())
 }
+
+/// Keys of a TEXT 4 "ab", an INT -2 and a TEXT 3 "xyz": the numbers of their fields, and their
+/// bytes.
+const KEYS: [(&[u8], &[u8]); 2] = [
+    (&[3, 1], b"xyzab\0\0"),
+    (&[2], b"\x7f\xff\xff\xff\xff\xff\xff\xfe"),
+];
 
 #[test]
 fn a_key_has_the_fields_in_the_order_of_the_image(rt: HostRuntime) -> Result<(), Fail> {
@@ -40,14 +47,10 @@ fn a_key_has_the_fields_in_the_order_of_the_image(rt: HostRuntime) -> Result<(),
         Written::Text(b"xyz"),
     ];
     let tuple = tuple_of(rt.alloc(), &values)?;
-    let both = key_of(&fields, &[3, 1], &tuple).ok_or("no key")?;
-    assert_same_slices(both.as_slice(), b"xyzab\0\0", "third and first")?;
-    let number = key_of(&fields, &[2], &tuple).ok_or("no key")?;
-    assert_same_slices(
-        number.as_slice(),
-        b"\x7f\xff\xff\xff\xff\xff\xff\xfe",
-        "second",
-    )?;
+    for (which, want) in &KEYS {
+        let key = assert_some(key_of(&fields, which, &tuple), *which)?;
+        assert_same_slices(key.as_slice(), want, *which)?;
+    }
     Ok(())
 }
 
@@ -67,7 +70,7 @@ const TEXTS: [&[u8]; 8] = [
 fn key_of_both(alloc: Global, which: &[u8], number: i64, text: &'static [u8]) -> Result<Key, Fail> {
     let fields = [field(FieldKind::Int), field(FieldKind::Text(4))];
     let tuple = tuple_of(alloc, &[Written::Int(number), Written::Text(text)])?;
-    Ok(key_of(&fields, which, &tuple).ok_or("no key")?)
+    assert_some(key_of(&fields, which, &tuple), (which, number, text))
 }
 
 #[test]
@@ -91,6 +94,6 @@ fn keys_are_in_the_order_of_the_values(rt: HostRuntime) -> Result<(), Fail> {
 fn texts_before_numbers(rt: HostRuntime) -> Result<(), Fail> {
     let one = key_of_both(rt.alloc(), &[2, 1], 7, b"a")?;
     let other = key_of_both(rt.alloc(), &[2, 1], -1, b"ab")?;
-    assert_same(&compare_keys(&one, &other), &Ordering::Less, 0)?;
+    assert_same(&compare_keys(&one, &other), &Ordering::Less, "a and ab")?;
     Ok(())
 }

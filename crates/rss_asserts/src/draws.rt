@@ -1,19 +1,20 @@
 // Numbers that look random, and are the same in each run.
 ghost use Rattle.std.specs.Prelude.{◌<◌, ◌≤◌};
 
-/// Draws numbers, each from the one before.
+/// Draws numbers, each from the one before, by the linear congruence of Knuth's MMIX.
 #[derive(Drop)]
-pub(crate) struct Draws {
+pub struct Draws {
     state: u64,
 }
 
 impl Draws {
-    pub(crate) fn new(state: u64) -> Self {
+    /// Those that a state leads to.
+    pub fn new(state: u64) -> Self {
         Draws { state }
     }
 
-    /// A number below a limit, and 0 where the limit is 0.
-    pub(crate) fn below(&mut self, limit: u32) -> u32
+    /// A number below a limit and below 2^31, and 0 where the limit is 0.
+    pub fn below(&mut self, limit: u32) -> u32
         ensures below { 0 < limit → result < limit }
         ensures small { result ≤ limit }
     {
