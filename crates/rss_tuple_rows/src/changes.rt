@@ -3,9 +3,8 @@ use crate::calls::{
     SLOTS, Tried, choose, empty, entries_of, entry_at, fetch, insert_at, key_of, next_live, remove,
     replace, tid,
 };
-use crate::draws::Draws;
 use crate::plain::{Held, Plain};
-use rss_asserts::{assert_same, assert_same_slices};
+use rss_asserts::{Draws, assert_same, assert_same_slices};
 use rss_base::{Body, Pages, Space, Tid};
 use rss_page::Entry;
 use std::alloc::Global;
@@ -23,6 +22,17 @@ fn fill(bytes: &mut Bytes, first: u8) {
     for (place, byte) in bytes.iter_mut().enumerate() {
         *byte = first.wrapping_add((place % 251) as u8);
     }
+}
+
+/// The length of a body: one of 1 to 16, 200, 1,284 or 2,400 bytes.
+fn draw_length(draws: &mut Draws) -> u16 {
+    let most = match draws.below(4) {
+        0 => 16,
+        1 => 200,
+        2 => 1284,
+        _ => 2400,
+    };
+    (draws.below(most) as u16).saturating_add(1)
 }
 
 /// A store, the same in plain lists, and the tuples that there are.
@@ -69,7 +79,7 @@ impl Beside {
 
     /// Puts a tuple where it is to stand.
     fn insert(&mut self, draws: &mut Draws) -> Result<Option<Tid>, Fail> {
-        let length = draws.length();
+        let length = draw_length(draws);
         let first = draws.below(256) as u8;
         let found = choose(&mut self.store, length, &[])?;
         assert_same(&found, &self.plain.choose(length, &[]), length)?;
@@ -89,7 +99,7 @@ impl Beside {
             return Ok(None)
         };
         let at = *self.live.get(place).ok_or("no such tuple")?;
-        let length = draws.length();
+        let length = draw_length(draws);
         let first = draws.below(256) as u8;
         let mut bytes = [0u8; 2400];
         fill(&mut bytes, first);

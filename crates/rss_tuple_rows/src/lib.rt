@@ -8,8 +8,6 @@ mod changes;
 #[cfg(test)]
 mod damaged;
 #[cfg(test)]
-mod draws;
-#[cfg(test)]
 mod identifiers;
 #[cfg(test)]
 mod plain;
