@@ -45,3 +45,7 @@ pub record IsNumbered {T E : Type 0} (old new : MemDevice) (result : Result T E)
   pub due : Contains (failing_calls old) (next_call old) → IsErr result
   pub next : next_call new ≡ counted (next_call old)
   pub same : failing_calls new ≡ failing_calls old
+
+-- a call that needs no memory fails only where its number is one of those that fail
+abbrev pub FailsAsNumbered : {T E : Type 0} → MemDevice → Result T E → Type 0
+FailsAsNumbered old result = IsErr result → Contains (failing_calls old) (next_call old)

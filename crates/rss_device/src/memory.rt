@@ -126,7 +126,7 @@ impl Device for MemDevice {
     ghost use Rattle.rss_base.specs.Faults.{counted, HasCause};
     ghost use Rattle.rss_base.specs.DiskRule.{page, Told, IsResized, LeavesOnly, IsAt, GoesOn};
     ghost use Rattle.rss_base.specs.Devices.{OnlyReads, ReadsPages, WritesPages};
-    ghost use Rattle.rss_device.specs.MemDevice.{view_of, IsNumbered};
+    ghost use Rattle.rss_device.specs.MemDevice.{view_of, IsNumbered, FailsAsNumbered};
     ghost use Rattle.rss_device.specs.MemoryLaws.{reads, same_some};
     ghost use Rattle.std.proofs.Common.{ap, arith, length, sym};
 
@@ -146,6 +146,7 @@ impl Device for MemDevice {
         ensures reads { OnlyReads (view_of self.old) (view_of self.new) }
         ensures cause { HasCause (view_of self.old).faults (view_of self.new).faults result }
         ensures numbered { IsNumbered self.old self.new result }
+        ensures only_numbered { FailsAsNumbered self.old result }
     {
         if self.calls.next_fails() {
             return Err(failed(&mut self.faults));
@@ -182,6 +183,7 @@ impl Device for MemDevice {
             into.new ≡ page pages at)) }
         ensures did { ReadsPages (view_of self.old) (view_of self.new) result }
         ensures numbered { IsNumbered self.old self.new result }
+        ensures only_numbered { FailsAsNumbered self.old result }
     {
         if self.calls.next_fails() {
             return Err(failed(&mut self.faults));

@@ -1,6 +1,6 @@
 // A sink in memory.
-ghost use Rattle.std.specs.Prelude.{◌≡◌, ◌<◌, ◌≤◌, [], length, take, min, max, None, Some, IfOk};
-ghost use Rattle.std.specs.Prelude.{OnErr, IsErr};
+ghost use Rattle.std.specs.Prelude.{◌≡◌, ◌-◌, ◌^◌, ◌<◌, ◌≤◌, [], length, take, min, max, None, Some};
+ghost use Rattle.std.specs.Prelude.{IfOk, OnErr, IsErr};
 ghost use Rattle.rss_base.specs.Faults.{HasCause};
 ghost use Rattle.rss_base.specs.Streams.{Takes};
 ghost use Rattle.rss_device.specs.Failing.{after_call};
@@ -24,6 +24,7 @@ impl MemSink {
     pub fn new(alloc: Global) -> Self
         ensures written { ⟦<MemSink as Sink>⟧.written result ≡ Some [] }
         ensures faults { ⟦<MemSink as Sink>⟧.faults result ≡ 0 }
+        ensures taken { most_taken result ≡ 2 ^ 64 - 1 }
         ensures failing { failing_write result ≡ None }
     {
         MemSink {

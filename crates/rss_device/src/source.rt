@@ -1,6 +1,6 @@
 // A source in memory.
-ghost use Rattle.std.specs.Prelude.{◌≡◌, ◌↔◌, ◌<◌, ◌≤◌, ℕ, List, [], length, take, min, max, None};
-ghost use Rattle.std.specs.Prelude.{Some, Ok, IfOk, OnErr, IsErr};
+ghost use Rattle.std.specs.Prelude.{◌≡◌, ◌↔◌, ◌-◌, ◌^◌, ◌<◌, ◌≤◌, ℕ, List, [], length, take, min};
+ghost use Rattle.std.specs.Prelude.{max, None, Some, Ok, IfOk, OnErr, IsErr};
 ghost use Rattle.rss_base.specs.Faults.{HasCause};
 ghost use Rattle.rss_base.specs.Streams.{Gives};
 ghost use Rattle.rss_device.specs.Failing.{after_call};
@@ -24,6 +24,7 @@ impl<'a> MemSource<'a> {
     pub fn new(bytes: &'a [u8]) -> Self
         ensures left { ⟦<MemSource<'a> as Source>⟧.left result ≡ Some bytes.now }
         ensures faults { ⟦<MemSource<'a> as Source>⟧.faults result ≡ 0 }
+        ensures piece { piece_of result ≡ 2 ^ 64 - 1 }
         ensures failing { failing_read result ≡ None }
     {
         MemSource {
