@@ -1,6 +1,6 @@
 // A file of pages that this process alone works on.
-ghost use Rattle.std.specs.Prelude.{◌≡◌, ◌≢◌, ◌-◌, ◌*◌, ◌/◌, ◌%◌, ◌^◌, ◌<◌, ◌≤◌, ◌<ℤ◌, pos, IfOk};
-ghost use Rattle.std.specs.Prelude.{IsOk, IsTrue};
+ghost use Rattle.std.specs.Prelude.{◌≡◌, ◌≢◌, ◌-◌, ◌*◌, ◌/◌, ◌%◌, ◌^◌, ◌<◌, ◌≤◌, ◌<ℤ◌, pos, Ok};
+ghost use Rattle.std.specs.Prelude.{IfOk, IsOk, IsTrue};
 ghost use Rattle.rss_base.specs.Sizes.{page_bytes, head_pages};
 
 use crate::store_file::{StoreFile, StoreFiles, folder_of};
@@ -73,7 +73,8 @@ fn open_or_make<S: StoreFiles>(files: &S, path: &str, make: bool) -> io::Result<
 /// closed the system gives its descriptor to the next file that is opened, and what is written to
 /// the stream would go into that file.
 fn away_from_streams<F: StoreFile>(file: F) -> io::Result<F>
-    ensures { IfOk result (λ file. pos 2 <ℤ F.descriptor_of file) }
+    ensures above { IfOk result (λ file. pos 2 <ℤ F.descriptor_of file) }
+    ensures same { pos 2 <ℤ F.descriptor_of file → result ≡ Ok file }
 {
     if file.descriptor() > LAST_STREAM {
         return Ok(file);
