@@ -88,6 +88,7 @@ puts_tuple {body = body} {result = result} are moves =
     record {
       put = on_ok_then result (λ did told. bodies_now moves.did.step told (are told) (did told)) changed;
       placed = on_ok_then result (λ moved told. (moved told).placed) moves.moved;
+      takes = moves.takes;
       did = changed_call (Some body) are moves.did changed;
     }
 

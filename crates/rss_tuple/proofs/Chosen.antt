@@ -169,5 +169,6 @@ pub kept_then : {old mid new : PagesView} → (IsTold old.disk → IsTold mid.di
 kept_then told_mid one two = record {
   mapped = two.mapped ∙ one.mapped;
   held = λ told. two.held (told_mid told) ∙ one.held told;
+  changed = λ key is. one.changed key (two.changed key is);
   formed = λ told. two.formed (told_mid told);
 }

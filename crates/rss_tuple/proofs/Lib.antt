@@ -3,7 +3,9 @@ pub mod Seen
 pub mod Sets
 pub mod Spots
 pub mod Placed
+pub mod Taken
 pub mod Changes
 pub mod Moved
+pub mod Fitting
 pub mod Walks
 pub mod Chosen

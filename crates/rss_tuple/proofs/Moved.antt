@@ -12,13 +12,14 @@ use Rattle.rss_page.specs.Content.{Empty, Here, Forward}
 use Rattle.rss_page.specs.Slotted.{HasRoom}
 use Rattle.rss_tuple.specs.Directory.{contents, homes, overflows, body_in, body_by}
 use Rattle.rss_tuple.specs.Heaps.{HasBody}
-use Rattle.rss_tuple.specs.Placing.{IsPlaced, FitsHome, NeverFitsAway, stays}
+use Rattle.rss_tuple.specs.Placing.{IsPlaced, FitsHome, NeverFitsAway, TakesOne, stays}
 use Rattle.rss_tuple.specs.Edits.{SetsEntry}
 use Rattle.rss_tuple.specs.Puts.{Puts, Moved, MovesBody}
 use Rattle.rss_tuple.specs.TupleSteps.{pages_for}
 use Rattle.rss_base.proofs.Steps.{untouched, then_call, widens, fails, all_held, all_mapped}
 use Rattle.rss_tuple.proofs.Seen.{not_ok, on_ok_then}
 use Rattle.rss_tuple.proofs.Links.{not_empty, leads_there}
+use Rattle.rss_tuple.proofs.Taken.{one_before}
 use Rattle.rss_tuple.proofs.Placed.{home_apart, entry_off, step_at, away_off, has_body, placed_body, placed_same, changed_before, changed_puts, forward_page, forward_slot}
 
 -- where no body stood in an overflow page
@@ -105,6 +106,7 @@ pub moves_fails : {T U : Type 0} {touched : Keys} {asks writes cost segment : �
     → PagesCall {T = T} touched asks writes old new (Err fault) → MovesBody segment tid body cost old new result
 moves_fails {segment = segment} {tid = tid} {body = body} {old = old} {new = new} {fault = fault} result is wider few_asks few_writes call = record {
   moved = not_ok fault (IsTold old.disk → Moved segment tid body old new) result is;
+  takes = not_ok fault (TakesOne segment tid body old new) result is;
   did = fails result is wider few_asks few_writes call;
 }
 
@@ -112,12 +114,14 @@ moves_fails {segment = segment} {tid = tid} {body = body} {old = old} {new = new
 pub moves_after : {T : Type 0} {cost most segment : ℕ} {tid : Tid} {body : List ℕ} {old mid new : PagesView} {result : Result T PageFault} → PagesStep no_page 1 1 old mid → MovesBody segment tid body cost mid new result → 1 + cost ≤ most → MovesBody segment tid body most old new result
 moves_after {cost = cost} {segment = segment} {tid = tid} {body = body} {old = old} {mid = mid} {new = new} {result = result} step moves few = record {
   moved = on_ok_then result (λ moved told. moved_before segment tid body old mid new (all_mapped step) (all_held step told) (moved (step.passes.leaves.told.0 told))) moves.moved;
+  takes = on_ok_then result (one_before step.passes.leaves.told.0 (all_mapped step) (all_held step)) moves.takes;
   did = widens (λ key there. there) few few (then_call {asks_then = cost} {writes_then = cost} (untouched step) moves.did);
 }
 
 -- no body stood in an overflow page
-pub moves_puts : {T : Type 0} {cost segment : ℕ} {tid : Tid} {body : List ℕ} {old new : PagesView} {result : Result T PageFault} → (IsTold old.disk → (p s : ℕ) → homes old.held segment tid.page tid.slot ≡ Forward p s → ⊥) → OnOk result (IsTold old.disk → Puts segment tid body old new) → PagesCall (pages_for segment tid) cost cost old new result → MovesBody segment tid body cost old new result
-moves_puts {segment = segment} {tid = tid} {body = body} {old = old} {new = new} {result = result} never puts call = record {
+pub moves_puts : {T : Type 0} {cost segment : ℕ} {tid : Tid} {body : List ℕ} {old new : PagesView} {result : Result T PageFault} → (IsTold old.disk → (p s : ℕ) → homes old.held segment tid.page tid.slot ≡ Forward p s → ⊥) → OnOk result (IsTold old.disk → Puts segment tid body old new) → OnOk result (TakesOne segment tid body old new) → PagesCall (pages_for segment tid) cost cost old new result → MovesBody segment tid body cost old new result
+moves_puts {segment = segment} {tid = tid} {body = body} {old = old} {new = new} {result = result} never puts takes call = record {
   moved = on_ok_then result (λ puts told. moved_puts segment tid body old new (never told) (puts told)) puts;
+  takes = takes;
   did = call;
 }

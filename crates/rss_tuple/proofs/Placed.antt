@@ -171,16 +171,16 @@ puts_forward segment tid body to key old mid new at full away puts first sets_ke
 
 -- ---- the same before a page was read
 
-fits_same : (old new : PagesView) → new.held ≡ old.held → (segment : ℕ) (tid : Tid) (count : ℕ) → (FitsHome old segment tid count → ⊥) → FitsHome new segment tid count → ⊥
+pub fits_same : (old new : PagesView) → new.held ≡ old.held → (segment : ℕ) (tid : Tid) (count : ℕ) → (FitsHome old segment tid count → ⊥) → FitsHome new segment tid count → ⊥
 fits_same old new held segment tid count never fits = never (subst (λ (h : Held). HasRoom (contents h (page_key segment Home tid.page)) tid.slot count) held fits)
 
-away_same : (old new : PagesView) → new.held ≡ old.held → (segment : ℕ) (tid : Tid) (count page slot : ℕ) → FitsAway new segment tid count page slot → FitsAway old segment tid count page slot
+pub away_same : (old new : PagesView) → new.held ≡ old.held → (segment : ℕ) (tid : Tid) (count page slot : ℕ) → FitsAway new segment tid count page slot → FitsAway old segment tid count page slot
 away_same old new held segment tid count page slot fits = record {
   leads = subst (λ (h : Held). homes h segment tid.page tid.slot ≡ Forward page slot) held fits.leads;
   room = subst (λ (h : Held). HasRoom (contents h (page_key segment Overflow page)) slot count) held fits.room;
 }
 
-none_same : (old new : PagesView) → new.mapped ≡ old.mapped → new.held ≡ old.held → (wanted : Wanted) → NoneIs (IsSpot old wanted) → NoneIs (IsSpot new wanted)
+pub none_same : (old new : PagesView) → new.mapped ≡ old.mapped → new.held ≡ old.held → (wanted : Wanted) → NoneIs (IsSpot old wanted) → NoneIs (IsSpot new wanted)
 none_same old new mapped held wanted none = λ tid spot. none tid (spot_same new old wanted tid (sym mapped) (sym held) spot)
 
 pub placed_same : (old new : PagesView) (segment : ℕ) (tid : Tid) (body : List ℕ) (content : Content) → new.mapped ≡ old.mapped → new.held ≡ old.held → IsPlaced old segment tid body content → IsPlaced new segment tid body content

@@ -10,7 +10,7 @@ use Rattle.rss_base.specs.declared.place.Place.{Place}
 use Rattle.rss_base.specs.declared.fault.PageFault.{PageFault}
 use Rattle.rss_base.specs.declared.fault.PageFault.TheVariants.{Device as DeviceFailed, Damaged}
 use Rattle.rss_base.specs.declared.key.PageKey.{PageKey}
-use Rattle.rss_base.proofs.Steps.{all_mapped, all_held, all_notes}
+use Rattle.rss_base.proofs.Steps.{all_mapped, all_held, all_notes, none_changed_more}
 use Rattle.rss_tuple.specs.Edits.{KeepsEntries}
 use Rattle.rss_page.specs.Content.{Empty}
 use Rattle.rss_page.proofs.Contents.{length-entries}
@@ -67,6 +67,7 @@ pub kept_after : {asks writes : ℕ} {old new : PagesView} → PagesStep no_page
 kept_after step formed = record {
   mapped = all_mapped step;
   held = λ told. all_held step told;
+  changed = none_changed_more step;
   formed = λ told. formed_after step formed (step.passes.leaves.told.0 told);
 }
 

@@ -93,6 +93,7 @@ module _ (start now : PagesView) (wanted : Wanted) (from : ℕ) (so : Searched s
   kept_all new kept = record {
     mapped = kept.mapped ∙ so.kept.mapped;
     held = λ told. kept.held (so.step.passes.leaves.told.0 told) ∙ so.kept.held told;
+    changed = λ key is. so.kept.changed key (kept.changed key is);
     formed = λ told. kept.formed (so.step.passes.leaves.told.0 told);
   }
 
@@ -148,7 +149,7 @@ pub searched_none : (start : PagesView) (wanted : Wanted) → (IsTold start.disk
 searched_none start wanted formed = record {
   within_slots = omega arith;
   step = rests start;
-  kept = record { mapped = refl; held = λ told. refl; formed = formed };
+  kept = record { mapped = refl; held = λ told. refl; changed = λ key is. is; formed = formed };
   lesser = λ told tid low. absurd (omega arith);
 }
 

@@ -1,6 +1,7 @@
 -- What the calls on tuples may be given, and what those that put or choose ensure.
 use Rattle.std.specs.Prelude.{◌≡◌, ℕ, ◌*◌, ◌<◌, ◌≤◌, List, length, Option, Some, None, Result, IfOk, IfSome, OnOk}
 use Rattle.rss_base.specs.DiskRule.{IsTold}
+use Rattle.rss_base.specs.Paged.{AreAmong}
 use Rattle.rss_base.specs.Sizes.{segments, page_entries}
 use Rattle.rss_base.specs.Steps.{pages_in}
 use Rattle.rss_base.specs.declared.fault.PageFault.{PageFault}
@@ -9,7 +10,7 @@ use Rattle.rss_base.specs.declared.tid.Tid.{Tid}
 use Rattle.rss_tuple.specs.Directory.{with_body, homes}
 use Rattle.rss_tuple.specs.Heaps.{body_most, AreHeaps}
 use Rattle.rss_tuple.specs.TupleSteps.{TuplesView, TuplesCall, IsLive, NoneIs, no_tuple, only_tuple, pages_for}
-use Rattle.rss_tuple.specs.Placing.{IsNameable, IsFree, IsChosen, IsPlaced}
+use Rattle.rss_tuple.specs.Placing.{IsNameable, IsFree, IsChosen, IsPlaced, TakesOne}
 
 -- ---- what they may be given
 
@@ -51,6 +52,12 @@ pub record MayReplace (view : TuplesView) (segment : ℕ) (tid : Tid) (count : �
   pub there : HasTuple view segment tid
   pub room : HasSpare view segment tid count
 
+-- a tuple stands at this identifier whose body has so many bytes at least
+pub record IsNoLonger (view : TuplesView) (segment : ℕ) (tid : Tid) (count : ℕ) : Type 0 where
+  pub bytes : List ℕ
+  pub body : view.bodies segment tid ≡ Some bytes
+  pub most : count ≤ length bytes
+
 -- ---- what they ensure
 
 -- The identifier of a new tuple was looked for: a free one that isn't barred. Nothing was changed.
@@ -61,10 +68,12 @@ pub record Chooses (segment length : ℕ) (barred : List Tid) (old new : TuplesV
   pub none : IfOk result (λ found. found ≡ None → IsTold old.pages.disk → NoneIs (IsFree old segment barred))
   pub mapped : new.pages.mapped ≡ old.pages.mapped
   pub held : IsTold old.pages.disk → new.pages.held ≡ old.pages.held
+  pub changed : AreAmong new.pages.changed old.pages.changed
   pub did : TuplesCall (pages_in segment Home) no_tuple (2 * old.pages.slots) old new result
 
--- A tuple has this body now, whatever it had, and the body stands where it is to be.
+-- A tuple has this body now, whatever it had, the body stands where it is to be, and a page was taken for it only where one has to be.
 pub record PutsTuple {T : Type 0} (segment : ℕ) (tid : Tid) (body : List ℕ) (cost : ℕ) (old new : TuplesView) (result : Result T PageFault) : Type 0 where
   pub put : OnOk result (IsTold old.pages.disk → new.bodies ≡ with_body old.bodies segment tid (Some body))
   pub placed : OnOk result (IsTold old.pages.disk → IsPlaced old.pages segment tid body (homes new.pages.held segment tid.page tid.slot))
+  pub takes : OnOk result (TakesOne segment tid body old.pages new.pages)
   pub did : TuplesCall (pages_for segment tid) (only_tuple segment tid) cost old new result

@@ -1,6 +1,7 @@
 -- How one entry of a page is changed, and what the pages are that a call has read.
 use Rattle.std.specs.Prelude.{◌≡◌, ℕ, ◌<◌, true, List, Some, None, Result, OnOk}
 use Rattle.rss_base.specs.DiskRule.{IsTold}
+use Rattle.rss_base.specs.Paged.{AreAmong}
 use Rattle.rss_base.specs.Sizes.{page_entries}
 use Rattle.rss_base.specs.Steps.{PagesView, WritesPage, PagesCall, only}
 use Rattle.rss_base.specs.declared.fault.PageFault.{PageFault}
@@ -56,6 +57,7 @@ pub record FillsPage (key : PageKey) (slot : ℕ) (body : List ℕ) (old new : P
 pub record KeepsEntries (old new : PagesView) : Type 0 where
   pub mapped : new.mapped ≡ old.mapped
   pub held : IsTold old.disk → new.held ≡ old.held
+  pub changed : AreAmong new.changed old.changed
   pub formed : IsTold old.disk → AreFormed new
 
 -- The entries of a segment, before and after one tuple was put, moved or taken away: those of no other tuple changed, where it led before is empty now, and where it leads now was empty and has a body.

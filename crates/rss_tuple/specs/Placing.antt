@@ -1,8 +1,10 @@
 -- Which identifier a new tuple gets, and in which page a body stands.
-use Rattle.std.specs.Prelude.{◌≡◌, ℕ, ◌+◌, ◌<◌, ◌≤◌, true, false, List, [], length, Contains, None}
+use Rattle.std.specs.Prelude.{◌≡◌, ◌⊎◌, ℕ, ◌+◌, ◌<◌, ◌≤◌, true, false, List, [], length, Contains, None}
 use Rattle.rss_base.specs.Sizes.{page_entries}
 use Rattle.rss_base.specs.Paged.{page_key}
-use Rattle.rss_base.specs.Steps.{PagesView}
+use Rattle.rss_base.specs.Steps.{PagesView, Keys, only, pages_in}
+use Rattle.rss_base.specs.DiskRule.{IsTold}
+use Rattle.rss_base.specs.declared.key.PageKey.{PageKey}
 use Rattle.rss_base.specs.declared.tid.Tid.{Tid}
 use Rattle.rss_base.specs.declared.key.Space.{Space}
 use Rattle.rss_base.specs.declared.key.Space.TheVariants.{Home, Overflow}
@@ -101,3 +103,22 @@ pub data IsPlaced (view : PagesView) (segment : ℕ) (tid : Tid) (body : List �
       → NoneIs (IsSpot view (overflow_for segment (length body)))
       → view.mapped (page_key segment Overflow page) ≡ false
       → IsPlaced view segment tid body (Forward page 0)
+
+-- ---- the pages that are taken
+
+-- Each page that is mapped and wasn't is one of these.
+pub record TakesOnly (keys : Keys) (old new : PagesView) : Type 0 where
+  pub each : (key : PageKey) → new.mapped key ≡ true → (old.mapped key ≡ true) ⊎ keys key
+
+-- A page that is taken for a body: the home page of its tuple, where there is none; or an overflow page, where the body fits neither at home, nor where it stands, nor in an overflow page that there is.
+pub data MayTake (view : PagesView) (segment : ℕ) (tid : Tid) (body : List ℕ) (key : PageKey) : Type 0 where
+  home : key ≡ page_key segment Home tid.page → view.held key ≡ None → MayTake view segment tid body key
+  overflow : pages_in segment Overflow key → (FitsHome view segment tid (length body) → ⊥)
+      → NeverFitsAway view segment tid (length body)
+      → NoneIs (IsSpot view (overflow_for segment (length body))) → MayTake view segment tid body key
+
+-- One page was taken at most, and only one that may be.
+pub record TakesOne (segment : ℕ) (tid : Tid) (body : List ℕ) (old new : PagesView) : Type 0 where
+  pub page : PageKey
+  pub one : TakesOnly (only page) old new
+  pub may : IsTold old.disk → TakesOnly (MayTake old segment tid body) old new

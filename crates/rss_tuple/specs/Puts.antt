@@ -13,7 +13,7 @@ use Rattle.rss_page.specs.Slotted.{HasRoom}
 use Rattle.rss_tuple.specs.Directory.{homes, overflows, bodies_of}
 use Rattle.rss_tuple.specs.Heaps.{AreFormed}
 use Rattle.rss_tuple.specs.TupleSteps.{IsLeast, NoneIs, pages_for}
-use Rattle.rss_tuple.specs.Placing.{IsSpot, IsPlaced, overflow_for}
+use Rattle.rss_tuple.specs.Placing.{IsSpot, IsPlaced, TakesOne, overflow_for}
 use Rattle.rss_tuple.specs.Edits.{IsRead, SetsEntry, Moves}
 
 -- The tuple has this body now, or none; its entries are those of no other tuple.
@@ -63,6 +63,7 @@ pub record Moved (segment : ℕ) (tid : Tid) (body : List ℕ) (old new : PagesV
 -- so does a call, where it succeeds, at a cost of so many asks and writes
 pub record MovesBody {T : Type 0} (segment : ℕ) (tid : Tid) (body : List ℕ) (cost : ℕ) (old new : PagesView) (result : Result T PageFault) : Type 0 where
   pub moved : OnOk result (IsTold old.disk → Moved segment tid body old new)
+  pub takes : OnOk result (TakesOne segment tid body old new)
   pub did : PagesCall (pages_for segment tid) cost cost old new result
 
 -- the home page of a tuple was read

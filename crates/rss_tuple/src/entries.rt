@@ -104,7 +104,8 @@ pub(crate) fn clear_in<P: Pages>(
 pub(crate) fn clear<P: Pages>(pages: &mut P, key: PageKey, slot: u8) -> Result<(), PageFault>
     requires may { MayRead (P.view pages.old) key }
     requires low { slot < page_entries }
-    ensures { Edits key slot Empty 2 (P.view pages.old) (P.view pages.new) result }
+    ensures there { OnOk result ((P.view pages.old).mapped key ≡ true) }
+    ensures edits { Edits key slot Empty 2 (P.view pages.old) (P.view pages.new) result }
 {
     let mut page = [0u8; PAGE_BYTES];
     read_formed(pages, key, &mut page)?;

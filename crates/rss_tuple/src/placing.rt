@@ -2,7 +2,8 @@
 ghost use Rattle.std.specs.Prelude.{◌≡◌, ◌+◌, ◌<◌, length, true, false, None, IfOk, OnOk};
 ghost use Rattle.rss_base.specs.DiskRule.{IsTold};
 ghost use Rattle.rss_base.specs.Sizes.{page_entries};
-ghost use Rattle.rss_base.specs.Steps.{PagesCall, no_page, pages_in};
+ghost use Rattle.rss_base.specs.Paged.{page_key};
+ghost use Rattle.rss_base.specs.Steps.{PagesCall, no_page, only, pages_in};
 ghost use Rattle.rss_base.specs.declared.key.Space.TheVariants.{Overflow};
 ghost use Rattle.rss_page.specs.Content.{Forward};
 ghost use Rattle.rss_page.specs.Slotted.{entries, IsSlotted};
@@ -10,7 +11,7 @@ ghost use Rattle.rss_page.specs.Surveyed.{held_at};
 ghost use Rattle.rss_tuple.specs.Directory.{contents, tid_at};
 ghost use Rattle.rss_tuple.specs.Heaps.{AreFormed, AreHeaps};
 ghost use Rattle.rss_tuple.specs.TupleSteps.{tuples_in, pages_for};
-ghost use Rattle.rss_tuple.specs.Placing.{FitsHome, MayMove};
+ghost use Rattle.rss_tuple.specs.Placing.{FitsHome, MayMove, TakesOnly, TakesOne};
 ghost use Rattle.rss_tuple.specs.Calls.{MayPut, MayInsert, HasTuple, HasSpare, MayReplace};
 ghost use Rattle.rss_tuple.specs.Edits.{IsRead, MayRead};
 ghost use Rattle.rss_tuple.specs.Puts.{Changed, TakesAway, PutsAway, Puts, MovesBody, HomeRead, Stays};
@@ -30,6 +31,8 @@ fn put_on_new<P: Pages>(pages: &mut P, segment: u8, body: &[u8]) -> Result<u32, 
     requires formed { IsTold (P.view pages.old).disk → AreFormed (P.view pages.old) }
     ensures takes { IfOk result (λ number. IsTold (P.view pages.old).disk
         → TakesAway segment body.now (tid_at number 0) (P.view pages.old) (P.view pages.new)) }
+    ensures one { IfOk result (λ number. TakesOnly (only (page_key segment Overflow number))
+        (P.view pages.old) (P.view pages.new)) }
     ensures did { PagesCall (pages_in segment Overflow) 0 2 (P.view pages.old)
         (P.view pages.new) result }
 {
@@ -46,6 +49,8 @@ fn put_away<P: Pages>(pages: &mut P, segment: u8, tid: Tid, body: &[u8]) -> Resu
     requires formed { IsTold (P.view pages.old).disk → AreFormed (P.view pages.old) }
     ensures puts { IfOk result (λ to. IsTold (P.view pages.old).disk
         → PutsAway segment body.now to (P.view pages.old) (P.view pages.new)) }
+    ensures one { IfOk result (λ to. TakesOnly (only (page_key segment Overflow to.page))
+        (P.view pages.old) (P.view pages.new)) }
     ensures low { IfOk result (λ to. to.slot < page_entries) }
     ensures did { PagesCall (pages_in segment Overflow) ((P.view pages.old).slots + 2)
         ((P.view pages.old).slots + 2) (P.view pages.old) (P.view pages.new) result }
@@ -96,6 +101,8 @@ fn place<P: Pages>(
         → MayMove (P.view pages.old) segment tid (length body.now) }
     ensures puts { OnOk result (IsTold (P.view pages.old).disk
         → Puts segment tid body.now (P.view pages.old) (P.view pages.new)) }
+    ensures takes { OnOk result (TakesOne segment tid body.now (P.view pages.old)
+        (P.view pages.new)) }
     ensures did { PagesCall (pages_for segment tid) ((P.view pages.old).slots + 3)
         ((P.view pages.old).slots + 3) (P.view pages.old) (P.view pages.new) result }
 {
@@ -135,6 +142,7 @@ pub(crate) fn remove<P: Pages>(pages: &mut P, segment: u8, tid: Tid) -> Result<(
     requires { HasTuple (tuples_in (P.view pages.old)) segment tid }
     ensures changed { OnOk result (IsTold (P.view pages.old).disk
         → Changed segment tid None (P.view pages.old) (P.view pages.new)) }
+    ensures takes { OnOk result (TakesOnly no_page (P.view pages.old) (P.view pages.new)) }
     ensures did { PagesCall (pages_for segment tid) 4 4 (P.view pages.old)
         (P.view pages.new) result }
 {

@@ -6,7 +6,9 @@ ghost use Rattle.rss_tuple.specs.Directory.{bodies_of, with_body};
 ghost use Rattle.rss_tuple.specs.Heaps.{AreHeaps};
 ghost use Rattle.rss_tuple.specs.TupleSteps.{TuplesView, TuplesCall, no_tuple, only_tuple, pages_for};
 ghost use Rattle.rss_tuple.specs.Finding.{IsFetched, FindsNext};
+ghost use Rattle.rss_tuple.specs.Placing.{TakesOnly};
 ghost use Rattle.rss_tuple.specs.Calls.{IsSegment, MayPut, MayInsert, HasTuple, MayReplace};
+ghost use Rattle.rss_tuple.specs.Calls.{IsNoLonger};
 ghost use Rattle.rss_tuple.specs.Calls.{Chooses, PutsTuple};
 
 use rss_base::{Body, PageFault, Tid};
@@ -45,14 +47,19 @@ pub trait Tuples {
     /// Puts another body in place of that of a tuple. Takes no page where the body isn't longer.
     fn replace(&mut self, segment: u8, tid: Tid, body: &[u8]) -> Result<(), PageFault>
         requires { MayReplace (view self.old) segment tid (length body.now) }
-        ensures { PutsTuple segment tid body.now ((view self.old).pages.slots + 7)
-            (view self.old) (view self.new) result };
+        ensures puts { PutsTuple segment tid body.now ((view self.old).pages.slots + 7)
+            (view self.old) (view self.new) result }
+        ensures no_page { OnOk result (IsTold (view self.old).pages.disk
+            → IsNoLonger (view self.old) segment tid (length body.now)
+            → TakesOnly no_page (view self.old).pages (view self.new).pages) };
 
     /// Takes a tuple away. A page whose entries are all empty then is given back.
     fn remove(&mut self, segment: u8, tid: Tid) -> Result<(), PageFault>
         requires { HasTuple (view self.old) segment tid }
         ensures gone { OnOk result (IsTold (view self.old).pages.disk → (view self.new).bodies
             ≡ with_body (view self.old).bodies segment tid None) }
+        ensures takes { OnOk result (TakesOnly no_page (view self.old).pages
+            (view self.new).pages) }
         ensures did { TuplesCall (pages_for segment tid) (only_tuple segment tid) 4
             (view self.old) (view self.new) result };
 

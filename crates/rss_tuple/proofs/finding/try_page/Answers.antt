@@ -1,7 +1,7 @@
 use Rattle.std.proofs.Common.{◌≡◌, ◌∙◌, rules, true, false, ℕ, List, sym, ap, subst}
 use Rattle.rss_base.specs.DiskRule.{IsTold}
-use Rattle.rss_base.specs.Paged.{Held}
-use Rattle.rss_base.proofs.Steps.{untouched, then, done, all_mapped, all_held}
+use Rattle.rss_base.specs.Paged.{Held, Mapped}
+use Rattle.rss_base.proofs.Steps.{untouched, then, done, all_mapped, all_held, none_changed_more}
 use Rattle.rss_page.specs.Content.{Content}
 use Rattle.rss_page.specs.Slotted.{entries}
 use Rattle.rss_tuple.specs.Directory.{contents, contents_in}
@@ -51,6 +51,7 @@ returns-clause-kept g c =
     record {
       mapped = noted.mapped ∙ all_mapped step;
       held = λ told. noted.held ∙ all_held step told;
+      changed = λ key is. none_changed_more step key (sym (ap (λ (m : Mapped). m key) noted.changed) ∙ is);
       formed = λ told.
           let now = step.passes.leaves.told.0 told in
           noted_kept c.args.key c.look_over-looked.result.room c.loaded-page.result.now _ _ noted c.note.ensures.did read (covers _ c.look_over-looked.result.room c.look_over-looked.ensures.room) now (formed_after step c.requires.formed now);

@@ -1,12 +1,15 @@
-use Rattle.std.proofs.Common.{rules, false, ◌≡◌, ◌∙◌, inl, sym, arith, length}
+use Rattle.std.proofs.Common.{rules, ◌≡◌, ◌∙◌, inl, sym, ap, arith, length}
+use Rattle.rss_base.specs.DiskRule.{IsTold}
 use Rattle.rss_base.specs.Paged.{page_key}
+use Rattle.rss_base.specs.declared.key.PageKey.{PageKey}
 use Rattle.rss_base.specs.declared.key.Space.TheVariants.{Home}
 use Rattle.rss_base.proofs.Steps.{widens, all_mapped}
 use Rattle.rss_page.specs.Content.{Empty, Forward}
-use Rattle.rss_tuple.proofs.Seen.{on_ok_then, formed_after}
+use Rattle.rss_tuple.proofs.Seen.{on_ok, on_ok_then, formed_after}
 use Rattle.rss_tuple.proofs.Sets.{none_held}
 use Rattle.rss_tuple.proofs.Placed.{puts_home, read_key}
 use Rattle.rss_tuple.proofs.Changes.{entry_free, free_after, fits_unmapped, spare_after}
+use Rattle.rss_tuple.proofs.Taken.{takes_home}
 use Rattle.rss_tuple.proofs.Moved.{moves_fails, moves_puts, moves_after}
 use Rattle.rss_tuple.proofs.placing.insert_at.Goals as goal
 
@@ -23,13 +26,13 @@ pub returns-then-not-has : goal.returns-then-not-has
 returns-then-not-has g c =
     let old = g.P.Pages.view c.args.pages.now in
     let key = page_key c.args.segment Home c.args.tid.page in
+    let none = λ (told : IsTold old.disk). none_held (old.held key) (g.met.P.Pages.holds c.args.pages.now told key ∙ search rules) in
     moves_puts
     (λ told p s is. let never : Empty ≡ Forward p s = sym (entry_free old c.args.segment c.args.tid (length c.args.body.now) c.requires told) ∙ is in absurd (cc))
     (on_ok_then c.take_here.result (λ sets told.
-    let unmapped : old.mapped key ≡ false = search rules in
-    let none = none_held (old.held key) (g.met.P.Pages.holds c.args.pages.now told key ∙ unmapped) in
-    puts_home c.args.segment c.args.tid c.args.body.now c.home-key.result _ _ c.home-key.ensures (fits_unmapped old.held key c.args.tid.slot (length c.args.body.now) none c.requires.may.length.most) (sets told) c.take_here.ensures.did.step told)
+    puts_home c.args.segment c.args.tid c.args.body.now c.home-key.result _ _ c.home-key.ensures (fits_unmapped old.held key c.args.tid.slot (length c.args.body.now) (none told) c.requires.may.length.most) (sets told) c.take_here.ensures.did.step told)
     c.take_here.ensures.sets)
+    (on_ok c.take_here.result (takes_home c.home-key.ensures (λ told. ap (λ (k : PageKey). old.held k) c.home-key.ensures ∙ none told) c.take_here.ensures.did.step))
     (widens (λ key is. inl (is ∙ c.home-key.ensures)) (omega arith) (omega arith) c.take_here.ensures.did)
 
 -- ---- where it is
@@ -66,4 +69,4 @@ returns g c =
     let step = c.in_ok-read_formed.ensures.did.step in
     moves_after step (moves_puts
     (λ told p s is. let never : Empty ≡ Forward p s = sym (free_after step c.requires told) ∙ is in absurd (cc))
-    c.place.ensures.puts c.place.ensures.did) (omega (arith, step.passes.slots))
+    c.place.ensures.puts c.place.ensures.takes c.place.ensures.did) (omega (arith, step.passes.slots))

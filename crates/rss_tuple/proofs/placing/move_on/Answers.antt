@@ -1,4 +1,4 @@
-use Rattle.std.proofs.Common.{◌≡◌, ◌∙◌, inr, ◌+◌, ◌<◌, ◌≤◌, ℕ, List, Option, ap, subst, arith, length}
+use Rattle.std.proofs.Common.{◌≡◌, ◌∙◌, inl, inr, ◌+◌, ◌<◌, ◌≤◌, ℕ, List, Option, ap, subst, arith, length}
 use Rattle.rss_base.specs.DiskRule.{IsTold}
 use Rattle.rss_base.specs.Paged.{Held, page_key}
 use Rattle.rss_base.specs.Steps.{PagesView}
@@ -12,8 +12,9 @@ use Rattle.rss_page.specs.Surveyed.{held_at}
 use Rattle.rss_tuple.specs.Directory.{contents_in, content_at, homes}
 use Rattle.rss_tuple.specs.Edits.{IsRead}
 use Rattle.rss_tuple.proofs.Links.{not_empty}
-use Rattle.rss_tuple.proofs.Seen.{on_ok_then, formed_after}
+use Rattle.rss_tuple.proofs.Seen.{on_ok, on_ok_then, formed_after}
 use Rattle.rss_tuple.proofs.Placed.{read_off, room_read, room_back, puts_before, mapped_there, over}
+use Rattle.rss_tuple.proofs.Taken.{takes_step, takes_none, one_before, one_more}
 use Rattle.rss_tuple.proofs.Changes.{spare_after, spare_away}
 use Rattle.rss_tuple.proofs.Moved.{moved_stays, moved_away, never_away, still_there, moves_fails, moves_after}
 use Rattle.rss_tuple.proofs.placing.move_on.Goals as goal
@@ -62,6 +63,7 @@ returns-then-branch g c =
           (room_back view c.overflow-key.result c.stays.new.away c.args.to_slot (length c.args.body.now) read_away mid there.room)
           (sets mid) c.put_here.ensures.did.step mid)
           c.put_here.ensures.sets;
+      takes = on_ok c.put_here.result (takes_none (takes_step c.put_here.ensures.did.step (inl read_away.mapped)));
       did = widens (over c.args.segment c.args.to c.args.tid c.overflow-key.result c.overflow-key.ensures) (omega arith) (omega arith) c.put_here.ensures.did;
     }) (omega arith)
 
@@ -137,7 +139,8 @@ returns g c =
           let lead = leads old c.args.segment c.args.tid c.args.page.now c.args.to c.args.to_slot c.requires.home.read c.requires.leads told in
           let body = ((c.requires.heaps told).linked c.args.segment).leads c.args.tid.page c.args.tid.slot c.args.to c.args.to_slot lead in
           moved_away c.args.segment c.args.tid c.args.body.now c.args.to c.args.to_slot c.overflow-key.result _ _ _ c.overflow-key.ensures lead body
-          (puts_before c.args.segment c.args.tid c.args.body.now _ _ _ (all_mapped step) (all_held step told) (placed.puts mid)) (sets next) c.clear.ensures.did.step next)
-          c.clear.ensures.sets;
-      did = widens (λ key there. there) (omega arith) (omega arith) (then_call {asks_then = 2} {writes_then = 2} (then {asks_then = most} {writes_then = most} (untouched step) (within (λ key there. there) fewer fewer placed.did.step)) (widens (over c.args.segment c.args.to c.args.tid c.overflow-key.result c.overflow-key.ensures) (omega arith) (omega arith) c.clear.ensures.did));
+          (puts_before c.args.segment c.args.tid c.args.body.now _ _ _ (all_mapped step) (all_held step told) (placed.puts mid)) (sets next) c.clear.ensures.edits.did.step next)
+          c.clear.ensures.edits.sets;
+      takes = on_ok_then c.clear.result (λ there. one_before step.passes.leaves.told.0 (all_mapped step) (all_held step) (one_more placed.takes (takes_step c.clear.ensures.edits.did.step (inl there)))) c.clear.ensures.there;
+      did = widens (λ key there. there) (omega arith) (omega arith) (then_call {asks_then = 2} {writes_then = 2} (then {asks_then = most} {writes_then = most} (untouched step) (within (λ key there. there) fewer fewer placed.did.step)) (widens (over c.args.segment c.args.to c.args.tid c.overflow-key.result c.overflow-key.ensures) (omega arith) (omega arith) c.clear.ensures.edits.did));
     }

@@ -1,7 +1,8 @@
-use Rattle.std.proofs.Common.{refl, sym, arith}
+use Rattle.std.proofs.Common.{refl, inl, sym, arith}
 use Rattle.rss_base.proofs.Steps.{then, then_call, among, widens, done, fails, is_in}
 use Rattle.rss_tuple.specs.Directory.{tid_at}
-use Rattle.rss_tuple.proofs.Placed.{puts_found, puts_taken, read_key}
+use Rattle.rss_tuple.proofs.Placed.{step_at, puts_found, puts_taken, read_key}
+use Rattle.rss_tuple.proofs.Taken.{takes_step, takes_same}
 use Rattle.rss_tuple.proofs.placing.put_away.Goals as goal
 
 pub put_here-requires-clause-may : goal.put_here-requires-clause-may
@@ -27,6 +28,11 @@ returns-in_ok-put_here-in-Some-clause-puts g c = λ told.
     let wrote = c.in_ok-put_here-in-Some.ensures in
     puts_found c.args.segment _ c.args.body.now _ c.in-Some.to c.overflow.result _ _ _ refl c.overflow.ensures (rw c.in-Some.is at c.in_ok-to.ensures.found) c.find_page.ensures.kept (wrote.sets mid) wrote.did.step told mid
 
+pub returns-in_ok-put_here-in-Some-clause-one : goal.returns-in_ok-put_here-in-Some-clause-one
+returns-in_ok-put_here-in-Some-clause-one g c =
+    let found = rw c.in-Some.is at c.in_ok-to.ensures.found in
+    takes_same c.find_page.ensures.kept.mapped (takes_step (step_at c.overflow.ensures c.in_ok-put_here-in-Some.ensures.did.step) (inl found.read.mapped))
+
 pub returns-in_ok-put_here-in-Some-clause-did : goal.returns-in_ok-put_here-in-Some-clause-did
 returns-in_ok-put_here-in-Some-clause-did g c = widens (λ key there. there) (omega arith) (omega arith) (done _ (then c.find_page.ensures.did.step (among (is_in c.overflow.result c.overflow.ensures) c.in_ok-put_here-in-Some.ensures.did.step)))
 
@@ -38,3 +44,6 @@ pub returns-in_ok-page-in-None-clause-puts : goal.returns-in_ok-page-in-None-cla
 returns-in_ok-page-in-None-clause-puts g c = λ told.
     let mid = c.find_page.ensures.did.step.passes.leaves.told.0 told in
     puts_taken c.args.segment _ c.args.body.now (tid_at c.in_ok-page-in-None.page 0) _ _ _ refl (rw c.in-None.is at c.in_ok-to.ensures.found) c.find_page.ensures.kept (λ key. g.met.P.Pages.holds c.args.pages.now told key) told (c.in_ok-page-in-None.ensures.takes mid)
+
+pub returns-in_ok-page-in-None-clause-one : goal.returns-in_ok-page-in-None-clause-one
+returns-in_ok-page-in-None-clause-one g c = takes_same c.find_page.ensures.kept.mapped c.in_ok-page-in-None.ensures.one

@@ -1,8 +1,9 @@
-use Rattle.std.proofs.Common.{refl, arith}
+use Rattle.std.proofs.Common.{refl, inr, arith}
 use Rattle.rss_base.specs.Paged.{page_key}
 use Rattle.rss_base.specs.declared.key.Space.TheVariants.{Overflow}
 use Rattle.rss_base.proofs.Steps.{then, then_call, among, widens, done, fails, is_in}
-use Rattle.rss_tuple.proofs.Placed.{taken_away}
+use Rattle.rss_tuple.proofs.Placed.{step_at, taken_away}
+use Rattle.rss_tuple.proofs.Taken.{takes_step}
 use Rattle.rss_tuple.proofs.placing.put_on_new.Goals as goal
 
 pub returns-in_err-fill-clause-did : goal.returns-in_err-fill-clause-did
@@ -14,6 +15,11 @@ pub returns-clause-takes : goal.returns-clause-takes
 returns-clause-takes g c = λ told.
     let key = page_key c.args.segment Overflow c.in_ok-number.number in
     taken_away c.args.segment c.in_ok-number.number c.args.body.now c.overflow.result _ _ _ c.overflow.ensures c.in_ok-number.ensures.least.free (g.met.P.Pages.holds c.args.pages.now told key) c.in_ok-number.ensures.did.step c.in_ok-fill.ensures.fills c.in_ok-fill.ensures.did.step (c.requires.formed told) told
+
+pub returns-clause-one : goal.returns-clause-one
+returns-clause-one g c =
+    let key = page_key c.args.segment Overflow c.in_ok-number.number in
+    takes_step (then c.in_ok-number.ensures.did.step (step_at c.overflow.ensures c.in_ok-fill.ensures.did.step)) (inr refl)
 
 pub returns-clause-did : goal.returns-clause-did
 returns-clause-did g c =

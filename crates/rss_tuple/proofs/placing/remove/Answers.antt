@@ -3,12 +3,13 @@ use Rattle.rss_base.specs.DiskRule.{IsTold}
 use Rattle.rss_base.specs.Paged.{page_key}
 use Rattle.rss_base.specs.declared.key.PageKey.{PageKey}
 use Rattle.rss_base.specs.declared.key.Space.TheVariants.{Home, Overflow}
-use Rattle.rss_base.proofs.Steps.{rests, untouched, among, then, then_call, widens, fails, all_held}
+use Rattle.rss_base.proofs.Steps.{rests, untouched, among, then, then_call, widens, fails, all_held, all_mapped}
 use Rattle.rss_page.specs.Content.{Forward}
 use Rattle.rss_tuple.specs.Directory.{content_at, homes}
 use Rattle.rss_tuple.proofs.Links.{not_empty}
-use Rattle.rss_tuple.proofs.Seen.{on_ok_then, found_damaged, high_empty, formed_after}
+use Rattle.rss_tuple.proofs.Seen.{on_ok, on_ok_then, found_damaged, high_empty, formed_after}
 use Rattle.rss_tuple.proofs.Placed.{read_at, changed_before, changed_here, changed_away, mapped_there, entry_off, over_apart, over, low_forward, held_there}
+use Rattle.rss_tuple.proofs.Taken.{takes_step, takes_then, takes_same}
 use Rattle.rss_tuple.proofs.Changes.{entry_there}
 use Rattle.rss_tuple.proofs.placing.remove.Goals as goal
 use Rattle.rss_tuple.proofs.placing.remove.Goals.{In-Forward}
@@ -92,6 +93,9 @@ returns-in-Here-clause-changed g c =
     (sets mid) c.clear_in.ensures.did.step mid))
     c.clear_in.ensures.sets
 
+pub returns-in-Here-clause-takes : goal.returns-in-Here-clause-takes
+returns-in-Here-clause-takes g c = on_ok c.clear_in.result (takes_same (all_mapped c.in_ok-read_formed.ensures.did.step) (takes_step c.clear_in.ensures.did.step (inl c.in_ok-read_formed.ensures.read.mapped)))
+
 pub returns-in-Here-clause-did : goal.returns-in-Here-clause-did
 returns-in-Here-clause-did g c = widens (λ key there. there) (omega arith) (omega arith) (then_call {asks_then = 1} {writes_then = 1} (untouched c.in_ok-read_formed.ensures.did.step) (widens (λ key is. inl (is ∙ c.home-key.ensures)) (omega arith) (omega arith) c.clear_in.ensures.did))
 
@@ -105,9 +109,14 @@ returns-in_ok-clear_in-in-Forward-clause-changed g c =
     let next = cleared.did.step.passes.leaves.told.0 mid in
     changed_before c.args.segment c.args.tid _ _ _ _ held (changed_away c.args.segment c.args.tid c.in-Forward.to c.in-Forward.to_slot c.home-key.result c.overflow.result _ _ _ c.home-key.ensures c.overflow.ensures
     (ap (λ (h : _). homes h c.args.segment c.args.tid.page c.args.tid.slot) held ∙ leads g (goal.at.returns-in_ok-clear_in-in-Forward-clause-changed g c).In-Forward told)
-    (cleared.sets mid) cleared.did.step (sets next) c.clear.ensures.did.step mid next))
-    c.clear.ensures.sets
+    (cleared.sets mid) cleared.did.step (sets next) c.clear.ensures.edits.did.step mid next))
+    c.clear.ensures.edits.sets
+
+pub returns-in_ok-clear_in-in-Forward-clause-takes : goal.returns-in_ok-clear_in-in-Forward-clause-takes
+returns-in_ok-clear_in-in-Forward-clause-takes g c =
+    let first = takes_step c.in_ok-clear_in-in-Forward.ensures.did.step (inl c.in_ok-read_formed.ensures.read.mapped) in
+    on_ok_then c.clear.result (λ there. takes_same (all_mapped c.in_ok-read_formed.ensures.did.step) (takes_then first (takes_step c.clear.ensures.edits.did.step (inl there)))) c.clear.ensures.there
 
 pub returns-in_ok-clear_in-in-Forward-clause-did : goal.returns-in_ok-clear_in-in-Forward-clause-did
 returns-in_ok-clear_in-in-Forward-clause-did g c =
-    widens (λ key there. there) (omega arith) (omega arith) (then_call {asks_then = 2} {writes_then = 2} (then (untouched c.in_ok-read_formed.ensures.did.step) (among (λ key is. inl (is ∙ c.home-key.ensures)) c.in_ok-clear_in-in-Forward.ensures.did.step)) (widens (over c.args.segment c.in-Forward.to c.args.tid c.overflow.result c.overflow.ensures) (omega arith) (omega arith) c.clear.ensures.did))
+    widens (λ key there. there) (omega arith) (omega arith) (then_call {asks_then = 2} {writes_then = 2} (then (untouched c.in_ok-read_formed.ensures.did.step) (among (λ key is. inl (is ∙ c.home-key.ensures)) c.in_ok-clear_in-in-Forward.ensures.did.step)) (widens (over c.args.segment c.in-Forward.to c.args.tid c.overflow.result c.overflow.ensures) (omega arith) (omega arith) c.clear.ensures.edits.did))

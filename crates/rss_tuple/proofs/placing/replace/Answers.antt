@@ -15,6 +15,7 @@ returns-then-tid-from g c =
     let view = g.P.Pages.view c.args.pages.now in
     record {
       moved = search rules;
+      takes = search rules;
       did = found_damaged c.damaged.result c.damaged.ensures (rests view) (λ told.
           entry_there view c.args.segment c.args.tid c.requires.there told (high_empty view.held (page_key c.args.segment Home c.args.tid.page) c.args.tid.slot (omega (arith, c.from.ensures, c.if-tid-from.true))));
     }
@@ -38,6 +39,7 @@ returns-in-Empty g c =
     let view = g.P.Pages.view c.args.pages.now in
     record {
       moved = search rules;
+      takes = search rules;
       did = widens (λ key there. there) (omega arith) (omega arith) (found_damaged c.damaged-in-Empty.result c.damaged-in-Empty.ensures (untouched step) (λ told.
           entry_there view c.args.segment c.args.tid c.requires.there told (held_there c.home-key.result _ c.args.tid.slot c.home-key.ensures view.held _ (read_at step c.in_ok-read_formed.ensures.read told c.args.tid.slot ∙ c.in-Empty.ensures.holds))));
     }
@@ -70,7 +72,7 @@ place-requires-clause-away g c = λ told full.
 pub returns-in-Here : goal.returns-in-Here
 returns-in-Here g c =
     let step = c.in_ok-read_formed.ensures.did.step in
-    moves_after step (moves_puts (stands_here c.args.tid (read_key c.home-key.ensures c.in_ok-read_formed.ensures.read) c.in-Here.ensures.holds) c.place.ensures.puts c.place.ensures.did) (omega (arith, step.passes.slots))
+    moves_after step (moves_puts (stands_here c.args.tid (read_key c.home-key.ensures c.in_ok-read_formed.ensures.read) c.in-Here.ensures.holds) c.place.ensures.puts c.place.ensures.takes c.place.ensures.did) (omega (arith, step.passes.slots))
 
 -- ---- where it stands in an overflow page
 

@@ -19,5 +19,6 @@ returns g c =
       none = if_ok_then c.choose.result (λ found picks absent told. none_free view c.args.segment c.args.barred.now (holds told) (c.requires.heaps told) told (if_none_found is found picks absent)) c.choose.ensures.picks;
       mapped = c.choose.ensures.kept.mapped;
       held = c.choose.ensures.kept.held;
+      changed = c.choose.ensures.kept.changed;
       did = chosen_call c.requires.heaps c.choose.ensures.kept c.choose.ensures.did;
     }
