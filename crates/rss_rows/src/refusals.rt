@@ -217,8 +217,12 @@ fn a_device_of_another_size_is_no_store(rt: HostRuntime) -> Result<(), Fail> {
 fn a_byte_that_is_turned_is_found_where_it_matters(rt: HostRuntime) -> Result<(), Fail> {
     for (at, offset, bits, ending) in &TURNED {
         let pages = turned(rt.alloc(), *at, *offset, *bits)?;
-        let case = ("page", *at, "byte", *offset, "bits", *bits);
-        assert_ending(rt.alloc(), pages, ending, case)?;
+        assert_ending(
+            rt.alloc(),
+            pages,
+            ending,
+            ("page, byte, bits", *at, *offset, *bits),
+        )?;
     }
     Ok(())
 }
