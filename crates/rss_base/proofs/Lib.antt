@@ -6,3 +6,4 @@ pub mod Calls
 pub mod Steps
 pub mod Counts
 pub mod Keys
+pub mod Numbers

@@ -1,6 +1,7 @@
 -- What there is to see of pages, and what a call on them passes on, whatever it does.
 use Rattle.std.specs.Prelude.{◌≡◌, ◌⊎◌, ℕ, ◌+◌, ◌≤◌, Bool, true, false, List, Some, None, Result, Ok, Err, IsErrOf}
 use Rattle.rss_base.specs.DiskRule.{Disk, IsTold}
+use Rattle.rss_base.specs.Devices.{DeviceView}
 use Rattle.rss_base.specs.Sizes.{zero_page}
 use Rattle.rss_base.specs.Faults.{Rises}
 use Rattle.rss_base.specs.PageMap.{page_count}
@@ -41,6 +42,14 @@ pub record PagesView : Type 1 where
 -- Each slot is spare, or one page's: of those that are mapped and of those that were saved, each has a slot of its own.
 abbrev pub AreCounted : PagesView → Type 0
 AreCounted view = view.spare + mapped_pages view.slots view.mapped + page_count view.backing.shadow ≡ view.slots
+
+-- no page was changed since all of them were saved
+abbrev pub NoneChanged : PagesView → Type 0
+NoneChanged view = (key : PageKey) → view.changed key ≡ false
+
+-- the device under the pages
+abbrev pub device_below : PagesView → DeviceView
+device_below view = record { disk = view.disk; size = view.fixed.size; writes = view.writes; faults = view.faults }
 
 -- ---- sets of pages
 

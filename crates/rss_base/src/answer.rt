@@ -1,6 +1,7 @@
 // What the engine answers.
 ghost use Rattle.std.specs.Prelude.{◌≡◌};
 ghost use Rattle.rss_base.specs.Answers.{page_error};
+ghost use Rattle.rss_base.specs.declared.answer.CallError.TheVariants.{Refused};
 
 use crate::{PageFault, Place, Refusal, Tid, Tuple};
 
@@ -34,6 +35,14 @@ pub enum CallError {
     /// Memory ran out. A call that changes pages is then followed by `Down` alone; one that reads
     /// has changed nothing.
     NoMemory,
+}
+
+impl From<Refusal> for CallError {
+    ghost from_gives = { λ why e. e ≡ Refused why };
+
+    fn from(why: Refusal) -> Self {
+        CallError::Refused(why)
+    }
 }
 
 impl From<PageFault> for CallError {

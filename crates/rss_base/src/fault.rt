@@ -1,5 +1,6 @@
 // Failures of what lies outside, and stores that don't open.
 ghost use Rattle.std.specs.Prelude.{◌≡◌};
+ghost use Rattle.rss_base.specs.Answers.{open_error};
 ghost use Rattle.rss_base.specs.declared.fault.OpenFault.TheVariants.{Device as DeviceFault};
 ghost use Rattle.rss_base.specs.declared.fault.PageFault.TheVariants.{Device as PageDeviceFault};
 
@@ -54,6 +55,18 @@ impl From<Failed> for PageFault {
 
     fn from(_: Failed) -> Self {
         PageFault::Device
+    }
+}
+
+impl From<PageFault> for OpenFault {
+    ghost from_gives = { λ fault e. e ≡ open_error fault };
+
+    fn from(fault: PageFault) -> Self {
+        match fault {
+            PageFault::Device => OpenFault::Device,
+            PageFault::Damaged(place) => OpenFault::Damaged(place),
+            PageFault::NoMemory => OpenFault::NoMemory,
+        }
     }
 }
 

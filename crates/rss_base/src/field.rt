@@ -12,6 +12,9 @@ pub struct FieldDef {
     pub kind: FieldKind,
 }
 
+/// The most fields that a relation has.
+pub const MOST_FIELDS: usize = 16;
+
 /// The fields of a relation, in their order.
 #[derive(Debug, Drop)]
 pub struct Fields {

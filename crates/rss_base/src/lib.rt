@@ -37,7 +37,7 @@ pub use change::Change;
 pub use device::Device;
 pub use durable::put;
 pub use fault::{Failed, OpenFault, PageFault, Unopened};
-pub use field::{FieldDef, Fields};
+pub use field::{FieldDef, Fields, MOST_FIELDS};
 pub use fields::{put_bytes, u32_at, u64_at};
 pub use item::Item;
 pub use key::{PageKey, SEGMENTS, SYSTEM_PAGES, Space};

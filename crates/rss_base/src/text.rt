@@ -1,5 +1,5 @@
 // Texts as values.
-ghost use Rattle.std.specs.Prelude.{◌≡◌, [], ◌∷◌, ◌++◌, OnOk, OnErr};
+ghost use Rattle.std.specs.Prelude.{◌≡◌, [], ◌∷◌, ◌++◌, IfOk, OnOk, OnErr};
 
 use std::alloc::{AllocError, Global};
 use std::marker::Model;
@@ -26,6 +26,22 @@ impl Text {
         Text {
             bytes: Vec::new(alloc),
         }
+    }
+
+    /// The empty text, with room for so many bytes in one allocation.
+    pub fn with_capacity(alloc: Global, bytes: usize) -> Result<Self, AllocError>
+        ensures { IfOk result (λ text. text ≡ []) }
+    {
+        let bytes = Vec::with_capacity(alloc, bytes)?;
+        Ok(Text { bytes })
+    }
+
+    /// The text of these bytes, in one allocation.
+    pub fn from_slice(alloc: Global, bytes: &[u8]) -> Result<Self, AllocError>
+        ensures { IfOk result (λ text. text ≡ bytes.now) }
+    {
+        let bytes = Vec::from_slice(alloc, bytes)?;
+        Ok(Text { bytes })
     }
 
     pub fn push(&mut self, byte: u8) -> Result<(), AllocError>

@@ -30,6 +30,14 @@ impl Tuple {
         }
     }
 
+    /// The tuple of no values, with room for so many in one allocation.
+    pub fn with_capacity(alloc: Global, values: usize) -> Result<Self, AllocError>
+        ensures { IfOk result (λ tuple. tuple ≡ []) }
+    {
+        let values = Vec::with_capacity(alloc, values)?;
+        Ok(Tuple { values })
+    }
+
     /// The tuple of one value.
     pub fn single(alloc: Global, value: Value) -> Result<Self, AllocError>
         ensures { IfOk result (λ tuple. tuple ≡ value ∷ []) }

@@ -5,13 +5,14 @@ use Rattle.std.proofs.Math.Path.{fun_ext}
 use Rattle.std.proofs.lemmas.Bool.{cases_Bool, cond-true, cond-false}
 use Rattle.std.proofs.lemmas.Option.{same_Some}
 use Rattle.std.proofs.lemmas.List.{set-set, set-get_or}
+use Rattle.rss_base.specs.Devices.{OnlyReads}
 use Rattle.rss_base.specs.DiskRule.{Pages, page, Told, IsTold}
 use Rattle.rss_base.specs.Layout.{slots_at}
 use Rattle.rss_base.specs.PageMap.{IsKey, IsTable, owner_of, page_count}
 use Rattle.rss_base.specs.Paged.{Mapped, Held, Fixed, LeavesFixed, is_same, with_mapped, with_page, page_key, IsLeastUnmapped}
 use Rattle.rss_base.specs.Sizes.{zero_page}
 use Rattle.rss_base.specs.Notes.{is_noted_space, with_note}
-use Rattle.rss_base.specs.Steps.{Keys, no_page, PassesOn, PagesStep, PagesCall, WritesPage, TakesPage, GivesPage}
+use Rattle.rss_base.specs.Steps.{NoneChanged, device_below, Keys, no_page, PassesOn, PagesStep, PagesCall, WritesPage, TakesPage, GivesPage}
 use Rattle.rss_base.specs.declared.fault.PageFault.{PageFault}
 use Rattle.rss_base.specs.declared.key.Space.{Space}
 use Rattle.rss_base.specs.declared.key.Space.TheVariants.{Home, Overflow, Image, System}
@@ -28,12 +29,14 @@ use Rattle.rss_buffer.specs.Slots.{held_in, held_by, fixed_by, told_pages}
 use Rattle.rss_base.specs.StoredPages.{slot_of, mapped_by}
 use Rattle.rss_buffer.specs.Buffered.{BufferView, AreFrames, StaysFixed, HaveSlots, AreNotesOf, IsBuffer, held_of, KeepsPages, MovesPages}
 use Rattle.rss_buffer.specs.Saving.{changed_by}
+use Rattle.rss_buffer.specs.BufferLaws.{saveable_by}
 use Rattle.rss_buffer.specs.Views.{pages_view}
 use Rattle.rss_base.proofs.Steps.{kept_all}
 use Rattle.rss_base.proofs.Keys.{is_same-true, is_same-itself, owner_of-slot_of, the_slot}
 use Rattle.rss_buffer.proofs.Lookups.{with_frame-same, with_frame-other}
 use Rattle.rss_shadow.proofs.Owned.{mapped-owned, LacksPage-unmapped, mapped-has, mapped-lacks, slot_of-here, slot_of-others, mapped-changed}
 use Rattle.rss_buffer.proofs.Turns.{with_frame-cases}
+use Rattle.rss_buffer.proofs.Waits.{none-among}
 
 -- ---- one page has this slot now, or none
 
@@ -386,3 +389,9 @@ asked_step keeps low high few =
 
 pub asked : {T : Type 0} {old new : BufferView} {asks : ℕ} {result : Result T PageFault} → MovesPages (record old { asks = asks }) new result → old.asks ≤ asks → asks ≤ old.asks + 1 → PagesCall no_page 1 1 (pages_view old) (pages_view new) result
 asked call low high = record { step = asked_step call.keeps low high call.few; failed = call.cause.failed; sound = call.cause.sound }
+
+-- where no page was changed the device was only read
+pub looks : {old new : BufferView} {asks : ℕ} → IsBuffer old → KeepsPages (record old { asks = asks }) new → NoneChanged (pages_view old) → OnlyReads (device_below (pages_view old)) (device_below (pages_view new))
+looks {old = old} buffer keeps none =
+    let reads = keeps.unwritten (none-among old.frames (saveable_by buffer).waiting none) in
+    record { contents = reads.contents; moments = reads.moments; same_writes = reads.same_writes; later = reads.later }

@@ -1,15 +1,16 @@
 -- How calls follow one another by which pages are saved.
-use Rattle.std.proofs.Common.{◌≡◌, ℕ, Bool, false, List, Option, Some, None, refl, ◌∙◌, ap, arith}
+use Rattle.std.proofs.Common.{◌≡◌, ℕ, Bool, false, List, Option, Some, None, refl, sym, ◌∙◌, ap, arith}
 use Rattle.std.specs.Prelude.{is_none, option_map, unwrap_or, Err}
 use Rattle.rss_base.specs.PageMap.{owner_of}
-use Rattle.rss_base.specs.Paged.{HasPageCause}
-use Rattle.rss_base.specs.Steps.{PagesView}
+use Rattle.rss_base.specs.Paged.{Backing, HasPageCause}
+use Rattle.rss_base.specs.Steps.{PagesView, NoneChanged}
 use Rattle.rss_base.specs.StoredPages.{slot_of}
 use Rattle.rss_base.specs.declared.fault.PageFault.{PageFault}
 use Rattle.rss_base.specs.declared.fault.PageFault.TheVariants.{Device as DeviceFailed, Damaged}
 use Rattle.rss_base.specs.declared.key.PageKey.{PageKey}
+use Rattle.rss_base.specs.declared.root.Root.{Root}
 use Rattle.rss_base.proofs.Keys.{owner_of-slot_of}
-use Rattle.rss_buffer.specs.Saving.{SavingView, changed_by, AreSaveable, SavingStep, SavingCall}
+use Rattle.rss_buffer.specs.Saving.{SavingView, changed_by, AreSaveable, IsFresh, SavingStep, SavingCall}
 
 -- one call after another
 pub saving_then : {old mid new : PagesView} {before between after : SavingView} → SavingStep old mid before between → SavingStep mid new between after → SavingStep old new before after
@@ -25,7 +26,7 @@ saving_then one two = record {
 }
 
 -- where the current map was saved no page was changed
-pub none_changed : {pages : PagesView} {saving : SavingView} → AreSaveable pages saving → pages.backing.shadow ≡ saving.current → (key : PageKey) → pages.changed key ≡ false
+pub none_changed : {pages : PagesView} {saving : SavingView} → AreSaveable pages saving → pages.backing.shadow ≡ saving.current → NoneChanged pages
 none_changed {pages = pages} {saving = saving} saveable saved key =
     ap (λ (changed : PageKey → Bool). changed key) saveable.changed
     ∙ ap (λ (shadow : List (Option PageKey)). changed_by (record { current = saving.current; shadow = shadow }) key) saved
@@ -34,6 +35,10 @@ none_changed {pages = pages} {saving = saving} saveable saved key =
     unchanged : (o : Option ℕ) → slot_of saving.current key ≡ o → unwrap_or (option_map (λ slot. is_none (owner_of saving.current slot)) o) false ≡ false
     unchanged None is = refl
     unchanged (Some slot) is = ap (λ (o : Option PageKey). is_none o) (owner_of-slot_of saving.current key slot is)
+
+-- and so right after the pages were read
+pub fresh_unchanged : {root : Root} {table : List (Option PageKey)} {writes : ℕ} {pages : PagesView} {saving : SavingView} → IsFresh root table writes pages saving → AreSaveable pages saving → NoneChanged pages
+fresh_unchanged fresh saveable = none_changed saveable (ap (λ (b : Backing). b.shadow) fresh.backing ∙ sym fresh.current)
 
 -- it fails by the device alone
 pub saving_fails : {T : Type 0} {old new : PagesView} {before after : SavingView} {fault : PageFault} → SavingCall {T = T} old new before after (Err fault) → fault ≡ DeviceFailed

@@ -12,7 +12,7 @@ use Rattle.rss_base.specs.DiskRule.{Disk, Pages, page, Told, IsTold, IsAt, Write
 use Rattle.rss_base.specs.PageMap.{owner_of}
 use Rattle.rss_base.specs.Paged.{is_same, AreAmong, HasPageCause}
 use Rattle.rss_base.specs.declared.key.PageKey.{PageKey}
-use Rattle.rss_base.proofs.Moments.{only_stays, reads_none, writes_none, writes_nothing, writes_one, writes_then}
+use Rattle.rss_base.proofs.Moments.{only_stays, reads_none, reads_then, writes_none, writes_nothing, writes_one, writes_then}
 use Rattle.rss_notes.specs.Notes.{NotesView}
 use Rattle.rss_shadow.specs.Maps.{Maps}
 use Rattle.rss_shadow.proofs.Counts.{owned_within}
@@ -27,7 +27,7 @@ use Rattle.rss_base.proofs.Calls.{leaves_then, leaves_rests}
 use Rattle.rss_base.proofs.Keys.{is_same-true, is_same-itself, owner_of-slot_of}
 use Rattle.rss_buffer.proofs.Lookups.{with_frame-same}
 use Rattle.rss_shadow.proofs.Owned.{mapped-owned}
-use Rattle.rss_buffer.proofs.Waits.{waits-less, waits-alike, settles-rests, settles-then, settles-count, settles-writes}
+use Rattle.rss_buffer.proofs.Waits.{waits-less, waits-alike, none-waits, none-among, settles-rests, settles-then, settles-count, settles-writes}
 use Rattle.rss_buffer.proofs.Loose.{IsLoose-slot, StaysFixed-writes, LeavesFixed-writes}
 
 -- ---- what pages hold
@@ -98,12 +98,13 @@ KeepsPages-rests view = record {
   held = λ told. refl;
   leaves = leaves_rests (view.settled ≡ true) view.device.disk _;
   waiting = λ key is. is;
+  unwritten = λ none. reads_none view.device;
   writes = omega arith;
   later = omega arith;
 }
 
 pub KeepsPages-then : {old mid new : BufferView} → KeepsPages old mid → KeepsPages mid new → KeepsPages old new
-KeepsPages-then one two = record {
+KeepsPages-then {old = old} {mid = mid} one two = record {
   first = two.first ∙ one.first;
   maps = two.maps ∙ one.maps;
   notes = two.notes ∙ one.notes;
@@ -115,6 +116,7 @@ KeepsPages-then one two = record {
   held = λ told. two.held (one.leaves.told.0 told) ∙ one.held told;
   leaves = leaves_then one.leaves two.leaves;
   waiting = λ key is. one.waiting key (two.waiting key is);
+  unwritten = λ none. reads_then (one.unwritten none) (two.unwritten (none-among mid.frames one.waiting (none-waits old.frames none)));
   writes = omega (arith, one.writes, two.writes);
   later = omega (arith, one.later, two.later);
 }
@@ -192,8 +194,8 @@ module _ {b : BufferView} (buffer : IsBuffer b) where
     IsBuffer-writes : WritesLoose b.first b.maps.shadow b.device.disk device.disk → device.size ≡ b.device.size → AreFrames b.maps frames → Told device.disk (AreClean b.first b.maps frames) → IsAtStage (record b { device = device; frames = frames }) → IsBuffer (record b { device = device; frames = frames })
     IsBuffer-writes loose same are clean = IsBuffer-after same are clean (λ is. StaysFixed-writes b.first b.maps.shadow b.device.disk device.disk loose (buffer.fixed is))
 
-    KeepsPages-writes : WritesLoose b.first b.maps.shadow b.device.disk device.disk → AreAmong (waiting_in frames) (waiting_in b.frames) → b.device.writes ≤ device.writes → b.device.faults ≤ device.faults → (IsTold b.device.disk → held_by b.first b.maps.current frames device.disk.contents ≡ held_of b) → KeepsPages b (record b { device = device; frames = frames })
-    KeepsPages-writes loose waiting more later held = record {
+    KeepsPages-writes : WritesLoose b.first b.maps.shadow b.device.disk device.disk → (NoneChanged b.frames → OnlyReads b.device device) → AreAmong (waiting_in frames) (waiting_in b.frames) → b.device.writes ≤ device.writes → b.device.faults ≤ device.faults → (IsTold b.device.disk → held_by b.first b.maps.current frames device.disk.contents ≡ held_of b) → KeepsPages b (record b { device = device; frames = frames })
+    KeepsPages-writes loose unwritten waiting more later held = record {
       first = refl;
       maps = refl;
       notes = refl;
@@ -205,6 +207,7 @@ module _ {b : BufferView} (buffer : IsBuffer b) where
       held = held;
       leaves = LeavesFixed-writes b.first b.maps.shadow (b.settled ≡ true) b.device.disk device.disk loose buffer.fixed;
       waiting = waiting;
+      unwritten = unwritten;
       writes = more;
       later = later;
     }
@@ -235,6 +238,10 @@ module _ {b : BufferView} (buffer : IsBuffer b) where
     not_saved : (b.stage ≢ Changing) → ⊥
     not_saved is = let clean = buffer.at_stage.none_changed is key frame there in let no : true ≡ false = sym changed ∙ clean in cc
 
+    -- that page waited
+    waited : NoneChanged b.frames → OnlyReads b.device device
+    waited none = let no : true ≡ false = sym changed ∙ none key frame there in absurd (cc)
+
     at_stage-written : (frames : FrameOf) → IsAtStage (record b { device = device; frames = frames })
     at_stage-written frames = record {
       none_changed = λ is. absurd (not_saved is);
@@ -256,7 +263,7 @@ module _ {b : BufferView} (buffer : IsBuffer b) where
         (at_stage-written b.frames))
 
     pub KeepsPages-failed : {frames : FrameOf} → frames ≡ b.frames → b.device.writes ≤ device.writes → b.device.faults ≤ device.faults → KeepsPages b (record b { device = device; frames = frames })
-    KeepsPages-failed {frames = frames} now more later = KeepsPages-writes loose-back (waits-alike b.frames frames now) more later
+    KeepsPages-failed {frames = frames} now more later = KeepsPages-writes loose-back waited (waits-alike b.frames frames now) more later
         (λ is_told. ap (λ (f : FrameOf). held_by b.first b.maps.current f device.disk.contents) now ∙ held-written b.frames (λ other bytes. refl) is_told)
 
     -- it was written, and is noted as such
@@ -274,7 +281,7 @@ module _ {b : BufferView} (buffer : IsBuffer b) where
 
     module _ {frames : FrameOf} (now : frames ≡ settled_frames) where
       pub KeepsPages-written : b.device.writes ≤ device.writes → b.device.faults ≤ device.faults → KeepsPages b (record b { device = device; frames = frames })
-      KeepsPages-written more later = KeepsPages-writes loose-back (waits-less b.frames frames key (Some (unchanged frame)) now refl) more later
+      KeepsPages-written more later = KeepsPages-writes loose-back waited (waits-less b.frames frames key (Some (unchanged frame)) now refl) more later
           (λ is_told. ap (λ (f : FrameOf). held_by b.first b.maps.current f device.disk.contents) now ∙ held-written settled_frames held_in-settled is_told)
 
       pub IsBuffer-written : {bytes : List ℕ} → device.size ≡ b.device.size → bytes ≡ frame.page → Told b.device.disk (λ pages. length pages ≡ b.device.size) → Told b.device.disk (λ pages. device.disk.contents ≡ Some (slice_set pages (b.first + slot) bytes)) → IsBuffer (record b { device = device; frames = frames })
@@ -320,7 +327,7 @@ module _ {b : BufferView} (buffer : IsBuffer b) where
     more-rests = omega (arith, reads.same_writes)
 
     pub KeepsPages-read : KeepsPages b (record b { device = device })
-    KeepsPages-read = KeepsPages-writes writes-rests (λ other is. is) more-rests reads.later (λ told. ap (held_by b.first b.maps.current b.frames) reads.contents)
+    KeepsPages-read = KeepsPages-writes writes-rests (λ none. reads) (λ other is. is) more-rests reads.later (λ told. ap (held_by b.first b.maps.current b.frames) reads.contents)
 
     -- a page that isn't in memory is brought there
     module _ (key : PageKey) (slot : ℕ) (bytes : List ℕ) (none : b.frames key ≡ None) (owned : owner_of b.maps.current slot ≡ Some key) (read : Told b.device.disk (λ pages. bytes ≡ page pages (b.first + slot))) where
@@ -362,8 +369,8 @@ module _ {b : BufferView} (buffer : IsBuffer b) where
       IsBuffer-loads size_same (inr now) = subst (λ (f : FrameOf). IsBuffer (record b { device = device; frames = f })) (sym now) (IsBuffer-rests size_same)
 
       pub KeepsPages-loads : {frames : FrameOf} → (frames ≡ loaded_frames) ⊎ (frames ≡ b.frames) → KeepsPages b (record b { device = device; frames = frames })
-      KeepsPages-loads {frames = frames} (inl now) = KeepsPages-writes writes-rests (waits-less b.frames frames key (Some loaded) now refl) more-rests reads.later (λ told. ap (λ (f : FrameOf). held_by b.first b.maps.current f device.disk.contents) now ∙ held-loaded told)
-      KeepsPages-loads {frames = frames} (inr now) = KeepsPages-writes writes-rests (waits-alike b.frames frames now) more-rests reads.later (λ told. ap (λ (f : FrameOf). held_by b.first b.maps.current f device.disk.contents) now ∙ ap (held_by b.first b.maps.current b.frames) reads.contents)
+      KeepsPages-loads {frames = frames} (inl now) = KeepsPages-writes writes-rests (λ none. reads) (waits-less b.frames frames key (Some loaded) now refl) more-rests reads.later (λ told. ap (λ (f : FrameOf). held_by b.first b.maps.current f device.disk.contents) now ∙ held-loaded told)
+      KeepsPages-loads {frames = frames} (inr now) = KeepsPages-writes writes-rests (λ none. reads) (waits-alike b.frames frames now) more-rests reads.later (λ told. ap (λ (f : FrameOf). held_by b.first b.maps.current f device.disk.contents) now ∙ ap (held_by b.first b.maps.current b.frames) reads.contents)
 
   -- ---- a page that stands in its slot leaves memory
 
@@ -399,7 +406,7 @@ module _ {b : BufferView} (buffer : IsBuffer b) where
         ∙ sym (ap (held_by b.first b.maps.current b.frames) told.is)
 
     pub KeepsPages-removed : KeepsPages b (record b { frames = frames })
-    KeepsPages-removed = KeepsPages-writes (writes-rests (reads_none b.device)) (waits-less b.frames frames key None now refl) (omega arith) (omega arith)
+    KeepsPages-removed = KeepsPages-writes (writes-rests (reads_none b.device)) (λ none. reads_none b.device) (waits-less b.frames frames key None now refl) (omega arith) (omega arith)
         (λ told. ap (λ (f : FrameOf). held_by b.first b.maps.current f b.device.disk.contents) now ∙ held-removed told)
 
 -- a page in memory is mapped

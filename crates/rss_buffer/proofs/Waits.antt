@@ -46,6 +46,16 @@ none-waits frames none key = by (frames key) (none key)
     by None is = refl
     by (Some frame) is = is frame refl
 
+-- those that wait are among none
+pub none-among : {changed : Mapped} (frames : FrameOf) → AreAmong (waiting_in frames) changed → ((key : PageKey) → changed key ≡ false) → NoneChanged frames
+none-among frames among none = λ key frame there. elim (cases_Bool frame.changed) [
+  | inl changed ↦
+      let waits = among key (changed-waits frames key frame there changed) in
+      let no = sym (none key) ∙ waits in
+      absurd (cc)
+  | inr clean ↦ clean
+]
+
 -- ---- how many are written
 
 pub settles-rests : (waiting : Mapped) (writes : ℕ) → Settles waiting waiting writes writes

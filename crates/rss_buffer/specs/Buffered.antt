@@ -1,6 +1,6 @@
 -- What holds of a buffer between any two calls, and what each call within it passes on.
 use Rattle.std.specs.Prelude.{◌≡◌, ◌≢◌, ℕ, ◌+◌, ◌≤◌, Bool, true, false, List, length, Option, Some, None, option_map, Result, IfErr, OnOk}
-use Rattle.rss_base.specs.Devices.{DeviceView}
+use Rattle.rss_base.specs.Devices.{DeviceView, OnlyReads}
 use Rattle.rss_base.specs.DiskRule.{Disk, Pages, page, Told, IsTold, Leaves, LeavesOnly, WritesIn}
 use Rattle.rss_base.specs.Layout.{map_at, slots_at}
 use Rattle.rss_base.specs.PageMap.{owner_of, page_count, IsTable, IsMap}
@@ -128,7 +128,7 @@ abbrev pub WritesLoose : ℕ → List (Option PageKey) → Disk → Disk → Typ
 WritesLoose first shadow old new = WritesIn (IsLoose first shadow) old new
 
 -- Pages move between memory and their slots: the maps stay, what each page holds, what is noted, and
--- what is fixed. No more pages wait to be written.
+-- what is fixed. No more pages wait to be written, and where none waits nothing is written.
 pub record KeepsPages (old new : BufferView) : Type 0 where
   pub first : new.first ≡ old.first
   pub maps : new.maps ≡ old.maps
@@ -143,6 +143,7 @@ pub record KeepsPages (old new : BufferView) : Type 0 where
       (fixed_by old.first old.maps.shadow old.device.disk.contents)
       (fixed_by new.first new.maps.shadow new.device.disk.contents)
   pub waiting : AreAmong (waiting_in new.frames) (waiting_in old.frames)
+  pub unwritten : NoneChanged old.frames → OnlyReads old.device new.device
   pub writes : old.device.writes ≤ new.device.writes
   pub later : old.device.faults ≤ new.device.faults
 

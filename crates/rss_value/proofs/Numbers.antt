@@ -1,10 +1,10 @@
 -- Numbers by their bytes: their order, and what a number is by its bytes.
 use Rattle.std.proofs.Common.{◌≡◌, ℕ, zero, suc, ◌+◌, ◌-◌, ◌*◌, ◌/◌, ◌%◌, ◌^◌, ◌<◌, ◌≤◌, length, refl, sym, ap, ◌∙◌, arith, bit_xor, ℤ, pos, negsuc, ◌<ℤ◌, FitsSigned, w64, zero-add, lit<}
 use Rattle.std.proofs.Math.Nat.{mod-lt, mod-one, div-one, pow-suc, div-add-mod'}
-use Rattle.std.proofs.lemmas.Nat.{mul-add-lt, mod-mul-add, xor_block, from_be_bytes-to_be_bytes_8}
-use Rattle.std.proofs.lemmas.Int.{ints, to_z-of_z}
+use Rattle.std.proofs.lemmas.Nat.{mul-add-lt, mod-mul-add, xor_block}
+use Rattle.std.proofs.lemmas.Int.{ints}
 use Rattle.std.proofs.lemmas.Cmp.{int_ranked}
-use Rattle.std.specs.Int.{from_be_bytes, cast_unsigned, cast_signed, bytes_high_first, byte_at}
+use Rattle.std.specs.Int.{cast_unsigned, bytes_high_first, byte_at}
 use Rattle.std.specs.Int.Bits.{xor_zero_r}
 use Rattle.std.specs.Cmp.{nat_cmp_is}
 use Rattle.std.specs.Cmp.Lexicographic.{slice_cmp}
@@ -104,16 +104,3 @@ length-int_key z = length-high_first 8 (cast_unsigned w64 z)
 
 pub length-int_bytes : (z : ℤ) → length (int_bytes z) ≡ 8
 length-int_bytes z = length-high_first 8 (cast_unsigned w64 z)
-
--- ---- the number of eight bytes
-
-bits_fit : (z : ℤ) → FitsSigned w64 z → cast_unsigned w64 z < 2 ^ 64
-bits_fit (pos n) fit = omega (arith, ints)
-bits_fit (negsuc n) fit = omega arith
-
--- one number for the same bytes
-pub int_bytes_same : (z w : ℤ) → FitsSigned w64 z → FitsSigned w64 w → int_bytes z ≡ int_bytes w → z ≡ w
-int_bytes_same z w x y same =
-    let bits : cast_unsigned w64 z ≡ cast_unsigned w64 w =
-    sym (from_be_bytes-to_be_bytes_8 (cast_unsigned w64 z) (bits_fit z x)) ∙ ap (from_be_bytes w64) same ∙ from_be_bytes-to_be_bytes_8 (cast_unsigned w64 w) (bits_fit w y) in
-    sym (to_z-of_z w64 z x) ∙ ap (cast_signed w64) bits ∙ to_z-of_z w64 w y

@@ -11,7 +11,8 @@ use Rattle.rss_value.specs.ValueRefs.{value_of}
 use Rattle.rss_value.specs.declared.value_ref.ValueRef.{ValueRef}
 use Rattle.rss_value.specs.declared.value_ref.ValueRef.TheVariants.{Int as IntRef}
 use Rattle.rss_value.specs.Reads.{IsInt, IsFront, Reads}
-use Rattle.rss_value.proofs.Numbers.{length-int_bytes, int_bytes_same}
+use Rattle.rss_base.proofs.Numbers.{int_bytes_same}
+use Rattle.rss_value.proofs.Numbers.{length-int_bytes}
 
 -- fronts of one length, and what stands behind them
 append_same : {A : Type 0} (p q r s : List A) → length p ≡ length q → p ++ r ≡ q ++ s → (p ≡ q) × (r ≡ s)

@@ -44,14 +44,14 @@ pub fn encode(fields: &[FieldDef], tuple: &Tuple, into: &mut Body)
 }
 
 /// The tuple whose values' bytes these are, or `None` where they spell no tuple that fits the
-/// fields.
+/// fields. It takes one allocation, and one more for each text.
 pub fn decode(alloc: Global, fields: &[FieldDef], bytes: &[u8]) -> Result<Option<Tuple>, AllocError>
     ensures some { IfOk result (λ tuple. IfSome tuple (Spells (kinds fields.now) bytes.now)) }
     ensures exact { IfOk result (λ tuple. (values : List Value)
         → Spells (kinds fields.now) bytes.now values → tuple ≡ Some values) }
 {
     let mut cursor = Cursor::new(bytes);
-    let mut tuple = Tuple::new(alloc);
+    let mut tuple = Tuple::with_capacity(alloc, fields.len())?;
     for field in fields {
         let Some(value) = cursor.read(field.kind) else {
             return Ok(None);

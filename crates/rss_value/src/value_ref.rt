@@ -28,13 +28,13 @@ impl<'a> ValueRef<'a> {
         }
     }
 
-    /// The value, with a text of its own.
+    /// The value, with a text of its own, which is made in one allocation.
     pub fn to_value(&self, alloc: Global) -> Result<Value, AllocError>
         ensures { IfOk result (λ value. value ≡ value_of self.now) }
     {
         match self {
             ValueRef::Int(number) => Ok(Value::Int(*number)),
-            ValueRef::Text(bytes) => Ok(Value::Text(to_text(alloc, bytes)?)),
+            ValueRef::Text(bytes) => Ok(Value::Text(Text::from_slice(alloc, bytes)?)),
         }
     }
 
@@ -97,16 +97,6 @@ fn has_no_control(bytes: &[u8]) -> bool
     ensures { result ≡ list_all is_allowed_byte bytes.now }
 {
     bytes.iter().all(|byte| *byte >= 32 && *byte != 127)
-}
-
-fn to_text(alloc: Global, bytes: &[u8]) -> Result<Text, AllocError>
-    ensures { IfOk result (λ text. text ≡ bytes.now) }
-{
-    let mut text = Text::new(alloc);
-    for byte in bytes {
-        text.push(*byte)?;
-    }
-    Ok(text)
 }
 
 fn invert_sign(number: [u8; 8]) -> [u8; 8]

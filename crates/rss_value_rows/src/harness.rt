@@ -4,13 +4,11 @@ ghost use Rattle.rss_base.specs.TupleTypes.{kinds, Spells};
 ghost use Rattle.rss_value.specs.Numbers.{IsNumberOf};
 
 use rss_base::{
-    BODY_BYTES, Body, FieldDef, FieldKind, KEY_BYTES, Key, RELATION_R, Text, Tuple, Value,
+    BODY_BYTES, Body, FieldDef, FieldKind, KEY_BYTES, Key, MOST_FIELDS, RELATION_R, Text, Tuple,
+    Value,
 };
 use rss_value::{encode, fits, key, key_width, width};
 use std::alloc::{AllocError, Global};
-
-/// How many fields a relation has at most.
-const MOST_FIELDS: usize = 16;
 
 /// A value written out.
 #[derive(Clone, Copy, Debug)]
@@ -28,7 +26,7 @@ pub(crate) fn field(kind: FieldKind) -> FieldDef {
 }
 
 pub(crate) fn tuple_of(alloc: Global, values: &[Written]) -> Result<Tuple, AllocError> {
-    let mut tuple = Tuple::new(alloc);
+    let mut tuple = Tuple::with_capacity(alloc, values.len())?;
     for value in values {
         tuple.push(value_of(alloc, *value)?)?;
     }
@@ -38,13 +36,7 @@ pub(crate) fn tuple_of(alloc: Global, values: &[Written]) -> Result<Tuple, Alloc
 fn value_of(alloc: Global, value: Written) -> Result<Value, AllocError> {
     match value {
         Written::Int(number) => Ok(Value::Int(number)),
-        Written::Text(bytes) => {
-            let mut text = Text::new(alloc);
-            for byte in bytes {
-                text.push(*byte)?;
-            }
-            Ok(Value::Text(text))
-        }
+        Written::Text(bytes) => Ok(Value::Text(Text::from_slice(alloc, bytes)?)),
     }
 }
 
