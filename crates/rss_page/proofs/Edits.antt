@@ -1,10 +1,10 @@
 -- A page of which one entry is changed.
-use Rattle.std.proofs.Common.{◌≡◌, ◌≢◌, ◌⊎◌, inl, inr, ℕ, ◌+◌, ◌*◌, ◌<◌, ◌≤◌, List, length, set, get_or, sym, ◌∙◌, ap, subst, arith, length-set, get_or-set_same, get_or-set_other}
+use Rattle.std.proofs.Common.{◌≡◌, ◌≢◌, ◌⊎◌, inl, inr, ℕ, ◌+◌, ◌*◌, ◌<◌, ◌≤◌, List, length, set, get_or, max, sym, ◌∙◌, ap, subst, arith, length-set, get_or-set_same, get_or-set_other}
 use Rattle.std.proofs.lemmas.Bool.{cases_lt, cases_eq}
 use Rattle.rss_page.specs.declared.entry_form.Entry.{Entry}
 use Rattle.rss_page.specs.declared.entry_form.Entry.TheVariants.{Here as HereEntry}
 use Rattle.rss_page.specs.Content.{Content, Empty, Here}
-use Rattle.rss_page.specs.Slotted.{part, put, entry_bytes, entry_from, entry_at, entry_of, content_of, entries, place_of, length_of, IsInBody, IsAllowed, IsBody, IsEntry, IsSlotted, Becomes, EndBy, OthersEndBy, OthersStay}
+use Rattle.rss_page.specs.Slotted.{part, put, entry_bytes, entry_from, entry_at, entry_of, content_of, entries, place_of, length_of, IsInBody, IsAllowed, IsBody, IsEntry, IsSlotted, Becomes, EndBy, OthersBeside, OthersEndBy, OthersStay}
 use Rattle.rss_page.proofs.Parts.{length-put, part_put, part_kept, first_byte}
 use Rattle.rss_page.proofs.Contents.{length-entries, entries_at, entries_are, entry_back, entry_long, body_within, content_kept}
 
@@ -101,9 +101,9 @@ entry_edit page slot entry content is low allowed none_there holds = record {
   holds = holds (put page (16 + 8 * slot) (entry_bytes entry));
 }
 
--- an entry with a body, behind all others
-pub append_edit : (page : List ℕ) (slot end : ℕ) (body : List ℕ) → IsSlotted page → slot < 128 → OthersEndBy page slot end → IsBody end (length body) → Edit page (put (put page end body) (16 + 8 * slot) (entry_bytes (HereEntry end (length body)))) slot (HereEntry end (length body)) (Here body)
-append_edit page slot end body is low free place =
+-- an entry with a body, where no other one is
+pub body_edit : (page : List ℕ) (slot end : ℕ) (body : List ℕ) → IsSlotted page → slot < 128 → OthersBeside page slot end (length body) → IsBody end (length body) → Edit page (put (put page end body) (16 + 8 * slot) (entry_bytes (HereEntry end (length body)))) slot (HereEntry end (length body)) (Here body)
+body_edit page slot end body is low free place =
     let size = is.size in
     let within : end + length body ≤ length page = omega (arith, place.high) in
     let entry : Entry = HereEntry end (length body) in
@@ -116,10 +116,30 @@ append_edit page slot end body is low free place =
       others = λ other other_low differ. dir_others mid slot other entry mid_size low differ ∙ front (16 + 8 * other) 8 (omega (arith, place.low));
       here = dir_here mid slot entry mid_size low;
       allowed = place;
-      bodies = λ other other_low differ. content_kept page (put mid (16 + 8 * slot) (entry_bytes entry)) (entry_of page other) (dir_body mid slot (place_of (entry_of page other)) (length_of (entry_of page other)) entry mid_size low (placed page other is other_low) ∙ front (place_of (entry_of page other)) (length_of (entry_of page other)) (free other other_low differ));
-      apart = λ other byte other_low differ one two. omega (arith, one.high, two.low, free other other_low differ);
+      bodies = λ other other_low differ. content_kept page (put mid (16 + 8 * slot) (entry_bytes entry)) (entry_of page other) (dir_body mid slot (place_of (entry_of page other)) (length_of (entry_of page other)) entry mid_size low (placed page other is other_low) ∙ part_kept page end body (place_of (entry_of page other)) (length_of (entry_of page other)) within (free other other_low differ));
+      apart = λ other byte other_low differ one two. elim (free other other_low differ) [
+        | inl before ↦ omega (arith, one.high, two.low, before)
+        | inr behind ↦ omega (arith, one.low, two.high, behind)
+      ];
       holds = ap Here (dir_body mid slot end (length body) entry mid_size low (inr place.low) ∙ part_put page end body within);
     }
+
+-- the bytes of a slot's own body belong to no other one
+pub own_beside : (page : List ℕ) (slot place own count : ℕ) → IsSlotted page → slot < 128 → entry_of page slot ≡ HereEntry place own → 1 ≤ count → count ≤ own → OthersBeside page slot place count
+own_beside page slot place own count is low here some few = λ other other_low differ. elim (body_within (get_or page 0 0) (entry_of page other) (is.spelled other other_low).allowed) [
+  | inl none_there ↦ inl (omega (arith, none_there))
+  | inr body ↦ elim (cases_lt place (place_of (entry_of page other) + length_of (entry_of page other))) [
+    | inl over ↦ elim (cases_lt (place_of (entry_of page other)) (place + count)) [
+      | inl under ↦
+          let byte : ℕ = max place (place_of (entry_of page other)) in
+          let in_other : IsInBody (entry_of page other) byte = record { low = omega arith; high = omega (arith, body.some) } in
+          let in_own : IsInBody (HereEntry place own) byte = record { low = omega arith; high = omega (arith, body.some) } in
+          absurd (differ (is.apart other slot byte other_low low in_other (subst (λ (e : Entry). IsInBody e byte) (sym here) in_own)))
+      | inr behind ↦ inr behind
+    ]
+    | inr before ↦ inl before
+  ]
+]
 
 -- ---- what the callers of an edit learn
 
@@ -130,8 +150,8 @@ pub edit_stay : {old new : List ℕ} {slot : ℕ} {entry : Entry} {content : Con
 edit_stay edit = λ other low differ. ap entry_from (edit.others other low differ)
 
 -- all bodies end where the new one does
-pub edit_ends : {old new : List ℕ} {slot : ℕ} {entry : Entry} {content : Content} (end now : ℕ) → Edit old new slot entry content → OthersEndBy old slot end → end ≤ now → place_of entry + length_of entry ≤ now → EndBy new now
-edit_ends {old = old} {new = new} {slot = slot} {entry = entry} end now edit free le own = λ other low. elim (cases_eq other slot) [
-  | inl same ↦ subst (λ (n : ℕ). place_of (entry_of new n) + length_of (entry_of new n) ≤ now) (sym same) (subst (λ (e : Entry). place_of e + length_of e ≤ now) (sym (edit_here edit)) own)
-  | inr differ ↦ subst (λ (e : Entry). place_of e + length_of e ≤ now) (sym (edit_stay edit other low differ)) (omega (arith, free other low differ))
+pub edit_ends : (old new : List ℕ) (slot : ℕ) (entry : Entry) (end now : ℕ) → entry_of new slot ≡ entry → OthersStay old new slot → OthersEndBy old slot end → end ≤ now → place_of entry + length_of entry ≤ now → EndBy new now
+edit_ends old new slot entry end now here stay free le own = λ other low. elim (cases_eq other slot) [
+  | inl same ↦ subst (λ (n : ℕ). place_of (entry_of new n) + length_of (entry_of new n) ≤ now) (sym same) (subst (λ (e : Entry). place_of e + length_of e ≤ now) (sym here) own)
+  | inr differ ↦ subst (λ (e : Entry). place_of e + length_of e ≤ now) (sym (stay other low differ)) (omega (arith, free other low differ))
 ]

@@ -8,3 +8,4 @@ pub mod Walks
 pub mod Claimed
 pub mod Bits
 pub mod Ordered
+pub mod Blanks

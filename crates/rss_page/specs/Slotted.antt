@@ -153,6 +153,10 @@ Sets old new slot content = Becomes old new (slice_set (entries old) slot conten
 abbrev pub OthersEndBy : List ℕ → ℕ → ℕ → Type 0
 OthersEndBy page slot end = (other : ℕ) → other < page_entries → (other ≡ slot → ⊥) → place_of (entry_of page other) + length_of (entry_of page other) ≤ end
 
+-- they have none of so many bytes from this place on
+abbrev pub OthersBeside : List ℕ → ℕ → ℕ → ℕ → Type 0
+OthersBeside page slot place count = (other : ℕ) → other < page_entries → (other ≡ slot → ⊥) → (place_of (entry_of page other) + length_of (entry_of page other) ≤ place) ⊎ (place + count ≤ place_of (entry_of page other))
+
 abbrev pub EndBy : List ℕ → ℕ → Type 0
 EndBy page end = (slot : ℕ) → slot < page_entries → place_of (entry_of page slot) + length_of (entry_of page slot) ≤ end
 

@@ -1,8 +1,9 @@
 // Changes of a page.
-ghost use Rattle.std.specs.Prelude.{◌≡◌, ◌+◌, ◌-◌, ◌<◌, ◌≤◌, ℕ, length, replicate};
+ghost use Rattle.std.specs.Prelude.{◌≡◌, ◌+◌, ◌-◌, ◌<◌, ◌≤◌, ℕ, length, replicate, IfSome};
+ghost use Rattle.rss_page.specs.declared.entry_form.Entry.TheVariants.{Here as HereEntry};
 ghost use Rattle.rss_base.specs.Sizes.{page_entries, page_bytes};
 ghost use Rattle.rss_page.specs.Content.{Empty, Here, Forward, body_length};
-ghost use Rattle.rss_page.specs.Slotted.{bodies_at, bodies_room, part, entries, body_bytes, HasRoom, IsBody, IsSlotted, IsHome, Becomes, Sets, EndBy, MayPut, OthersEndBy, OthersStay, OthersStayIfRoom};
+ghost use Rattle.rss_page.specs.Slotted.{bodies_at, bodies_room, part, entries, entry_of, body_bytes, HasRoom, IsBody, IsSlotted, IsHome, Becomes, Sets, EndBy, MayPut, OthersBeside, OthersEndBy, OthersStay, OthersStayIfRoom};
 ghost use Rattle.rss_page.specs.Surveyed.{held_at, IsSurvey};
 
 use crate::directory::{HEADER_BYTES, entry, set_entry};
@@ -54,19 +55,36 @@ pub fn put_at(page: &mut Page, slot: u8, body: &[u8])
     append(page, slot, end, body);
 }
 
-/// The same, by what a walk has found in the page. Where the free bytes behind the last body
-/// suffice, no other entry is looked at.
+/// The same, by what a walk has found in the page. A body that isn't longer than the one that stands
+/// there takes its place. Then, and where the free bytes behind the last body suffice, no other entry
+/// is looked at.
 pub fn put_found(page: &mut Page, slot: u8, body: &[u8], found: &Survey)
     requires may { MayPut page.old slot body.now }
     requires found { IsSurvey page.old found.now }
     ensures becomes { Sets page.old page.new slot (Here body.now) }
     ensures stay { OthersStayIfRoom page.old page.new slot (length body.now) }
 {
-    if found.end <= PAGE_END - body.len() as u16 {
+    if let Some(place) = own_place(page, slot, body.len() as u16) {
+        write_at(page, slot, place, body);
+    } else if found.end <= PAGE_END - body.len() as u16 {
         append(page, slot, found.end, body);
     } else {
         put_at(page, slot, body);
     }
+}
+
+/// Where the body of a slot stands, if it has one of so many bytes or more.
+fn own_place(page: &Page, slot: u8, length: u16) -> Option<u16>
+    requires slotted { IsSlotted page.now }
+    requires slot { slot < page_entries }
+    requires some { 1 ≤ length }
+    ensures place { IfSome result (λ place. IsBody place length) }
+    ensures beside { IfSome result (λ place. OthersBeside page.now slot place length) }
+{
+    let Entry::Here { place, length: own } = entry(page, slot) else {
+        return None;
+    };
+    if length <= own { Some(place) } else { None }
 }
 
 /// Finds the place behind all bodies, with so many free bytes there.
@@ -156,9 +174,22 @@ fn append(page: &mut Page, slot: u8, end: u16, body: &[u8])
     ensures stay { OthersStay page.old page.new slot }
     ensures ends { EndBy page.new (end + length body.now) }
 {
-    put_bytes(page, usize::from(end), body);
+    write_at(page, slot, end, body);
+}
+
+/// Gives an entry a body at a place where no other body is.
+fn write_at(page: &mut Page, slot: u8, place: u16, body: &[u8])
+    requires slotted { IsSlotted page.old }
+    requires slot { slot < page_entries }
+    requires beside { OthersBeside page.old slot place (length body.now) }
+    requires place { IsBody place (length body.now) }
+    ensures becomes { Sets page.old page.new slot (Here body.now) }
+    ensures stay { OthersStay page.old page.new slot }
+    ensures stands { entry_of page.new slot ≡ HereEntry place (length body.now) }
+{
+    put_bytes(page, usize::from(place), body);
     let here = Entry::Here {
-        place: end,
+        place,
         length: body.len() as u16,
     };
     set_entry(page, slot, here);

@@ -1,5 +1,5 @@
 // What one walk over the directory of a page finds.
-ghost use Rattle.std.specs.Prelude.{◌≡◌, ◌↔◌, ◌+◌, ◌-◌, ◌<◌, ◌≤◌, ℕ, max, slice_index_or, slice_set, IsTrue, IsSome, IfSome, Option, Some, None, unwrap_or};
+ghost use Rattle.std.specs.Prelude.{◌≡◌, ◌↔◌, ◌+◌, ◌-◌, ◌<◌, ◌≤◌, ℕ, List, max, replicate, slice_index_or, slice_set, IsTrue, IsSome, IfSome, Option, Some, None, unwrap_or};
 ghost use Rattle.rss_base.specs.Sizes.{page_entries};
 ghost use Rattle.rss_page.specs.Content.{Content, Empty};
 ghost use Rattle.rss_page.specs.Slotted.{entries, entry_of, length_of, HasRoom, IsAllowed, IsSlotted};
@@ -42,6 +42,17 @@ impl Survey {
             found = found.with(page, slot);
         }
         found
+    }
+
+    /// What a walk finds in a page whose entries are all empty.
+    pub fn of_blank() -> Self
+        ensures { (page : List ℕ) → entries page ≡ replicate page_entries Empty
+            → IsSurvey page result }
+    {
+        Survey {
+            first_empty: Some(0),
+            ..NOTHING
+        }
     }
 
     /// Looks at each entry of any bytes, where they are a page's and the bodies stand in the order

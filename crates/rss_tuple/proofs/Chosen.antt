@@ -21,7 +21,7 @@ use Rattle.rss_tuple.specs.Edits.{KeepsEntries}
 use Rattle.rss_tuple.specs.Spots.{IsFirstOpen, NoneOpen, IsFoundSpot}
 use Rattle.rss_tuple.specs.Picks.{IsPicked, NonePicked}
 use Rattle.rss_tuple.proofs.Seen.{on_ok, linked_same}
-use Rattle.rss_tuple.proofs.Sets.{blank_empty}
+use Rattle.rss_page.proofs.Blanks.{blank_empty}
 use Rattle.rss_tuple.proofs.Spots.{the_bytes, spot_same}
 use Rattle.rss_tuple.proofs.Placed.{empty_there}
 use Rattle.rss_tuple.proofs.Changes.{absent_empty, empty_absent}

@@ -1,3 +1,9 @@
+pub mod Checked
+pub mod LookedAll
+pub mod LookedPages
+pub mod SeenHomes
+pub mod Followed
+pub mod Looks
 pub mod Links
 pub mod Seen
 pub mod Sets
@@ -9,3 +15,4 @@ pub mod Moved
 pub mod Fitting
 pub mod Walks
 pub mod Chosen
+pub mod Props

@@ -1,10 +1,8 @@
 -- A page of which one entry was changed, among the others.
-use Rattle.std.proofs.Common.{◌≡◌, ◌≢◌, inl, inr, ℕ, ◌+◌, ◌*◌, ◌≤◌, ◌<◌, true, false, List, Option, Some, None, length, set, get_or, replicate, refl, sym, ◌∙◌, ap, subst, arith, get_or-set_same, get_or-set_other}
+use Rattle.std.proofs.Common.{◌≡◌, ◌≢◌, inl, inr, ℕ, ◌+◌, ◌≤◌, ◌<◌, true, false, List, Option, Some, None, length, set, get_or, replicate, refl, sym, ◌∙◌, ap, subst, arith, get_or-set_same, get_or-set_other}
 use Rattle.std.specs.Prelude.{is_some, Result, Err, IsErrAnd}
-use Rattle.std.proofs.lemmas.Bool.{cases_Bool, cases_eq, cases_lt}
-use Rattle.std.proofs.lemmas.List.{get_or_past, get_or-replicate}
+use Rattle.std.proofs.lemmas.Bool.{cases_Bool, cases_eq}
 use Rattle.std.proofs.lemmas.List.Sums.{sum_by-set}
-use Rattle.std.proofs.lemmas.List.Folds.{sum_by-replicate}
 use Rattle.rss_base.specs.DiskRule.{IsTold}
 use Rattle.rss_base.specs.Paged.{Held, is_same}
 use Rattle.rss_base.specs.Notes.{Noted}
@@ -15,8 +13,9 @@ use Rattle.rss_base.proofs.Keys.{is_same-true, is_same-itself}
 use Rattle.rss_base.proofs.Steps.{written_here, untouched, then_call, fails}
 use Rattle.std.proofs.lemmas.Bool.{cond-true}
 use Rattle.rss_page.specs.Content.{Content, Empty, Here, body_length}
-use Rattle.rss_page.specs.Slotted.{entries, body_bytes, HasRoom, Sets}
+use Rattle.rss_page.specs.Slotted.{entries, HasRoom, Sets}
 use Rattle.rss_page.specs.Surveyed.{held_at, IsVacant}
+use Rattle.rss_page.proofs.Blanks.{blank_bytes}
 use Rattle.rss_page.proofs.Contents.{length-entries}
 use Rattle.rss_tuple.specs.Directory.{contents_in, content_at}
 use Rattle.rss_tuple.specs.Heaps.{IsHeap, AreFormed}
@@ -99,14 +98,7 @@ set_some now slot content some here vacant = some (sym here ∙ vacant slot)
 pub blank_room : (page : List ℕ) (slot count : ℕ) → entries page ≡ replicate 128 Empty → slot < 128 → count ≤ 2400 → HasRoom (entries page) slot count
 blank_room page slot count is low few =
     let sums = sum_by-set body_length (entries page) slot Empty Empty (omega (arith, length-entries page)) in
-    let all : body_bytes (entries page) ≡ 128 * 0 = ap (λ (l : List Content). body_bytes l) is ∙ sum_by-replicate body_length 128 Empty in
-    omega (arith, sums, all)
-
-pub blank_empty : (page : List ℕ) → entries page ≡ replicate 128 Empty → (slot : ℕ) → held_at (entries page) slot ≡ Empty
-blank_empty page is slot = elim (cases_lt slot 128) [
-  | inl low ↦ ap (λ (l : List Content). get_or l slot Empty) is ∙ get_or-replicate 128 slot Empty Empty low
-  | inr high ↦ get_or_past (entries page) slot Empty (omega (arith, length-entries page))
-]
+    omega (arith, sums, blank_bytes page is)
 
 -- a page is taken and filled
 pub sets_taken : {asks writes : ℕ} (key : PageKey) (slot : ℕ) (body : List ℕ) (old mid new : PagesView) → old.held key ≡ None → FillsPage key slot body mid new → IsTold mid.disk → PagesStep (only key) asks writes old new → AreFormed old → IsTold old.disk → SetsEntry key slot (Here body) old new

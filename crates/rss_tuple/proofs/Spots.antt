@@ -1,5 +1,5 @@
 -- Pages that were looked at for a free entry and room, and those that were passed over by their notes.
-use Rattle.std.proofs.Common.{◌≡◌, ◌⊎◌, inl, inr, ℕ, ◌+◌, ◌≤◌, ◌<◌, true, List, Option, Some, None, refl, sym, ◌∙◌, ap, subst, arith}
+use Rattle.std.proofs.Common.{◌≡◌, ◌⊎◌, inl, inr, ℕ, ◌+◌, ◌≤◌, ◌<◌, true, List, length, Option, Some, None, refl, sym, ◌∙◌, ap, subst, arith}
 use Rattle.std.specs.Prelude.{is_some, IfSome, MatchOption, Result, Err, IsErrAnd}
 use Rattle.std.proofs.lemmas.Bool.{cases_lt, cases_eq, cond-true}
 use Rattle.rss_base.specs.DiskRule.{IsTold}
@@ -16,7 +16,7 @@ use Rattle.rss_base.proofs.Keys.{is_same-itself}
 use Rattle.rss_base.proofs.Steps.{rests, then, then_call, among, within, widens, fails, is_in}
 use Rattle.rss_page.specs.Content.{Content, Empty}
 use Rattle.rss_page.specs.Slotted.{entries, body_bytes}
-use Rattle.rss_page.specs.Surveyed.{held_at}
+use Rattle.rss_page.specs.Surveyed.{held_at, AllTaken, IsFirstEmpty}
 use Rattle.rss_tuple.specs.Directory.{contents_in, contents, tid_at}
 use Rattle.rss_tuple.specs.Heaps.{CoversRoom, AreFormed}
 use Rattle.rss_tuple.specs.TupleSteps.{NoneIs}
@@ -35,6 +35,17 @@ noted_heap System is = absurd (cc)
 pub the_bytes : (page : Option (List ℕ)) → is_some page ≡ true → (bytes : List ℕ) × (page ≡ Some bytes)
 the_bytes None is = absurd (cc)
 the_bytes (Some bytes) is = (bytes, refl)
+
+-- where no identifier is barred, the first empty entry is the first open one
+pub spot_unbarred : (held : List Content) (count number : ℕ) (barred : List Tid) (first : Option ℕ) → length barred ≡ 0 → body_bytes held + count ≤ 3056 → MatchOption first (AllTaken held 128) (IsFirstEmpty held) → MatchOption first (HasNoSpot held count barred number) (HasSpot held count barred number)
+spot_unbarred held count number barred None none few taken = λ room slot is. taken slot is.low is.empty
+spot_unbarred held count number barred (Some slot) none few first = record {
+  bytes = few;
+  first = record {
+    is = record { low = first.low; empty = first.empty; allowed = λ has. omega (arith, has.1) };
+    lesser = λ other less is. first.lesser other less is.empty;
+  };
+}
 
 -- the key that a search looks at
 abbrev pub key_of : Wanted → ℕ → PageKey
@@ -182,3 +193,8 @@ noted_kept key number bytes mid new notes step read room told formed =
 pub found_copied : (N M : Type 0) (P : List Content → ℕ → Type 0) (page into : List ℕ) (found : Option ℕ) → (N → M) → MatchOption found N (P (entries page)) → IfSome found (λ _. into ≡ page) → MatchOption found M (P (entries into))
 found_copied N M P page into None none is copied = none is
 found_copied N M P page into (Some slot) none is copied = subst (λ (bytes : List ℕ). P (entries bytes) slot) (sym copied) is
+
+-- and where there is something, the copy is what was read
+pub copy_read : (view : PagesView) (key : PageKey) (page into : List ℕ) (found : Option ℕ) → IsRead view key page → IfSome found (λ _. into ≡ page) → IfSome found (λ _. IsRead view key into)
+copy_read view key page into None read copied = tt
+copy_read view key page into (Some slot) read copied = subst (IsRead view key) (sym copied) read

@@ -8,3 +8,5 @@ pub mod Finding
 pub mod Spots
 pub mod Puts
 pub mod Picks
+pub mod Checked
+pub mod Looks

@@ -1,54 +1,57 @@
 // One entry of a page that is changed.
-ghost use Rattle.std.specs.Prelude.{◌≡◌, ◌↔◌, ◌<◌, length, true, false, IsTrue, OnOk};
+ghost use Rattle.std.specs.Prelude.{◌≡◌, ◌↔◌, ◌<◌, length, true, false, IsTrue, IfOk, OnOk};
 ghost use Rattle.rss_base.specs.Sizes.{page_entries};
 ghost use Rattle.rss_base.specs.PageMap.{IsKey};
 ghost use Rattle.rss_base.specs.Steps.{PagesCall, no_page, only};
 ghost use Rattle.rss_base.specs.declared.key.Space.TheVariants.{Home};
 ghost use Rattle.rss_page.specs.Content.{Empty, Here, Forward};
 ghost use Rattle.rss_page.specs.Slotted.{entries, HasRoom, IsHeapKey, IsSlotted};
-ghost use Rattle.rss_page.specs.Surveyed.{IsVacant};
+ghost use Rattle.rss_page.specs.Surveyed.{IsSurvey, IsVacant};
 ghost use Rattle.rss_tuple.specs.Calls.{IsBodyLength};
 ghost use Rattle.rss_tuple.specs.Edits.{IsRead, MayRead, NamesEntry, MayEdit, Edits, FillsPage};
 
 use crate::keys::damaged;
+use crate::walking::taken_from;
 use rss_base::{PAGE_BYTES, Page, PageFault, PageKey, Pages, Tid};
-use rss_page::{Survey, blank, forward_at, put_at, remove, well_formed};
+use rss_page::{Survey, blank, forward_at, put_found, remove, survey};
 
-/// Reads a page that is to be well-formed.
+/// Reads a page that is to be well-formed, and answers what a walk over it finds.
 pub(crate) fn read_formed<P: Pages>(
     pages: &mut P,
     key: PageKey,
     page: &mut Page,
-) -> Result<(), PageFault>
+) -> Result<Survey, PageFault>
     requires { MayRead (P.view pages.old) key }
     ensures read { OnOk result (IsRead (P.view pages.new) key page.new) }
+    ensures found { IfOk result (IsSurvey page.new) }
     ensures did { PagesCall no_page 1 1 (P.view pages.old) (P.view pages.new) result }
 {
     if !pages.has(key) {
         return Err(damaged(key));
     }
     pages.read(key, page)?;
-    if well_formed(page, key) {
-        Ok(())
-    } else {
-        Err(damaged(key))
+    match survey(page, key) {
+        Some(found) => Ok(found),
+        None => Err(damaged(key)),
     }
 }
 
-/// Gives an entry of a page that was read a body, whatever it held.
+/// Gives an entry of a page that was read and walked over a body, whatever it held.
 pub(crate) fn put_here<P: Pages>(
     pages: &mut P,
     key: PageKey,
     page: &mut Page,
     slot: u8,
     body: &[u8],
+    found: &Survey,
 ) -> Result<(), PageFault>
     requires may { MayEdit (P.view pages.old) key slot page.old }
+    requires found { IsSurvey page.old found.now }
     requires length { IsBodyLength (length body.now) }
     requires room { HasRoom (entries page.old) slot (length body.now) }
     ensures { Edits key slot (Here body.now) 1 (P.view pages.old) (P.view pages.new) result }
 {
-    put_at(page, slot, body);
+    put_found(page, slot, body, found);
     pages.write(key, page)?;
     Ok(())
 }
@@ -78,7 +81,7 @@ fn is_vacant(page: &Page) -> bool
     requires { IsSlotted page.now }
     ensures { IsTrue result ↔ IsVacant (entries page.now) }
 {
-    Survey::of(page).is_vacant
+    taken_from(page, 0).is_none()
 }
 
 /// Empties an entry of a page that was read. A page whose entries are all empty then is given back.
@@ -128,7 +131,7 @@ pub(crate) fn fill<P: Pages>(
     ensures did { PagesCall (only key) 0 1 (P.view pages.old) (P.view pages.new) result }
 {
     let mut page = blank(key);
-    put_at(&mut page, slot, body);
+    put_found(&mut page, slot, body, &Survey::of_blank());
     pages.write(key, &page)?;
     Ok(())
 }

@@ -4,7 +4,7 @@ ghost use Rattle.rss_base.specs.DiskRule.{IsTold};
 ghost use Rattle.rss_base.specs.Sizes.{page_entries};
 ghost use Rattle.rss_base.specs.Notes.{is_noted_space};
 ghost use Rattle.rss_base.specs.Steps.{PagesCall, only, pages_in};
-ghost use Rattle.rss_page.specs.Slotted.{entries, IsSlotted};
+ghost use Rattle.rss_page.specs.Slotted.{entries};
 ghost use Rattle.rss_tuple.specs.Directory.{contents};
 ghost use Rattle.rss_page.specs.Content.{Empty};
 ghost use Rattle.rss_page.specs.Surveyed.{held_at, IsSurvey};
@@ -16,7 +16,7 @@ ghost use Rattle.rss_tuple.specs.Spots.{IsRoom, FindsSpot};
 
 use crate::keys::damaged;
 use rss_base::{PAGE_ENTRIES, Page, PageFault, PageKey, Pages, Space, Tid};
-use rss_page::{ENTRIES, Entry, Survey, entry, well_formed};
+use rss_page::{ENTRIES, Entry, Survey, entry, survey};
 
 /// For each slot of a page, whether its identifier is barred.
 type Slots = [bool; PAGE_ENTRIES];
@@ -68,11 +68,14 @@ fn spot_in(page: &Page, number: u32, length: u16, barred: &[Tid], found: &Survey
     if found.free < length {
         return None;
     }
+    if barred.is_empty() {
+        return found.first_empty;
+    }
     first_open(page, number, barred)
 }
 
 /// What is noted on a page: 0 where no entry is empty, else 1 and the free bytes.
-fn room_of(page: &Page, found: &Survey) -> u16
+pub(crate) fn room_of(page: &Page, found: &Survey) -> u16
     requires { IsSurvey page.now found.now }
     ensures { IsRoom (entries page.now) result }
 {
@@ -91,17 +94,23 @@ struct Looked {
     slot: Option<u8>,
 }
 
-/// Looks for such a slot in a page. Where there is one, the page is copied.
-fn look_over(page: &Page, number: u32, length: u16, barred: &[Tid], into: &mut Page) -> Looked
-    requires { IsSlotted page.now }
+/// Looks for such a slot in a page that was walked over. Where there is one, the page is copied.
+fn look_over(
+    page: &Page,
+    found: &Survey,
+    number: u32,
+    length: u16,
+    barred: &[Tid],
+    into: &mut Page,
+) -> Looked
+    requires { IsSurvey page.now found.now }
     ensures room { IsRoom (entries page.now) result.room }
     ensures slot { MatchOption result.slot (HasNoSpot (entries page.now) length barred.now number)
         (HasSpot (entries page.now) length barred.now number) }
     ensures copied { IfSome result.slot (λ _. into.new ≡ page.now) }
 {
-    let found = Survey::of(page);
-    let room = room_of(page, &found);
-    match spot_in(page, number, length, barred, &found) {
+    let room = room_of(page, found);
+    match spot_in(page, number, length, barred, found) {
         None => Looked { room, slot: None },
         Some(slot) => {
             *into = *page;
@@ -135,10 +144,10 @@ fn try_page<P: Pages>(
 {
     pages.load(key)?;
     let page = pages.loaded(key);
-    if !well_formed(page, key) {
+    let Some(found) = survey(page, key) else {
         return Err(damaged(key));
-    }
-    let looked = look_over(page, key.number, length, barred, into);
+    };
+    let looked = look_over(page, &found, key.number, length, barred, into);
     pages.note(key, looked.room);
     Ok(looked.slot)
 }

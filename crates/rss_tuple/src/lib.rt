@@ -1,6 +1,7 @@
 //! A tuple store over pages: a finite map from the identifiers of a segment to bodies.
 #![tactic(auto)]
 
+mod checking;
 mod choosing;
 mod entries;
 mod finding;
@@ -11,5 +12,6 @@ mod store;
 mod tuples;
 mod walking;
 
+pub use checking::{Visitor, check};
 pub use store::Store;
 pub use tuples::Tuples;

@@ -1,5 +1,5 @@
 // Tuples that are put, moved and taken away.
-ghost use Rattle.std.specs.Prelude.{◌≡◌, ◌+◌, ◌<◌, length, true, false, None, IfOk, OnOk};
+ghost use Rattle.std.specs.Prelude.{◌≡◌, ◌+◌, ◌<◌, length, true, false, None, IfOk, IfSome, IfNone, OnOk};
 ghost use Rattle.rss_base.specs.DiskRule.{IsTold};
 ghost use Rattle.rss_base.specs.Sizes.{page_entries};
 ghost use Rattle.rss_base.specs.Paged.{page_key};
@@ -7,7 +7,7 @@ ghost use Rattle.rss_base.specs.Steps.{PagesCall, no_page, only, pages_in};
 ghost use Rattle.rss_base.specs.declared.key.Space.TheVariants.{Overflow};
 ghost use Rattle.rss_page.specs.Content.{Forward};
 ghost use Rattle.rss_page.specs.Slotted.{entries, IsSlotted};
-ghost use Rattle.rss_page.specs.Surveyed.{held_at};
+ghost use Rattle.rss_page.specs.Surveyed.{held_at, IsSurvey};
 ghost use Rattle.rss_tuple.specs.Directory.{contents, tid_at};
 ghost use Rattle.rss_tuple.specs.Heaps.{AreFormed, AreHeaps};
 ghost use Rattle.rss_tuple.specs.TupleSteps.{tuples_in, pages_for};
@@ -20,7 +20,7 @@ use crate::entries::{clear, clear_in, fill, put_forward, put_here, read_formed, 
 use crate::finding::find_page;
 use crate::keys::{damaged, home, overflow};
 use rss_base::{PAGE_BYTES, Page, PageFault, PageKey, Pages, Space, Tid};
-use rss_page::{ENTRIES, Entry, entry, fits};
+use rss_page::{ENTRIES, Entry, Survey, entry};
 
 // ---- a body and its place
 
@@ -65,12 +65,14 @@ fn put_away<P: Pages>(pages: &mut P, segment: u8, tid: Tid, body: &[u8]) -> Resu
         &mut page,
     )? {
         Some(to) => {
+            let found = Survey::of(&page);
             put_here(
                 pages,
                 overflow(segment, to.page),
                 &mut page,
                 to.slot as u8,
                 body,
+                &found,
             )?;
             Ok(to)
         }
@@ -92,9 +94,11 @@ fn place<P: Pages>(
     tid: Tid,
     page: &mut Page,
     body: &[u8],
+    found: &Survey,
 ) -> Result<(), PageFault>
     requires may { MayPut segment (length body.now) }
     requires home { HomeRead (P.view pages.old) segment tid page.old }
+    requires found { IsSurvey page.old found.now }
     requires formed { IsTold (P.view pages.old).disk → AreFormed (P.view pages.old) }
     requires away { IsTold (P.view pages.old).disk
         → (FitsHome (P.view pages.old) segment tid (length body.now) → ⊥)
@@ -108,8 +112,8 @@ fn place<P: Pages>(
 {
     let key = home(segment, tid.page);
     let slot = tid.slot as u8;
-    if fits(page, slot, body.len() as u16) {
-        return put_here(pages, key, page, slot, body);
+    if found.has_room(page, slot, body.len() as u16) {
+        return put_here(pages, key, page, slot, body, found);
     }
     let to = put_away(pages, segment, tid, body)?;
     put_forward(pages, key, page, slot, to)
@@ -133,8 +137,8 @@ pub(crate) fn insert_at<P: Pages>(
         return take_here(pages, key, tid.slot as u8, body);
     }
     let mut page = [0u8; PAGE_BYTES];
-    read_formed(pages, key, &mut page)?;
-    place(pages, segment, tid, &mut page, body)
+    let found = read_formed(pages, key, &mut page)?;
+    place(pages, segment, tid, &mut page, body, &found)
 }
 
 /// Takes a tuple away. A page whose entries are all empty then is given back.
@@ -183,44 +187,52 @@ pub(crate) fn replace<P: Pages>(
     }
     let slot = tid.slot as u8;
     let mut page = [0u8; PAGE_BYTES];
-    read_formed(pages, key, &mut page)?;
+    let found = read_formed(pages, key, &mut page)?;
     match entry(&page, slot) {
         Entry::Empty => Err(damaged(key)),
-        Entry::Here { .. } => place(pages, segment, tid, &mut page, body),
+        Entry::Here { .. } => place(pages, segment, tid, &mut page, body, &found),
         Entry::Forward {
             page: to,
             slot: to_slot,
-        } => move_on(pages, segment, tid, &mut page, to, to_slot, body),
+        } => move_on(pages, segment, tid, &mut page, to, to_slot, body, &found),
     }
 }
 
 /// Whether a body of this length stays in the overflow page where it stands: it fits there, and not at
-/// home. Then the page is left in `away`.
+/// home. Then the page is left in `away`, and what a walk over it finds is answered.
 fn stays<P: Pages>(
     pages: &mut P,
     home: &Page,
+    found: &Survey,
     slot: u8,
     key: PageKey,
     away: &mut Page,
     to_slot: u8,
     length: u16,
-) -> Result<bool, PageFault>
+) -> Result<Option<Survey>, PageFault>
     requires slotted { IsSlotted home.now }
+    requires found { IsSurvey home.now found.now }
     requires slot { slot < page_entries }
     requires to_slot { to_slot < page_entries }
     requires may { MayRead (P.view pages.old) key }
-    ensures read { IfOk result (λ stays. stays ≡ true → IsRead (P.view pages.new) key away.new) }
-    ensures stays { IfOk result (λ stays. stays ≡ true
-        → Stays (entries home.now) slot (entries away.new) to_slot length) }
-    ensures leaves { IfOk result (λ stays. stays ≡ false → IsTold (P.view pages.old).disk
-        → Stays (entries home.now) slot (contents (P.view pages.old).held key) to_slot length → ⊥) }
+    ensures read { IfOk result (λ stays. IfSome stays
+        (λ _. IsRead (P.view pages.new) key away.new)) }
+    ensures found { IfOk result (λ stays. IfSome stays (IsSurvey away.new)) }
+    ensures stays { IfOk result (λ stays. IfSome stays
+        (λ _. Stays (entries home.now) slot (entries away.new) to_slot length)) }
+    ensures leaves { IfOk result (λ stays. IfNone stays (IsTold (P.view pages.old).disk
+        → Stays (entries home.now) slot (contents (P.view pages.old).held key) to_slot length → ⊥)) }
     ensures did { PagesCall no_page 1 1 (P.view pages.old) (P.view pages.new) result }
 {
-    if fits(home, slot, length) {
-        return Ok(false);
+    if found.has_room(home, slot, length) {
+        return Ok(None);
     }
-    read_formed(pages, key, away)?;
-    Ok(fits(away, to_slot, length))
+    let there = read_formed(pages, key, away)?;
+    if there.has_room(away, to_slot, length) {
+        Ok(Some(there))
+    } else {
+        Ok(None)
+    }
 }
 
 /// Puts another body in place of one that stands in an overflow page.
@@ -232,9 +244,11 @@ fn move_on<P: Pages>(
     to: u32,
     to_slot: u8,
     body: &[u8],
+    found: &Survey,
 ) -> Result<(), PageFault>
     requires may { MayPut segment (length body.now) }
     requires home { HomeRead (P.view pages.old) segment tid page.old }
+    requires found { IsSurvey page.old found.now }
     requires leads { held_at (entries page.old) tid.slot ≡ Forward to to_slot }
     requires to_slot { to_slot < page_entries }
     requires heaps { IsTold (P.view pages.old).disk → AreHeaps (P.view pages.old) }
@@ -245,9 +259,12 @@ fn move_on<P: Pages>(
     let key = overflow(segment, to);
     let mut away = [0u8; PAGE_BYTES];
     let length = body.len() as u16;
-    if stays(pages, page, tid.slot as u8, key, &mut away, to_slot, length)? {
-        return put_here(pages, key, &mut away, to_slot, body);
+    let slot = tid.slot as u8;
+    match stays(pages, page, found, slot, key, &mut away, to_slot, length)? {
+        Some(there) => put_here(pages, key, &mut away, to_slot, body, &there),
+        None => {
+            place(pages, segment, tid, page, body, found)?;
+            clear(pages, key, to_slot)
+        }
     }
-    place(pages, segment, tid, page, body)?;
-    clear(pages, key, to_slot)
 }

@@ -1,16 +1,22 @@
 use Rattle.std.proofs.Common.{◌≡◌, ◌≤◌, ℕ, List, length, subst, sym, ◌∙◌}
 use Rattle.rss_page.specs.Content.{Empty, Here}
-use Rattle.rss_tuple.proofs.Sets.{entry_set, entry_kept, set_short, set_some, blank_room, blank_empty}
+use Rattle.rss_page.proofs.Blanks.{blank_empty}
+use Rattle.rss_tuple.proofs.Sets.{entry_set, entry_kept, set_short, set_some, blank_room}
 use Rattle.rss_tuple.proofs.entries.fill.Goals as goal
 
-pub put_at-requires-clause-room : goal.put_at-requires-clause-room
-put_at-requires-clause-room g c = blank_room c.blank-page.result c.args.slot (length c.args.body.now) c.blank-page.ensures.empty c.requires.low c.requires.length.most
+pub put_found-requires-clause-may : goal.put_found-requires-clause-may
+put_found-requires-clause-may g c = record {
+  slotted = c.blank-page.ensures.formed.slotted;
+  slot_low = c.requires.low;
+  some = c.requires.length.some;
+  room = blank_room c.blank-page.result c.args.slot (length c.args.body.now) c.blank-page.ensures.empty c.requires.low c.requires.length.most;
+}
 
 pub returns-clause-fills : goal.returns-clause-fills
 returns-clause-fills g c =
     let page = c.blank-page.result in
-    let now = c.put_at.new.page in
-    let sets = c.put_at.ensures.becomes in
+    let now = c.put_found.new.page in
+    let sets = c.put_found.ensures.becomes in
     let empty = blank_empty page c.blank-page.ensures.empty in
     let here = entry_set page now c.args.slot (Here c.args.body.now) c.requires.low sets.holds in
     record {

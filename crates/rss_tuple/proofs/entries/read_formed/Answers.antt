@@ -1,12 +1,18 @@
-use Rattle.std.proofs.Common.{◌≡◌, false}
+use Rattle.std.proofs.Common.{◌≡◌, None, Some, Option}
+use Rattle.std.specs.Prelude.{IsSome}
+use Rattle.std.proofs.lemmas.Bool.{false≢true}
+use Rattle.rss_page.specs.declared.surveying.Survey.{Survey}
 use Rattle.rss_tuple.proofs.Seen.{found_damaged}
 use Rattle.rss_tuple.proofs.entries.read_formed.Goals as goal
 
-pub returns-else-well_formed-clause-did : goal.returns-else-well_formed-clause-did
-returns-else-well_formed-clause-did g c =
+no_none : (found : Option Survey) → found ≡ None → IsSome found → ⊥
+no_none None is some = false≢true some
+no_none (Some found) is some = absurd (cc)
+
+pub returns-in-None-clause-did : goal.returns-in-None-clause-did
+returns-in-None-clause-did g c =
     let key = c.args.key in
     let step = c.in_ok-read.ensures.did.step in
-    found_damaged c.damaged-else-well_formed.result c.damaged-else-well_formed.ensures step (λ told.
+    found_damaged c.damaged-in-None.result c.damaged-in-None.ensures step (λ told.
     let heap = c.requires.formed told key _ c.requires.heap (c.in_ok-read.ensures.page told) in
-    let formed = c.well_formed-2.ensures.1 heap.formed in
-    let not : c.well_formed-2.result ≡ false = c.if-well_formed.false in absurd (cc))
+    absurd (no_none c.survey.result c.in-None.is (c.survey.ensures.formed.1 heap.formed)))

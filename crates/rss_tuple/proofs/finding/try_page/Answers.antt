@@ -8,24 +8,24 @@ use Rattle.rss_tuple.specs.Directory.{contents, contents_in}
 use Rattle.rss_tuple.specs.Edits.{IsRead}
 use Rattle.rss_tuple.specs.Spots.{HasSpot, HasNoSpot}
 use Rattle.rss_tuple.proofs.Seen.{formed_after, found_damaged, kept_after}
-use Rattle.rss_tuple.proofs.Spots.{noted_heap, covers, noted_kept, found_copied}
+use Rattle.rss_tuple.proofs.Spots.{noted_heap, covers, noted_kept, found_copied, copy_read}
 use Rattle.rss_tuple.proofs.finding.try_page.Goals as goal
 
 pub returns-in_err-load-clause-kept : goal.returns-in_err-load-clause-kept
 returns-in_err-load-clause-kept g c = kept_after c.in_err-load.ensures.did.step c.requires.formed
 
-pub returns-then-not-well_formed-clause-kept : goal.returns-then-not-well_formed-clause-kept
-returns-then-not-well_formed-clause-kept g c = kept_after c.in_ok-load.ensures.did.step c.requires.formed
+pub returns-in_default-clause-kept : goal.returns-in_default-clause-kept
+returns-in_default-clause-kept g c = kept_after c.in_ok-load.ensures.did.step c.requires.formed
 
-pub returns-then-not-well_formed-clause-did : goal.returns-then-not-well_formed-clause-did
-returns-then-not-well_formed-clause-did g c =
+pub returns-in_default-clause-did : goal.returns-in_default-clause-did
+returns-in_default-clause-did g c =
     let key = c.args.key in
     let step = c.in_ok-load.ensures.did.step in
     found_damaged c.damaged.result c.damaged.ensures (untouched step) (λ told.
     let there = ap (λ (h : Held). h key) (sym (all_held step told)) ∙ c.loaded-page.ensures (step.passes.leaves.told.0 told) in
     let heap = c.requires.formed told key _ (noted_heap key.space c.requires.noted) there in
-    let formed : c.well_formed-2.result ≡ true = c.well_formed-2.ensures.1 heap.formed in
-    let not : c.well_formed-2.result ≡ false = search rules in absurd (cc))
+    let formed = c.survey.ensures.formed.1 heap.formed in
+    let never : false ≡ true = rw c.in_default.is at formed in absurd (cc))
 
 pub returns-clause-found : goal.returns-clause-found
 returns-clause-found g c =
@@ -39,13 +39,22 @@ returns-clause-found g c =
     subst (λ (l : List Content). HasNoSpot l c.args.length c.args.barred.now c.args.key.number) (sym (ap contents_in there)) none)
     c.look_over-looked.ensures.slot c.look_over-looked.ensures.copied
 
+pub returns-clause-read : goal.returns-clause-read
+returns-clause-read g c =
+    let noted = c.note.ensures.noted in
+    copy_read (g.P.Pages.view c.note.new.self) c.args.key c.loaded-page.result.now c.look_over-looked.new.into c.look_over-looked.result.slot (record {
+      mapped = ap (λ (m : Mapped). m c.args.key) (noted.mapped ∙ all_mapped c.in_ok-load.ensures.did.step) ∙ c.requires.mapped;
+      formed = c.survey.ensures.formed.0 (search rules);
+      held = λ told. ap (λ (h : Held). h c.args.key) noted.held ∙ c.loaded-page.ensures (c.note.ensures.did.passes.leaves.told.1 told);
+    }) c.look_over-looked.ensures.copied
+
 pub returns-clause-kept : goal.returns-clause-kept
 returns-clause-kept g c =
     let step = c.in_ok-load.ensures.did.step in
     let noted = c.note.ensures.noted in
     let read : IsRead (g.P.Pages.view c.load.new.self) c.args.key c.loaded-page.result.now = record {
       mapped = search rules;
-      formed = c.well_formed-2.ensures.0 (search rules);
+      formed = c.survey.ensures.formed.0 (search rules);
       held = c.loaded-page.ensures;
     } in
     record {

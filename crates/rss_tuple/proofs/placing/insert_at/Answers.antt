@@ -44,21 +44,21 @@ read_formed-requires g c = record {
   formed = λ told. (c.requires.heaps told).formed;
 }
 
-pub returns-in_err-read_formed : goal.returns-in_err-read_formed
-returns-in_err-read_formed g c = moves_fails _ c.from_residual.ensures.1 (λ key none. absurd none) (omega arith) (omega arith) c.in_err-read_formed.ensures.did
+pub returns-in_err-found : goal.returns-in_err-found
+returns-in_err-found g c = moves_fails _ c.from_residual.ensures.1 (λ key none. absurd none) (omega arith) (omega arith) c.in_err-found.ensures.did
 
 pub place-requires-clause-home : goal.place-requires-clause-home
 place-requires-clause-home g c = record {
-  read = read_key c.home-key.ensures c.in_ok-read_formed.ensures.read;
+  read = read_key c.home-key.ensures c.in_ok-found.ensures.read;
   low = c.requires.slot;
 }
 
 pub place-requires-clause-formed : goal.place-requires-clause-formed
-place-requires-clause-formed g c = formed_after c.in_ok-read_formed.ensures.did.step (λ told. (c.requires.heaps told).formed)
+place-requires-clause-formed g c = formed_after c.in_ok-found.ensures.did.step (λ told. (c.requires.heaps told).formed)
 
 pub place-requires-clause-away : goal.place-requires-clause-away
 place-requires-clause-away g c = λ told full.
-    let step = c.in_ok-read_formed.ensures.did.step in
+    let step = c.in_ok-found.ensures.did.step in
     record {
       never = λ page slot fits. let never : Empty ≡ Forward page slot = sym (free_after step c.requires told) ∙ fits.leads in absurd (cc);
       room = omega (arith, c.requires.room, spare_after step (all_mapped step) (g.met.P.Pages.are_counted c.args.pages.now) (g.met.P.Pages.are_counted c.read_formed.new.pages));
@@ -66,7 +66,7 @@ place-requires-clause-away g c = λ told full.
 
 pub returns : goal.returns
 returns g c =
-    let step = c.in_ok-read_formed.ensures.did.step in
+    let step = c.in_ok-found.ensures.did.step in
     moves_after step (moves_puts
     (λ told p s is. let never : Empty ≡ Forward p s = sym (free_after step c.requires told) ∙ is in absurd (cc))
     c.place.ensures.puts c.place.ensures.takes c.place.ensures.did) (omega (arith, step.passes.slots))

@@ -36,23 +36,23 @@ stays-requires-clause-may g c =
       formed = λ told. (c.requires.heaps told).formed;
     }
 
-pub returns-in_err-stays : goal.returns-in_err-stays
-returns-in_err-stays g c = moves_fails _ c.from_residual.ensures.1 (λ key none. absurd none) (omega arith) (omega arith) c.in_err-stays.ensures.did
+pub returns-in_err-there : goal.returns-in_err-there
+returns-in_err-there g c = moves_fails _ c.from_residual.ensures.1 (λ key none. absurd none) (omega arith) (omega arith) c.in_err-there.ensures.did
 
 -- ---- where the body stays
 
 pub put_here-requires-clause-may : goal.put_here-requires-clause-may
 put_here-requires-clause-may g c = record {
-  read = c.in_ok-stays.ensures.read c.if-branch.true;
+  read = rw c.in-Some.is at c.in_ok-there.ensures.read;
   low = c.requires.to_slot;
-  formed = formed_after c.in_ok-stays.ensures.did.step (λ told. (c.requires.heaps told).formed);
+  formed = formed_after c.in_ok-there.ensures.did.step (λ told. (c.requires.heaps told).formed);
 }
 
-pub returns-then-branch : goal.returns-then-branch
-returns-then-branch g c =
-    let step = c.in_ok-stays.ensures.did.step in
-    let there = c.in_ok-stays.ensures.stays c.if-branch.true in
-    let read_away = c.in_ok-stays.ensures.read c.if-branch.true in
+pub returns-in-Some : goal.returns-in-Some
+returns-in-Some g c =
+    let step = c.in_ok-there.ensures.did.step in
+    let there = rw c.in-Some.is at c.in_ok-there.ensures.stays in
+    let read_away = rw c.in-Some.is at c.in_ok-there.ensures.read in
     let view = g.P.Pages.view c.stays.new.pages in
     moves_after {cost = 1} step (record {
       moved = on_ok_then c.put_here.result (λ sets mid.
@@ -71,22 +71,22 @@ returns-then-branch g c =
 
 pub place-requires-clause-home : goal.place-requires-clause-home
 place-requires-clause-home g c = record {
-  read = read_off c.in_ok-stays.ensures.did.step (λ none. none) c.requires.home.read;
+  read = read_off c.in_ok-there.ensures.did.step (λ none. none) c.requires.home.read;
   low = c.requires.home.low;
 }
 
 pub place-requires-clause-formed : goal.place-requires-clause-formed
-place-requires-clause-formed g c = formed_after c.in_ok-stays.ensures.did.step (λ told. (c.requires.heaps told).formed)
+place-requires-clause-formed g c = formed_after c.in_ok-there.ensures.did.step (λ told. (c.requires.heaps told).formed)
 
 pub place-requires-clause-away : goal.place-requires-clause-away
 place-requires-clause-away g c = λ mid full.
     let old = g.P.Pages.view c.args.pages.now in
     let now = g.P.Pages.view c.stays.new.pages in
-    let step = c.in_ok-stays.ensures.did.step in
+    let step = c.in_ok-there.ensures.did.step in
     let told = step.passes.leaves.told.1 mid in
     let read = read_off step (λ none. none) c.requires.home.read in
     let lead = leads now c.args.segment c.args.tid c.args.page.now c.args.to c.args.to_slot read c.requires.leads mid in
-    let never : HasRoom (contents_in (old.held c.overflow-key.result)) c.args.to_slot (length c.args.body.now) → ⊥ = λ room. c.in_ok-stays.ensures.leaves c.if-branch.false told (record {
+    let never : HasRoom (contents_in (old.held c.overflow-key.result)) c.args.to_slot (length c.args.body.now) → ⊥ = λ room. (rw c.in-None.is at c.in_ok-there.ensures.leaves) told (record {
       not_home = λ fits. full (room_back now (page_key c.args.segment Home c.args.tid.page) c.args.page.now c.args.tid.slot (length c.args.body.now) read mid fits);
       room = room;
     }) in
@@ -98,19 +98,19 @@ place-requires-clause-away g c = λ mid full.
       room = omega (arith, spare, spare_after step (all_mapped step) (g.met.P.Pages.are_counted c.args.pages.now) (g.met.P.Pages.are_counted c.stays.new.pages));
     }
 
-pub returns-in_err-place : goal.returns-in_err-place
-returns-in_err-place g c =
-    let slots = c.in_ok-stays.ensures.did.step.passes.slots in
+pub returns-in_err-place-in-None : goal.returns-in_err-place-in-None
+returns-in_err-place-in-None g c =
+    let slots = c.in_ok-there.ensures.did.step.passes.slots in
     let most = (g.P.Pages.view c.args.pages.now).slots + 3 in
     let fewer : (g.P.Pages.view c.stays.new.pages).slots + 3 ≤ most = omega (arith, slots) in
-    moves_fails _ c.from_residual-in_err-place.ensures.1 (λ key there. there) (omega arith) (omega arith) (then_call {asks_then = most} {writes_then = most} (untouched c.in_ok-stays.ensures.did.step) (widens (λ key there. there) fewer fewer c.in_err-place.ensures.did))
+    moves_fails _ c.from_residual-in_err-place-in-None.ensures.1 (λ key there. there) (omega arith) (omega arith) (then_call {asks_then = most} {writes_then = most} (untouched c.in_ok-there.ensures.did.step) (widens (λ key there. there) fewer fewer c.in_err-place-in-None.ensures.did))
 
 -- the body that is left stands where it stood
 pub clear-requires-clause-may : goal.clear-requires-clause-may
 clear-requires-clause-may g c =
     let old = g.P.Pages.view c.args.pages.now in
-    let step = c.in_ok-stays.ensures.did.step in
-    let placed = c.in_ok-place.ensures in
+    let step = c.in_ok-there.ensures.did.step in
+    let placed = c.in_ok-place-in-None.ensures in
     let one = page_key c.args.segment Overflow c.args.to in
     record {
       heap = inr (ap (λ (k : PageKey). k.space) c.overflow-key.ensures);
@@ -125,11 +125,11 @@ clear-requires-clause-may g c =
       formed = λ told. (placed.puts (placed.did.step.passes.leaves.told.1 told)).formed;
     }
 
-pub returns : goal.returns
-returns g c =
+pub returns-in_ok-place-in-None : goal.returns-in_ok-place-in-None
+returns-in_ok-place-in-None g c =
     let old = g.P.Pages.view c.args.pages.now in
-    let step = c.in_ok-stays.ensures.did.step in
-    let placed = c.in_ok-place.ensures in
+    let step = c.in_ok-there.ensures.did.step in
+    let placed = c.in_ok-place-in-None.ensures in
     let most = old.slots + 3 in
     let fewer : (g.P.Pages.view c.stays.new.pages).slots + 3 ≤ most = omega (arith, step.passes.slots) in
     record {

@@ -6,9 +6,9 @@ use Rattle.rss_page.specs.Slotted.{HasRoom}
 use Rattle.rss_tuple.specs.Directory.{contents_in}
 use Rattle.rss_tuple.proofs.placing.stays.Goals as goal
 
-pub returns-clause-leaves : goal.returns-clause-leaves
-returns-clause-leaves g c = λ not told stays.
-    let step = c.in_ok-read_formed.ensures.did.step in
-    let same = sym (ap (λ (h : Held). contents_in (h c.args.key)) (all_held step told)) ∙ ap contents_in (c.in_ok-read_formed.ensures.read.held (step.passes.leaves.told.0 told)) in
-    let fits = c.fits-2.ensures.1 (subst (λ (l : List Content). HasRoom l c.args.to_slot c.args.length) same stays.room) in
+pub returns-else-has_room-2-clause-leaves : goal.returns-else-has_room-2-clause-leaves
+returns-else-has_room-2-clause-leaves g c = λ told stays.
+    let step = c.in_ok-there.ensures.did.step in
+    let same = sym (ap (λ (h : Held). contents_in (h c.args.key)) (all_held step told)) ∙ ap contents_in (c.in_ok-there.ensures.read.held (step.passes.leaves.told.0 told)) in
+    let fits = c.has_room-2.ensures.1 (subst (λ (l : List Content). HasRoom l c.args.to_slot c.args.length) same stays.room) in
     absurd (cc)

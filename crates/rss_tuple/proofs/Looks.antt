@@ -1,0 +1,122 @@
+-- How looks at pages follow one another, and how calls that look end.
+use Rattle.std.proofs.Common.{◌≡◌, inl, inr, ◌+◌, ℕ, ◌≤◌, refl, sym, ◌∙◌, ap, subst, arith}
+use Rattle.std.specs.Prelude.{Result, Ok, Err, IsErrAnd, IfErr, OnErr}
+use Rattle.std.proofs.lemmas.Bool.{cases_Bool}
+use Rattle.std.proofs.lemmas.Result.{err_from_is_err_and}
+use Rattle.rss_base.specs.DiskRule.{IsTold}
+use Rattle.rss_base.specs.Devices.{OnlyReads}
+use Rattle.rss_base.specs.Paged.{Mapped, AreAmong}
+use Rattle.rss_base.specs.Steps.{PagesView, Keys, no_page, only, NotesPage, PagesStep, NoneChanged, device_below}
+use Rattle.rss_base.specs.declared.place.Place.TheVariants.{Room, Page as PagePlace}
+use Rattle.rss_base.specs.declared.fault.PageFault.{PageFault}
+use Rattle.rss_base.specs.declared.fault.PageFault.TheVariants.{Device as DeviceFailed, Damaged}
+use Rattle.rss_base.specs.declared.key.PageKey.{PageKey}
+use Rattle.rss_base.proofs.Moments.{reads_none, reads_then}
+use Rattle.rss_base.proofs.Steps.{rests, then, within, all_mapped, all_held, none_changed_more}
+use Rattle.rss_tuple.specs.Checked.{LooksStep}
+use Rattle.rss_tuple.specs.Looks.{LooksCall, NamesDamage}
+
+-- ---- looks
+
+pub still_none : (old new : PagesView) → AreAmong new.changed old.changed → NoneChanged old → NoneChanged new
+still_none old new among none key = elim (cases_Bool (new.changed key)) [
+  | inl is ↦ let was = among key is in let not = none key in cc
+  | inr not ↦ not
+]
+
+-- nothing is done
+pub looks_none : {noted : Keys} {asks : ℕ} (view : PagesView) → LooksStep noted asks view view
+looks_none view = record {
+  step = rests view;
+  mapped = refl;
+  held = λ told. refl;
+  changed = λ key is. is;
+  unwritten = λ none. reads_none (device_below view);
+}
+
+pub looks_then : {noted : Keys} {asks asks_then : ℕ} {old mid new : PagesView} → LooksStep noted asks old mid → LooksStep noted asks_then mid new → LooksStep noted (asks + asks_then) old new
+looks_then {old = old} {mid = mid} one two = record {
+  step = then one.step two.step;
+  mapped = two.mapped ∙ one.mapped;
+  held = λ told. two.held (one.step.passes.leaves.told.0 told) ∙ one.held told;
+  changed = λ key is. one.changed key (two.changed key is);
+  unwritten = λ none. reads_then (one.unwritten none) (two.unwritten (still_none old mid one.changed none));
+}
+
+-- more pages may be noted, and more asked for
+pub looks_within : {noted more : Keys} {asks asks_now : ℕ} {old new : PagesView} → ((key : PageKey) → noted key → more key) → asks ≤ asks_now → LooksStep noted asks old new → LooksStep more asks_now old new
+looks_within is few looks = record {
+  step = within is few few looks.step;
+  mapped = looks.mapped;
+  held = looks.held;
+  changed = looks.changed;
+  unwritten = looks.unwritten;
+}
+
+pub looks_more : {more : Keys} {asks : ℕ} {old new : PagesView} → LooksStep no_page asks old new → LooksStep more asks old new
+looks_more {asks = asks} looks = looks_within (λ key none. absurd none) (omega arith) looks
+
+-- a page was brought into memory
+pub brought : {old new : PagesView} → PagesStep no_page 1 1 old new → (NoneChanged old → OnlyReads (device_below old) (device_below new)) → LooksStep no_page 1 old new
+brought step unwritten = record { step = step; mapped = all_mapped step; held = λ told. all_held step told; changed = none_changed_more step; unwritten = unwritten }
+
+-- a page was noted
+pub noted_one : {key : PageKey} {number : ℕ} {old new : PagesView} → NotesPage key number old new → (NoneChanged old → OnlyReads (device_below old) (device_below new)) → PagesStep (only key) 0 0 old new → LooksStep (only key) 0 old new
+noted_one notes unwritten step = record {
+  step = step;
+  mapped = notes.mapped;
+  held = λ told. notes.held;
+  changed = λ key is. sym (ap (λ (m : Mapped). m key) notes.changed) ∙ is;
+  unwritten = unwritten;
+}
+
+-- ---- calls
+
+pub looks_done : {T : Type 0} {sound : Type 0} {noted : Keys} {asks : ℕ} {old new : PagesView} (value : T) → LooksStep noted asks old new → LooksCall sound noted asks old new (Ok value)
+looks_done value looks = record { looks = looks; failed = λ is. absurd (cc); flawed = λ place is told. absurd (cc); elsewhere = λ is. absurd (cc) }
+
+-- damage was found
+pub looks_damaged : {T : Type 0} {sound : Type 0} {noted : Keys} {asks : ℕ} {old new : PagesView} (fault : PageFault) → NamesDamage fault → LooksStep noted asks old new → (IsTold old.disk → sound → ⊥) → LooksCall {T = T} sound noted asks old new (Err fault)
+looks_damaged fault names looks never = record {
+  looks = looks;
+  failed = λ is. let same : Damaged names.place ≡ DeviceFailed = let it = names.is in cc in absurd (cc);
+  flawed = λ place is told sound. never told sound;
+  elsewhere = λ is. let same : Damaged names.place ≡ Damaged Room = let it = names.is in cc in names.elsewhere (cc);
+}
+
+pub names_page : (fault : PageFault) (key : PageKey) → fault ≡ Damaged (PagePlace key) → NamesDamage fault
+names_page fault key is = record { place = PagePlace key; is = is; elsewhere = λ same. absurd (cc) }
+
+-- the last call looks at no page, and may find damage
+pub looks_ends : {T : Type 0} {sound : Type 0} {noted : Keys} {asks : ℕ} {old new : PagesView} (result : Result T PageFault) → IfErr result NamesDamage → OnErr result (IsTold old.disk → sound → ⊥) → LooksStep noted asks old new → LooksCall sound noted asks old new result
+looks_ends (Ok value) names never looks = looks_done value looks
+looks_ends (Err fault) names never looks = looks_damaged fault names looks never
+
+-- a last call after looks
+pub looks_call : {T : Type 0} {sound sound_then : Type 0} {noted : Keys} {asks asks_then : ℕ} {old mid new : PagesView} {result : Result T PageFault} → LooksStep noted asks old mid → (IsTold old.disk → sound → sound_then) → LooksCall sound_then noted asks_then mid new result → LooksCall sound noted (asks + asks_then) old new result
+looks_call looks is call = record {
+  looks = looks_then looks call.looks;
+  failed = λ failed. let rose = call.failed failed in omega (arith, rose, looks.step.passes.later);
+  flawed = λ place flawed told sound. call.flawed place flawed (looks.step.passes.leaves.told.0 told) (is told sound);
+  elsewhere = call.elsewhere;
+}
+
+-- more pages may be noted, and more asked for
+pub looks_wider : {T : Type 0} {sound sound_then : Type 0} {noted more : Keys} {asks asks_now : ℕ} {old new : PagesView} {result : Result T PageFault} → ((key : PageKey) → noted key → more key) → asks ≤ asks_now → (IsTold old.disk → sound → sound_then) → LooksCall sound_then noted asks old new result → LooksCall sound more asks_now old new result
+looks_wider wider few is call = record {
+  looks = looks_within wider few call.looks;
+  failed = call.failed;
+  flawed = λ place flawed told sound. call.flawed place flawed told (is told sound);
+  elsewhere = call.elsewhere;
+}
+
+-- the error of a call is passed on
+pub looks_fails : {T U : Type 0} {sound : Type 0} {noted : Keys} {asks : ℕ} {old new : PagesView} {fault : PageFault} (result : Result U PageFault) → IsErrAnd result (λ why. why ≡ fault) → LooksCall {T = T} sound noted asks old new (Err fault) → LooksCall sound noted asks old new result
+looks_fails {U = U} {sound = sound} {noted = noted} {asks = asks} {old = old} {new = new} {fault = fault} result is call =
+    let why = err_from_is_err_and result is in
+    subst (λ (r : Result U PageFault). LooksCall sound noted asks old new r) (sym (why.1 ∙ ap Err why.2)) (record {
+      looks = call.looks;
+      failed = λ is. let same : fault ≡ DeviceFailed = cc in call.failed (ap Err same);
+      flawed = λ place is. let same : fault ≡ Damaged place = cc in call.flawed place (ap Err same);
+      elsewhere = λ is. let same : fault ≡ Damaged Room = cc in call.elsewhere (ap Err same);
+    })

@@ -1,0 +1,14 @@
+use Rattle.std.proofs.Common.{◌∙◌, sym, ap}
+use Rattle.rss_base.specs.Paged.{Held}
+use Rattle.rss_tuple.proofs.Looks.{looks_done, looks_damaged, looks_then, looks_more, noted_one, names_page}
+use Rattle.rss_tuple.proofs.checking.look_at.Goals as goal
+
+pub returns-in_default-clause-did : goal.returns-in_default-clause-did
+returns-in_default-clause-did g c =
+    let looks = c.in_ok-bring.ensures.did.looks in
+    looks_damaged c.damaged.result (names_page c.damaged.result c.args.key c.damaged.ensures) (looks_more looks) (λ told sound.
+    let there = ap (λ (h : Held). h c.args.key) (sym (looks.held told)) ∙ c.loaded.ensures (looks.step.passes.leaves.told.0 told) in
+    (rw c.in_default.is at c.heap_room.ensures.none) (sound _ there))
+
+pub returns-clause-did : goal.returns-clause-did
+returns-clause-did g c = looks_done _ (looks_then (looks_more c.in_ok-bring.ensures.did.looks) (noted_one c.note.ensures.noted c.note.ensures.unwritten c.note.ensures.did))
