@@ -8,4 +8,6 @@ pub enum Call {
     End(u32),
     Insert(u32, Name, Tuple),
     Fetch(u32, Name, Tid),
+    Update(u32, Name, Tid, Tuple),
+    Delete(u32, Name, Tid),
 }

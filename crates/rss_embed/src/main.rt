@@ -12,7 +12,7 @@ ghost use Rattle.rss_embed.specs.Made.{Made};
 use rss_base::{Call, CallError, OpenFault, RELATION_R, Reply, Tid, Tuple, Value};
 use rss_device::MemDevice;
 use rss_model::Engine;
-use rss_store::{format, open};
+use rss_rsi::{format, open};
 use std::alloc::{AllocError, Global};
 use std::io;
 use thiserror::Error;

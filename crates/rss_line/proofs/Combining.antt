@@ -1,16 +1,16 @@
 -- What is read word by word.
-use Rattle.std.proofs.Common.{◌≡◌, ◌∙◌, ℕ, List, [], ◌∷◌, ◌++◌, Option, Some, None, Result, Ok, Err, IfOk, IsErrAnd, IsErrOf, ok_or, refl, ap, sym, subst}
+use Rattle.std.proofs.Common.{◌≡◌, ◌∙◌, ℕ, List, [], ◌∷◌, Option, Some, None, Result, Ok, Err, IfOk, IsErrAnd, IsErrOf, ok_or, refl, ap, sym, subst}
 use Rattle.std.specs.Borrow.{Bor}
 use Rattle.rss_base.specs.declared.name.Name.{Name}
 use Rattle.rss_base.specs.declared.value.Value.{Value}
 use Rattle.rss_base.specs.declared.call.Call.{Call}
-use Rattle.rss_base.specs.declared.call.Call.TheVariants.{Insert}
-use Rattle.rss_model.specs.Script.{AreSpaces, AreValues, Begins, HasWords, IsWords, Names}
-use Rattle.rss_line.specs.Reads.{IsPlain, Skips, ReadsPlain, ReadsAs, Gives, ReadsWord, ReadsWords, Ends, Behind}
+use Rattle.rss_model.specs.Script.{AreSpaces, AreValues, Begins, HasWords, IsTransaction, IsRelation, IsWords, Names, Spells}
+use Rattle.rss_line.specs.Reads.{IsPlain, Skips, ReadsPlain, ReadsAs, ReadsWord, BeginsTarget, ReadsTarget, ReadsWords, Ends, Behind}
+use Rattle.rss_line.specs.declared.reader.Target.{Target}
 use Rattle.rss_line.specs.declared.fault.LineFault.{LineFault}
 use Rattle.rss_line.specs.declared.fault.LineFault.TheVariants.{Words, NoMemory}
-use Rattle.rss_line.proofs.Cuts.{IsSolid, skipped, unskipped, at_once}
-use Rattle.rss_line.proofs.Forms.{Word, Last, Values, Tells, IsVerb, verb_of}
+use Rattle.rss_line.proofs.Cuts.{IsSolid, plain_solid, skipped, unskipped, at_once, no_begin}
+use Rattle.rss_line.proofs.Forms.{Word, Last, Values, Targeted, Tells, IsVerb, verb_of}
 use Rattle.rss_line.proofs.Plain.{verb_plain}
 
 -- ---- one word
@@ -100,18 +100,87 @@ ends_line (Ok read) (same, spaces) = record { ok = ([], spaces, (refl, same)); a
 ends_line {bytes = bytes} (Err Words) ends = record { ok = tt; all = λ words x has (none, is). absurd (ends (has_as bytes none has)) }
 ends_line (Err NoMemory) ends = absurd ends
 
-module _ {t : ℕ} {relation : Name} {bytes : List ℕ} where
-  pub stops_values : {e : LineFault} (r : Result Call LineFault) → ReadsWords AreValues bytes (Err e) → IsErrAnd r (λ why. why ≡ e) → ReadsWords (Values t relation) bytes r
+module _ (make : List Value → Call) {bytes : List ℕ} where
+  pub stops_values : {e : LineFault} (r : Result Call LineFault) → ReadsWords AreValues bytes (Err e) → IsErrAnd r (λ why. why ≡ e) → ReadsWords (Values make) bytes r
   stops_values (Ok x) reads is = absurd is
   stops_values {e = e} (Err f) reads is = record {
     ok = tt;
     all = λ words x has (values, are, same). is ∙ reads.all words values has are;
   }
 
-  pub then_values : {values : List Value} → ReadsWords AreValues bytes (Ok values) → ReadsWords (Values t relation) bytes (Ok (Insert t relation values))
+  pub then_values : {values : List Value} → ReadsWords AreValues bytes (Ok values) → ReadsWords (Values make) bytes (Ok (make values))
   then_values {values = values} reads = record {
     ok = let (words, has, are) = reads.ok in (words, has, (values, are, refl));
-    all = λ words x has (others, are, same). (ap (Insert t relation) (reads.all words others has are).0 ∙ sym same, tt);
+    all = λ words x has (others, are, same). (ap make (reads.all words others has are).0 ∙ sym same, tt);
+  }
+
+-- ---- a transaction and a relation
+
+pub no_transaction : {old new : List ℕ} {e : LineFault} (r : Result Target LineFault) → ReadsWord IsTransaction old new (Err e) → IsErrAnd r (λ why. why ≡ e) → ReadsTarget old new r
+no_transaction (Ok x) reads is = absurd is
+no_transaction (Err f) reads is = record { ok = tt; all = λ target rest begins. is ∙ reads.all begins.first begins.behind target.transaction begins.begins begins.transaction }
+
+module _ {old mid : List ℕ} {t : ℕ} (read : ReadsWord IsTransaction old mid (Ok t)) where
+  -- what stands behind the transaction
+  behind : (target : Target) (rest : List ℕ) (begins : BeginsTarget old target rest) → (t ≡ target.transaction) × Begins mid begins.second rest
+  behind target rest begins =
+      let same = read.all begins.first begins.behind target.transaction begins.begins begins.transaction in
+      (same.0, subst (λ (bytes : List ℕ). Begins bytes begins.second rest) (sym same.1) begins.then)
+
+  pub no_relation : {new : List ℕ} {e : LineFault} (r : Result Target LineFault) → ReadsWord IsRelation mid new (Err e) → IsErrAnd r (λ why. why ≡ e) → ReadsTarget old new r
+  no_relation (Ok x) reads is = absurd is
+  no_relation (Err f) reads is = record { ok = tt; all = λ target rest begins. is ∙ reads.all begins.second rest target.relation (behind target rest begins).1 begins.relation }
+
+  pub the_target : {new : List ℕ} {relation : Name} → ReadsWord IsRelation mid new (Ok relation) → ReadsTarget old new (Ok (record { transaction = t; relation = relation }))
+  the_target {relation = relation} reads = record {
+    ok = let (first, begins, is) = read.ok in
+        let (second, follows, name) = reads.ok in
+        record { first = first; behind = mid; second = second; begins = begins; transaction = is; then = follows; relation = name };
+    all = λ target rest begins.
+        let on = behind target rest begins in
+        let same = reads.all begins.second rest target.relation on.1 begins.relation in
+        ((λ i. record { transaction = on.0 i; relation = same.0 i }), same.1);
+  }
+
+target_ok : (After : ℕ → Name → List (List ℕ) → Call → Type 0) {old mid : List ℕ} {target : Target} (r : Result Call LineFault)
+    → ReadsTarget old mid (Ok target) → IfOk r (λ x. (words : List (List ℕ)) × HasWords mid words × After target.transaction target.relation words x)
+    → IfOk r (λ x. (words : List (List ℕ)) × HasWords old words × Targeted After words x)
+target_ok After {target = target} (Ok x) reads (words, has, after) =
+    let two = reads.ok in
+    (two.first ∷ two.second ∷ words, (_, two.begins, (_, two.then, has)), (two.first, two.second ∷ words, target.transaction, refl, two.transaction, (two.second, words, target.relation, refl, two.relation, after)))
+target_ok After (Err e) reads ok = tt
+
+-- the words of a target stand in front
+in_front : (After : ℕ → Name → List (List ℕ) → Call → Type 0) (old : List ℕ) (words : List (List ℕ)) (x : Call) → HasWords old words → Targeted After words x
+    → (target : Target) × (rest : List (List ℕ)) × (left : List ℕ) × BeginsTarget old target left × HasWords left rest × After target.transaction target.relation rest x
+in_front After old words x has (first, others, t, e, is, (second, rest, relation, f, name, after)) =
+    let (behind, begins, more) = has_as old e has in
+    let (left, follows, last) = has_as behind f more in (
+      record { transaction = t; relation = relation },
+      rest,
+      left,
+      record { first = first; behind = behind; second = second; begins = begins; transaction = is; then = follows; relation = name },
+      last,
+      after,
+    )
+
+module _ {After : ℕ → Name → List (List ℕ) → Call → Type 0} {old mid : List ℕ} where
+  pub stops_target : {e : LineFault} (r : Result Call LineFault) → ReadsTarget old mid (Err e) → IsErrAnd r (λ why. why ≡ e) → ReadsWords (Targeted After) old r
+  stops_target (Ok x) reads is = absurd is
+  stops_target (Err f) reads is = record {
+    ok = tt;
+    all = λ words x has form.
+        let (target, rest, left, begins, last, after) = in_front After old words x has form in
+        is ∙ reads.all target left begins;
+  }
+
+  pub then_target : {target : Target} (r : Result Call LineFault) → ReadsTarget old mid (Ok target) → ReadsWords (After target.transaction target.relation) mid r → ReadsWords (Targeted After) old r
+  then_target {target = target} r reads next = record {
+    ok = target_ok After r reads next.ok;
+    all = λ words x has form.
+        let (other, rest, left, begins, last, after) = in_front After old words x has form in
+        let read = reads.all other left begins in
+        next.all rest x (subst (λ (bytes : List ℕ). HasWords bytes rest) (sym read.1) last) (subst (λ (to : Target). After to.transaction to.relation rest x) (sym read.0) after);
   }
 
 -- ---- the first word
@@ -166,6 +235,13 @@ module _ {old mid : List ℕ} where
   }
 
 -- ---- a line
+
+-- a blank line is no call
+pub blank_no_call : {line : List ℕ} {call : Call} → AreSpaces line → Spells line call → ⊥
+blank_no_call {line = line} {call = call} spaces spells =
+    let (verb, rest, same, is_verb) = verb_of spells.words call spells.names in
+    let behind = has_as line same spells.spaced in
+    no_begin spaces (plain_solid verb (verb_plain is_verb)) behind.1
 
 apart : {f e : LineFault} → f ≡ Words → f ≡ e → e ≡ NoMemory → ⊥
 apart is same memory = cc

@@ -1,6 +1,6 @@
 -- A line is cut into words in one way.
 use Rattle.std.proofs.Common.{◌≡◌, ◌∙◌, ◌⊎◌, inl, inr, ℕ, suc, ◌+◌, ◌<◌, cond, length-append, Bool, true, false, not, ◌==◌, List, [], ◌∷◌, ◌++◌, length, get_or, drop, refl, ap, sym, subst, arith, append_assoc}
-use Rattle.std.specs.Prelude.{◌≢◌, All, if◌then◌else◌}
+use Rattle.std.specs.Prelude.{◌≢◌, if◌then◌else◌}
 use Rattle.std.specs.List.{list_all, prefix_len}
 use Rattle.std.proofs.lemmas.Bool.{cases_eq, eq-eqb, ne_eqb, eqb-true, eqb-false, and_parts, false≢true}
 use Rattle.std.proofs.lemmas.List.Elements.{All-nil, All-cons, All-head, All-tail, All-append}
@@ -91,10 +91,10 @@ IsStop [] = Unit {0}
 IsStop (b ∷ bytes) = (b ≡ quote) × IsOff quote bytes
 
 -- what a byte of a text is written as
-at_quote : (b : ℕ) (bytes : List ℕ) → b ≡ quote → doubled (b ∷ bytes) ≡ quote ∷ quote ∷ doubled bytes
+pub at_quote : (b : ℕ) (bytes : List ℕ) → b ≡ quote → doubled (b ∷ bytes) ≡ quote ∷ quote ∷ doubled bytes
 at_quote b bytes is = ap (λ t. if t then quote ∷ quote ∷ doubled bytes else b ∷ doubled bytes) (eq-eqb b quote is)
 
-off_quote : (b : ℕ) (bytes : List ℕ) → (b ≡ quote → ⊥) → doubled (b ∷ bytes) ≡ b ∷ doubled bytes
+pub off_quote : (b : ℕ) (bytes : List ℕ) → (b ≡ quote → ⊥) → doubled (b ∷ bytes) ≡ b ∷ doubled bytes
 off_quote b bytes is = ap (λ t. if t then quote ∷ quote ∷ doubled bytes else b ∷ doubled bytes) (ne_eqb b quote is)
 
 pub no_second : (x bytes : List ℕ) → IsOff quote x → x ≡ quote ∷ bytes → ⊥

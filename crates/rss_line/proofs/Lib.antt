@@ -5,5 +5,6 @@ mod Forms
 mod Plain
 mod Combining
 mod Values
+mod Lengths
 mod Tids
 mod Names

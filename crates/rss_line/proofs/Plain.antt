@@ -1,5 +1,5 @@
 -- Words that need no quotes.
-use Rattle.std.proofs.Common.{◌≡◌, ◌∙◌, ◌⊎◌, inl, inr, ℕ, zero, suc, ◌+◌, ◌-◌, ◌<◌, ◌≤◌, ◌^◌, Bool, not, cond, ◌==◌, List, [], ◌∷◌, ◌++◌, length, replicate, take_while, refl, ap, sym, subst, arith, rules, length-append}
+use Rattle.std.proofs.Common.{◌≡◌, ◌∙◌, inl, inr, ℕ, zero, suc, ◌-◌, ◌<◌, ◌≤◌, ◌^◌, not, cond, ◌==◌, List, [], ◌∷◌, ◌++◌, length, replicate, take_while, refl, ap, sym, subst, arith, rules, length-append}
 use Rattle.std.specs.Prelude.{◌≢◌, All, ℤ, pos, negsuc, codes, decimal, FitsSigned}
 use Rattle.std.specs.Int.{w64}
 use Rattle.std.proofs.lemmas.Int.{ints}
@@ -18,9 +18,9 @@ use Rattle.rss_base.specs.declared.tid.Tid.{Tid}
 use Rattle.rss_base.specs.declared.name.Name.{Name}
 use Rattle.rss_model.specs.Spellings.{space, name_text}
 use Rattle.rss_model.specs.Script.{IsTransaction, IsRelation, IsTid}
-use Rattle.rss_line.specs.Reads.{IsBare, IsPlain, IsInt}
+use Rattle.rss_line.specs.Reads.{IsPlain, IsInt}
 use Rattle.rss_line.proofs.Cuts.{bare_from}
-use Rattle.rss_line.proofs.Forms.{IsVerb, begins, ends, inserts, fetches}
+use Rattle.rss_line.proofs.Forms.{IsVerb, begins, ends, inserts, fetches, updates, deletes}
 use Rattle.rss_line.proofs.Numbers.{mag_fits}
 
 -- a byte that no digits have
@@ -111,3 +111,5 @@ verb_plain begins = record { some = λ none. omega (arith, ap length none); bare
 verb_plain ends = record { some = λ none. omega (arith, ap length none); bare = bare_from (codes "end") refl; ascii = search rules }
 verb_plain inserts = record { some = λ none. omega (arith, ap length none); bare = bare_from (codes "insert") refl; ascii = search rules }
 verb_plain fetches = record { some = λ none. omega (arith, ap length none); bare = bare_from (codes "fetch") refl; ascii = search rules }
+verb_plain updates = record { some = λ none. omega (arith, ap length none); bare = bare_from (codes "update") refl; ascii = search rules }
+verb_plain deletes = record { some = λ none. omega (arith, ap length none); bare = bare_from (codes "delete") refl; ascii = search rules }

@@ -7,7 +7,8 @@ use Rattle.rss_base.specs.declared.call.Call.{Call}
 use Rattle.std.specs.Borrow.{Bor}
 use Rattle.rss_model.specs.Fits.{IsLetter, IsNameByte}
 use Rattle.rss_model.specs.Spellings.{space, quote, doubled}
-use Rattle.rss_model.specs.Script.{AreSpaces, IsApart, Begins, HasWords, IsValue, Names}
+use Rattle.rss_model.specs.Script.{AreSpaces, IsApart, Begins, HasWords, IsTransaction, IsRelation, IsValue, Names}
+use Rattle.rss_line.specs.declared.reader.Target.{Target}
 use Rattle.rss_line.specs.declared.fault.LineFault.{LineFault}
 use Rattle.rss_line.specs.declared.fault.LineFault.TheVariants.{Words, NoMemory}
 
@@ -81,6 +82,22 @@ pub record ReadsWord {T : Type 0} (Is : List ℕ → T → Type 0) (old new : Li
   pub all : (word rest : List ℕ) (x : T) → Begins old word rest → Is word x
       → Gives x (new ≡ rest) result
 
+-- the bytes begin with two words, which are a transaction and a relation
+pub record BeginsTarget (bytes : List ℕ) (target : Target) (rest : List ℕ) : Type 0 where
+  pub first : List ℕ
+  pub behind : List ℕ
+  pub second : List ℕ
+  pub begins : Begins bytes first behind
+  pub transaction : IsTransaction first target.transaction
+  pub then : Begins behind second rest
+  pub relation : IsRelation second target.relation
+
+-- the next two words are read, where they are such words
+pub record ReadsTarget (old new : List ℕ) (result : Result Target LineFault) : Type 0 where
+  pub ok : IfOk result (λ target. BeginsTarget old target new)
+  pub all : (target : Target) (rest : List ℕ) → BeginsTarget old target rest
+      → Gives target (new ≡ rest) result
+
 -- all words are read, where they are such words
 pub record ReadsWords {T : Type 0} (Are : List (List ℕ) → T → Type 0) (old : List ℕ)
     (result : Result T LineFault) : Type 0 where
@@ -107,6 +124,11 @@ abbrev pub ReadsText : List ℕ → List ℕ → Result (List ℕ) LineFault →
 ReadsText old new (Ok text) = (old ≡ doubled text ++ quote ∷ new) × IsOff quote new
 ReadsText old new (Err Words) = (text : List ℕ) × (old ≡ doubled text)
 ReadsText old new (Err NoMemory) = ⊤
+
+-- how many bytes a text has before its closing quote; there is none where the line is over before
+abbrev pub HasLength : List ℕ → Result ℕ LineFault → Type 0
+HasLength bytes (Ok n) = (text : List ℕ) × (rest : List ℕ) × ReadsText bytes rest (Ok text) × (n ≡ length text)
+HasLength bytes (Err fault) = ReadsText bytes [] (Err fault)
 
 -- ---- a call
 

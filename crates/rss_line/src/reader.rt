@@ -5,12 +5,12 @@ ghost use Rattle.rss_model.specs.Spellings.{quote};
 ghost use Rattle.rss_model.specs.Script.{IsApart, IsTransaction, IsRelation, IsTid};
 ghost use Rattle.rss_model.specs.Script.{IsValue, AreValues, Names};
 ghost use Rattle.rss_line.specs.Reads.{is_space, Skips, ReadsFront, ReadsPlain, ReadsWord, IsInt};
-ghost use Rattle.rss_line.specs.Reads.{ReadsQuote, ReadsByte, ReadsText, ReadsWords, Ends, Behind};
+ghost use Rattle.rss_line.specs.Reads.{ReadsTarget, ReadsQuote, ReadsByte, ReadsText, HasLength, ReadsWords, Ends, Behind};
 
 use crate::LineFault;
 use crate::name::read_name;
 use crate::number::{read_int, read_tid, read_transaction};
-use rss_base::{Call, Name, Text, Tid, Tuple, Value};
+use rss_base::{Call, MOST_FIELDS, Name, Text, Tid, Tuple, Value};
 use rss_value::is_allowed_text;
 use std::alloc::Global;
 use std::marker::Model;
@@ -22,6 +22,25 @@ fn count_spaces(bytes: &[u8]) -> usize
     ensures bound { result ≤ length bytes.now }
 {
     bytes.iter().take_while(|byte| **byte == b' ').count()
+}
+
+/// How many bytes the text has whose opening quote stands before these bytes.
+fn text_length(bytes: &[u8]) -> Result<usize, LineFault>
+    ensures { HasLength bytes.now result }
+{
+    let mut reader = Reader::new(bytes);
+    let mut length = 0;
+    while reader.text_byte()?.is_some() {
+        length += 1;
+    }
+    Ok(length)
+}
+
+/// A transaction, and the relation that it calls on.
+#[derive(Drop)]
+struct Target {
+    transaction: u32,
+    relation: Name,
 }
 
 /// The bytes of a line that were not read yet.
@@ -92,6 +111,17 @@ impl<'a> Reader<'a> {
         read_name(self.word()?).ok_or(LineFault::Words)
     }
 
+    fn target(&mut self) -> Result<Target, LineFault>
+        ensures { ReadsTarget self.old self.new result }
+    {
+        let transaction = self.transaction()?;
+        let relation = self.relation()?;
+        Ok(Target {
+            transaction,
+            relation,
+        })
+    }
+
     fn tid(&mut self) -> Result<Tid, LineFault>
         ensures { ReadsWord IsTid self.old self.new result }
     {
@@ -130,11 +160,11 @@ impl<'a> Reader<'a> {
         Ok(byte)
     }
 
-    /// The text whose opening quote was read, up to its closing quote.
+    /// The text whose opening quote was read, up to its closing quote, in one allocation.
     fn text(&mut self, alloc: Global) -> Result<Text, LineFault>
         ensures { ReadsText self.old self.new result }
     {
-        let mut text = Text::new(alloc);
+        let mut text = Text::with_capacity(alloc, text_length(self.rest)?)?;
         while let Some(byte) = self.text_byte()? {
             text.push(byte)?;
         }
@@ -171,11 +201,14 @@ impl<'a> Reader<'a> {
         Ok(Value::Int(number))
     }
 
-    /// The values up to the line's end.
+    /// The values up to the line's end. Their tuple takes one allocation, where they are no more
+    /// than a relation has fields.
     fn values(&mut self, alloc: Global) -> Result<Tuple, LineFault>
         ensures { ReadsWords AreValues self.old result }
     {
-        let mut tuple = Tuple::new(alloc);
+        // A value takes two bytes at least, with the space before it.
+        let room = MOST_FIELDS.min(self.rest.len() / 2);
+        let mut tuple = Tuple::with_capacity(alloc, room)?;
         while !self.is_at_end() {
             let value = self.value(alloc)?;
             tuple.push(value)?;
@@ -211,19 +244,34 @@ impl<'a> Reader<'a> {
     fn insert(&mut self, alloc: Global) -> Result<Call, LineFault>
         ensures { ReadsWords (Behind (codes "insert")) self.old result }
     {
-        let transaction = self.transaction()?;
-        let relation = self.relation()?;
+        let target = self.target()?;
         let values = self.values(alloc)?;
-        Ok(Call::Insert(transaction, relation, values))
+        Ok(Call::Insert(target.transaction, target.relation, values))
     }
 
     fn fetch(&mut self) -> Result<Call, LineFault>
         ensures { ReadsWords (Behind (codes "fetch")) self.old result }
     {
-        let transaction = self.transaction()?;
-        let relation = self.relation()?;
+        let target = self.target()?;
         let tid = self.tid()?;
-        self.ended(Call::Fetch(transaction, relation, tid))
+        self.ended(Call::Fetch(target.transaction, target.relation, tid))
+    }
+
+    fn update(&mut self, alloc: Global) -> Result<Call, LineFault>
+        ensures { ReadsWords (Behind (codes "update")) self.old result }
+    {
+        let target = self.target()?;
+        let tid = self.tid()?;
+        let values = self.values(alloc)?;
+        Ok(Call::Update(target.transaction, target.relation, tid, values))
+    }
+
+    fn delete(&mut self) -> Result<Call, LineFault>
+        ensures { ReadsWords (Behind (codes "delete")) self.old result }
+    {
+        let target = self.target()?;
+        let tid = self.tid()?;
+        self.ended(Call::Delete(target.transaction, target.relation, tid))
     }
 
     /// The call that the line is.
@@ -242,6 +290,12 @@ impl<'a> Reader<'a> {
         }
         if verb == "fetch" {
             return self.fetch();
+        }
+        if verb == "update" {
+            return self.update(alloc);
+        }
+        if verb == "delete" {
+            return self.delete();
         }
         Err(LineFault::Words)
     }

@@ -1,36 +1,52 @@
 -- How many tuples a relation has, where one is put.
-use Rattle.std.proofs.Common.{◌≡◌, inl, inr, ℕ, ◌+◌, ◌-◌, ◌≤◌, ℤ, Bool, true, false, cond, List, [], ◌∷◌, length, refl, sym, ◌∙◌, ap, subst, arith}
+use Rattle.std.proofs.Common.{◌≡◌, inl, inr, ℕ, ◌+◌, ◌-◌, ◌≤◌, Bool, true, false, cond, refl, sym, ◌∙◌, ap, arith}
 use Rattle.std.specs.Prelude.{Option, Some, None, is_some}
 use Rattle.std.specs.Ordering.{eq_by_cmp, nat_cmp}
 use Rattle.std.specs.Cmp.{Equal-is, nat_cmp_total}
 use Rattle.std.specs.FinMap as map
-use Rattle.std.specs.FinMap.{FinMap, get-from_entries, get-empty, get-insert, get-remove, get-retain_keys, len-empty, len-insert, len-remove, same_map, empty_of_len, nat_cmp-IsAntisymmetric}
-use Rattle.std.proofs.lemmas.Bool.{cases_Bool, true≢false, cond-true, cond-false}
+use Rattle.std.specs.FinMap.{FinMap, get-empty, get-remove, get-retain_keys, len-empty, len-insert, len-remove, same_map, empty_of_len, nat_cmp-IsAntisymmetric}
+use Rattle.std.proofs.lemmas.Bool.{cases_Bool, cases_lt, true≢false, cond-true, cond-false}
 use Rattle.rss_base.specs.declared.name.Name.{Name}
 use Rattle.rss_base.specs.declared.item.Item.{Item}
-use Rattle.rss_model.specs.Items.{Content, Values, item_cmp}
-use Rattle.rss_base.specs.declared.value.Value.TheVariants.{Int}
-use Rattle.rss_model.specs.Store.{relation_r, item_at, tuples_from, tables_of}
-use Rattle.rss_model.specs.Tables.{Contents, content, is_tuple_of, tuple_count}
-use Rattle.rss_model.proofs.Codes.{item_total, item_apart, name_total, name_apart}
-use Rattle.rss_model.proofs.Contents.{tied, find_none, same_place, tids}
-
--- items that tie are one
-pub same_item_of : (a b : Item) → eq_by_cmp item_cmp a b ≡ true → a ≡ b
-same_item_of a b tie = item_apart a b ((Equal-is (item_cmp a b)).0 tie)
+use Rattle.rss_model.specs.Items.{Content, item_cmp}
+use Rattle.rss_model.specs.Tables.{Contents, content, put, is_tuple_of, tuple_count}
+use Rattle.rss_model.proofs.Codes.{item_total, item_apart}
+use Rattle.rss_model.proofs.Contents.{same_item_of, content_put}
 
 abbrev tuples_of : Contents → Name → Contents
 tuples_of contents relation = map.retain_keys contents (is_tuple_of relation)
 
-found : (contents : Contents) (relation : Name) (q : Item) → map.get (tuples_of contents relation) q ≡ cond (is_tuple_of relation q) (content contents q) None
+found : (contents : Contents) (relation : Name) (q : Item) → content (tuples_of contents relation) q ≡ cond (is_tuple_of relation q) (content contents q) None
 found contents relation q = get-retain_keys contents (is_tuple_of relation) q (λ x tie. sym (ap (is_tuple_of relation) (item_apart q x tie)))
 
-module _ (contents : Contents) (item : Item) (held : Content) (relation : Name) where
-  abbrev after : Contents
-  after = map.insert contents item held
+-- how many tuples an item is
+abbrev pub one_if : Bool → ℕ
+one_if t = cond t 1 0
 
-  now_found : (q : Item) → map.get (tuples_of after relation) q ≡ cond (is_tuple_of relation q) (cond (eq_by_cmp item_cmp q item) (Some held) (content contents q)) None
-  now_found q = found after relation q ∙ ap (λ (o : Option Content). cond (is_tuple_of relation q) o None) (get-insert item_total contents item held q)
+-- what is put counts, and what was there doesn't
+len_put : (contents : Contents) (item : Item) (held : Option Content) → map.len (put contents item held) + one_if (is_some (content contents item)) ≡ map.len contents + one_if (is_some held)
+unfolding put
+len_put contents item None = elim (cases_Bool (map.contains_key contents item)) [
+  | inl there ↦ omega (arith, len-remove item_total contents item, cond-true _ (map.len contents - 1) (map.len contents) there, ap one_if there, some_there contents item there)
+  | inr absent ↦ omega (arith, len-remove item_total contents item, cond-false _ (map.len contents - 1) (map.len contents) absent, ap one_if absent)
+]
+  where
+    some_there : (contents : Contents) (item : Item) → map.contains_key contents item ≡ true → 1 ≤ map.len contents
+    some_there contents item there = elim (cases_lt 0 (map.len contents)) [
+      | inl some ↦ omega (arith, some)
+      | inr none ↦ absurd (true≢false (sym there ∙ ap (λ (m : Contents). map.contains_key m item) (empty_of_len contents (omega (arith, none))) ∙ ap is_some (get-empty item_cmp item)))
+    ]
+len_put contents item (Some held) = elim (cases_Bool (map.contains_key contents item)) [
+  | inl there ↦ omega (arith, len-insert item_total contents item held, cond-true _ (map.len contents) (map.len contents + 1) there, ap one_if there)
+  | inr absent ↦ omega (arith, len-insert item_total contents item held, cond-false _ (map.len contents) (map.len contents + 1) absent, ap one_if absent)
+]
+
+module _ (contents : Contents) (item : Item) (held : Option Content) (relation : Name) where
+  abbrev after : Contents
+  after = put contents item held
+
+  now_found : (q : Item) → content (tuples_of after relation) q ≡ cond (is_tuple_of relation q) (cond (eq_by_cmp item_cmp q item) held (content contents q)) None
+  now_found q = found after relation q ∙ ap (λ (o : Option Content). cond (is_tuple_of relation q) o None) (content_put contents item held q)
 
   -- of another relation, or no tuple
   pub counts_same : is_tuple_of relation item ≡ false → tuple_count after relation ≡ tuple_count contents relation
@@ -39,40 +55,25 @@ module _ (contents : Contents) (item : Item) (held : Content) (relation : Name) 
     | inl same ↦
         let none : is_tuple_of relation q ≡ false = ap (is_tuple_of relation) (same_item_of q item same) ∙ off in
         cond-false _ _ None none ∙ sym (found contents relation q ∙ cond-false _ _ None none)
-    | inr other ↦ ap (λ (o : Option Content). cond (is_tuple_of relation q) o None) (cond-false _ (Some held) (content contents q) other) ∙ sym (found contents relation q)
+    | inr other ↦ ap (λ (o : Option Content). cond (is_tuple_of relation q) o None) (cond-false _ held (content contents q) other) ∙ sym (found contents relation q)
   ]))
 
-  pub counts_put : is_tuple_of relation item ≡ true → tuples_of after relation ≡ map.insert (tuples_of contents relation) item held
-  counts_put on = same_map item_total item_apart _ _ (λ q. now_found q ∙ elim (cases_Bool (eq_by_cmp item_cmp q item)) [
+  tuples_put : is_tuple_of relation item ≡ true → tuples_of after relation ≡ put (tuples_of contents relation) item held
+  tuples_put on = same_map item_total item_apart _ _ (λ q. now_found q ∙ elim (cases_Bool (eq_by_cmp item_cmp q item)) [
     | inl tie ↦
         let some : is_tuple_of relation q ≡ true = ap (is_tuple_of relation) (same_item_of q item tie) ∙ on in
-        cond-true _ _ None some ∙ cond-true _ _ _ tie ∙ sym (get-insert item_total (tuples_of contents relation) item held q ∙ cond-true _ _ _ tie)
+        cond-true _ _ None some ∙ cond-true _ _ _ tie ∙ sym (content_put (tuples_of contents relation) item held q ∙ cond-true _ _ _ tie)
     | inr other ↦
-        ap (λ (o : Option Content). cond (is_tuple_of relation q) o None) (cond-false _ (Some held) (content contents q) other) ∙ sym (found contents relation q)
-        ∙ sym (get-insert item_total (tuples_of contents relation) item held q ∙ cond-false _ _ _ other)
+        ap (λ (o : Option Content). cond (is_tuple_of relation q) o None) (cond-false _ held (content contents q) other) ∙ sym (found contents relation q)
+        ∙ sym (content_put (tuples_of contents relation) item held q ∙ cond-false _ _ _ other)
   ])
 
-  pub counts_more : is_tuple_of relation item ≡ true → tuple_count after relation ≤ tuple_count contents relation + 1
+  -- of this one
+  pub counts_put : is_tuple_of relation item ≡ true → tuple_count after relation + one_if (is_some (content contents item)) ≡ tuple_count contents relation + one_if (is_some held)
   unfolding tuple_count
-  counts_more on =
-      let more = len-insert item_total (tuples_of contents relation) item held in
-      elim (cases_Bool (map.contains_key (tuples_of contents relation) item)) [
-        | inl there ↦ omega (arith, ap map.len (counts_put on), more, cond-true _ (map.len (tuples_of contents relation)) (map.len (tuples_of contents relation) + 1) there)
-        | inr absent ↦ omega (arith, ap map.len (counts_put on), more, cond-false _ (map.len (tuples_of contents relation)) (map.len (tuples_of contents relation) + 1) absent)
-      ]
-
-  -- one that wasn't there
-  pub counts_new : is_tuple_of relation item ≡ true → content contents item ≡ None → tuple_count after relation ≡ tuple_count contents relation + 1
-  unfolding tuple_count
-  counts_new on absent =
-      let none : map.contains_key (tuples_of contents relation) item ≡ false = ap is_some (found contents relation item ∙ cond-true _ (content contents item) None on ∙ absent) in
-      ap map.len (counts_put on) ∙ len-insert item_total (tuples_of contents relation) item held ∙ cond-false _ (map.len (tuples_of contents relation)) (map.len (tuples_of contents relation) + 1) none
-
-  pub counts_one_more : tuple_count after relation ≤ tuple_count contents relation + 1
-  counts_one_more = elim (cases_Bool (is_tuple_of relation item)) [
-    | inl on ↦ counts_more on
-    | inr off ↦ omega (arith, counts_same off)
-  ]
+  counts_put on =
+      let here : content (tuples_of contents relation) item ≡ content contents item = found contents relation item ∙ cond-true _ (content contents item) None on in
+      omega (arith, ap map.len (tuples_put on), len_put (tuples_of contents relation) item held, ap (λ (o : Option Content). one_if (is_some o)) here)
 
 pub counts_none : (relation : Name) → tuple_count map.empty relation ≡ 0
 unfolding tuple_count
@@ -83,22 +84,6 @@ counts_none relation =
     same_none : (b : Bool) → cond {A = Option Content} b None None ≡ None
     same_none true = refl
     same_none false = refl
-
--- the map of a list has no more than the list
-pub counts_list : (entries : List (Item × Content)) (relation : Name) → tuple_count (map.from_entries entries) relation ≤ length entries
-counts_list [] relation = omega (arith, counts_none relation)
-counts_list (e ∷ entries) relation = omega (arith, counts_one_more (map.from_entries entries) e.0 e.1 relation, counts_list entries relation)
-
--- the tables of a list have as many tuples as the list
-pub counts_values : (values : List ℤ) → tuple_count (tables_of values).contents relation_r ≡ length values
-counts_values values = from 0 values
-  where
-    from : (place : ℕ) (values : List ℤ) → tuple_count (map.from_entries (tuples_from place values)) relation_r ≡ length values
-    from place [] = counts_none relation_r
-    from place (v ∷ values) =
-        let rest = map.from_entries (tuples_from (place + 1) values) in
-        let absent : content rest (item_at place) ≡ None = get-from_entries item_total (tuples_from (place + 1) values) (item_at place) ∙ find_none (item_at place) (place + 1) values (λ k low high e. absurd (omega (arith, low, same_place place k (tids place k e)))) in
-        counts_new rest (item_at place) (Values (Int v ∷ [])) relation_r (tied name_total name_apart relation_r) absent ∙ omega (arith, from (place + 1) values)
 
 -- ---- maps of one entry at most
 

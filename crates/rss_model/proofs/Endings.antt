@@ -1,25 +1,27 @@
 -- The ways in which a call on an engine ends.
-use Rattle.std.proofs.Common.{◌≡◌, ℕ, ◌≤◌, length, ◌+◌, Option, Some, None, refl, sym, ◌∙◌, ap, subst, arith}
+use Rattle.std.proofs.Common.{◌≡◌, inl, ℕ, ◌≤◌, length, ◌+◌, Option, Some, None, refl, sym, ◌∙◌, ap, subst, arith}
 use Rattle.std.specs.Prelude.{Result, Err, IsErrAnd, IfSome}
 use Rattle.std.proofs.lemmas.Result.{err_from_is_err_and}
-use Rattle.rss_base.specs.DiskRule.{IsTold}
+use Rattle.rss_base.specs.DiskRule.{IsTold, Passes, Continues}
 use Rattle.rss_base.specs.Answers.{page_error}
-use Rattle.rss_base.specs.Paged.{HasPageCause}
+use Rattle.rss_base.specs.Paged.{AreAmong, HasPageCause}
 use Rattle.rss_base.specs.declared.call.Call.{Call}
+use Rattle.rss_base.specs.declared.call.Call.TheVariants.{Begin, End, Insert, Fetch, Update, Delete}
 use Rattle.rss_base.specs.declared.answer.Reply.{Reply}
 use Rattle.rss_base.specs.declared.answer.CallError.{CallError}
 use Rattle.rss_base.specs.declared.answer.CallError.TheVariants.{Refused, Down}
 use Rattle.rss_base.specs.declared.fault.PageFault.{PageFault}
 use Rattle.rss_base.specs.declared.fault.PageFault.TheVariants.{Device as PageDevice, Damaged as PageDamaged, NoMemory as PageNoMemory}
 use Rattle.rss_base.specs.declared.refusal.Refusal.{Refusal}
-use Rattle.rss_base.proofs.Moments.{started}
+use Rattle.rss_base.proofs.Moments.{started, widened}
 use Rattle.rss_model.specs.Turns.{IsStopped}
 use Rattle.rss_model.specs.Machine.{State}
 use Rattle.rss_model.specs.Steps.{refusal}
 use Rattle.rss_model.specs.Steps.Step.{refuses}
+use Rattle.rss_model.specs.Store.{OpensTo}
 use Rattle.rss_model.specs.ReplyText.{IsShort}
-use Rattle.rss_model.specs.Costs.{RisesAtMost, most_asks, most_writes}
-use Rattle.rss_model.specs.Calls.{EngineView, GoesOn, IsUnanswered, IsOutcome, IsCallOf}
+use Rattle.rss_model.specs.Costs.{RisesAtMost, most_asks, most_writes, LeavesChanged, changes_after}
+use Rattle.rss_model.specs.Calls.{EngineView, GoesOn, IsAnswer, IsUnanswered, IsOutcome, IsCallOf}
 
 -- a count that rises by so many at most, rises by no more than it may
 pub within_most : (most : Option ℕ) (n before now : ℕ) → IfSome most (λ m. n ≤ m) → now ≤ before + n → RisesAtMost most before now
@@ -31,17 +33,51 @@ none_within None = tt
 none_within (Some m) = omega arith
 
 -- a call that costs nothing
-pub costs_nothing : {old new : EngineView} (call : Call) → new.asks ≡ old.asks → new.writes ≡ old.writes → (IsTold old.disk → IsTold new.disk) → old.faults ≤ new.faults → GoesOn old new call
-costs_nothing {old = old} {new = new} call same_asks same_writes told later = record {
+pub costs_nothing : {old new : EngineView} (call : Call) → new.asks ≡ old.asks → new.writes ≡ old.writes → new.slots ≡ old.slots → (IsTold old.disk → IsTold new.disk) → (IsTold old.disk → Continues old.disk new.disk) → old.faults ≤ new.faults → GoesOn old new call
+costs_nothing {old = old} {new = new} call same_asks same_writes same_slots told history later = record {
   asks = within_most (most_asks call) 0 old.asks new.asks (none_within (most_asks call)) (omega (arith, same_asks));
-  writes = λ state shown pages has. within_most (most_writes (length pages) state call) 0 old.writes new.writes (none_within (most_writes (length pages) state call)) (omega (arith, same_writes));
+  writes = λ keys has. within_most (most_writes old.slots (length keys) old.since call) 0 old.writes new.writes (none_within (most_writes old.slots (length keys) old.since call)) (omega (arith, same_writes));
+  slots = same_slots;
   told = told;
+  history = history;
   later = later;
 }
 
 -- nothing is done
 idles : (view : EngineView) (call : Call) → GoesOn view view call
-idles view call = costs_nothing call refl refl (λ told. told) (omega arith)
+idles view call = costs_nothing call refl refl refl (λ told. told) (λ told. started view.disk _) (omega arith)
+
+-- ---- refusals
+
+-- a call that is refused changes nothing, and pages that were changed wait as before
+pub refused_leaves : (call : Call) (why : Refusal) → LeavesChanged call (Err why)
+refused_leaves (Begin t) why = tt
+refused_leaves (End t) why = tt
+refused_leaves (Insert t relation values) why = tt
+refused_leaves (Fetch t relation tid) why = tt
+refused_leaves (Update t relation tid values) why = tt
+refused_leaves (Delete t relation tid) why = tt
+
+pub refused_since : (call : Call) (why : Refusal) (since : ℕ) → changes_after call (Err why) since ≡ since
+refused_since (Begin t) why since = refl
+refused_since (End t) why since = refl
+refused_since (Insert t relation values) why since = refl
+refused_since (Fetch t relation tid) why since = refl
+refused_since (Update t relation tid values) why since = refl
+refused_since (Delete t relation tid) why since = refl
+
+-- By a refusal, which leaves the engine as it was but for its pages in memory.
+pub refused_by : {old new : EngineView} {call : Call} {why : Refusal} → new.is_up → IsShort (Err why) → AreAmong new.changed old.changed → new.since ≡ old.since
+    → (IsTold old.disk → (state : State) → old.shows state → (refusal state call ≡ Some why) × new.shows state × Passes old.disk new.disk (λ pages. OpensTo pages state.size state.base)) → IsAnswer old new call (Err why)
+refused_by {call = call} {why = why} up short among since stays = record {
+  answered = λ told state shown.
+      let so = stays told state shown in
+      record { next = state; shows = so.1; answered = record { step = refuses call why so.0; moments = widened so.2 (λ image opens. inl opens) } };
+  up = up;
+  short = short;
+  changed = λ key is. inl (among key is, refused_leaves call why);
+  since = since ∙ sym (refused_since call why _);
+}
 
 -- an engine that was up, with what came of the call
 pub comes_to : {old new : EngineView} {call : Call} {result : Result Reply CallError} → old.is_up → GoesOn old new call → IsOutcome old new call result → IsCallOf old new call result
@@ -49,11 +85,7 @@ comes_to is_up goes outcome = record { goes = goes; outcome = λ was. outcome; d
 
 -- by a refusal, where the call is told so at once: nothing was done
 pub refused_at_once : {view : EngineView} {call : Call} {why : Refusal} → view.is_up → IsShort (Err why) → ((state : State) → view.shows state → refusal state call ≡ Some why) → IsCallOf view view call (Err (Refused why))
-refused_at_once {view = view} {call = call} {why = why} up short refused = comes_to up (idles view call) (record {
-  answered = λ told state shown. record { next = state; shows = shown; answered = record { step = refuses call why (refused state shown); moments = started _ _ } };
-  up = up;
-  short = short;
-})
+refused_at_once {view = view} {call = call} {why = why} up short refused = comes_to up (idles view call) (refused_by up short (λ key is. is) refl (λ told state shown. (refused state shown, shown, started _ _)))
 
 -- By an error of its pages, each of which leaves the engine down but one of memory.
 pub failed : {old new : EngineView} {call : Call} {T : Type 0} {fault : PageFault} (result : Result Reply CallError) → IsErrAnd result (λ why. why ≡ page_error fault) → old.is_up → GoesOn old new call → HasPageCause {T = T} old.disk old.faults new.faults (Err fault) → ((fault ≡ PageNoMemory → ⊥) → new.is_up → ⊥)

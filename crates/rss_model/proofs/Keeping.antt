@@ -1,51 +1,51 @@
 -- What each step of the machine keeps.
-use Rattle.std.proofs.Common.{◌≡◌, ◌≢◌, ◌⊎◌, inl, inr, ℕ, zero, suc, ◌+◌, ◌-◌, ◌<◌, ◌≤◌, Bool, true, false, cond, List, [], ◌∷◌, ◌++◌, length, refl, sym, ◌∙◌, ap, subst, arith, rules}
-use Rattle.std.specs.Prelude.{Option, Some, None, is_some, All, filter, count_by, ◌==◌, not, nat_le, nat_lt, Err, option_map}
+use Rattle.std.proofs.Common.{◌≡◌, ◌≢◌, ◌⊎◌, inl, inr, ℕ, zero, suc, ◌+◌, ◌≤◌, Bool, true, false, List, [], ◌∷◌, ◌++◌, length, refl, sym, ◌∙◌, ap, subst, arith}
+use Rattle.std.specs.Prelude.{Option, Some, None, is_some, is_none, ◌&&◌, All, count_by, ◌==◌, not, nat_le, option_map}
 use Rattle.std.specs.Ordering.{nat_cmp, eq_by_cmp}
 use Rattle.std.specs.Cmp.{Equal-is, nat_cmp_total}
 use Rattle.std.specs.FinMap as map
 use Rattle.std.specs.FinMap.{get-insert, len-insert, len-remove, len-empty}
-use Rattle.std.proofs.lemmas.Bool.{cases_Bool, cases_eq, ne_eqb, cond-true, cond-false, leb-false}
+use Rattle.std.proofs.lemmas.Bool.{cases_Bool, cases_eq, true≢false, ne_eqb, cond-true, cond-false, leb-false}
 use Rattle.std.proofs.lemmas.List.{append-nil}
 use Rattle.std.proofs.lemmas.List.Sums.{sum_by-cons}
+use Rattle.std.proofs.lemmas.Option.{same_Some}
 use Rattle.std.proofs.Math.Dec.{T, eqb_refl}
 use Rattle.rss_base.specs.declared.name.Name.{Name}
 use Rattle.rss_base.specs.declared.tid.Tid.{Tid}
 use Rattle.rss_base.specs.declared.value.Value.{Value}
 use Rattle.rss_base.specs.declared.value.FieldKind.{FieldKind}
 use Rattle.rss_base.specs.declared.item.Item.TheVariants.{Tuple}
-use Rattle.rss_base.specs.declared.call.Call.{Call}
-use Rattle.rss_base.specs.declared.call.Call.TheVariants.{Begin, End, Insert}
+use Rattle.rss_base.specs.declared.call.Call.TheVariants.{Begin, End, Insert, Update, Delete}
 use Rattle.rss_base.specs.declared.refusal.Refusal.{Refusal}
 use Rattle.rss_base.specs.declared.refusal.Refusal.TheVariants.{BadTuple}
 use Rattle.rss_base.specs.TupleTypes.{misfit}
-use Rattle.rss_model.specs.Items.{Values, name_cmp}
-use Rattle.rss_model.specs.Tables.{Contents, Tables, fields_of, tuple_count, put, is_tuple_of}
+use Rattle.rss_model.specs.Items.{Content, Values, name_cmp}
+use Rattle.rss_model.specs.Tables.{content, fields_of, segment_of, tuple_count, put, is_tuple_of}
 use Rattle.rss_model.specs.Changes.{Change, IsTupleChange, is_delete_of, own, others, after, Chained}
-use Rattle.rss_model.specs.Changes.IsTupleChange.{insert}
-use Rattle.rss_model.specs.Fits.{Fits, tuple_limit}
+use Rattle.rss_model.specs.Changes.IsTupleChange.{insert, update, delete}
+use Rattle.rss_model.specs.Fits.{Fits, IsIdentifier, IsLive, IsTupleOf, tuple_limit}
 use Rattle.rss_model.specs.Machine.{StoreSize, State, with_changes, now}
 use Rattle.rss_model.specs.Meter.{Meter}
-use Rattle.rss_model.specs.Steps.{Answer, Step, first_of, refused_unless, refused_if, misfit_of, tests, refusal, is_open, transaction_limit, used_tuples, IsFree, begun, changed, insertion, ended}
-use Rattle.rss_model.specs.Steps.Step.{refuses, begins, inserts, fetches, ends}
+use Rattle.rss_model.specs.Steps.{first_of, refused_unless, refused_if, misfit_of, tests, refusal, is_open, transaction_limit, used_tuples, IsFree, HasValues, begun, changed, tuple_change, insertion, replacement, deletion, ended}
+use Rattle.rss_model.specs.Steps.Step.{refuses, begins, inserts, fetches, updates, deletes, ends}
 use Rattle.rss_model.specs.Kept.{FitOnTheWay, Kept, StepsKeep, RestKeeps, KeptFit}
 use Rattle.rss_model.proofs.Codes.{name_apart}
-use Rattle.rss_model.proofs.Putting.{fits_insert}
-use Rattle.rss_model.proofs.Counts.{the_only, counts_same, counts_more}
+use Rattle.rss_model.proofs.Putting.{fits_put}
+use Rattle.rss_model.proofs.Counts.{one_if, the_only, counts_same, counts_put}
 
 -- ---- a call that isn't refused
 
-all_none : (options : List (Option Refusal)) → first_of options ≡ None → All (λ o. o ≡ None) options
+pub all_none : (options : List (Option Refusal)) → first_of options ≡ None → All (λ o. o ≡ None) options
 all_none [] is k d lt = absurd (omega arith)
 all_none (None ∷ rest) is zero d lt = refl
 all_none (None ∷ rest) is (suc k) d lt = all_none rest is k d (omega (arith, lt))
 all_none (Some why ∷ rest) is k d lt = absurd (cc)
 
-holds : (b : Bool) (why : Refusal) → refused_unless b why ≡ None → b ≡ true
+pub holds : (b : Bool) (why : Refusal) → refused_unless b why ≡ None → b ≡ true
 holds true why is = refl
 holds false why is = absurd (cc)
 
-holds_not : (b : Bool) (why : Refusal) → refused_if b why ≡ None → b ≡ false
+pub holds_not : (b : Bool) (why : Refusal) → refused_if b why ≡ None → b ≡ false
 holds_not true why is = absurd (cc)
 holds_not false why is = refl
 
@@ -137,31 +137,49 @@ keeps_begin old t is kept =
       | inr apart ↦ ap is_some (get-insert nat_cmp_total old.marks t [] u ∙ cond-false _ _ _ apart) ∙ was
     ]
 
--- ---- insert
+-- ---- a change of a tuple
 
-module _ {old : State} (kept : Kept old) (t : ℕ) (relation : Name) (values : List Value) (tid : Tid) (meter : Meter) (is : refusal old (Insert t relation values) ≡ None) (free : IsFree old t relation tid) where
+-- one tuple more
+abbrev grows : Option (List Value) → Option (List Value) → ℕ
+grows None None = 0
+grows None (Some values) = 1
+grows (Some values) next = 0
+
+-- a tuple that is gone counts as deleted
+used_after : (was next : Option (List Value)) (before now gone : ℕ) → now + one_if (is_some (option_map Values was)) ≡ before + one_if (is_some (option_map Values next)) → now + (one_if (true && is_some (option_map Values was) && is_none (option_map Values next)) + gone) ≤ before + gone + grows was next
+used_after None None before now gone is = omega (arith, is)
+used_after None (Some values) before now gone is = omega (arith, is)
+used_after (Some values) None before now gone is = omega (arith, is)
+used_after (Some values) (Some next) before now gone is = omega (arith, is)
+
+-- A tuple is inserted, updated or deleted: what it was is what there is, what is put fits, no other relation of the segment has a tuple there, and there is room for one more where it is new.
+module _ {old : State} (kept : Kept old) (t : ℕ) (relation : Name) (tid : Tid) (was next : Option (List Value)) (meter : Meter) (has : is_open old t ≡ true) (kind : IsTupleChange (tuple_change t relation tid was next))
+    (there : content (now old).contents (Tuple relation tid) ≡ option_map Values was) (tuple : (values : List Value) → next ≡ Some values → IsTupleOf (now old) relation (Values values)) (within : IsIdentifier old.size.slots tid)
+    (lone : (other : Name) → segment_of (now old) other ≡ segment_of (now old) relation → IsLive (now old) other tid → other ≡ relation) (room : used_tuples old relation + grows was next ≤ tuple_limit) where
   abbrev change : Change
-  change = insertion t relation tid values
+  change = tuple_change t relation tid was next
 
   abbrev new : State
   new = changed change meter old
 
-  passed : All (λ o. o ≡ None) (tests old (Insert t relation values))
-  passed = all_none (tests old (Insert t relation values)) is
-
-  has : is_open old t ≡ true
-  has = holds (is_open old t) _ (passed 0 None (omega arith))
-
-  fields : (of : List FieldKind) × (fields_of old.base relation ≡ Some of) × (misfit of values ≡ None)
-  fields = fits_of (fields_of old.base relation) values (holds (is_some (fields_of old.base relation)) _ (passed 1 None (omega arith))) (passed 2 None (omega arith))
-
-  room : used_tuples old relation + 1 ≤ tuple_limit
-  room =
-      let few : nat_le tuple_limit (used_tuples old relation) ≡ false = holds_not (nat_le tuple_limit (used_tuples old relation)) _ (passed 3 None (omega arith)) in
-      omega (arith, leb-false tuple_limit (used_tuples old relation) few)
+  counted_now : (other : Name) → used_tuples new other ≤ tuple_limit
+  counted_now other =
+      let more = sum_by-cons (λ (c : Change). one_if (is_delete_of other c)) change old.changes in
+      elim (cases_Bool (is_tuple_of other (Tuple relation tid))) [
+        | inl on ↦
+            let same : other ≡ relation = name_apart other relation ((Equal-is (name_cmp other relation)).0 on) in
+            let counts = counts_put (now old).contents (Tuple relation tid) (option_map Values next) other on in
+            let held = ap (λ (o : Option Content). one_if (is_some o)) there in
+            let less = used_after was next (tuple_count (now old).contents other) (tuple_count (now new).contents other) (count_by (is_delete_of other) old.changes) (omega (arith, counts, held)) in
+            let is = ap (λ (b : Bool). one_if (b && is_some (option_map Values was) && is_none (option_map Values next))) on in
+            omega (arith, more, less, is, room, ap (used_tuples old) same)
+        | inr off ↦
+            let is = ap (λ (b : Bool). one_if (b && is_some (option_map Values was) && is_none (option_map Values next))) off in
+            omega (arith, more, is, counts_same (now old).contents (Tuple relation tid) (option_map Values next) other off, kept.counted other)
+      ]
 
   fit_now : Fits old.size.slots (with_changes old.base (change ∷ old.changes))
-  fit_now = fits_insert (now_fits kept t has) relation tid fields.0 values fields.1 fields.2 free.within free.absent (omega (arith, room))
+  fit_now = fits_put (now_fits kept t has) relation tid next tuple within lone (λ other. omega (arith, counted_now other))
 
   own_now : own t (change ∷ old.changes) ≡ change ∷ old.changes
   own_now = cond-true (t == t) (change ∷ own t old.changes) (own t old.changes) (by_itself t) ∙ ap (λ (l : List Change). change ∷ l) (own_all kept t has)
@@ -175,26 +193,12 @@ module _ {old : State} (kept : Kept old) (t : ℕ) (relation : Name) (values : L
     | inr apart ↦ on_the_way_none new other (cond-false (t == other) (change ∷ own other old.changes) (own other old.changes) (ne_eqb t other (λ e. apart (sym e))) ∙ others_own kept t has other apart) (kept.fit t old.changes [] (own_all kept t has ∙ sym (append-nil old.changes)))
   ]
 
-  counted_now : (other : Name) → used_tuples new other ≤ tuple_limit
-  unfolding put
-  counted_now other =
-      let one : Change → ℕ = λ c. cond (is_delete_of other c) 1 0 in
-      let more = sum_by-cons one change old.changes in
-      let count : Bool → ℕ = λ b. cond b 1 0 in
-      let none : is_delete_of other change ≡ false = search rules in
-      elim (cases_Bool (is_tuple_of other (Tuple relation tid))) [
-        | inl on ↦
-            let same : other ≡ relation = name_apart other relation ((Equal-is (name_cmp other relation)).0 on) in
-            omega (arith, counts_more (now old).contents (Tuple relation tid) (Values values) other on, more, ap count none, room, ap (used_tuples old) same)
-        | inr off ↦ omega (arith, counts_same (now old).contents (Tuple relation tid) (Values values) other off, more, ap count none, kept.counted other)
-      ]
-
-  keeps_insert : Kept new
-  keeps_insert = record {
+  keeps_change : Kept new
+  keeps_change = record {
     few = kept.few;
     opened = λ k d lt. opened_now k d lt;
     kinds = λ k d lt. kinds_now k d lt;
-    chained = (sym (free.absent relation refl), kept.chained);
+    chained = (sym there, kept.chained);
     fit = fit_on_the_way;
     counted = counted_now;
   }
@@ -204,8 +208,42 @@ module _ {old : State} (kept : Kept old) (t : ℕ) (relation : Name) (values : L
       opened_now (suc k) d lt = kept.opened k d (omega (arith, lt))
 
       kinds_now : All IsTupleChange (change ∷ old.changes)
-      kinds_now zero d lt = insert refl refl
+      kinds_now zero d lt = kind
       kinds_now (suc k) d lt = kept.kinds k d (omega (arith, lt))
+
+-- what is put in place of a tuple of the relation fits
+tuple_of : (state : State) (relation : Name) (values : List Value) → is_some (fields_of state.base relation) ≡ true → misfit_of (fields_of state.base relation) values ≡ None → (put : List Value) → Some values ≡ Some put → IsTupleOf (now state) relation (Values put)
+tuple_of state relation values defined fit put is =
+    let fields = fits_of (fields_of state.base relation) values defined fit in
+    subst (λ (v : List Value). IsTupleOf (now state) relation (Values v)) (same_Some _ _ is) (record { fields = fields.0; values = values; defined = fields.1; tuple = refl; fit = fields.2 })
+
+keeps_insert : (old : State) (t : ℕ) (relation : Name) (values : List Value) (tid : Tid) (meter : Meter) → refusal old (Insert t relation values) ≡ None → IsFree old t relation tid → Kept old → Kept (changed (insertion t relation tid values) meter old)
+keeps_insert old t relation values tid meter is free kept =
+    let passed = all_none (tests old (Insert t relation values)) is in
+    let few : nat_le tuple_limit (used_tuples old relation) ≡ false = holds_not (nat_le tuple_limit (used_tuples old relation)) _ (passed 3 None (omega arith)) in
+    keeps_change kept t relation tid None (Some values) meter (holds (is_open old t) _ (passed 0 None (omega arith))) (insert refl refl) (free.absent relation refl)
+    (tuple_of old relation values (holds (is_some (fields_of old.base relation)) _ (passed 1 None (omega arith))) (passed 2 None (omega arith))) free.within
+    (λ other segment lives. absurd (true≢false (sym lives ∙ ap is_some (free.absent other segment)))) (omega (arith, leb-false tuple_limit (used_tuples old relation) few))
+
+-- of a tuple that is there
+module _ {old : State} (kept : Kept old) (t : ℕ) (relation : Name) (tid : Tid) (was : List Value) (next : Option (List Value)) (meter : Meter) (has : is_open old t ≡ true) (kind : IsTupleChange (tuple_change t relation tid (Some was) next))
+    (there : HasValues old relation tid was) (tuple : (values : List Value) → next ≡ Some values → IsTupleOf (now old) relation (Values values)) where
+  keeps_live : Kept (changed (tuple_change t relation tid (Some was) next) meter old)
+  keeps_live =
+      let fit = now_fits kept t has in
+      let lives : IsLive (now old) relation tid = ap is_some there in
+      keeps_change kept t relation tid (Some was) next meter has kind there tuple (fit.tids relation tid lives) (λ other segment also. fit.alone other relation tid also lives segment) (omega (arith, kept.counted relation))
+
+keeps_update : (old : State) (t : ℕ) (relation : Name) (tid : Tid) (was values : List Value) (meter : Meter) → refusal old (Update t relation tid values) ≡ None → HasValues old relation tid was → Kept old → Kept (changed (replacement t relation tid was values) meter old)
+keeps_update old t relation tid was values meter is there kept =
+    let passed = all_none (tests old (Update t relation tid values)) is in
+    keeps_live kept t relation tid was (Some values) meter (holds (is_open old t) _ (passed 0 None (omega arith))) (update refl refl) there
+    (tuple_of old relation values (holds (is_some (fields_of old.base relation)) _ (passed 1 None (omega arith))) (passed 2 None (omega arith)))
+
+keeps_delete : (old : State) (t : ℕ) (relation : Name) (tid : Tid) (was : List Value) (meter : Meter) → refusal old (Delete t relation tid) ≡ None → HasValues old relation tid was → Kept old → Kept (changed (deletion t relation tid was) meter old)
+keeps_delete old t relation tid was meter is there kept =
+    let passed = all_none (tests old (Delete t relation tid)) is in
+    keeps_live kept t relation tid was None meter (holds (is_open old t) _ (passed 0 None (omega arith))) (delete refl refl) there (λ values is. absurd (cc))
 
 -- ---- end
 
@@ -232,8 +270,10 @@ keeps_end old t meter is kept =
 pub steps_keep : StepsKeep
 steps_keep old _ _ _ (refuses _ why is) kept = kept
 steps_keep old _ _ _ (begins t is) kept = keeps_begin old t is kept
-steps_keep old _ _ _ (inserts t relation values tid meter is free counted) kept = keeps_insert kept t relation values tid meter is free
+steps_keep old _ _ _ (inserts t relation values tid meter is free counted) kept = keeps_insert old t relation values tid meter is free kept
 steps_keep old _ _ _ (fetches t relation tid values is found) kept = kept
+steps_keep old _ _ _ (updates t relation tid was values meter is found counted) kept = keeps_update old t relation tid was values meter is found kept
+steps_keep old _ _ _ (deletes t relation tid was meter is found counted) kept = keeps_delete old t relation tid was meter is found kept
 steps_keep old _ _ _ (ends t meter is after) kept = keeps_end old t meter is kept
 
 -- ---- at rest

@@ -7,3 +7,5 @@ pub mod Fitting
 pub mod Keeping
 pub mod Heap
 pub mod Endings
+pub mod Totals
+pub mod Props

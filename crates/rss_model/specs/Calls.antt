@@ -1,9 +1,11 @@
 -- A call on an engine, whichever call it is: what it leaves, by its result.
-use Rattle.std.specs.Prelude.{◌≡◌, ℕ, ◌≤◌, List, length, Result, Ok, Err, IsErrOf, ⊤}
-use Rattle.rss_base.specs.DiskRule.{Disk, IsTold}
+use Rattle.std.specs.Prelude.{◌≡◌, ◌⊎◌, ℕ, ◌≤◌, true, List, length, Result, Ok, Err, IsErrOf, ⊤}
+use Rattle.rss_base.specs.DiskRule.{Disk, IsTold, Continues}
 use Rattle.rss_base.specs.Faults.{Rises}
+use Rattle.rss_base.specs.Paged.{Mapped, AreAmong, HasEach}
+use Rattle.rss_base.specs.declared.key.PageKey.{PageKey}
 use Rattle.rss_base.specs.declared.call.Call.{Call}
-use Rattle.rss_base.specs.declared.call.Call.TheVariants.{Begin, End, Insert, Fetch}
+use Rattle.rss_base.specs.declared.call.Call.TheVariants.{Begin, End, Insert, Fetch, Update, Delete}
 use Rattle.rss_base.specs.declared.answer.Reply.{Reply}
 use Rattle.rss_base.specs.declared.answer.CallError.{CallError}
 use Rattle.rss_base.specs.declared.answer.CallError.TheVariants.{Refused, Damaged, Device, NoMemory, Down}
@@ -12,31 +14,42 @@ use Rattle.rss_model.specs.Steps.{Answer}
 use Rattle.rss_model.specs.Store.{Opens}
 use Rattle.rss_model.specs.Turns.{IsAnswered, IsStopped, IsUnmade}
 use Rattle.rss_model.specs.ReplyText.{IsShort}
-use Rattle.rss_model.specs.Costs.{RisesAtMost, most_asks, HasChanged, most_writes}
+use Rattle.rss_model.specs.Costs.{RisesAtMost, most_asks, most_writes, ChangesPage, LeavesChanged, changes_after}
 
 -- states of the machine
 abbrev pub States : Type 1
 States = State → Type 0
 
--- What there is to see of an engine: what its device tells, the state of the machine that it shows, whether it answers calls, and how many pages were asked for, writes of the device made, and faults of it met.
+-- What there is to see of an engine.
+--
+-- disk: what its device tells.
+-- shows: the states of the machine that it may be in, where the device tells its contents.
+-- is_up: it answers calls.
+-- slots: how many slots its device has for pages.
+-- changed, since: which pages were changed since the last commit, and how many changes of tuples were made.
+-- asks, writes, faults: how many pages were asked for, writes of the device made, and faults of it met.
 pub record EngineView : Type 1 where
   pub disk : Disk
   pub shows : States
   pub is_up : Type 0
+  pub slots : ℕ
+  pub changed : Mapped
+  pub since : ℕ
   pub asks : ℕ
   pub writes : ℕ
   pub faults : ℕ
 
--- What each call passes on, whatever it does: it costs no more than it may, a device tells its contents as before, and no fault is forgotten.
+-- What each call passes on, whatever it does: it costs no more than it may, a device tells its contents and its history as before, and no fault is forgotten.
 pub record GoesOn (old new : EngineView) (call : Call) : Type 0 where
   pub asks : RisesAtMost (most_asks call) old.asks new.asks
-  pub writes : (state : State) → old.shows state
-      → (pages : List ℕ) → HasChanged pages state.changes
-      → RisesAtMost (most_writes (length pages) state call) old.writes new.writes
+  pub writes : (keys : List PageKey) → HasEach keys old.changed
+      → RisesAtMost (most_writes old.slots (length keys) old.since call) old.writes new.writes
+  pub slots : new.slots ≡ old.slots
   pub told : IsTold old.disk → IsTold new.disk
+  pub history : IsTold old.disk → Continues old.disk new.disk
   pub later : old.faults ≤ new.faults
 
--- the engine shows a state
+-- the engine may be in a state
 pub record ShowsState (view : EngineView) : Type 0 where
   pub state : State
   pub shows : view.shows state
@@ -59,6 +72,9 @@ pub record IsAnswer (old new : EngineView) (call : Call) (answer : Answer) : Typ
       → LeadsTo new.shows old.disk new.disk state call answer
   pub up : new.is_up
   pub short : IsShort answer
+  pub changed : (key : PageKey) → new.changed key ≡ true
+      → ((old.changed key ≡ true) × LeavesChanged call answer) ⊎ ChangesPage call answer key
+  pub since : new.since ≡ changes_after call answer old.since
 
 -- By a fault of the device, within a step that was on its way.
 pub record IsFault (old new : EngineView) (call : Call) : Type 0 where
@@ -78,6 +94,8 @@ OnlyLooks (Begin transaction) = ⊥
 OnlyLooks (End transaction) = ⊥
 OnlyLooks (Insert transaction relation tuple) = ⊥
 OnlyLooks (Fetch transaction relation tid) = ⊤
+OnlyLooks (Update transaction relation tid tuple) = ⊥
+OnlyLooks (Delete transaction relation tid) = ⊥
 
 -- By want of memory: a stop leaves the committed tables. The engine stays up where the call only looks, and where it is up nothing has changed.
 pub record IsUnanswered (old new : EngineView) (call : Call) : Type 0 where
@@ -85,6 +103,8 @@ pub record IsUnanswered (old new : EngineView) (call : Call) : Type 0 where
       → IsUnmade old.disk new.disk state
   pub up : OnlyLooks call → new.is_up
   pub same : new.is_up → IsTold old.disk → (state : State) → old.shows state → new.shows state
+  pub changed : new.is_up → AreAmong new.changed old.changed
+  pub since : new.is_up → new.since ≡ old.since
 
 -- an engine that is up is never found down
 abbrev pub IsOutcome : EngineView → EngineView → Call → Result Reply CallError → Type 0

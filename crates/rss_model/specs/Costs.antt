@@ -1,37 +1,63 @@
--- What a call may cost: how many pages it asks for, and how many writes of the device it makes.
-use Rattle.std.specs.Prelude.{◌≡◌, ℕ, ◌+◌, ◌≤◌, List, [], ◌∷◌, Option, Some, None, IfSome, Contains}
-use Rattle.rss_base.specs.declared.name.Name.{Name}
+-- What a call may cost: how many pages it asks for, how many writes of the device it makes, and which pages it changes.
+use Rattle.std.specs.Prelude.{◌≡◌, ◌⊎◌, ℕ, suc, zero, ◌+◌, ◌≤◌, Option, Some, None, Ok, IfSome}
 use Rattle.rss_base.specs.declared.tid.Tid.{Tid}
-use Rattle.rss_base.specs.declared.item.Item.TheVariants.{Tuple as TupleItem}
+use Rattle.rss_base.specs.declared.key.PageKey.{PageKey}
+use Rattle.rss_base.specs.declared.key.Space.TheVariants.{Home, Overflow}
 use Rattle.rss_base.specs.declared.call.Call.{Call}
-use Rattle.rss_base.specs.declared.call.Call.TheVariants.{Begin, End, Insert, Fetch}
+use Rattle.rss_base.specs.declared.call.Call.TheVariants.{Begin, End, Insert, Fetch, Update, Delete}
+use Rattle.rss_base.specs.declared.answer.Reply.TheVariants.{Ok as Done, Tid as Identifier}
 use Rattle.rss_base.specs.Layout.{map_pages}
-use Rattle.rss_model.specs.Changes.{Change}
-use Rattle.rss_model.specs.Machine.{State}
+use Rattle.rss_model.specs.Steps.{Answer}
 
 -- a count has risen by no more than this, where a bound is claimed
 abbrev pub RisesAtMost : Option ℕ → ℕ → ℕ → Type 0
 RisesAtMost most before now = IfSome most (λ n. now ≤ before + n)
 
--- How many pages a call asks for at most. An insert looks for a page with room, and no bound is claimed of it.
+-- How many pages a call asks for at most. A call that changes tuples looks for a page with room, and no bound is claimed of it.
 abbrev pub most_asks : Call → Option ℕ
 most_asks (Begin transaction) = Some 0
 most_asks (End transaction) = Some 0
 most_asks (Insert transaction relation tuple) = None
-most_asks (Fetch transaction relation tid) = Some 1
+most_asks (Fetch transaction relation tid) = Some 2
+most_asks (Update transaction relation tid tuple) = None
+most_asks (Delete transaction relation tid) = None
 
--- these pages have each tuple that was changed
-abbrev pub HasChanged : List ℕ → List Change → Type 0
-HasChanged pages changes = (change : Change) (relation : Name) (tid : Tid) → Contains changes change → change.item ≡ TupleItem relation tid → Contains pages tid.page
+-- A commit writes the pages that were changed, the map, a root and the selector. Where no change was made since the last one it writes nothing.
+abbrev pub commit_writes : ℕ → ℕ → ℕ → ℕ
+commit_writes slots pages zero = 0
+commit_writes slots pages (suc more) = pages + map_pages slots + 2
 
--- Where so many pages have the tuples that were changed, a commit writes them, the map, a root and the selector. Where nothing was changed it writes nothing.
-abbrev pub commit_writes : ℕ → ℕ → List Change → ℕ
-commit_writes changed slots [] = 0
-commit_writes changed slots (change ∷ changes) = changed + map_pages slots + 2
+-- How many writes of the device a call makes at most, where so many pages and so many changes wait for a commit. A page that is brought into memory may drive out another that was changed.
+abbrev pub most_writes : ℕ → ℕ → ℕ → Call → Option ℕ
+most_writes slots pages since (Begin transaction) = Some 0
+most_writes slots pages since (End transaction) = Some (commit_writes slots pages since)
+most_writes slots pages since (Insert transaction relation tuple) = None
+most_writes slots pages since (Fetch transaction relation tid) = Some 2
+most_writes slots pages since (Update transaction relation tid tuple) = None
+most_writes slots pages since (Delete transaction relation tid) = None
 
--- How many writes of the device a call makes at most. A page that is brought into memory may drive out another that was changed.
-abbrev pub most_writes : ℕ → State → Call → Option ℕ
-most_writes changed state (Begin transaction) = Some 0
-most_writes changed state (End transaction) = Some (commit_writes changed state.size.slots state.changes)
-most_writes changed state (Insert transaction relation tuple) = None
-most_writes changed state (Fetch transaction relation tid) = Some 1
+-- ---- what waits for a commit
+
+-- the pages that a tuple may have: the home pages of its identifier's number, and overflow pages
+abbrev pub IsPageFor : Tid → PageKey → Type 0
+IsPageFor tid key = ((key.space ≡ Home) × (key.number ≡ tid.page)) ⊎ (key.space ≡ Overflow)
+
+-- the pages that a call may change, by its answer
+abbrev pub ChangesPage : Call → Answer → PageKey → Type 0
+ChangesPage (Insert transaction relation tuple) (Ok (Identifier tid)) key = IsPageFor tid key
+ChangesPage (Update transaction relation tid tuple) (Ok Done) key = IsPageFor tid key
+ChangesPage (Delete transaction relation tid) (Ok Done) key = IsPageFor tid key
+ChangesPage call answer key = ⊥
+
+-- once a transaction has ended, no page that was changed before waits
+abbrev pub LeavesChanged : Call → Answer → Type 0
+LeavesChanged (End transaction) (Ok Done) = ⊥
+LeavesChanged call answer = Unit {0}
+
+-- how many changes wait for a commit after a call, by its answer
+abbrev pub changes_after : Call → Answer → ℕ → ℕ
+changes_after (Insert transaction relation tuple) (Ok (Identifier tid)) since = since + 1
+changes_after (Update transaction relation tid tuple) (Ok Done) since = since + 1
+changes_after (Delete transaction relation tid) (Ok Done) since = since + 1
+changes_after (End transaction) (Ok Done) since = 0
+changes_after call answer since = since

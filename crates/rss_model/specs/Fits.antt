@@ -1,5 +1,5 @@
 -- When tables fit: what every store keeps to.
-use Rattle.std.specs.Prelude.{◌≡◌, ◌⊎◌, ℕ, ◌+◌, ◌-◌, ◌^◌, ◌<◌, ◌≤◌, List, [], ◌∷◌, ◌++◌, length, replicate, map, Some, None, is_some, true, All, slice_index_or}
+use Rattle.std.specs.Prelude.{◌≡◌, ◌⊎◌, ℕ, ◌-◌, ◌^◌, ◌<◌, ◌≤◌, List, ◌∷◌, ◌++◌, length, replicate, map, Some, None, is_some, true, All, slice_index_or}
 use Rattle.std.specs.FinMap as finite
 use Rattle.rss_base.specs.Sizes.{page_entries}
 use Rattle.rss_base.specs.TupleTypes.{kinds, misfit, AreFields}

@@ -30,7 +30,7 @@ pub record IsAtRest (size : StoreSize) (tables : Tables) (state : State) : Type 
   pub committed : state.base ≡ tables
   pub none_changed : state.changes ≡ []
   pub none_open : state.marks ≡ map.empty
-  pub meter : IsCheckpointed size.slots tables state.meter
+  pub meter : IsCheckpointed size.slots tables state.meter.over state.meter
 
 -- the committed tables with these changes
 abbrev pub with_changes : Tables → List Change → Tables

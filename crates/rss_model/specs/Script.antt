@@ -8,7 +8,7 @@ use Rattle.rss_base.specs.declared.tid.Tid.{Tid}
 use Rattle.rss_base.specs.declared.value.Value.{Value}
 use Rattle.rss_base.specs.declared.value.Value.TheVariants.{Int, Text}
 use Rattle.rss_base.specs.declared.call.Call.{Call}
-use Rattle.rss_base.specs.declared.call.Call.TheVariants.{Begin, End, Insert, Fetch}
+use Rattle.rss_base.specs.declared.call.Call.TheVariants.{Begin, End, Insert, Fetch, Update, Delete}
 use Rattle.rss_model.specs.Fits.{IsName}
 use Rattle.rss_model.specs.Spellings.{space, name_text, tid_text, value_text}
 
@@ -121,6 +121,14 @@ pub data Names : List (List ℕ) → Call → Type 0 where
   fetch : {first second third : List ℕ} {t : ℕ} {relation : Name} {tid : Tid}
       → IsTransaction first t → IsRelation second relation → IsTid third tid
       → Names (codes "fetch" ∷ first ∷ second ∷ third ∷ []) (Fetch t relation tid)
+  update : {first second third : List ℕ} {words : List (List ℕ)}
+      {t : ℕ} {relation : Name} {tid : Tid} {values : List Value}
+      → IsTransaction first t → IsRelation second relation → IsTid third tid
+      → AreValues words values
+      → Names (codes "update" ∷ first ∷ second ∷ third ∷ words) (Update t relation tid values)
+  delete : {first second third : List ℕ} {t : ℕ} {relation : Name} {tid : Tid}
+      → IsTransaction first t → IsRelation second relation → IsTid third tid
+      → Names (codes "delete" ∷ first ∷ second ∷ third ∷ []) (Delete t relation tid)
 
 -- ---- what a line is
 

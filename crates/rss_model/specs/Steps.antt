@@ -7,7 +7,7 @@ use Rattle.rss_base.specs.declared.value.Value.{Value}
 use Rattle.rss_base.specs.declared.value.FieldKind.{FieldKind}
 use Rattle.rss_base.specs.declared.item.Item.TheVariants.{Tuple as TupleItem}
 use Rattle.rss_base.specs.declared.call.Call.{Call}
-use Rattle.rss_base.specs.declared.call.Call.TheVariants.{Begin, End, Insert, Fetch}
+use Rattle.rss_base.specs.declared.call.Call.TheVariants.{Begin, End, Insert, Fetch, Update, Delete}
 use Rattle.rss_base.specs.declared.answer.Reply.{Reply}
 use Rattle.rss_base.specs.declared.answer.Reply.TheVariants.{Ok as Done, Tid as Identifier, Tuple as TupleReply}
 use Rattle.rss_base.specs.declared.refusal.Kind.TheVariants.{Relation as RelationKind}
@@ -68,6 +68,12 @@ unless_defined state relation =
 abbrev pub admission : State → ℕ → Name → Option Refusal
 admission state t relation = first_of (unless_open state t ∷ unless_defined state relation ∷ [])
 
+-- and what one that gives a tuple to it is
+abbrev pub value_admission : State → ℕ → Name → List Value → Option Refusal
+value_admission state t relation values =
+    first_of (unless_open state t ∷ unless_defined state relation
+    ∷ misfit_of (fields_of state.base relation) values ∷ [])
+
 abbrev pub if_used_up : State → Name → Option Refusal
 if_used_up state relation =
     refused_if (nat_le tuple_limit (used_tuples state relation)) (Limit TupleLimit)
@@ -100,6 +106,19 @@ tests state (Fetch t relation tid) =
     ∷ unless_defined state relation
     ∷ unless_live state relation tid
     ∷ []
+tests state (Update t relation tid values) =
+    unless_open state t
+    ∷ unless_defined state relation
+    ∷ misfit_of (fields_of state.base relation) values
+    ∷ unless_live state relation tid
+    ∷ if_full state
+    ∷ []
+tests state (Delete t relation tid) =
+    unless_open state t
+    ∷ unless_defined state relation
+    ∷ unless_live state relation tid
+    ∷ if_full state
+    ∷ []
 
 abbrev pub refusal : State → Call → Option Refusal
 refusal state call = first_of (tests state call)
@@ -121,14 +140,39 @@ begun t state = record state { marks = map.insert state.marks t [] }
 abbrev pub changed : Change → Meter → State → State
 changed change meter state = record state { changes = change ∷ state.changes; meter = meter }
 
+-- what the meter may be after one change more
+abbrev pub IsMeterOf : State → Change → Meter → Type 0
+IsMeterOf state change meter =
+    IsCounted (with_changes state.base (change ∷ state.changes)) change state.meter meter
+
+-- what a tuple holds is changed
+abbrev pub tuple_change : ℕ → Name → Tid → Option (List Value) → Option (List Value) → Change
+tuple_change t relation tid old new = record {
+  by = t;
+  item = TupleItem relation tid;
+  old = option_map Values old;
+  new = option_map Values new;
+}
+
 abbrev pub insertion : ℕ → Name → Tid → List Value → Change
-insertion t relation tid values =
-    record { by = t; item = TupleItem relation tid; old = None; new = Some (Values values) }
+insertion t relation tid values = tuple_change t relation tid None (Some values)
+
+abbrev pub deletion : ℕ → Name → Tid → List Value → Change
+deletion t relation tid values = tuple_change t relation tid (Some values) None
+
+abbrev pub replacement : ℕ → Name → Tid → List Value → List Value → Change
+replacement t relation tid old new = tuple_change t relation tid (Some old) (Some new)
+
+-- the tuple with this identifier has these values
+abbrev pub HasValues : State → Name → Tid → List Value → Type 0
+HasValues state relation tid values =
+    content (now state).contents (TupleItem relation tid) ≡ Some (Values values)
 
 -- the end of a transaction that made these changes is a checkpoint, where there is one
 abbrev pub IsMeterAfter : List Change → State → Meter → Type 0
 IsMeterAfter [] state meter = meter ≡ state.meter
-IsMeterAfter (change ∷ changes) state meter = IsCheckpointed state.size.slots (now state) meter
+IsMeterAfter (change ∷ changes) state meter =
+    IsCheckpointed state.size.slots (now state) state.meter.over meter
 
 -- what the transaction changed is committed
 abbrev pub ended : ℕ → Meter → State → State
@@ -144,12 +188,22 @@ pub data Step (old : State) : Call → Answer → State → Type 0 where
   refuses : (call : Call) (why : Refusal) → refusal old call ≡ Some why → Step old call (Err why) old
   begins : (t : ℕ) → refusal old (Begin t) ≡ None → Step old (Begin t) (Ok Done) (begun t old)
   inserts : (t : ℕ) (relation : Name) (values : List Value) (tid : Tid) (meter : Meter)
-      → refusal old (Insert t relation values) ≡ None → IsFree old t relation tid → IsCounted old.meter meter
+      → refusal old (Insert t relation values) ≡ None → IsFree old t relation tid
+      → IsMeterOf old (insertion t relation tid values) meter
       → Step old (Insert t relation values) (Ok (Identifier tid))
       (changed (insertion t relation tid values) meter old)
   fetches : (t : ℕ) (relation : Name) (tid : Tid) (values : List Value)
-      → refusal old (Fetch t relation tid) ≡ None
-      → content (now old).contents (TupleItem relation tid) ≡ Some (Values values)
+      → refusal old (Fetch t relation tid) ≡ None → HasValues old relation tid values
       → Step old (Fetch t relation tid) (Ok (TupleReply values)) old
+  updates : (t : ℕ) (relation : Name) (tid : Tid) (was values : List Value) (meter : Meter)
+      → refusal old (Update t relation tid values) ≡ None → HasValues old relation tid was
+      → IsMeterOf old (replacement t relation tid was values) meter
+      → Step old (Update t relation tid values) (Ok Done)
+      (changed (replacement t relation tid was values) meter old)
+  deletes : (t : ℕ) (relation : Name) (tid : Tid) (was : List Value) (meter : Meter)
+      → refusal old (Delete t relation tid) ≡ None → HasValues old relation tid was
+      → IsMeterOf old (deletion t relation tid was) meter
+      → Step old (Delete t relation tid) (Ok Done)
+      (changed (deletion t relation tid was) meter old)
   ends : (t : ℕ) (meter : Meter) → refusal old (End t) ≡ None → IsMeterAfter (own t old.changes) old meter
       → Step old (End t) (Ok Done) (ended t meter old)

@@ -1,28 +1,30 @@
 -- A store: its pages, and the tables that they open to.
-use Rattle.std.specs.Prelude.{◌≡◌, ◌⊎◌, ℕ, ℤ, ◌+◌, ◌-◌, ◌*◌, ◌/◌, ◌%◌, ◌<◌, ◌≤◌, Bool, ◌&&◌, ◌||◌, ◌==◌, nat_lt, List, [], ◌∷◌, ◌++◌, length, take, drop, replicate, flat_map, count_by, Option, Some, is_some, All, FitsSigned}
-use Rattle.std.specs.Int.{w16, w32, w64, to_be_bytes, cast_unsigned}
+use Rattle.std.specs.Prelude.{◌≡◌, ◌⊎◌, ℕ, ◌*◌, ◌<◌, ◌≤◌, ◌==◌, if◌then◌else◌, true, false, List, [], ◌∷◌, replicate, count_by, Option, Some, None, is_some, option_and_then, All}
 use Rattle.std.specs.FinMap as map
 use Rattle.rss_base.specs.declared.name.Name.{Name}
 use Rattle.rss_base.specs.declared.tid.Tid.{Tid}
 use Rattle.rss_base.specs.declared.item.Item.{Item}
 use Rattle.rss_base.specs.declared.item.Item.TheVariants.{Tuple as TupleItem}
-use Rattle.rss_base.specs.declared.value.Value.TheVariants.{Int}
+use Rattle.rss_base.specs.declared.value.Value.{Value}
 use Rattle.rss_base.specs.declared.value.FieldKind.TheVariants.{Int as IntField}
 use Rattle.rss_base.specs.declared.root.Root.{Root}
-use Rattle.rss_base.specs.declared.key.Space.{Space}
-use Rattle.rss_base.specs.declared.key.Space.TheVariants.{Home, System}
+use Rattle.rss_base.specs.declared.key.Space.TheVariants.{Overflow, System}
 use Rattle.rss_base.specs.declared.key.PageKey.{PageKey}
 use Rattle.rss_base.specs.declared.place.Place.{Place}
 use Rattle.rss_base.specs.DiskRule.{Disk, Pages, Leaves}
-use Rattle.rss_base.specs.Sizes.{system_pages, page_entries, zero_page}
+use Rattle.rss_base.specs.Sizes.{system_pages, zero_page}
+use Rattle.rss_base.specs.TupleTypes.{tuple_bytes, IsStorable}
 use Rattle.rss_base.specs.Layout.{map_at, slots_at, HasRoot, IsRootFault}
-use Rattle.rss_base.specs.PageMap.{space_code, IsMap, IsMapFault}
-use Rattle.rss_base.specs.Paged.{Mapped, Held, page_key}
+use Rattle.rss_base.specs.PageMap.{IsMap, IsMapFault, page_count}
+use Rattle.rss_base.specs.Paged.{Held, page_key, mapped_of}
 use Rattle.rss_base.specs.StoredPages.{mapped_by, held_at}
-use Rattle.rss_model.specs.Items.{Content, Values}
-use Rattle.rss_model.specs.Tables.{RelationDef, Definitions, Tables}
-use Rattle.rss_model.specs.Fits.{tuple_limit}
-use Rattle.rss_model.specs.Machine.{StoreSize}
+use Rattle.rss_page.specs.Slotted.{IsHeapKey}
+use Rattle.rss_tuple.specs.Directory.{Bodies, bodies_of, homes, overflows}
+use Rattle.rss_tuple.specs.Heaps.{IsHeap, AreLinked}
+use Rattle.rss_model.specs.Items.{Content, Values, Tuples}
+use Rattle.rss_model.specs.Tables.{RelationDef, Definitions, Tables, content, is_tuple_of}
+use Rattle.rss_model.specs.Fits.{Fits}
+use Rattle.rss_model.specs.Machine.{StoreSize, State, IsAtRest}
 
 -- ---- the relation
 
@@ -50,58 +52,54 @@ definitions = record {
   links = map.empty;
 }
 
--- the tuple at a place, counted from 0
-abbrev pub tid_at : ℕ → Tid
-tid_at place = record { page = place / page_entries; slot = place % page_entries }
+-- tables with no tuples
+abbrev pub no_tuples : Tables
+no_tuples = record { definitions = definitions; contents = map.empty }
 
-abbrev pub item_at : ℕ → Item
-item_at place = TupleItem relation_r (tid_at place)
+-- ---- what its pages spell
 
--- the tuples with these values, from a place on
-abbrev pub tuples_from : ℕ → List ℤ → List (Item × Content)
-tuples_from place [] = []
-tuples_from place (z ∷ values) = (item_at place, Values (Int z ∷ [])) ∷ tuples_from (place + 1) values
+-- the numbers of the relation and of its segment
+abbrev pub relation_number : ℕ
+relation_number = 1
 
--- the tables whose tuples have these values, in order
-abbrev pub tables_of : List ℤ → Tables
-tables_of values = record {
-  definitions = definitions;
-  contents = map.from_entries (tuples_from 0 values);
-}
+abbrev pub segment_number : ℕ
+segment_number = 1
 
--- ---- its pages
+-- the body of a tuple: the number of its relation, and the bytes of its values
+abbrev pub body_of : Content → Option (List ℕ)
+body_of (Values values) = Some (relation_number ∷ tuple_bytes values)
+body_of (Tuples tids) = None
 
--- how many home pages so many tuples need: each but the last is full
-abbrev pub home_pages : ℕ → ℕ
-home_pages count = (count + (page_entries - 1)) / page_entries
+-- the body at each identifier, where the tuples are those of these tables
+abbrev pub bodies_for : Tables → Bodies
+bodies_for tables segment tid =
+    if segment == segment_number
+    then option_and_then body_of (content tables.contents (TupleItem relation_r tid)) else None
 
--- the values of the tuples of a home page
-abbrev pub values_on : ℕ → List ℤ → List ℤ
-values_on number values = take page_entries (drop (page_entries * number) values)
+-- the values of the relation's tuples are such as bytes spell
+abbrev pub AreStorable : Tables → Type 0
+AreStorable tables =
+    (tid : Tid) (values : List Value)
+    → content tables.contents (TupleItem relation_r tid) ≡ Some (Values values)
+    → All IsStorable values
 
--- the bytes of a value, in two's complement
-abbrev pub value_bytes : ℤ → List ℕ
-value_bytes z = to_be_bytes w64 (cast_unsigned w64 z)
+-- a page that a store may have: one of the system space, or a home or overflow page of the segment
+abbrev pub IsStorePage : PageKey → Type 0
+IsStorePage key = (key.space ≡ System) ⊎ ((key.segment ≡ segment_number) × IsHeapKey key)
 
--- The bytes of a home page of segment 1: its space, its segment, two zeros, its number, eight zeros; how many tuples it has, six zeros; their values, and zeros to the page's end. Numbers are big-endian.
-abbrev pub home_page : ℕ → List ℤ → List ℕ
-home_page number values =
-    1 ∷ 1 ∷ 0 ∷ 0 ∷ to_be_bytes w32 number ++ replicate 8 0 ++ to_be_bytes w16 (length values) ++ replicate 6 0 ++ flat_map value_bytes values ++ replicate (8 * (509 - length values)) 0
-
--- one of the first pages of a segment and a space
-abbrev pub is_page_of : ℕ → Space → ℕ → PageKey → Bool
-is_page_of segment space limit key = (key.segment == segment) && (space_code key.space == space_code space) && nat_lt key.number limit
-
--- the pages of a store: those of the system space, and so many home pages of segment 1
-abbrev pub store_pages : ℕ → Mapped
-store_pages home key = is_page_of 0 System system_pages key || is_page_of 1 Home home key
-
--- The pages hold these tuples: those of the system space are zeros as yet.
-pub record HoldsTuples (held : Held) (values : List ℤ) : Type 0 where
+-- The pages spell the tables: those of the system space are zeros as yet, and the others are those of a tuple store with these tuples.
+pub record SpellsTables (held : Held) (tables : Tables) : Type 0 where
   pub system : (number : ℕ) → number < system_pages
       → held (page_key 0 System number) ≡ Some zero_page
-  pub home : (number : ℕ) → number < home_pages (length values)
-      → held (page_key 1 Home number) ≡ Some (home_page number (values_on number values))
+  pub only : (key : PageKey) → is_some (held key) ≡ true → IsStorePage key
+  pub formed : (key : PageKey) (bytes : List ℕ) → IsHeapKey key → held key ≡ Some bytes
+      → IsHeap key bytes None
+  pub linked : (segment : ℕ) → AreLinked (homes held segment) (overflows held segment)
+  pub bodies : bodies_of held ≡ bodies_for tables
+  pub defined : tables.definitions ≡ definitions
+  pub others : (item : Item) → is_tuple_of relation_r item ≡ false
+      → content tables.contents item ≡ None
+  pub storable : AreStorable tables
 
 -- ---- a store
 
@@ -112,29 +110,26 @@ pub record HasFirstLog (root : Root) : Type 0 where
   pub end : root.end ≡ 2
   pub tail : root.tail ≡ 9 ∷ 0 ∷ []
 
--- What a store is: its selected root by its number, the map that this names, and what the pages in its slots spell.
+-- What a store is: its selected root by its number, the map that this names, and the tables that the pages of the map spell.
 pub record Stored : Type 0 where
   pub number : ℕ
   pub root : Root
   pub owners : List (Option PageKey)
-  pub values : List ℤ
+  pub tables : Tables
 
-abbrev pub stored : ℕ → Root → List (Option PageKey) → List ℤ → Stored
-stored number root owners values =
-    record { number = number; root = root; owners = owners; values = values }
+abbrev pub stored : ℕ → Root → List (Option PageKey) → Tables → Stored
+stored number root owners tables =
+    record { number = number; root = root; owners = owners; tables = tables }
 
 -- There is room for each page in two slots.
 pub record IsStore (pages : Pages) (stored : Stored) : Type 0 where
   pub root_there : HasRoot pages stored.number stored.root
   pub log : HasFirstLog stored.root
   pub map : IsMap stored.root.slots pages (map_at stored.root.slots stored.root.area) stored.owners
-  pub mapped : (key : PageKey)
-      → mapped_by stored.owners key ≡ store_pages (home_pages (length stored.values)) key
-  pub room : 2 * (home_pages (length stored.values) + system_pages) ≤ stored.root.slots
-  pub tuples : HoldsTuples
-      (held_at (slots_at stored.root.slots stored.root.log_pages) pages stored.owners) stored.values
-  pub fit : All (FitsSigned w64) stored.values
-  pub few : length stored.values ≤ tuple_limit
+  pub room : 2 * page_count stored.owners ≤ stored.root.slots
+  pub spells : SpellsTables
+      (held_at (slots_at stored.root.slots stored.root.log_pages) pages stored.owners) stored.tables
+  pub fit : Fits stored.root.slots stored.tables
 
 -- the size of a store, by its root
 abbrev pub size_of : Root → StoreSize
@@ -145,10 +140,19 @@ pub record OpensTo (pages : Pages) (size : StoreSize) (tables : Tables) : Type 0
   pub stored : Stored
   pub store : IsStore pages stored
   pub same_size : size ≡ size_of stored.root
-  pub holds : tables ≡ tables_of stored.values
+  pub holds : tables ≡ stored.tables
 
 abbrev pub OpensToEither : StoreSize → Tables → Tables → Pages → Type 0
 OpensToEither size before after pages = OpensTo pages size before ⊎ OpensTo pages size after
+
+-- how many overflow pages a store has
+abbrev pub overflow_pages : Stored → ℕ
+overflow_pages stored = mapped_of (mapped_by stored.owners) Overflow stored.root.slots
+
+-- The state of the machine in which these pages are opened: at rest with their tables, and with their overflow pages.
+pub record OpensIn (pages : Pages) (size : StoreSize) (tables : Tables) (state : State) : Type 0 where
+  pub rest : IsAtRest size tables state
+  pub over : (stored : Stored) → IsStore pages stored → state.meter.over ≡ overflow_pages stored
 
 -- a stop now leaves pages that open to these tables
 abbrev pub Opens : Disk → StoreSize → Tables → Type 0

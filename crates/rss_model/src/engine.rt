@@ -17,8 +17,9 @@ pub trait Engine {
         ensures done { IsCallOf (view self.old) (view self.new) call.now result }
         ensures untouched { IsErrOf result CallError.Down → self.new ≡ self.old };
 
-    /// An engine that is up shows a state of the machine.
-    ghost shown: { (engine : Self) → (view engine).is_up → ShowsState (view engine) };
+    /// An engine that is up is in a state of the machine, where its device tells its contents.
+    ghost shown: { (engine : Self) → (view engine).is_up → IsTold (view engine).disk
+        → ∥ ShowsState (view engine) ∥₁ };
 
     /// A stop between two calls leaves the committed tables.
     ghost opens: { (engine : Self) → (view engine).is_up → IsTold (view engine).disk

@@ -4,6 +4,8 @@
 #[cfg(test)]
 mod adapters;
 #[cfg(test)]
+mod changes;
+#[cfg(test)]
 mod file_faults;
 #[cfg(test)]
 mod formats;

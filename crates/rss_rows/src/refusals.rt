@@ -1,7 +1,7 @@
 // Devices that hold no store, and the places that are named.
 use crate::harness::{ABSENT, PRESENT, PROBE, SMALL, empty_store, has_writes, store_with_tuple};
 use rss_asserts::assert_same;
-use rss_base::{Page, Place, Source};
+use rss_base::{Page, PageKey, Place, Source, Space, Tid};
 use rss_device::{MemDevice, MemSink, MemSource};
 use rss_images::{copy_of_pages, filled_pages, turn};
 use rss_scripts::run_words;
@@ -18,8 +18,6 @@ enum Ending {
     /// It is refused with this line.
     NotAStore(Place, &'static [u8]),
     Damaged(Place, &'static [u8]),
-    /// The place isn't stated.
-    DamagedSomewhere,
 }
 
 impl Ending {
@@ -30,9 +28,6 @@ impl Ending {
                 status == Status::NotAStore(*place) && written == *line
             }
             Ending::Damaged(place, line) => status == Status::Damaged(*place) && written == *line,
-            Ending::DamagedSomewhere => {
-                matches!(status, Status::Damaged(_)) && written.starts_with(b"damaged ")
-            }
         }
     }
 }
@@ -54,6 +49,62 @@ const OPENS: Ending = Ending::Opens(PRESENT);
 const OPENS_EMPTY: Ending = Ending::Opens(ABSENT);
 
 const NO_ROOM: Ending = Ending::Damaged(Place::Room, b"damaged room\n");
+
+const NOT_THE_FIRST_LOG: Ending = Ending::Damaged(Place::Log(0), b"damaged log 0\n");
+
+const NOT_CATALOG_0: Ending = Ending::Damaged(Place::Catalog(0), b"damaged catalog 0\n");
+
+const NOT_CATALOG_9: Ending = Ending::Damaged(Place::Catalog(9), b"damaged catalog 9\n");
+
+const NOT_HOME_0: Ending = Ending::Damaged(
+    Place::Page(PageKey {
+        segment: 1,
+        space: Space::Home,
+        number: 0,
+    }),
+    b"damaged page 1 home 0\n",
+);
+
+const NOT_HOME_1: Ending = Ending::Damaged(
+    Place::Page(PageKey {
+        segment: 1,
+        space: Space::Home,
+        number: 1,
+    }),
+    b"damaged page 1 home 1\n",
+);
+
+const NOT_SEGMENT_2: Ending = Ending::Damaged(
+    Place::Page(PageKey {
+        segment: 2,
+        space: Space::Home,
+        number: 0,
+    }),
+    b"damaged page 2 home 0\n",
+);
+
+const NOT_IMAGE_0: Ending = Ending::Damaged(
+    Place::Page(PageKey {
+        segment: 1,
+        space: Space::Image,
+        number: 0,
+    }),
+    b"damaged page 1 image 0\n",
+);
+
+const NOT_OVERFLOW_0: Ending = Ending::Damaged(
+    Place::Page(PageKey {
+        segment: 1,
+        space: Space::Overflow,
+        number: 0,
+    }),
+    b"damaged page 1 overflow 0\n",
+);
+
+const NOT_TUPLE: Ending = Ending::Damaged(
+    Place::Tuple(1, Tid { page: 0, slot: 0 }),
+    b"damaged tuple 1 0.0\n",
+);
 
 /// How many pages the device of a store of 64 slots has.
 const PAGES: usize = 77;
@@ -82,7 +133,7 @@ const FREE: usize = 24;
 
 /// Bytes of a store of 64 slots with one tuple of value 8, in root 2 and map 1: page, offset, the
 /// bits that are turned, and how the probe ends then.
-static TURNED: [(usize, usize, u8, Ending); 34] = [
+static TURNED: [(usize, usize, u8, Ending); 47] = [
     // The mark, the version, and the zeros behind them.
     (ROOT_2, 0, 1, NOT_ROOT_2),
     (ROOT_2, 3, 128, NOT_ROOT_2),
@@ -99,25 +150,41 @@ static TURNED: [(usize, usize, u8, Ending); 34] = [
     (ROOT_2, 17, 1, NOT_ROOT_2),
     // The log's head, checkpoint and end, which is where its tail ends.
     (ROOT_2, 31, 1, NOT_ROOT_2),
-    (ROOT_2, 39, 1, Ending::DamagedSomewhere),
-    (ROOT_2, 47, 1, Ending::DamagedSomewhere),
+    (ROOT_2, 39, 1, NOT_THE_FIRST_LOG),
+    (ROOT_2, 47, 1, NOT_THE_FIRST_LOG),
     (ROOT_2, 95, 1, NOT_ROOT_2),
-    (ROOT_2, 96, 1, Ending::DamagedSomewhere),
+    (ROOT_2, 96, 1, NOT_THE_FIRST_LOG),
     (ROOT_2, 98, 1, NOT_ROOT_2),
     (ROOT_2, 4095, 1, NOT_ROOT_2),
     // The entries of the map, and the bytes behind the last one.
     (MAP_1, 0, 1, NOT_SLOT_0),
     (MAP_1, 7, 1, NOT_SLOT_1),
-    (MAP_1, 87, 1, Ending::DamagedSomewhere),
+    (MAP_1, 87, 1, NOT_HOME_1),
+    (MAP_1, 81, 3, NOT_SEGMENT_2),
+    (MAP_1, 80, 2, NOT_IMAGE_0),
+    (MAP_1, 80, 3, NOT_OVERFLOW_0),
     (MAP_1, 512, 1, NOT_SLOT_64),
-    // The pages of the system space, and the page of the tuple: its mark, its count, its value and
-    // the zeros behind it.
-    (FIRST_SYSTEM, 0, 1, Ending::DamagedSomewhere),
-    (LAST_SYSTEM, 4095, 1, Ending::DamagedSomewhere),
-    (TUPLES, 0, 1, Ending::DamagedSomewhere),
-    (TUPLES, 17, 1, Ending::DamagedSomewhere),
-    (TUPLES, 31, 1, Ending::Opens(b"ok\nok 9\n")),
-    (TUPLES, 4095, 1, Ending::DamagedSomewhere),
+    // The pages of the system space.
+    (FIRST_SYSTEM, 0, 1, NOT_CATALOG_0),
+    (LAST_SYSTEM, 4095, 1, NOT_CATALOG_9),
+    // The page of the tuple: its space, its segment, zeros, its number, and more zeros.
+    (TUPLES, 0, 1, NOT_HOME_0),
+    (TUPLES, 1, 3, NOT_HOME_0),
+    (TUPLES, 2, 1, NOT_HOME_0),
+    (TUPLES, 7, 1, NOT_HOME_0),
+    (TUPLES, 15, 1, NOT_HOME_0),
+    // The entry of the tuple: its kind, the place and the length of the body, and zeros; and the
+    // entry behind it, which is empty.
+    (TUPLES, 16, 3, NOT_HOME_0),
+    (TUPLES, 17, 1, NOT_HOME_0),
+    (TUPLES, 18, 4, NOT_HOME_0),
+    (TUPLES, 21, 1, NOT_TUPLE),
+    (TUPLES, 23, 1, NOT_HOME_0),
+    (TUPLES, 25, 1, NOT_HOME_0),
+    // The number of its relation, its value, and a byte that belongs to no body.
+    (TUPLES, 1040, 3, NOT_TUPLE),
+    (TUPLES, 1048, 1, Ending::Opens(b"ok\nok 9\n")),
+    (TUPLES, 4095, 1, OPENS),
     // The root and the map that aren't selected, all of the selector but one bit, the log pages and
     // a free slot mean nothing.
     (ROOT_1, 0, 255, OPENS),
@@ -128,6 +195,82 @@ static TURNED: [(usize, usize, u8, Ending); 34] = [
     // That bit selects the other root, which is that of the empty store.
     (SELECTOR, 0, 1, OPENS_EMPTY),
 ];
+
+/// The bytes of an entry of a page.
+type EntryBytes = [u8; 8];
+
+/// It is empty; it has the body of 9 bytes that stands first, or its first 8; or it leads to one of
+/// the first entries of an overflow page.
+const EMPTY: EntryBytes = [0; 8];
+
+const HERE: EntryBytes = [1, 0, 4, 16, 0, 9, 0, 0];
+
+const SHORT: EntryBytes = [1, 0, 4, 16, 0, 8, 0, 0];
+
+const TO_0_0: EntryBytes = [2, 0, 0, 0, 0, 0, 0, 0];
+
+const TO_0_1: EntryBytes = [2, 1, 0, 0, 0, 0, 0, 0];
+
+const TO_1_0: EntryBytes = [2, 0, 0, 0, 0, 0, 0, 1];
+
+const TO_0_128: EntryBytes = [2, 128, 0, 0, 0, 0, 0, 0];
+
+/// The first two entries of home page 0 and of overflow page 0 of a store, and how the probe ends
+/// then. The others are empty, and the body that stands first in both pages is that of 8.
+static MOVED: [([EntryBytes; 2], [EntryBytes; 2], Ending); 11] = [
+    ([TO_0_0, EMPTY], [HERE, EMPTY], OPENS),
+    ([TO_0_1, HERE], [EMPTY, HERE], OPENS),
+    // A forward that leads to no page, to no entry, and to none that has a body.
+    ([TO_1_0, EMPTY], [HERE, EMPTY], NOT_HOME_0),
+    ([TO_0_128, EMPTY], [HERE, EMPTY], NOT_HOME_0),
+    ([TO_0_1, EMPTY], [HERE, EMPTY], NOT_HOME_0),
+    // Two that lead to one body, and a body to which none leads.
+    ([TO_0_0, TO_0_0], [HERE, EMPTY], NOT_OVERFLOW_0),
+    ([HERE, EMPTY], [HERE, EMPTY], NOT_OVERFLOW_0),
+    // A forward in an overflow page, and pages of empty entries alone.
+    ([HERE, EMPTY], [TO_0_0, EMPTY], NOT_OVERFLOW_0),
+    ([HERE, EMPTY], [EMPTY, EMPTY], NOT_OVERFLOW_0),
+    ([EMPTY, EMPTY], [HERE, EMPTY], NOT_HOME_0),
+    // A body that moved, and is none of the relation's.
+    ([TO_0_0, EMPTY], [SHORT, EMPTY], NOT_TUPLE),
+];
+
+/// Gives a page these first entries.
+fn set_entries(page: &mut Page, entries: &[EntryBytes; 2]) {
+    page[16..24].copy_from_slice(&entries[0]);
+    page[24..32].copy_from_slice(&entries[1]);
+}
+
+/// The pages of a store with one tuple and an overflow page, whose first entries are these.
+fn moved(
+    alloc: Global,
+    home: &[EntryBytes; 2],
+    overflow: &[EntryBytes; 2],
+) -> Result<Vec<Page>, Fail> {
+    let mut pages = store_with_tuple(alloc)?;
+    let mut page = *pages
+        .as_slice()
+        .get(TUPLES)
+        .ok_or("a page that isn't there")?;
+    set_entries(&mut page, home);
+    *pages
+        .as_mut_slice()
+        .get_mut(TUPLES)
+        .ok_or("a page that isn't there")? = page;
+    page[0] = 2;
+    set_entries(&mut page, overflow);
+    *pages
+        .as_mut_slice()
+        .get_mut(FREE)
+        .ok_or("a page that isn't there")? = page;
+    // The entry of the map behind that of the home page.
+    let map = pages
+        .as_mut_slice()
+        .get_mut(MAP_1)
+        .ok_or("a page that isn't there")?;
+    map[88..90].copy_from_slice(&[2, 1]);
+    Ok(pages)
+}
 
 /// The pages of a store with one tuple, with bits of a byte turned.
 fn turned(alloc: Global, at: usize, offset: usize, bits: u8) -> Result<Vec<Page>, Fail> {
@@ -222,6 +365,20 @@ fn a_byte_that_is_turned_is_found_where_it_matters(rt: HostRuntime) -> Result<()
             pages,
             ending,
             ("page, byte, bits", *at, *offset, *bits),
+        )?;
+    }
+    Ok(())
+}
+
+#[test]
+fn a_body_stands_where_one_forward_leads(rt: HostRuntime) -> Result<(), Fail> {
+    for (home, overflow, ending) in &MOVED {
+        let pages = moved(rt.alloc(), home, overflow)?;
+        assert_ending(
+            rt.alloc(),
+            pages,
+            ending,
+            ("home, overflow", *home, *overflow),
         )?;
     }
     Ok(())

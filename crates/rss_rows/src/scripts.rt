@@ -9,16 +9,19 @@ use std::alloc::Global;
 use std::test::Fail;
 
 /// Scripts, and how many writes of the device they make.
-static WRITES: [(&[u8], usize); 4] = [
+static WRITES: [(&[u8], usize); 6] = [
     (b"", 0),
     (b"begin 1\nend 1\n", 0),
     (b"begin 1\ninsert 1 r 1\n", 0),
     // The home page, the map, the root and the selector.
     (b"begin 1\ninsert 1 r 1\ninsert 1 r 2\nend 1\n", 4),
+    (b"begin 1\nupdate 1 r 0.0 3\ndelete 1 r 0.1\n", 0),
+    // With no tuple left there is no home page.
+    (b"begin 1\ndelete 1 r 0.0\ndelete 1 r 0.1\nend 1\n", 3),
 ];
 
 /// Lines that are words.
-static WORDS: [&[u8]; 54] = [
+static WORDS: [&[u8]; 62] = [
     b"\t",
     b"\r",
     b"\0",
@@ -73,6 +76,14 @@ static WORDS: [&[u8]; 54] = [
     b"fetch 1 r 65536.0",
     b"fetch 1 r 0.00",
     b"fetch 1 r 0.0.0",
+    b"update 1 r",
+    b"update 1 r 7",
+    b"update 0 r 0.0 7",
+    b"update 1 r 0.0 x",
+    b"delete 1 r",
+    b"delete 1 r 0.0 7",
+    b"delete 1 r 00.0",
+    b"Delete 1 r 0.0",
 ];
 
 /// Lines of so many bytes are words too.

@@ -26,7 +26,7 @@ pub(crate) struct Probe<'a> {
 
 impl Probe<'_> {
     /// Opens a store and runs the script. Answers none where it gets any other replies.
-    fn finds(&self, alloc: Global, pages: Vec<Page>) -> Result<Option<Tables>, Fail> {
+    pub(crate) fn finds(&self, alloc: Global, pages: Vec<Page>) -> Result<Option<Tables>, Fail> {
         let device = MemDevice::new(alloc, pages)?;
         let (status, replies, _) = run_script(alloc, device, self.script, WHOLE)?;
         if status != Status::Ok {
@@ -47,7 +47,7 @@ impl Probe<'_> {
     }
 
     /// What an opening finds after a stop.
-    fn finds_after(
+    pub(crate) fn finds_after(
         &self,
         alloc: Global,
         device: &MemDevice,
@@ -65,7 +65,7 @@ pub(crate) struct Commit<'a> {
     pub(crate) number: u32,
     pub(crate) row: Row<'a>,
     pub(crate) probe: Probe<'a>,
-    /// How many writes there are: of home pages, of the map, of the root, and of the selector, which
+    /// How many writes there are: of pages with tuples, of the map, of the root, and of the selector, which
     /// is the last.
     pub(crate) writes: usize,
     /// The root that the selector names then. It named the other one before.
@@ -240,7 +240,7 @@ static FAILURES: [Failure; 6] = [
 ];
 
 /// No run has as many calls of the device.
-const MANY_CALLS: u64 = 1000;
+pub(crate) const MANY_CALLS: u64 = 1000;
 
 /// Runs a commit.
 fn run_commit(alloc: Global, device: MemDevice, commit: &Commit) -> Result<MemDevice, Fail> {

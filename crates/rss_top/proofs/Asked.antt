@@ -1,8 +1,7 @@
 -- A call that an engine was asked for, and the line of its answer.
 use Rattle.std.proofs.Common.{◌≡◌, ℕ, ◌≤◌, List, refl, arith}
 use Rattle.std.specs.Prelude.{Result, Ok, Err, IsErrAnd}
-use Rattle.rss_base.specs.DiskRule.{IsTold, Continues}
-use Rattle.rss_base.proofs.Moments.{continues}
+use Rattle.rss_base.specs.DiskRule.{IsTold}
 use Rattle.rss_base.specs.declared.call.Call.{Call}
 use Rattle.rss_base.specs.declared.answer.Reply.{Reply}
 use Rattle.rss_base.specs.declared.refusal.Refusal.{Refusal}
@@ -12,7 +11,7 @@ use Rattle.rss_model.specs.ReplyText.{answer_line}
 use Rattle.rss_model.specs.Plays.{plain, one_turn}
 use Rattle.rss_model.specs.Plays.LineStep.{call}
 use Rattle.rss_model.specs.Machine.{State}
-use Rattle.rss_model.specs.Calls.{EngineView, ShowsState, OpensShown}
+use Rattle.rss_model.specs.Calls.{EngineView, OpensShown}
 use Rattle.rss_top.specs.Run.{Stream}
 use Rattle.rss_top.specs.Lines.{world, seen, PassesOn, IsCallEnd, IsAsked, LineStopped, IsLineEnd, RunsCall}
 use Rattle.rss_top.specs.Says.{IsWritten, Writes}
@@ -21,19 +20,6 @@ use Rattle.rss_top.specs.declared.status.Status.TheVariants.{Ok as Done, Words, 
 use Rattle.rss_top.proofs.Ways.{passed_on, by_cut}
 
 module _ (old new : EngineView) (made : Call) where
-  history_of : ShowsState old → (result : Result (Result Reply Refusal) Status) → IsCallEnd old new made result → IsTold old.disk → Continues old.disk new.disk
-  history_of some (Ok answer) outcome told = continues (outcome.answered told some.state some.shows).answered.moments
-  history_of some (Err DeviceFault) outcome told = continues (outcome.stopped told some.state some.shows).answered.moments
-  history_of some (Err (Damaged place)) outcome told = absurd (outcome.sound told)
-  history_of some (Err NoMemory) outcome told = continues (outcome.unmade told some.state some.shows)
-  history_of some (Err Done) outcome told = absurd outcome
-  history_of some (Err Words) outcome told = absurd outcome
-  history_of some (Err ReadFault) outcome told = absurd outcome
-  history_of some (Err WriteFault) outcome told = absurd outcome
-  history_of some (Err (NotAStore place)) outcome told = absurd outcome
-  history_of some (Err TooLong) outcome told = absurd outcome
-  history_of some (Err WrongSize) outcome told = absurd outcome
-
   -- the engine answered with a status
   stops_with : (sink : Stream) (status : Status) → IsCallEnd old new made (Err status)
       → IsLineEnd (world old sink) (world new sink) status × (IsTold old.disk → (state : State) → old.shows state → (line : List ℕ) → Spells line made → LineStopped (seen old sink) (seen new sink) state line status)
@@ -58,9 +44,9 @@ module _ (old new : EngineView) (made : Call) where
   stops_with sink TooLong never = absurd never
   stops_with sink WrongSize never = absurd never
 
-module _ {old new : EngineView} {made : Call} (some : ShowsState old) where
+module _ {old new : EngineView} {made : Call} where
   asked_passes : {before after : Stream} {result : Result (Result Reply Refusal) Status} → IsAsked old new made result → before.faults ≤ after.faults → PassesOn (world old before) (world new after)
-  asked_passes {result = result} asked later = record { told = asked.goes.told; history = history_of old new made some result asked.outcome; device = asked.goes.later; sink = later }
+  asked_passes {result = result} asked later = record { told = asked.goes.told; history = asked.goes.history; device = asked.goes.later; sink = later }
 
   pub call_stopped : {T : Type 0} {sink : Stream} {status : Status} (result : Result T Status) → IsErrAnd result (λ why. why ≡ status) → IsAsked old new made (Err status) → RunsCall (seen old sink) (seen new sink) made result
   call_stopped {sink = sink} {status = status} result is asked = passed_on {S = ℕ} result is (record {

@@ -9,4 +9,5 @@ pub mod Bytes
 pub mod Endings
 pub mod Scripts
 pub mod Openings
+pub mod Made
 pub mod Commands

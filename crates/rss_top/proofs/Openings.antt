@@ -1,5 +1,5 @@
 -- The opening of a device for a run, and its refusal.
-use Rattle.std.proofs.Common.{◌≡◌, ◌⊎◌, inl, inr, ℕ, List, [], Option, Some, refl, sym, ◌∙◌, ap, subst, arith}
+use Rattle.std.proofs.Common.{◌≡◌, ◌⊎◌, inl, inr, ℕ, ◌+◌, List, [], Option, refl, sym, ◌∙◌, ap, subst, arith}
 use Rattle.rss_base.specs.DiskRule.{Disk, Pages, Told, IsTold, Leaves, Passes, Continues}
 use Rattle.rss_base.specs.Devices.{DeviceView, OnlyReads}
 use Rattle.rss_base.specs.Faults.{Rises}
@@ -11,11 +11,11 @@ use Rattle.rss_base.specs.declared.fault.OpenFault.TheVariants.{Device as Device
 use Rattle.std.specs.FinMap as map
 use Rattle.rss_model.specs.Meter.{heap_pages}
 use Rattle.rss_model.specs.Tables.{Tables}
-use Rattle.rss_model.specs.Machine.{StoreSize, State, IsAtRest}
+use Rattle.rss_model.specs.Machine.{StoreSize, State}
 use Rattle.rss_model.specs.ReplyText.{not_a_store_line, damaged_line}
-use Rattle.rss_model.specs.Store.{OpensTo, IsBrokenAt}
-use Rattle.rss_store.specs.Opening.{IsOpened, IsRefused as DoesNotOpen}
-use Rattle.rss_store.proofs.Stores.{one_store, store_unbroken}
+use Rattle.rss_model.specs.Store.{OpensTo, OpensIn, IsBrokenAt, overflow_pages}
+use Rattle.rss_rsi.specs.Opening.{IsOpened, IsRefused as DoesNotOpen}
+use Rattle.rss_rsi.proofs.Stores.{one_store, same_overflow, store_unbroken}
 use Rattle.rss_top.specs.Run.{Stream, World, Window, Ended, IsFailedOpening}
 use Rattle.rss_top.specs.Run.IsRun.{unopened, opened}
 use Rattle.rss_model.specs.Calls.{States, EngineView}
@@ -35,11 +35,11 @@ use Rattle.rss_top.proofs.Endings.{not_too_long}
 opening_window : {before opened after : Disk} → Passes before opened (Leaves before) → Continues opened after → Window after before.moment opened.moment (Leaves before)
 opening_window opening history = record { later = opening.later; each = λ t image lt le left. opening.each t image lt le ((history.past t image le).0 left) }
 
--- it is at rest with the tables that the pages hold
-rest_with : {pages : Pages} {size : StoreSize} {tables : Tables} (state : State) → IsAtRest state.size state.base state → OpensTo pages state.size state.base → OpensTo pages size tables → IsAtRest size tables state
-rest_with {size = size} state rest read opens =
+-- it is in the state in which the tables that the pages hold are opened
+opens_with : {pages : Pages} {size : StoreSize} {tables : Tables} (state : State) → OpensIn pages state.size state.base state → OpensTo pages state.size state.base → OpensTo pages size tables → OpensIn pages size tables state
+opens_with {pages = pages} {size = size} state begins read opens =
     let same = one_store read opens in
-    subst (λ (t : Tables). IsAtRest size t state) same.1 (subst (λ (s : StoreSize). IsAtRest s state.base state) same.0 rest)
+    subst (λ (t : Tables). OpensIn pages size t state) same.1 (subst (λ (s : StoreSize). OpensIn pages s state.base state) same.0 begins)
 
 module _ {device below : DeviceView} {engine : EngineView} {sink : Stream} {new : World} {source_old source_new : Stream} {status : Status}
     (opening : IsOpened device engine) (reads : OnlyReads device below) (ran : RunsScript engine.shows (on below sink) new source_old source_new status) where
@@ -58,8 +58,8 @@ module _ {device below : DeviceView} {engine : EngineView} {sink : Stream} {new 
   completes faultless told (NotAStore place) long cause = absurd cause
   completes faultless told WrongSize long cause = absurd cause
 
-  end_at : IsTold device.disk → Ended status (beginning opening.state (on below sink) source_old) new source_new.bytes
-  end_at told = ran.ended (still_told told) opening.state opening.shows
+  end_at : (told : IsTold device.disk) → Ended status (beginning (opening.begins told.pages told.is).state (on below sink) source_old) new source_new.bytes
+  end_at told = let found = opening.begins told.pages told.is in ran.ended (still_told told) found.state found.shows
 
   run_end : (ended : Status) → IsScriptEnd (on below sink) new source_old source_new ended → IsRunEnd (on device sink) new source_old source_new ended
   run_end Ok cause = tt
@@ -77,9 +77,10 @@ module _ {device below : DeviceView} {engine : EngineView} {sink : Stream} {new 
   script_ran = record {
     run = λ size tables pages told opens.
         let known : IsTold device.disk = record { pages = pages; is = told } in
+        let found = opening.begins pages told in
         record {
-          first = opening.state;
-          begins = rest_with opening.state opening.rest (opening.reads pages told) opens;
+          first = found.state;
+          begins = opens_with found.state found.begins found.reads opens;
           run = opened below.disk.moment (opening_window (reads.moments known) (ran.passes.history (still_told known))) (end_at known);
         };
     complete = λ size tables pages told opens script source short faultless.
@@ -87,16 +88,24 @@ module _ {device below : DeviceView} {engine : EngineView} {sink : Stream} {new 
         completes faultless known status (not_too_long script source short (end_at known)) ran.cause;
     broken = λ place pages told broken. absurd (opening.unbroken place pages told broken);
     overfull = λ pages told over. absurd (opening.not_overfull pages told over);
-    no_store = λ pages told none. absurd (none _ _ (opening.reads pages told));
+    no_store = λ pages told none. absurd (none _ _ (opening.begins pages told).reads);
     cause = run_end status ran.cause;
     taken = ran.taken;
   }
 
 -- ---- it isn't
 
--- a state of these tables, with nothing open and a checkpoint just taken
-at_rest : (size : StoreSize) (tables : Tables) → IsAtRest size tables (record { size = size; base = tables; changes = []; marks = map.empty; meter = record { heap = heap_pages size.slots tables; since = 0 } })
-at_rest size tables = record { same_size = refl; committed = refl; none_changed = refl; none_open = refl; meter = record { heap = refl; since = refl } }
+-- the state in which a store is opened
+abbrev opening_state : {pages : Pages} {size : StoreSize} {tables : Tables} → OpensTo pages size tables → State
+opening_state {size = size} {tables = tables} opens =
+    let over = overflow_pages opens.stored in
+    record { size = size; base = tables; changes = []; marks = map.empty; meter = record { heap = heap_pages size.slots tables + over; since = 0; over = over } }
+
+opening_in : {pages : Pages} {size : StoreSize} {tables : Tables} (opens : OpensTo pages size tables) → OpensIn pages size tables (opening_state opens)
+opening_in opens = record {
+  rest = record { same_size = refl; committed = refl; none_changed = refl; none_open = refl; meter = record { heap = refl; since = refl; same_over = refl } };
+  over = λ stored store. same_overflow opens.store store;
+}
 
 -- the device is handed back as it came
 pub left_alone : {device back : DeviceView} {sink_old sink_new source : Stream} → OnlyReads device back → IsLeftAlone (on device sink_old) (on back sink_new) source source
@@ -106,16 +115,16 @@ taken_none : (left : Option (List ℕ)) → IsTaken left left
 taken_none left = record { given = []; gives = gives_none left; most = omega arith }
 
 module _ {old new : World} {source : Stream} (alone : IsLeftAlone old new source source) where
-  -- a state at rest is there in any case
-  unopened_from : {status : Status} {size : StoreSize} {tables : Tables} → IsFailedOpening status → Passes old.disk new.disk (Leaves old.disk) → new.sink.bytes ≡ old.sink.bytes → IsRunFrom (IsAtRest size tables) status old new source.bytes source.bytes
-  unopened_from {size = size} {tables = tables} failed moments silent = record { first = _; begins = at_rest size tables; run = unopened failed moments refl silent }
+  -- such a state is there in any case
+  unopened_from : {status : Status} {pages : Pages} {size : StoreSize} {tables : Tables} → OpensTo pages size tables → IsFailedOpening status → Passes old.disk new.disk (Leaves old.disk) → new.sink.bytes ≡ old.sink.bytes → IsRunFrom (OpensIn pages size tables) status old new source.bytes source.bytes
+  unopened_from opens failed moments silent = record { first = opening_state opens; begins = opening_in opens; run = unopened failed moments refl silent }
 
   -- the opening failed
   pub failed_opening : new.sink ≡ old.sink → Rises old.faults new.faults → IsScriptRun DeviceFault old new source source
   failed_opening same rises =
       let silent = ap (λ (s : Stream). s.bytes) same in
       record {
-        run = λ size tables pages told opens. unopened_from (inl refl) (alone.moments (record { pages = pages; is = told })) silent;
+        run = λ size tables pages told opens. unopened_from opens (inl refl) (alone.moments (record { pages = pages; is = told })) silent;
         complete = λ size tables pages told opens script source short faultless. absurd (faultless.device rises);
         broken = λ place pages told broken. record { alone = alone; refusal = fails refl silent };
         overfull = λ pages told over. record { alone = alone; refusal = fails refl silent };
@@ -128,7 +137,7 @@ module _ {old new : World} {source : Stream} (alone : IsLeftAlone old new source
   lacked_opening same =
       let silent : (meant : Status) → IsRefusal meant NoMemory old new = λ meant. says (record { later = omega (arith, ap (λ (s : Stream). s.faults) same); how = unsaid refl same }) in
       record {
-        run = λ size tables pages told opens. unopened_from (inr refl) (alone.moments (record { pages = pages; is = told })) (ap (λ (s : Stream). s.bytes) same);
+        run = λ size tables pages told opens. unopened_from opens (inr refl) (alone.moments (record { pages = pages; is = told })) (ap (λ (s : Stream). s.bytes) same);
         complete = λ size tables pages told opens script source short faultless. inr refl;
         broken = λ place pages told broken. record { alone = alone; refusal = silent (NotAStore place) };
         overfull = λ pages told over. record { alone = alone; refusal = silent (Damaged Room) };

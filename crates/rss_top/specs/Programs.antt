@@ -5,10 +5,10 @@ use Rattle.rss_base.specs.Faults.{Rises}
 use Rattle.rss_base.specs.declared.place.Place.{Place}
 use Rattle.rss_base.specs.declared.place.Place.TheVariants.{Room}
 use Rattle.rss_model.specs.Tables.{Tables}
-use Rattle.rss_model.specs.Machine.{StoreSize, State, IsAtRest}
+use Rattle.rss_model.specs.Machine.{StoreSize, State}
 use Rattle.rss_model.specs.Plays.{plain}
 use Rattle.rss_model.specs.ReplyText.{not_a_store_line, damaged_line}
-use Rattle.rss_model.specs.Store.{OpensTo, IsBrokenAt, IsOverfull, IsNoStore}
+use Rattle.rss_model.specs.Store.{OpensTo, OpensIn, IsBrokenAt, IsOverfull, IsNoStore}
 use Rattle.rss_top.specs.Words.{AreRun, AreFormat, IsCommand}
 use Rattle.rss_top.specs.Run.{Stream, World, IsRun, script_limit}
 use Rattle.rss_top.specs.Lines.{IsScriptEnd, IsTaken}
@@ -84,10 +84,11 @@ pub record IsFaultless (old new : World) (source_old source_new : Stream) : Type
 
 pub record IsScriptRun (status : Status) (old new : World) (source_old source_new : Stream)
     : Type 0 where
-  -- Over a store of these tables: a run of the machine from these tables with nothing open.
+  -- Over a store of these tables: a run of the machine from these tables with nothing open, and with
+  -- the store's overflow pages.
   pub run : (size : StoreSize) (tables : Tables)
       → Told old.disk (λ pages. OpensTo pages size tables
-      → IsRunFrom (IsAtRest size tables) status old new source_old.bytes source_new.bytes)
+      → IsRunFrom (OpensIn pages size tables) status old new source_old.bytes source_new.bytes)
   -- Where nothing fails, the script is run to its end, or memory ran out.
   pub complete : (size : StoreSize) (tables : Tables)
       → Told old.disk (λ pages. OpensTo pages size tables

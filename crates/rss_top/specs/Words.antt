@@ -1,6 +1,6 @@
 -- The words of the command line. The first is the program's own name.
 use Rattle.std.specs.Prelude.{◌≡◌, ℕ, ◌^◌, ◌<◌, List, [], length, slice_index_or, codes, decimal}
-use Rattle.rss_store.specs.Formatted.{AreSizes}
+use Rattle.rss_rsi.specs.Formatted.{AreSizes}
 
 -- `run` and a file
 pub record AreRun (words : List (List ℕ)) : Type 0 where

@@ -10,7 +10,7 @@ use crate::Status;
 use crate::writing::end_with;
 use rss_base::{Device, OpenFault, Reply, Sink};
 use rss_line::say;
-use rss_store::format;
+use rss_rsi::format;
 use std::alloc::Global;
 
 /// Writes the line of a format that was done.

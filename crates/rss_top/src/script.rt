@@ -7,7 +7,7 @@ use crate::reading::run_lines;
 use crate::writing::{refuse_damaged, refuse_layout};
 use rss_base::{Device, OpenFault, Sink, Source, Unopened};
 use rss_model::Engine;
-use rss_store::open;
+use rss_rsi::open;
 use std::alloc::Global;
 
 /// Runs a script over a store that is open. A store that a line finds damaged is refused.

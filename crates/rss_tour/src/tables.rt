@@ -4,7 +4,7 @@ use anyhow::{Result, bail};
 use rss_base::{Call, CallError, Page, RELATION_R, Refusal, Reply, Tid, Tuple, Value};
 use rss_device::MemDevice;
 use rss_model::Engine;
-use rss_store::open;
+use rss_rsi::open;
 use std::alloc::Global;
 
 /// How many tuples a page holds.
@@ -27,21 +27,21 @@ fn fetch<E: Engine>(engine: &mut E, tid: Tid) -> Result<Option<i64>> {
     }
 }
 
-/// All tuples. Their identifiers have no gap.
+/// All tuples, in the order of their identifiers. A store has no more pages than half its slots, and
+/// a new one gets the least number.
 fn fetch_all<E: Engine>(engine: &mut E, alloc: Global) -> Result<Vec<i64>> {
     if let Err(error) = engine.call(&Call::Begin(1)) {
         bail!("a begin was answered {error:?}");
     }
     let mut values = Vec::new(alloc);
-    for place in 0..SLOTS * PAGE_TUPLES {
+    for place in 0..SLOTS / 2 * PAGE_TUPLES {
         let tid = Tid {
             page: place / PAGE_TUPLES,
             slot: (place % PAGE_TUPLES) as u16,
         };
-        let Some(value) = fetch(engine, tid)? else {
-            break;
-        };
-        values.push(value)?;
+        if let Some(value) = fetch(engine, tid)? {
+            values.push(value)?;
+        }
     }
     Ok(values)
 }

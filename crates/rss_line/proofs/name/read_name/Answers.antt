@@ -1,6 +1,5 @@
 use Rattle.std.proofs.Common.{◌∙◌, ap, sym, subst, Some}
 use Rattle.std.proofs.lemmas.Bool.{false≢true}
-use Rattle.rss_model.specs.Script.{IsRelation}
 use Rattle.rss_line.specs.Reads.{IsNameText}
 use Rattle.rss_line.proofs.Names.{padded, name_from, name_text_of, same_name}
 use Rattle.rss_line.proofs.name.read_name.Goals as goal

@@ -4,7 +4,7 @@ use Rattle.std.proofs.lemmas.List.{get_or_append_left, length-append}
 use Rattle.std.proofs.Math.Seq.{get_or-append_seam}
 use Rattle.rss_model.specs.Machine.{State}
 use Rattle.rss_model.specs.Steps.{Step}
-use Rattle.rss_model.specs.Steps.Step.{refuses, begins, inserts, fetches, ends}
+use Rattle.rss_model.specs.Steps.Step.{refuses, begins, inserts, fetches, updates, deletes, ends}
 use Rattle.rss_model.specs.Runs.{Turn, Run}
 use Rattle.rss_model.specs.Runs.Run.{stays, turns}
 use Rattle.rss_model.specs.Commits.{IsNoEnd}
@@ -15,6 +15,8 @@ step_keeps turn (refuses call why is) no_end = refl
 step_keeps turn (begins t fits) no_end = refl
 step_keeps turn (inserts t relation values tid meter fits free counted) no_end = refl
 step_keeps turn (fetches t relation tid values fits is) no_end = refl
+step_keeps turn (updates t relation tid was values meter fits is counted) no_end = refl
+step_keeps turn (deletes t relation tid was meter fits is counted) no_end = refl
 step_keeps turn (ends t meter fits after) no_end = absurd (no_end t refl refl)
 
 module _ (made : List Turn) (turn : Turn) (all : All IsNoEnd (made ++ turn ∷ [])) where

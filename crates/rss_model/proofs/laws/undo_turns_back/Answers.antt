@@ -1,4 +1,4 @@
-use Rattle.rss_model.proofs.Putting.{put_back}
+use Rattle.rss_model.proofs.Contents.{put_back}
 use Rattle.rss_model.proofs.laws.undo_turns_back.Goals as goal
 
 pub returns : goal.returns

@@ -3,18 +3,18 @@ use Rattle.rss_top.proofs.Openings.{script_ran, left_alone, failed_opening, lack
 use Rattle.rss_top.proofs.script.run_script.Goals as goal
 
 pub returns-in-Ok : goal.returns-in-Ok
-returns-in-Ok g c = rw c.into_device.ensures (rw c.into_pages.ensures (script_ran c.in-Ok.ensures.opened c.in-Ok.ensures.reads c.run_store-status.ensures))
+returns-in-Ok g c = rw c.into_device.ensures (rw c.into_pages.ensures (script_ran c.in-Ok.ensures.opened.opened c.in-Ok.ensures.opened.reads c.run_store-status.ensures))
 
 -- ---- the device is handed back as it came
 
 pub returns-in-Device : goal.returns-in-Device
-returns-in-Device g c = failed_opening (left_alone c.in-Err.ensures.back) refl (c.in-Err.ensures.cause c.in-Device.is)
+returns-in-Device g c = failed_opening (left_alone c.in-Err.ensures.refused.reads) refl (c.in-Err.ensures.refused.cause c.in-Device.is)
 
 pub returns-in-NoMemory : goal.returns-in-NoMemory
-returns-in-NoMemory g c = lacked_opening (left_alone c.in-Err.ensures.back) refl
+returns-in-NoMemory g c = lacked_opening (left_alone c.in-Err.ensures.refused.reads) refl
 
 pub returns-in-NotAStore : goal.returns-in-NotAStore
-returns-in-NotAStore g c = layout_refused (left_alone c.in-Err.ensures.back) c.in-NotAStore.is c.in-Err.ensures.refused.refused c.refuse_layout.ensures
+returns-in-NotAStore g c = layout_refused (left_alone c.in-Err.ensures.refused.reads) c.in-NotAStore.is c.in-Err.ensures.refused.refused.refused c.refuse_layout.ensures
 
 pub returns-in-Damaged : goal.returns-in-Damaged
-returns-in-Damaged g c = store_refused (left_alone c.in-Err.ensures.back) c.in-Damaged.is c.in-Err.ensures.refused.refused c.refuse_damaged.ensures
+returns-in-Damaged g c = store_refused (left_alone c.in-Err.ensures.refused.reads) c.in-Damaged.is c.in-Err.ensures.refused.refused.refused c.refuse_damaged.ensures

@@ -20,9 +20,17 @@ returns-then-eq-3 c = with_verb c.insert.result c.in_ok-verb.ensures (equal _ (c
 pub returns-then-eq-4 : goal.returns-then-eq-4
 returns-then-eq-4 c = with_verb c.fetch.result c.in_ok-verb.ensures (equal _ (codes "fetch") (sym c.eq-4.ensures ∙ c.if-eq-4.true)) c.fetch.ensures
 
+pub returns-then-eq-5 : goal.returns-then-eq-5
+returns-then-eq-5 c = with_verb c.update.result c.in_ok-verb.ensures (equal _ (codes "update") (sym c.eq-5.ensures ∙ c.if-eq-5.true)) c.update.ensures
+
+pub returns-then-eq-6 : goal.returns-then-eq-6
+returns-then-eq-6 c = with_verb c.delete.result c.in_ok-verb.ensures (equal _ (codes "delete") (sym c.eq-6.ensures ∙ c.if-eq-6.true)) c.delete.ensures
+
 pub returns : goal.returns
 returns c = other_verb c.in_ok-verb.ensures (other_word
     (differ _ (codes "begin") (sym c.eq.ensures ∙ c.if-eq.false))
     (differ _ (codes "end") (sym c.eq-2.ensures ∙ c.if-eq-2.false))
     (differ _ (codes "insert") (sym c.eq-3.ensures ∙ c.if-eq-3.false))
-    (differ _ (codes "fetch") (sym c.eq-4.ensures ∙ c.if-eq-4.false)))
+    (differ _ (codes "fetch") (sym c.eq-4.ensures ∙ c.if-eq-4.false))
+    (differ _ (codes "update") (sym c.eq-5.ensures ∙ c.if-eq-5.false))
+    (differ _ (codes "delete") (sym c.eq-6.ensures ∙ c.if-eq-6.false)))

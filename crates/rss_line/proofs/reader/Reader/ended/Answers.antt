@@ -1,4 +1,4 @@
-use Rattle.std.proofs.Common.{◌∙◌, sym}
+use Rattle.std.proofs.Common.{◌∙◌}
 use Rattle.std.proofs.lemmas.Bool.{false≢true}
 use Rattle.rss_line.proofs.Cuts.{spaces_test}
 use Rattle.rss_line.proofs.reader.Reader.ended.Goals as goal

@@ -1,4 +1,4 @@
-use Rattle.std.proofs.Common.{◌≡◌, ◌++◌, ℕ, length}
+use Rattle.std.proofs.Common.{◌≡◌, ◌++◌, length}
 use Rattle.rss_model.specs.Spellings.{doubled}
 use Rattle.rss_line.proofs.reader.Reader.text.Given as goal
 

@@ -7,8 +7,8 @@ use Rattle.rss_line.proofs.Forms.{GoesOn}
 use Rattle.rss_line.proofs.reader.Reader.values.Goals as goal
 
 pub returns-in_err-value : goal.returns-in_err-value
-returns-in_err-value c = goes_stops c.from_residual.result c.loop-alloc.invariant
-    (λ spaces. false≢true (sym c.loop-alloc-test.true ∙ (c.is_at_end.ensures ∙ spaces_test c.loop-alloc.self spaces))) c.in_err-value.ensures c.from_residual.ensures.1
+returns-in_err-value c = goes_stops c.from_residual-in_err-value.result c.loop-alloc.invariant
+    (λ spaces. false≢true (sym c.loop-alloc-test.true ∙ (c.is_at_end.ensures ∙ spaces_test c.loop-alloc.self spaces))) c.in_err-value.ensures c.from_residual-in_err-value.ensures.1
 
 pub loop-alloc-smaller : goal.loop-alloc-smaller
 loop-alloc-smaller c = let (word, begins, is) = c.in_ok-value.ensures.ok in shorter (value_solid word _ is) begins

@@ -1,6 +1,4 @@
-use Rattle.std.proofs.Common.{◌≡◌, ◌++◌, List, ℕ, length}
-use Rattle.rss_base.specs.declared.value.Value.{Value}
-use Rattle.rss_model.specs.Script.{HasWords, AreValues}
+use Rattle.std.proofs.Common.{length}
 use Rattle.rss_line.proofs.Forms.{GoesOn}
 use Rattle.rss_line.proofs.reader.Reader.values.Given as goal
 

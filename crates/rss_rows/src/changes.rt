@@ -1,0 +1,206 @@
+// Commits that insert, update and delete tuples on several pages, and what is left of them.
+use crate::harness::{Row, WHOLE, assert_script, empty_store};
+use crate::lines::{write_inserted, write_inserts, write_lines};
+use crate::stops::{Commit, MANY_CALLS, Probe, assert_commit};
+use rss_asserts::assert_same;
+use rss_device::MemDevice;
+use rss_images::{UNSYNCED, copy_of_pages, failing_at};
+use rss_scripts::{run_script, without_moments};
+use rss_top::Status;
+use std::alloc::Global;
+use std::test::Fail;
+
+/// How many slots the store has: as many as the first transaction needs.
+const SLOTS: u32 = 1052;
+
+/// How many tuples it inserts, each with its place as its value. The last one stands on a second
+/// page.
+const TUPLES: u32 = 129;
+
+/// It updates a tuple, deletes one in the middle of a page and the only one of another, whose page is
+/// given back and taken again, and gets their identifiers for others.
+static CHANGED: Commit<'static> = Commit {
+    number: 1,
+    row: Row {
+        script: b"\
+begin 1
+update 1 r 0.0 -1
+delete 1 r 0.5
+delete 1 r 1.0
+insert 1 r 500
+insert 1 r 501
+insert 1 r 502
+update 1 r 1.1 503
+delete 1 r 0.127
+fetch 1 r 0.127
+update 1 r 0.127 1
+delete 1 r 0.127
+end 1
+",
+        replies: b"\
+ok
+ok
+ok
+ok
+ok 0.5
+ok 1.0
+ok 1.1
+ok
+ok
+refused 9 no tuple r 0.127
+refused 9 no tuple r 0.127
+refused 9 no tuple r 0.127
+ok
+",
+    },
+    probe: Probe {
+        script: b"\
+begin 1
+fetch 1 r 0.0
+fetch 1 r 0.5
+fetch 1 r 0.127
+fetch 1 r 1.0
+fetch 1 r 1.1
+",
+        before: b"\
+ok
+ok 0
+ok 5
+ok 127
+ok 128
+refused 9 no tuple r 1.1
+",
+        after: b"\
+ok
+ok -1
+ok 500
+refused 9 no tuple r 0.127
+ok 501
+ok 503
+",
+    },
+    // Two pages with tuples, the map's three, the root and the selector.
+    writes: 7,
+    root: 1,
+};
+
+/// It deletes all tuples of the second page, and takes back one of its own inserts.
+static EMPTIED: Commit<'static> = Commit {
+    number: 2,
+    row: Row {
+        script: b"\
+begin 1
+delete 1 r 1.1
+delete 1 r 1.0
+update 1 r 0.1 1000
+insert 1 r 7
+delete 1 r 0.127
+end 1
+",
+        replies: b"\
+ok
+ok
+ok
+ok
+ok 0.127
+ok
+ok
+",
+    },
+    probe: Probe {
+        script: b"\
+begin 1
+fetch 1 r 0.1
+fetch 1 r 0.127
+fetch 1 r 1.0
+insert 1 r 8
+insert 1 r 9
+",
+        before: b"\
+ok
+ok 1
+refused 9 no tuple r 0.127
+ok 501
+ok 0.127
+ok 1.2
+",
+        after: b"\
+ok
+ok 1000
+refused 9 no tuple r 0.127
+refused 9 no tuple r 1.0
+ok 0.127
+ok 1.0
+",
+    },
+    // One page is left.
+    writes: 6,
+    root: 2,
+};
+
+/// A store of the first transaction's tuples, with no moments yet.
+fn store_with_tuples(alloc: Global) -> Result<MemDevice, Fail> {
+    let mut script = String::new(alloc);
+    write_lines(&mut script, "begin 1\n")?;
+    write_inserts(&mut script, 0, TUPLES)?;
+    write_lines(&mut script, "end 1\n")?;
+    let mut replies = String::new(alloc);
+    write_lines(&mut replies, "ok\n")?;
+    write_inserted(&mut replies, 0, TUPLES)?;
+    write_lines(&mut replies, "ok\n")?;
+    let row = Row {
+        script: script.as_bytes(),
+        replies: replies.as_bytes(),
+    };
+    let device = empty_store(alloc, SLOTS)?;
+    let device = assert_script(alloc, device, &row, WHOLE, "129 inserts")?;
+    Ok(without_moments(alloc, &device)?)
+}
+
+/// What a run that met a failure leaves opens to the tables before or after, with no stop and after
+/// one.
+fn assert_left(alloc: Global, device: &MemDevice, call: u64) -> Result<(), Fail> {
+    let found = CHANGED.probe.finds(alloc, copy_of_pages(alloc, device)?)?;
+    assert_same(&found.is_some(), &true, ("call", call, "with no stop"))?;
+    for unsynced in &UNSYNCED {
+        let found = CHANGED
+            .probe
+            .finds_after(alloc, device, device.moment(), *unsynced)?;
+        assert_same(&found.is_some(), &true, ("call", call, *unsynced))?;
+    }
+    Ok(())
+}
+
+/// Runs the changes over a store of which this call fails. Answers how the run ended.
+fn fail_call(alloc: Global, store: &MemDevice, call: u64) -> Result<Status, Fail> {
+    let device = failing_at(alloc, without_moments(alloc, store)?, call)?;
+    let (status, _, after) = run_script(alloc, device, CHANGED.row.script, WHOLE)?;
+    assert_left(alloc, &after, call)?;
+    Ok(status)
+}
+
+#[test]
+fn changes_stopped_at_each_moment_open_to_the_tables_before_or_after(
+    rt: HostRuntime,
+) -> Result<(), Fail> {
+    let mut device = store_with_tuples(rt.alloc())?;
+    for commit in [&CHANGED, &EMPTIED] {
+        device = assert_commit(rt.alloc(), device, commit, &UNSYNCED)?;
+    }
+    Ok(())
+}
+
+#[test]
+fn changes_with_a_device_call_that_fails_leave_the_tables_before_or_after(
+    rt: HostRuntime,
+) -> Result<(), Fail> {
+    let store = store_with_tuples(rt.alloc())?;
+    for call in 0..MANY_CALLS {
+        let status = fail_call(rt.alloc(), &store, call)?;
+        if status == Status::Ok {
+            return Ok(());
+        }
+        assert_same(&status, &Status::DeviceFault, ("call", call))?;
+    }
+    Err("the run has too many calls".into())
+}

@@ -1,0 +1,242 @@
+-- A store that was opened: it is at rest with the tables that its pages hold.
+use Rattle.std.proofs.Common.{◌≡◌, ℕ, ◌+◌, ◌-◌, ◌*◌, ◌<◌, ◌≤◌, true, List, [], length, Option, Some, None, refl, sym, ◌∙◌, ap, subst, arith}
+use Rattle.std.specs.Prelude.{is_some, Result}
+use Rattle.std.specs.FinMap as map
+use Rattle.std.proofs.lemmas.Bool.{false_from_ne_true}
+use Rattle.rss_base.specs.declared.fault.PageFault.{PageFault}
+use Rattle.rss_base.specs.declared.key.Space.TheVariants.{Home, Overflow, System}
+use Rattle.rss_base.specs.declared.key.PageKey.{PageKey}
+use Rattle.rss_base.specs.declared.root.Root.{Root}
+use Rattle.rss_base.specs.Devices.{DeviceView}
+use Rattle.rss_base.specs.DiskRule.{Pages, Told, IsTold, Leaves}
+use Rattle.rss_base.specs.Layout.{map_at, slots_at}
+use Rattle.rss_base.specs.PageMap.{IsKey, IsMap, page_count}
+use Rattle.rss_base.specs.Paged.{Mapped, Held, Fixed, Backing, HasFixed, page_key, mapped_of, mapped_pages}
+use Rattle.rss_base.specs.Sizes.{system_pages}
+use Rattle.rss_base.specs.Steps.{PagesView, Keys}
+use Rattle.rss_base.specs.StoredPages.{mapped_by, StandInSlots, HoldsPages}
+use Rattle.rss_base.proofs.Counts.{mapped_pages-owners}
+use Rattle.rss_shadow.specs.Maps.{HasPage}
+use Rattle.rss_shadow.proofs.Owned.{HasPage-mapped}
+use Rattle.rss_buffer.specs.Slots.{fixed_by}
+use Rattle.rss_buffer.specs.Buffered.{HoldsMapAt}
+use Rattle.rss_buffer.specs.Saving.{SavingView, AreSaveable, IsFresh}
+use Rattle.rss_buffer.proofs.SavingSteps.{fresh_unchanged}
+use Rattle.rss_buffer.proofs.Stops.{fixed_holds}
+use Rattle.rss_tuple.specs.Checked.{ChecksPages}
+use Rattle.rss_model.specs.Tables.{Tables}
+use Rattle.rss_model.specs.Fits.{Fits}
+use Rattle.rss_model.specs.Meter.{heap_pages}
+use Rattle.rss_model.specs.Calls.{ShowsState}
+use Rattle.rss_model.specs.Machine.{State, IsAtRest}
+use Rattle.rss_model.specs.Store.{SpellsTables, stored, size_of, IsStore, OpensTo, OpensIn}
+use Rattle.rss_model.proofs.Heap.{heap_is}
+use Rattle.rss_model.proofs.Keeping.{rest_keeps}
+use Rattle.rss_rsi.specs.declared.session.Session.{Session}
+use Rattle.rss_rsi.specs.Sessions.{marks_of}
+use Rattle.rss_rsi.specs.Ready.{IsReady, IsIn, engine_view}
+use Rattle.rss_rsi.specs.RsiLaws.{opens_shown}
+use Rattle.rss_rsi.specs.Opening.{LacksStore, IsLayout, HasLayout, AreStorePages, HoldsTables, HoldsNone, FindsTables, IsOpened}
+use Rattle.rss_rsi.proofs.Holding.{held_slots, holds_store}
+use Rattle.rss_rsi.proofs.Counting.{pages_are}
+use Rattle.rss_rsi.proofs.Stores.{same_overflow, sound_unbroken, not_overfull}
+
+-- the map of a root stands in its area
+pub held_map : {pages : Pages} {root : Root} {number : ℕ} {owners : List (Option PageKey)} → IsLayout root number owners → HasLayout pages root number owners → HoldsMapAt owners root.area pages
+held_map {pages = pages} {root = root} {owners = owners} layout has = subst (λ (n : ℕ). IsMap n pages (map_at n root.area) owners) (sym layout.slots) has.map
+
+-- the session of such a store, with so many tuples
+pub record IsRested (root : Root) (owners : List (Option PageKey)) (count : ℕ) (session : Session) : Type 0 where
+  pub slots : session.slots ≡ root.slots
+  pub heap : session.heap ≡ page_count owners - system_pages
+  pub since : session.since ≡ 0
+  pub live : session.live ≡ count
+  pub deleted : session.deleted ≡ 0
+  pub transaction : session.transaction ≡ None
+
+module _ {root : Root} {number writes : ℕ} {owners : List (Option PageKey)} {old : PagesView} {saving : SavingView} (layout : IsLayout root number owners) (saveable : AreSaveable old saving) (fresh : IsFresh root owners writes old saving) where
+  mapped_is : old.mapped ≡ mapped_by owners
+  mapped_is = saveable.mapped ∙ ap (λ (o : List (Option PageKey)). mapped_by o) fresh.current
+
+  shadow_is : old.backing.shadow ≡ owners
+  shadow_is = ap (λ (b : Backing). b.shadow) fresh.backing
+
+  size_is : old.slots ≡ root.slots
+  size_is = saveable.slots ∙ ap (λ (o : List (Option PageKey)). length o) fresh.current ∙ layout.slots
+
+  log_is : old.backing.log_pages ≡ root.log_pages
+  log_is = ap (λ (b : Backing). b.log_pages) fresh.backing
+
+  -- each of its pages is one that a store may have
+  pub fresh_keys : AreStorePages old.mapped
+  fresh_keys key is =
+      let has : HasPage owners key = HasPage-mapped owners key (sym (ap (λ (m : Mapped). m key) mapped_is) ∙ is) in
+      layout.keys has.slot key has.owned
+
+  half : 2 * page_count owners ≤ root.slots
+  half = omega (arith, layout.half, layout.slots)
+
+  fixed_is : (p : Pages) → old.disk.contents ≡ Some p → old.fixed ≡ fixed_by (slots_at root.slots root.log_pages) owners (Some p)
+  fixed_is p told = saveable.fixed ∙ (λ i. fixed_by (slots_at (size_is i) (log_is i)) (shadow_is i) (told i))
+
+  module _ (held_are : IsTold old.disk → (key : PageKey) → is_some (old.held key) ≡ old.mapped key) (holds : Told old.disk (λ pages. HasLayout pages root number owners)) (stand : Told old.disk (λ pages. StandInSlots (slots_at root.slots root.log_pages) pages owners old.held)) where
+    only_held : IsTold old.disk → (key : PageKey) → is_some (old.held key) ≡ mapped_by owners key
+    only_held told key = held_are told key ∙ ap (λ (m : Mapped). m key) mapped_is
+
+    fresh_pages : (told : IsTold old.disk) → HoldsPages told.pages number root owners old.held
+    fresh_pages told =
+        let has = holds told.pages told.is in
+        record {
+          root_there = has.root_there;
+          count = layout.slots;
+          saved = record {
+            map = held_map layout has;
+            stand = subst (λ (n : ℕ). StandInSlots (slots_at n root.log_pages) told.pages owners old.held) (sym layout.slots) (stand told.pages told.is);
+          };
+        }
+
+    -- where they hold no tables, the map is that of no store
+    pub lacks_tables : (told : IsTold old.disk) → HoldsNone old.held old.slots → LacksStore told.pages root owners
+    lacks_tables told none other tables store = none tables
+        (subst (λ (h : Held). SpellsTables h tables) (held_slots (fresh_pages told) (only_held told)) store.spells)
+        (subst (λ (n : ℕ). Fits n tables) (sym size_is) store.fit)
+
+    module _ {T : Type 0} {noted : Keys} {asks count : ℕ} {new : PagesView} {result : Result T PageFault} {session : Session} (did : ChecksPages noted asks old new result) (finds : FindsTables old new count) (rested : IsRested root owners count session) where
+      told_before : IsTold new.disk → IsTold old.disk
+      told_before = did.looks.step.passes.leaves.told.1
+
+      new_size : new.slots ≡ root.slots
+      new_size = did.looks.step.passes.slots ∙ size_is
+
+      new_shadow : new.backing.shadow ≡ owners
+      new_shadow = ap (λ (b : Backing). b.shadow) did.looks.step.passes.backing ∙ shadow_is
+
+      new_mapped : new.mapped ≡ mapped_by owners
+      new_mapped = did.looks.mapped ∙ mapped_is
+
+      new_keys : AreStorePages new.mapped
+      new_keys key is = fresh_keys key (sym (ap (λ (m : Mapped). m key) did.looks.mapped) ∙ is)
+
+      new_system : (n : ℕ) → n < system_pages → new.mapped (page_key 0 System n) ≡ true
+      new_system n low = ap (λ (m : Mapped). m (page_key 0 System n)) did.looks.mapped ∙ finds.system.mapped n low
+
+      pages_counted : mapped_pages new.slots new.mapped ≡ page_count owners
+      pages_counted = mapped_pages-owners new.slots owners new.mapped (λ slot key owned. subst (λ (n : ℕ). IsKey n key) (layout.slots ∙ sym new_size) (layout.table.allowed slot key owned)) layout.table.distinct (λ key. ap (λ (m : Mapped). m key) new_mapped)
+
+      heap_counted : session.heap ≡ mapped_of new.mapped Home new.slots + mapped_of new.mapped Overflow new.slots
+      heap_counted = omega (arith, rested.heap, pages_counted, pages_are new.mapped new_keys new.slots new_system)
+
+      pub opened_ready : IsReady new number root session
+      opened_ready = record {
+        number_low = omega (arith, layout.number_low);
+        number_high = omega (arith, layout.number_high);
+        formed = layout.formed;
+        log = layout.log;
+        size = new_size;
+        log_pages = ap (λ (b : Backing). b.log_pages) did.looks.step.passes.backing ∙ log_is;
+        area = ap (λ (b : Backing). b.area) did.looks.step.passes.backing ∙ ap (λ (b : Backing). b.area) fresh.backing;
+        saved_are = ap page_count new_shadow ∙ omega (arith, heap_counted, pages_counted, pages_are new.mapped new_keys new.slots new_system);
+        few = omega (arith, heap_counted, rested.since, pages_are new.mapped new_keys new.slots new_system);
+        system = new_system;
+        only = new_keys;
+        none_changed = λ rest key. false_from_ne_true (new.changed key) (λ is. let before = did.looks.changed key is in let none = fresh_unchanged fresh saveable key in cc);
+        settled_now = did.looks.step.passes.leaves.stays_settled fresh.settled;
+        heaps = λ told. finds.heaps (told_before told);
+      }
+
+      -- the state at rest with these tables
+      abbrev pub opened_state : Tables → State
+      opened_state tables = record {
+        size = size_of root;
+        base = tables;
+        changes = [];
+        marks = map.empty;
+        meter = record {
+          heap = heap_pages root.slots tables + mapped_of new.mapped Overflow new.slots;
+          since = 0;
+          over = mapped_of new.mapped Overflow new.slots;
+        };
+      }
+
+      opened_rest : (tables : Tables) → IsAtRest (size_of root) tables (opened_state tables)
+      opened_rest tables = record { same_size = refl; committed = refl; none_changed = refl; none_open = refl; meter = record { heap = refl; since = refl; same_over = refl } }
+
+      module _ (told : IsTold old.disk) where
+        abbrev found : HoldsTables old.held old.slots count
+        found = finds.holds told
+
+        fit_found : Fits root.slots found.tables
+        fit_found = subst (λ (n : ℕ). Fits n found.tables) size_is found.fit
+
+        store_of : {image : Pages} → HoldsPages image number root owners old.held → IsStore image (stored number root owners found.tables)
+        store_of is = holds_store old.held found.tables is (only_held told) layout.log half found.spells fit_found
+
+        heap_found : heap_pages root.slots found.tables + mapped_of new.mapped Overflow new.slots ≡ session.heap
+        heap_found =
+            let home : heap_pages root.slots found.tables ≡ mapped_of old.mapped Home root.slots = heap_is found.spells fit_found old.mapped (held_are told) in
+            let same : mapped_of old.mapped Home root.slots ≡ mapped_of new.mapped Home new.slots = ap (λ (m : Mapped). mapped_of m Home root.slots) (sym did.looks.mapped) ∙ ap (λ (n : ℕ). mapped_of new.mapped Home n) (sym new_size) in
+            omega (arith, home, same, heap_counted)
+
+        fixes_found : (image : Pages) → HasFixed new.fixed image → IsStore image (stored number root new.backing.shadow found.tables)
+        fixes_found image has =
+            let fixed : new.fixed ≡ fixed_by (slots_at root.slots root.log_pages) owners (Some told.pages) = did.looks.step.passes.leaves.same fresh.settled told ∙ fixed_is told.pages told.is in
+            subst (λ (o : List (Option PageKey)). IsStore image (stored number root o found.tables)) (sym new_shadow)
+            (store_of (fixed_holds (fresh_pages told) (subst (λ (f : Fixed). HasFixed f image) fixed has)))
+
+        -- it is in this state
+        pub opened_in : IsIn new number root session (opened_state found.tables)
+        opened_in = record {
+          size = refl;
+          counts = record {
+            slots = sym rested.slots;
+            defined = found.spells.defined;
+            marks = ap marks_of (sym rested.transaction);
+            heap = heap_found;
+            since = sym rested.since;
+            changes = sym rested.since;
+            live = found.counted ∙ sym rested.live;
+            deleted = sym rested.deleted;
+          };
+          kept = rest_keeps (size_of root) found.tables (opened_state found.tables) (opened_rest found.tables) fit_found;
+          over = refl;
+          spells = subst (λ (h : Held). SpellsTables h found.tables) (sym (did.looks.held told)) found.spells;
+          fixes = fixes_found;
+        }
+
+        -- the device is a store of these tables
+        found_store : IsStore told.pages (stored number root owners found.tables)
+        found_store = store_of (fresh_pages told)
+
+        pub opened_reads : OpensTo told.pages (size_of root) found.tables
+        opened_reads = record { stored = stored number root owners found.tables; store = found_store; same_size = refl; holds = refl }
+
+        pub opened_begins : OpensIn told.pages (size_of root) found.tables (opened_state found.tables)
+        opened_begins = record {
+          rest = opened_rest found.tables;
+          over = λ other store. ap (λ (m : Mapped). mapped_of m Overflow new.slots) new_mapped ∙ ap (λ (n : ℕ). mapped_of (mapped_by owners) Overflow n) new_size ∙ same_overflow found_store store;
+        }
+
+      -- ---- seen as an engine
+
+      pub opened_shown : {up : Type 0} → IsTold new.disk → ∥ ShowsState (engine_view new number root session up) ∥₁
+      opened_shown told = ∣ record { state = opened_state (found (told_before told)).tables; shows = opened_in (told_before told) } ∣₁
+
+      module _ (stays : new.settled ≡ true → IsTold new.disk → (image : Pages) → Leaves new.disk image → HasFixed new.fixed image) {device : DeviceView} (same : device.disk.contents ≡ old.disk.contents) {up : Type 0} (is_up : up) where
+        pub opened : IsOpened device (engine_view new number root session up)
+        opened = record {
+          begins = λ pages is.
+              let told : IsTold old.disk = record { pages = pages; is = sym same ∙ is } in
+              let now : IsTold new.disk = did.looks.step.passes.leaves.told.0 told in
+              record {
+                state = opened_state (found told).tables;
+                shows = opened_in told;
+                reads = opened_reads told;
+                begins = opened_begins told;
+                opens = opens_shown (opened_in told) opened_ready now (λ settled. stays settled now);
+              };
+          up = is_up;
+          unchanged = λ key is. let none = fresh_unchanged fresh saveable key in let before = did.looks.changed key is in cc;
+          none_since = rested.since;
+          unbroken = λ place pages is. let has = holds pages (sym same ∙ is) in sound_unbroken has.root_there has.map place;
+          not_overfull = λ pages is. not_overfull (found_store (record { pages = pages; is = sym same ∙ is }));
+        }

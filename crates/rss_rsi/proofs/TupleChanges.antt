@@ -1,0 +1,284 @@
+-- What a call on one tuple changes.
+use Rattle.std.proofs.Common.{SFits, to_z, of_z, ◌≡◌, ◌≢◌, ◌⊎◌, inl, inr, ⊎_elim, ℕ, zero, suc, ◌+◌, ◌<◌, ◌≤◌, true, false, Bool, cond, ◌&&◌, ◌==◌, List, [], length, set, map, Option, Some, None, refl, sym, ◌∙◌, ap, subst, arith, rules, ext_get_or, length-set}
+use Rattle.std.specs.Prelude.{Result, Ok, Err, OnOk, IsSome, ℤ, sum_by, sum, count_by, is_some}
+use Rattle.std.specs.List.{range_with_len}
+use Rattle.std.specs.Int.{w64}
+use Rattle.std.proofs.lemmas.Int.{to_z-of_z}
+use Rattle.std.proofs.lemmas.Bool.{cases_Bool, cases_eq, cases_lt, cond-true, cond-false, ne_eqb}
+use Rattle.std.proofs.lemmas.List.{length-map, get_or-map, get_or-set_same, get_or-set_other}
+use Rattle.std.proofs.lemmas.List.Sums.{sum_by-cons, sum-map, get_or-le-sum_by}
+use Rattle.std.proofs.lemmas.List.FromFn.{length-map-range_with_len, get_or-map-range_with_len}
+use Rattle.rss_base.specs.DiskRule.{IsTold}
+use Rattle.rss_base.specs.PageMap.{page_count}
+use Rattle.rss_base.specs.Paged.{Mapped, Held, Backing, IsUnmappedAt, AreAmong, page_key, mapped_in, mapped_pages}
+use Rattle.rss_base.specs.Steps.{PagesView, AreCounted, Keys, no_page, pages_in, PassesOn, PagesStep, PagesCall}
+use Rattle.rss_base.specs.declared.fault.PageFault.{PageFault}
+use Rattle.rss_base.specs.declared.tid.Tid.{Tid}
+use Rattle.rss_base.specs.declared.key.PageKey.{PageKey}
+use Rattle.rss_base.specs.declared.key.Space.TheVariants.{Home, Overflow}
+use Rattle.rss_base.proofs.Steps.{among}
+use Rattle.rss_page.specs.Content.{Content, Empty, Here, Forward, body_length}
+use Rattle.rss_page.specs.Slotted.{bodies_room, HasRoom}
+use Rattle.rss_page.specs.Slotted.{body_bytes as bytes_in}
+use Rattle.rss_page.specs.Surveyed.{held_at}
+use Rattle.rss_page.proofs.Contents.{length-entries}
+use Rattle.rss_tuple.specs.Directory.{Entries, Bodies, contents_in, contents, homes, overflows, body_by, bodies_of, is_same_tid, with_body, tid_at}
+use Rattle.rss_tuple.specs.Finding.{IsFetched}
+use Rattle.rss_tuple.specs.TupleSteps.{TuplesCall, tuples_in, only_tuple, pages_for}
+use Rattle.rss_tuple.specs.Placing.{IsFree, TakesOnly, MayTake, home, overflow}
+use Rattle.rss_tuple.specs.Calls.{IsNoLonger, PutsTuple}
+use Rattle.rss_tuple.proofs.Seen.{high_empty}
+use Rattle.rss_tuple.proofs.Changes.{empty_absent, live_some, fits_unmapped}
+use Rattle.rss_tuple.proofs.Placed.{empty_there}
+use Rattle.rss_model.specs.Costs.{IsPageFor}
+use Rattle.rss_rsi.specs.Bodies.{int_body}
+use Rattle.rss_rsi.specs.Tuples.{size_of_body, bytes_at, heap_keys, ChangesTuple}
+
+-- ---- sums over a range of numbers
+
+pub range-le : (f g : ℕ → ℕ) (a n : ℕ) → ((j : ℕ) → f j ≤ g j) → sum_by f (range_with_len a n) ≤ sum_by g (range_with_len a n)
+range-le f g a zero less = omega arith
+range-le f g a (suc n) less =
+    omega (arith, range-le f g (a + 1) n less, less a, sum_by-cons f a (range_with_len (a + 1) n), sum_by-cons g a (range_with_len (a + 1) n))
+
+-- one number counts so many more
+range-more : (f g : ℕ → ℕ) (a n k more : ℕ) → a ≤ k → k < a + n → f k + more ≤ g k → ((j : ℕ) → j ≢ k → f j ≤ g j) → sum_by f (range_with_len a n) + more ≤ sum_by g (range_with_len a n)
+range-more f g a zero k more low high one others = absurd (omega arith)
+range-more f g a (suc n) k more low high one others =
+    let cons_f = sum_by-cons f a (range_with_len (a + 1) n) in
+    let cons_g = sum_by-cons g a (range_with_len (a + 1) n) in
+    elim (cases_eq a k) [
+      | inl here ↦
+          let at : f a + more ≤ g a = subst (λ (x : ℕ). f x + more ≤ g x) (sym here) one in
+          let rest : sum_by f (range_with_len (a + 1) n) ≤ sum_by g (range_with_len (a + 1) n) = behind f g (a + 1) n k (omega (arith, here)) others in
+          omega (arith, rest, at, cons_f, cons_g)
+      | inr apart ↦
+          let rest = range-more f g (a + 1) n k more (omega (arith, apart)) (omega arith) one others in
+          omega (arith, rest, others a apart, cons_f, cons_g)
+    ]
+  where
+    behind : (f g : ℕ → ℕ) (a n k : ℕ) → k < a → ((j : ℕ) → j ≢ k → f j ≤ g j) → sum_by f (range_with_len a n) ≤ sum_by g (range_with_len a n)
+    behind f g a zero k low others = omega arith
+    behind f g a (suc n) k low others =
+        omega (arith, behind f g (a + 1) n k (omega arith) others, others a (λ is. omega (arith, is)), sum_by-cons f a (range_with_len (a + 1) n), sum_by-cons g a (range_with_len (a + 1) n))
+
+-- either all of them pass, or there is one that doesn't
+all_or_one : (test : ℕ → Bool) (a n : ℕ) → ((k : ℕ) × (k < a + n) × (test k ≡ false)) ⊎ (count_by test (range_with_len a n) ≡ n)
+all_or_one test a zero = inr refl
+all_or_one test a (suc n) = elim (cases_Bool (test a)) [
+  | inl is ↦ elim (all_or_one test (a + 1) n) [
+    | inl one ↦ inl (one.0, omega (arith, one.1), one.2)
+    | inr all ↦ inr (omega (arith, all, ap {B = ℕ} (λ (b : Bool). cond b 1 0) is, sum_by-cons (λ (k : ℕ). cond (test k) 1 0) a (range_with_len (a + 1) n)))
+  ]
+  | inr not ↦ inl (a, omega arith, not)
+]
+
+-- ---- a page that isn't mapped
+
+-- where fewer pages are mapped than there are slots, some home page isn't
+pub some_unmapped : (slots : ℕ) (mapped : Mapped) → mapped_pages slots mapped < slots → (number : ℕ) × IsUnmappedAt slots mapped 1 Home number
+unfolding mapped_pages
+some_unmapped slots mapped few = elim (all_or_one (λ number. mapped (page_key 1 Home number)) 0 slots) [
+  | inl one ↦ (one.0, record { within = omega (arith, one.1); free = one.2 })
+  | inr all ↦ absurd (omega (arith, few, all, get_or-le-sum_by (mapped_in mapped Home slots) (range_with_len 1 8) 0 0 (omega arith)))
+]
+
+-- its identifiers are free
+pub free_there : (view : PagesView) (number : ℕ) → is_some (view.held (page_key 1 Home number)) ≡ view.mapped (page_key 1 Home number) → IsUnmappedAt view.slots view.mapped 1 Home number → IsFree (tuples_in view) 1 [] (tid_at number 0)
+free_there view number holds unmapped = record {
+  named = record { within = unmapped.within; low = omega arith; allowed = λ has. absurd (omega (arith, has.1)) };
+  absent = empty_absent (overflows view.held 1) (homes view.held 1 number 0) (empty_there view (page_key 1 Home number) 0 holds unmapped.free);
+}
+
+-- as many pages are spare where as many are mapped
+pub spare_kept : {asks writes : ℕ} {old new : PagesView} → PassesOn asks writes old new → new.mapped ≡ old.mapped → AreCounted old → AreCounted new → new.spare ≡ old.spare
+spare_kept {old = old} {new = new} passes mapped before after =
+    let pages : mapped_pages new.slots new.mapped ≡ mapped_pages old.slots old.mapped = (λ i. mapped_pages (passes.slots i) (mapped i)) in
+    let shadow : page_count new.backing.shadow ≡ page_count old.backing.shadow = ap (λ (b : Backing). page_count b.shadow) passes.backing in
+    omega (arith, before, after, pages, shadow, passes.slots)
+
+-- ---- a body that has no room at home
+
+-- the bodies of a page, by its slots
+by_slots : (held : List Content) → length held ≡ 128 → bytes_in held ≡ sum_by (λ slot. body_length (held_at held slot)) (range_with_len 0 128)
+by_slots held long =
+    let sizes : List ℕ = map (λ slot. body_length (held_at held slot)) (range_with_len 0 128) in
+    let count : length (map body_length held) ≡ 128 = omega (arith, length-map {A = Content} {B = ℕ} held body_length, long) in
+    let same : map body_length held ≡ map (λ slot. body_length (held_at held slot)) (range_with_len 0 128) =
+    ext_get_or 0 (map body_length held) (map (λ slot. body_length (held_at held slot)) (range_with_len 0 128)) (count ∙ sym (length-map-range_with_len (λ slot. body_length (held_at held slot)) 0 128))
+    (λ slot low.
+    get_or-map body_length held slot Empty 0 (omega (arith, low, count, long))
+    ∙ sym (get_or-map-range_with_len (λ slot. body_length (held_at held slot)) 0 128 slot slot 0 (omega (arith, low, count)) (omega arith)))
+    in
+    sym (sum-map body_length held) ∙ ap sum same ∙ sum-map (λ slot. body_length (held_at held slot)) (range_with_len 0 128)
+
+-- the tuple of an entry has its bytes at least
+entry_less : (entries : Entries) (content : Content) → body_length content ≤ size_of_body (body_by entries content)
+entry_less entries Empty = omega arith
+entry_less entries (Here body) = omega arith
+entry_less entries (Forward page slot) = omega arith
+
+contents_long : (page : Option (List ℕ)) → (length (contents_in page) ≡ 128) ⊎ (page ≡ None)
+contents_long None = inr refl
+contents_long (Some bytes) = inl (length-entries bytes)
+
+same_tid : (tid : Tid) → is_same_tid (tid_at tid.page tid.slot) tid ≡ true
+same_tid tid = search rules
+
+other_tid : (tid : Tid) (slot : ℕ) → slot ≢ tid.slot → is_same_tid (tid_at tid.page slot) tid ≡ false
+other_tid tid slot other = cond-right (tid.page == tid.page) (ne_eqb slot tid.slot other)
+  where
+    cond-right : (b : Bool) {c : Bool} → c ≡ false → (b && c) ≡ false
+    cond-right true is = is
+    cond-right false is = refl
+
+more_than : (a b c d : ℕ) → 3056 < a + d → a ≡ b → b + d ≤ c → 3056 < c
+more_than a b c d over same less = omega arith
+
+module _ (held : Held) (tid : Tid) (body : List ℕ) where
+  abbrev all : List Content
+  all = contents held (page_key 1 Home tid.page)
+
+  abbrev beside : List Content
+  beside = set all tid.slot Empty
+
+  abbrev was : ℕ → ℕ
+  was slot = body_length (held_at beside slot)
+
+  abbrev now : ℕ → ℕ
+  now slot = size_of_body (with_body (bodies_of held) 1 tid (Some body) 1 (tid_at tid.page slot))
+
+  here : tid.slot < 128 → length all ≡ 128 → was tid.slot + length body ≤ now tid.slot
+  here low long = omega (arith, ap body_length (get_or-set_same all tid.slot Empty Empty (omega (arith, low, long))), ap size_of_body (cond-true (is_same_tid (tid_at tid.page tid.slot) tid) (Some body) (bodies_of held 1 (tid_at tid.page tid.slot)) (same_tid tid)))
+
+  there : (slot : ℕ) → slot ≢ tid.slot → was slot ≤ now slot
+  there slot other = omega (arith, ap body_length (get_or-set_other all tid.slot slot Empty Empty other), entry_less (overflows held 1) (homes held 1 tid.page slot), ap size_of_body (cond-false (is_same_tid (tid_at tid.page slot) tid) (Some body) (bodies_of held 1 (tid_at tid.page slot)) (other_tid tid slot other)))
+
+  -- where a body has no room beside the others of its home page, all tuples with identifiers of that page have more bytes than it has room for
+  overfilled : tid.slot < 128 → length body ≤ 2400 → (HasRoom all tid.slot (length body) → ⊥) → bodies_room < bytes_at (with_body (bodies_of held) 1 tid (Some body)) tid.page
+  overfilled low few full = elim (contents_long (held (page_key 1 Home tid.page))) [
+    | inr none ↦ absurd (full (fits_unmapped held (page_key 1 Home tid.page) tid.slot (length body) none few))
+    | inl long ↦ elim (cases_lt 3056 (bytes_in beside + length body)) [
+      | inr room ↦ absurd (full room)
+      | inl over ↦
+          let each : sum_by was (range_with_len 0 128) + length body ≤ sum_by now (range_with_len 0 128) = range-more was now 0 128 tid.slot (length body) (omega arith) (omega (arith, low)) (here low long) (λ slot other. there slot other) in
+          let count : length beside ≡ 128 = omega (arith, long, length-set all tid.slot Empty) in
+          more_than _ _ _ (length body) over (by_slots beside count) each
+    ]
+  ]
+
+-- ---- a tuple that was put
+
+taken : {keys : Keys} {old new : PagesView} → TakesOnly keys old new → (key : PageKey) → new.mapped key ≡ true → old.mapped key ≡ false → keys key
+taken takes key is not = ⊎_elim (λ was. absurd (let never : true ≡ false = sym was ∙ not in cc)) (λ may. may) (takes.each key is)
+
+page_for : (tid : Tid) (key : PageKey) → pages_for 1 tid key → IsPageFor tid key
+page_for tid key (inl home_page) = inl (ap (λ (k : PageKey). k.space) home_page, ap (λ (k : PageKey). k.number) home_page)
+page_for tid key (inr over) = inr (ap (λ (k : PageKey). k.space) over)
+
+pub heap_key : (tid : Tid) (key : PageKey) → pages_for 1 tid key → heap_keys key
+heap_key tid key (inl home_page) = (ap (λ (k : PageKey). k.segment) home_page, inl (ap (λ (k : PageKey). k.space) home_page))
+heap_key tid key (inr over) = (ap (λ (k : PageKey). k.segment) over, inr (ap (λ (k : PageKey). k.space) over))
+
+pub home_key : (key : PageKey) → pages_in 1 Home key → heap_keys key
+home_key key is = (ap (λ (k : PageKey). k.segment) is, inl (ap (λ (k : PageKey). k.space) is))
+
+-- more pages may be touched by a call
+pub widens_keys : {T : Type 0} {touched more : Keys} {asks writes : ℕ} {old new : PagesView} {result : Result T PageFault} → ((key : PageKey) → touched key → more key) → PagesCall touched asks writes old new result → PagesCall more asks writes old new result
+widens_keys is call = record { step = among is call.step; failed = call.failed; sound = call.sound }
+
+changed_for : {asks writes : ℕ} (tid : Tid) {old new : PagesView} → PagesStep (pages_for 1 tid) asks writes old new → (key : PageKey) → new.changed key ≡ true → (old.changed key ≡ true) ⊎ IsPageFor tid key
+changed_for tid step key is = ⊎_elim (λ before. inl before) (λ touched. inr (page_for tid key touched)) (step.changed_off key is)
+
+overfills : (old : PagesView) (tid : Tid) (body : List ℕ) (key : PageKey) → tid.slot < 128 → length body ≤ 2400 → key.space ≡ Overflow → MayTake old 1 tid body key → bodies_room < bytes_at (with_body (bodies_of old.held) 1 tid (Some body)) tid.page
+overfills old tid body key low few space (home at none) = absurd (let both : Overflow ≡ Home = sym space ∙ ap (λ (k : PageKey). k.space) at in cc)
+overfills old tid body key low few space (overflow at full away none) = overfilled old.held tid body low few full
+
+-- an overflow page is taken only where the body is longer than the one before
+abbrev pub OnlyLonger : PagesView → PagesView → Tid → List ℕ → Type 0
+OnlyLonger old new tid body =
+    IsTold old.disk → (key : PageKey) → key.space ≡ Overflow → new.mapped key ≡ true → old.mapped key ≡ false → size_of_body (bodies_of old.held 1 tid) < length body
+
+pub changes_put : {T : Type 0} {cost : ℕ} {tid : Tid} {body : List ℕ} {old new : PagesView} (result : Result T PageFault) → (IsTold old.disk → tid.slot < 128) → length body ≤ 2400 → OnOk result (OnlyLonger old new tid body) → PutsTuple 1 tid body cost (tuples_in old) (tuples_in new) result → OnOk result (ChangesTuple tid (Some body) old new)
+changes_put (Err e) low few longer puts = tt
+changes_put {tid = tid} {body = body} {old = old} (Ok value) low few longer puts = record {
+  one = λ key other is not there none. taken puts.takes.one key is not ∙ sym (taken puts.takes.one other there none);
+  changed = changed_for tid puts.did.below.step;
+  sets = λ told. record {
+    bodies = puts.put told;
+    heaps = puts.did.heaps told;
+    over = λ key space is not.
+        subst (λ (b : Bodies). bodies_room < bytes_at b tid.page) (sym (puts.put told))
+        (overfills old tid body key (low told) few space (taken (puts.takes.may told) key is not));
+    grows = longer told;
+  };
+}
+
+-- no tuple stood there
+pub longer_new : (old new : PagesView) (tid : Tid) (body : List ℕ) → 1 ≤ length body → (IsTold old.disk → bodies_of old.held 1 tid ≡ None) → OnlyLonger old new tid body
+longer_new old new tid body some absent told key space is not = omega (arith, some, ap size_of_body (absent told))
+
+-- one stood there, and no page is taken where the body isn't longer
+pub longer_put : {T : Type 0} (old new : PagesView) (tid : Tid) (body : List ℕ) (result : Result T PageFault) → (IsTold old.disk → IsSome (bodies_of old.held 1 tid)) → OnOk result (IsTold old.disk → IsNoLonger (tuples_in old) 1 tid (length body) → TakesOnly no_page old new) → OnOk result (OnlyLonger old new tid body)
+longer_put old new tid body (Err e) live takes = tt
+longer_put old new tid body (Ok value) live takes = λ told key space is not. by told key is not (bodies_of old.held 1 tid) refl (live told)
+  where
+    by : IsTold old.disk → (key : PageKey) → new.mapped key ≡ true → old.mapped key ≡ false → (was : Option (List ℕ)) → bodies_of old.held 1 tid ≡ was → IsSome was → size_of_body was < length body
+    by told key is not None at some = absurd (cc)
+    by told key is not (Some bytes) at some = elim (cases_lt (length bytes) (length body)) [
+      | inl longer ↦ longer
+      | inr most ↦ absurd (taken (takes told (record { bytes = bytes; body = at; most = most })) key is not)
+    ]
+
+-- a tuple was taken away
+pub changes_removed : {T : Type 0} {cost : ℕ} {tid : Tid} {old new : PagesView} (result : Result T PageFault) → OnOk result (IsTold old.disk → bodies_of new.held ≡ with_body (bodies_of old.held) 1 tid None) → OnOk result (TakesOnly no_page old new) → TuplesCall (pages_for 1 tid) (only_tuple 1 tid) cost (tuples_in old) (tuples_in new) result → OnOk result (ChangesTuple tid None old new)
+changes_removed (Err e) gone takes did = tt
+changes_removed {tid = tid} (Ok value) gone takes did = record {
+  one = λ key other is not there none. absurd (taken takes key is not);
+  changed = changed_for tid did.below.step;
+  sets = λ told. record {
+    bodies = gone told;
+    heaps = did.heaps told;
+    over = λ key space is not. absurd (taken takes key is not);
+    grows = λ key space is not. absurd (taken takes key is not);
+  };
+}
+
+-- a look before it changed nothing
+pub changes_after : {tid : Tid} {now : Option (List ℕ)} {old mid new : PagesView} → (IsTold old.disk → IsTold mid.disk) → mid.mapped ≡ old.mapped → (IsTold old.disk → mid.held ≡ old.held) → AreAmong mid.changed old.changed → ChangesTuple tid now mid new → ChangesTuple tid now old new
+changes_after {tid = tid} {now = now} {old = old} {mid = mid} {new = new} told_mid mapped held among changes = record {
+  one = λ key other is not there none. changes.one key other is (at key not) there (at other none);
+  changed = λ key is. ⊎_elim (λ before. inl (among key before)) (λ may. inr may) (changes.changed key is);
+  sets = λ told.
+      let sets = changes.sets (told_mid told) in
+      record {
+        bodies = sets.bodies ∙ ap (λ (h : Held). with_body (bodies_of h) 1 tid now) (held told);
+        heaps = sets.heaps;
+        over = λ key space is not. sets.over key space is (at key not);
+        grows = λ key space is not. subst (λ (h : Held). size_of_body (bodies_of h 1 tid) < size_of_body now) (held told) (sets.grows key space is (at key not));
+      };
+}
+  where
+    at : (key : PageKey) → old.mapped key ≡ false → mid.mapped key ≡ false
+    at key not = ap (λ (m : Mapped). m key) mapped ∙ not
+
+-- a tuple stands at an identifier of one of the slots of a page
+pub live_low : (view : PagesView) (tid : Tid) → IsSome (bodies_of view.held 1 tid) → tid.slot < 128
+live_low view tid live = elim (cases_lt tid.slot 128) [
+  | inl low ↦ low
+  | inr high ↦ absurd (live_some (overflows view.held 1) (homes view.held 1 tid.page tid.slot) live (high_empty view.held (page_key 1 Home tid.page) tid.slot high))
+]
+
+-- ---- a body that is given or was found
+
+-- the body of a number that was passed
+pub body_is : (bytes : List ℕ) (z : ℤ) → SFits w64 z → bytes ≡ int_body (to_z w64 (of_z w64 z)) → bytes ≡ int_body z
+body_is bytes z fits is = is ∙ ap int_body (to_z-of_z w64 z fits)
+
+pub body_long : (bytes : List ℕ) (z : ℤ) → bytes ≡ int_body z → length bytes ≡ 9
+body_long bytes z is = ap (λ (l : List ℕ). length l) is
+
+-- the body that was read is that of the tuple
+pub fetched_body : (body : Option (List ℕ)) (live : Bool) (read : List ℕ) → IsFetched body live read → live ≡ true → body ≡ Some read
+fetched_body None live read is there = absurd (let never : false ≡ true = sym is ∙ there in cc)
+fetched_body (Some bytes) live read is there = ap Some (sym is.1)

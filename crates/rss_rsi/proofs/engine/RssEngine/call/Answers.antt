@@ -1,0 +1,49 @@
+use Rattle.std.proofs.Common.{inl, ◌∙◌, refl, arith}
+use Rattle.std.proofs.Math.Logic.{∥∥₁_elim, ∥∥₁_prop}
+use Rattle.rss_base.proofs.Moments.{started}
+use Rattle.rss_model.proofs.Endings.{comes_to, costs_nothing}
+use Rattle.rss_rsi.proofs.Engines.{ready_session}
+use Rattle.rss_rsi.proofs.Beginning.{begin_leads, begin_shows, begin_refused}
+use Rattle.rss_rsi.proofs.engine.RssEngine.call.Goals as goal
+
+pub returns-in-End-clause-done : goal.returns-in-End-clause-done
+returns-in-End-clause-done g c = rw c.in-End.is c.end.ensures
+
+pub returns-in-Insert-clause-done : goal.returns-in-Insert-clause-done
+returns-in-Insert-clause-done g c = rw c.in-Insert.is c.insert.ensures
+
+pub returns-in-Fetch-clause-done : goal.returns-in-Fetch-clause-done
+returns-in-Fetch-clause-done g c = rw c.in-Fetch.is c.fetch.ensures
+
+pub returns-in-Update-clause-done : goal.returns-in-Update-clause-done
+returns-in-Update-clause-done g c = rw c.in-Update.is c.update.ensures
+
+pub returns-in-Delete-clause-done : goal.returns-in-Delete-clause-done
+returns-in-Delete-clause-done g c = rw c.in-Delete.is c.delete.ensures
+
+pub invariant_of-self : goal.invariant_of-self
+invariant_of-self g c =
+    let store = c.args.self.now in
+    let begun = c.begin.ensures in
+    record {
+      ready = λ up. ready_session begun.same_heap begun.same_since (store.ready up);
+      size = begun.same_slots ∙ store.size;
+      shown = λ up told. ∥∥₁_elim (store.shown up told) ∥∥₁_prop (λ one. ∣ begin_shows _ one.shows c.begin.result begun.begins begun.refused ∣₁);
+    }
+
+pub returns-in_err-begin-in-Begin-clause-done : goal.returns-in_err-begin-in-Begin-clause-done
+returns-in_err-begin-in-Begin-clause-done g c =
+    let begun = c.in_err-begin-in-Begin.ensures in
+    rw c.in-Begin.is (begin_refused _ c.from_residual.ensures.1 c.if-self.false begun.same_slots begun.same_since begun.refused)
+
+pub returns-in_ok-begin-in-Begin-clause-done : goal.returns-in_ok-begin-in-Begin-clause-done
+returns-in_ok-begin-in-Begin-clause-done g c =
+    let store = c.args.self.now in
+    let begun = c.in_ok-begin-in-Begin.ensures in
+    rw c.in-Begin.is (comes_to c.if-self.false (costs_nothing _ refl refl begun.same_slots (λ told. told) (λ told. started _ _) (omega arith)) (record {
+      answered = λ told state shown. begin_leads shown begun.begins;
+      up = c.if-self.false;
+      short = begun.begins.short;
+      changed = λ key is. inl (is, tt);
+      since = begun.same_since;
+    }))

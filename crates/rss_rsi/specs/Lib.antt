@@ -1,0 +1,16 @@
+pub use Rattle.rss_base.specs.DiskRule
+pub use Rattle.rss_base.specs.Faults
+pub use Rattle.rss_base.specs.Layout
+pub use Rattle.rss_base.specs.PageMap
+pub use Rattle.rss_base.specs.Paged
+pub use Rattle.rss_base.specs.StoredPages
+pub use Rattle.rss_model.specs.Store
+pub mod Formatted
+pub mod Bodies
+pub mod Sessions
+pub mod Ready
+pub mod Tuples
+pub mod Lookups
+pub mod Opening
+pub mod Parts
+pub mod RsiLaws

@@ -1,0 +1,16 @@
+//! A store of one relation, whose tuples stand in the pages of a device: how it is made, opened and
+//! called.
+#![tactic(auto)]
+
+mod bodies;
+mod checking;
+mod checkpoint;
+mod engine;
+mod formatting;
+mod opening;
+mod session;
+mod tuples;
+
+pub use engine::Rss;
+pub use formatting::format;
+pub use opening::open;

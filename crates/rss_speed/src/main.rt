@@ -1,0 +1,171 @@
+//! How fast the engine's calls are, made in-process over a file: commits of one insert, inserts in
+//! transactions of a batch with their commits, and fetches. `examples/peers.sh` runs it beside other
+//! engines.
+#![tactic(auto)]
+
+use anyhow::{Result, bail, ensure};
+use rss_base::{Call, RELATION_R, Reply, Tid, Tuple, Value};
+use rss_device::FileDevice;
+use rss_model::Engine;
+use rss_rsi::{format, open};
+use std::alloc::Global;
+use std::env;
+use std::process::ExitCode;
+use std::time::{Clock, Duration, Instant};
+
+/// How large the store is.
+const SLOTS: u32 = 65_536;
+
+const LOG_PAGES: u32 = 8;
+
+/// How many fetches are made.
+const FETCHES: u32 = 1_000_000;
+
+/// What is to be done: how many commits of one insert, how many tuples in all, and how many inserts a
+/// transaction.
+#[derive(Clone, Copy)]
+struct Work {
+    commits: u32,
+    tuples: u32,
+    batch: u32,
+}
+
+fn begin<E: Engine>(engine: &mut E) -> Result<()> {
+    if let Err(error) = engine.call(&Call::Begin(1)) {
+        bail!("a begin was answered {error:?}");
+    }
+    Ok(())
+}
+
+fn end<E: Engine>(engine: &mut E) -> Result<()> {
+    if let Err(error) = engine.call(&Call::End(1)) {
+        bail!("an end was answered {error:?}");
+    }
+    Ok(())
+}
+
+fn insert<E: Engine>(engine: &mut E, alloc: Global, value: u32) -> Result<Tid> {
+    let tuple = Tuple::single(alloc, Value::Int(i64::from(value)))?;
+    match engine.call(&Call::Insert(1, RELATION_R, tuple)) {
+        Ok(Reply::Tid(tid)) => Ok(tid),
+        other => bail!("an insert was answered {other:?}"),
+    }
+}
+
+fn fetch<E: Engine>(engine: &mut E, tid: Tid) -> Result<i64> {
+    match engine.call(&Call::Fetch(1, RELATION_R, tid)) {
+        Ok(Reply::Tuple(tuple)) => match tuple.as_slice() {
+            [Value::Int(value)] => Ok(*value),
+            _ => bail!("a tuple of other fields"),
+        },
+        other => bail!("a fetch was answered {other:?}"),
+    }
+}
+
+/// Commits of one insert.
+fn commit_each<E: Engine>(
+    engine: &mut E,
+    alloc: Global,
+    work: Work,
+    tids: &mut Vec<Tid>,
+) -> Result<()> {
+    for value in 0..work.commits {
+        begin(engine)?;
+        tids.push(insert(engine, alloc, value)?)?;
+        end(engine)?;
+    }
+    Ok(())
+}
+
+/// Inserts in transactions of a batch.
+fn commit_batches<E: Engine>(
+    engine: &mut E,
+    alloc: Global,
+    work: Work,
+    tids: &mut Vec<Tid>,
+) -> Result<()> {
+    begin(engine)?;
+    for value in work.commits..work.tuples {
+        tids.push(insert(engine, alloc, value)?)?;
+        if (value + 1) % work.batch.max(1) == 0 {
+            end(engine)?;
+            begin(engine)?;
+        }
+    }
+    end(engine)
+}
+
+/// Fetches of tuples that are far apart.
+fn fetch_some<E: Engine>(engine: &mut E, tids: &[Tid]) -> Result<()> {
+    begin(engine)?;
+    let mut place = 0;
+    for _ in 0..FETCHES {
+        let Some(tid) = tids.get(place) else {
+            bail!("no tuples");
+        };
+        let _ = fetch(engine, *tid)?;
+        place = (place + 7919) % tids.len().max(1);
+    }
+    end(engine)
+}
+
+/// How many a second.
+fn rate(count: u32, time: Duration) -> u128 {
+    u128::from(count) * 1_000_000_000 / time.as_nanos().max(1)
+}
+
+/// Does the work over an engine, and prints how many commits, inserts and fetches a second it makes.
+fn measure<E: Engine>(rt: &HostRuntime, engine: &mut E, work: Work) -> Result<()> {
+    let alloc = rt.alloc();
+    let mut tids = Vec::new(alloc);
+    let start = Instant::now(rt)?;
+    commit_each(engine, alloc, work, &mut tids)?;
+    let committed = Instant::now(rt)?;
+    commit_batches(engine, alloc, work, &mut tids)?;
+    let inserted = Instant::now(rt)?;
+    fetch_some(engine, tids.as_slice())?;
+    let fetched = Instant::now(rt)?;
+    println!(rt;
+        "rss {} {} {}",
+        rate(work.commits, committed.duration_since(start)),
+        rate(
+            work.tuples.saturating_sub(work.commits),
+            inserted.duration_since(committed)
+        ),
+        rate(FETCHES, fetched.duration_since(inserted))
+    )?;
+    Ok(())
+}
+
+/// The file and the work that the words of the command line name.
+fn read_words(words: &[String]) -> Option<(&str, Work)> {
+    let [_, file, commits, tuples, batch] = words else {
+        return None;
+    };
+    let work = Work {
+        commits: commits.parse().ok()?,
+        tuples: tuples.parse().ok()?,
+        batch: batch.parse().ok()?,
+    };
+    (work.commits <= work.tuples).then_some((file.as_str(), work))
+}
+
+/// Makes the file a store, and does the work over it.
+fn run(rt: &HostRuntime, file: &str, work: Work) -> Result<()> {
+    let mut device = FileDevice::new(rt, file);
+    format(rt.alloc(), &mut device, SLOTS, LOG_PAGES)?;
+    let mut store = open(rt.alloc(), device).map_err(|unopened| unopened.fault)?;
+    let measured = measure(rt, &mut store, work);
+    let _ = store.into_pages().into_device();
+    measured
+}
+
+fn main(rt: HostRuntime) -> Result<ExitCode> {
+    let words: Vec<String> = env::args(&rt)?.collect(rt.alloc())?;
+    let Some((file, work)) = read_words(words.as_slice()) else {
+        eprintln!(&rt; "usage: rss_speed FILE COMMITS TUPLES BATCH")?;
+        return Ok(ExitCode::from(1));
+    };
+    run(&rt, file, work)?;
+    Ok(ExitCode::SUCCESS)
+}
