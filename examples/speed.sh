@@ -60,11 +60,28 @@ fetches() {
     }'
 }
 
+# So many changes of tuples in one transaction, of one kind or of each in turn, far apart among so many
+# tuples.
+changes() {
+    awk -v kind="$1" -v count="$2" -v among="$3" 'BEGIN {
+        print "begin 1"
+        for (k = 0; k < count; k++) {
+            place = k * 131 % among
+            tid = int(place / 128) "." place % 128
+            if (kind == "insert" || kind == "each" && k % 3 == 0) print "insert 1 r " k
+            else if (kind == "update" || kind == "each" && k % 3 == 1) print "update 1 r " tid " " k
+            else print "delete 1 r " tid
+        }
+    }'
+}
+
 # The same script for sqlite3.
 to_sql() {
     awk 'BEGIN { print "PRAGMA synchronous=FULL;\nSELECT count(*) FROM sqlite_master;" }
         /^begin/ { print "BEGIN;" }
         /^insert/ { print "INSERT INTO r VALUES(" $4 ");" }
+        /^update/ { split($4, tid, "."); print "UPDATE r SET v=" $5 " WHERE rowid=" tid[1] * 128 + tid[2] + 1 ";" }
+        /^delete/ { split($4, tid, "."); print "DELETE FROM r WHERE rowid=" tid[1] * 128 + tid[2] + 1 ";" }
         /^fetch/ { split($4, tid, "."); print "SELECT v FROM r WHERE rowid=" tid[1] * 128 + tid[2] + 1 ";" }
         /^end/ { print "COMMIT;" }' "$1.script" >"$1.sql"
 }
@@ -171,7 +188,7 @@ measure_all() {
         scripts=(nothing commits)
         case "$store" in
             "65536 0") scripts+=(open ended) ;;
-            "65536 1000000") scripts+=(one less near far) ;;
+            "65536 1000000") scripts+=(one less near far inserted updated deleted each) ;;
         esac
         measure_on "store.$slots.$tuples" "$slots.$tuples" run_store "${scripts[@]}"
         for mode in "${modes[@]}"; do
@@ -279,7 +296,11 @@ fetches 1000000 1 >one.script
 fetches 100000 1 >less.script
 fetches 200000 20000 >near.script
 fetches 200000 1000000 >far.script
-for script in nothing open ended commits one less near far; do to_sql "$script"; done
+changes insert 6000 1000000 >inserted.script
+changes update 6000 1000000 >updated.script
+changes delete 6000 1000000 >deleted.script
+changes each 6000 1000000 >each.script
+for script in nothing open ended commits one less near far inserted updated deleted each; do to_sql "$script"; done
 for store in "${stores[@]}"; do make_store ${store/ / }; done
 for mode in "${modes[@]}"; do
     for tuples in "${databases[@]}"; do make_database "$mode" "$tuples"; done
@@ -313,6 +334,10 @@ for store in "${stores[@]}"; do
     slots="${store% *}" tuples="${store#* }"
     rates "commits of one insert" "$commits" commits "$slots" "$tuples" "$(rate "$commits" commits "pages.$slots.$tuples")"
 done
+rates "inserts, 6,000 in one transaction, not ended" 6000 inserted 65536 1000000 "$lines"
+rates "updates, the same" 6000 updated 65536 1000000 "$lines"
+rates "deletes, the same" 6000 deleted 65536 1000000 "$lines"
+rates "each in turn, the same" 6000 each 65536 1000000 "$lines"
 rates "fetches of one tuple, 100,000" 100000 less 65536 1000000 "$lines"
 rates "fetches of one tuple, 1,000,000" 1000000 one 65536 1000000 "$lines"
 rates "fetches among 20,000 tuples" 200000 near 65536 1000000 "$lines"
