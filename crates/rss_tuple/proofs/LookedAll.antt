@@ -92,9 +92,9 @@ module _ (held : Held) (segment : ℕ) (is_good : List ℕ → Bool) (marks : Li
   seen_page number seen = seen_same (homes held segment) (overflows held segment) is_good marks (in_front number 128) seen (in_front (number + 1) 0) (front_next held segment number) (front_whole number)
 
 -- the tuples of the pages in front of the next one, and of that one
-pub shown_more : {V : Type 0} (saw : V → Rows → Type 0) (first old new : V) (held : Held) (segment from number : ℕ) → from ≤ number → ((p s : ℕ) → from ≤ p → p < number → homes held segment p s ≡ Empty) → Sees saw first old (tuples_of held segment from) → Sees saw old new (rows_on held segment number) → Sees saw first new (tuples_of held segment (number + 1))
-shown_more saw first old new held segment from number later none before last =
-    sees_as saw first new _ _ (sym (tuples_more held segment number)) (sees_then saw first old new _ _ (sees_as saw first old _ _ (sym (tuples_skip held segment from number later none)) before) last)
+module _ {V : Type 0} {is_good : V → List ℕ → Bool} {saw : V → Rows → Type 0} (held : Held) (segment from number : ℕ) (later : from ≤ number) (none : (p s : ℕ) → from ≤ p → p < number → homes held segment p s ≡ Empty) where
+  pub shown_all : {first old : V} → Sees is_good saw first old (tuples_of held segment from) → Sees is_good saw first old (tuples_of held segment number)
+  shown_all before = sees_as (sym (tuples_skip held segment from number later none)) before
 
-pub shown_all : {V : Type 0} (saw : V → Rows → Type 0) (first old : V) (held : Held) (segment from number : ℕ) → from ≤ number → ((p s : ℕ) → from ≤ p → p < number → homes held segment p s ≡ Empty) → Sees saw first old (tuples_of held segment from) → Sees saw first old (tuples_of held segment number)
-shown_all saw first old held segment from number later none before = sees_as saw first old _ _ (sym (tuples_skip held segment from number later none)) before
+  pub shown_more : {first old new : V} → Sees is_good saw first old (tuples_of held segment from) → Sees is_good saw old new (rows_on held segment number) → Sees is_good saw first new (tuples_of held segment (number + 1))
+  shown_more before last = sees_as (sym (tuples_more held segment number)) (sees_then (shown_all before) last)

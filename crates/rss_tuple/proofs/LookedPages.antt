@@ -33,28 +33,28 @@ noted_still segment number space key page old mid now names at looks told = subs
     subst (λ (n : Option ℕ). IsNoted key bytes n) (sym (ap (λ (notes : Noted). notes key) (all_notes looks.step))) (subst (λ (b : List ℕ). IsNoted key b (mid.notes key)) same at.noted))
 
 module _ (held now : Held) (segment number slot : ℕ) (content : Content) (same : now ≡ held) (here : homes held segment number slot ≡ content) where
-  -- one entry more was looked at
-  pub page_seen : (is_good : List ℕ → Bool) (marks marks_now : List ℕ) → AreSeen (homes held segment) (overflows held segment) is_good marks (in_front number slot) → MayHold (overflows now segment) marks is_good content → MarksGoal content marks marks_now
+  -- one entry more was looked at, by the same rule
+  pub page_seen : (is_good rule : List ℕ → Bool) (marks marks_now : List ℕ) → rule ≡ is_good → AreSeen (homes held segment) (overflows held segment) is_good marks (in_front number slot) → MayHold (overflows now segment) marks rule content → MarksGoal content marks marks_now
       → AreSeen (homes held segment) (overflows held segment) is_good marks_now (in_front number (slot + 1))
-  page_seen is_good marks marks_now seen holds goal = seen_more (homes held segment) (overflows held segment) is_good marks (in_front number slot) seen number slot marks_now (in_front number (slot + 1)) (front_more number slot) (front_within number slot) (front_here number slot)
-      (subst (λ (c : Content). MayHold (overflows held segment) marks is_good c) (sym here) (subst (λ (h : Held). MayHold (overflows h segment) marks is_good content) same holds))
+  page_seen is_good rule marks marks_now agrees seen holds goal = seen_more (homes held segment) (overflows held segment) is_good marks (in_front number slot) seen number slot marks_now (in_front number (slot + 1)) (front_more number slot) (front_within number slot) (front_here number slot)
+      (subst (λ (c : Content). MayHold (overflows held segment) marks is_good c) (sym here) (subst (λ (h : Held). MayHold (overflows h segment) marks is_good content) same (subst (λ (r : List ℕ → Bool). MayHold (overflows now segment) marks r content) agrees holds)))
       (subst (λ (c : Content). MarksGoal c marks marks_now) (sym here) goal)
 
   -- and its tuple was shown
-  pub page_shown : {V : Type 0} (saw : V → Rows → Type 0) (first old new : V) → Sees saw first old (flat_map (row_at held segment number) (range_with_len 0 slot)) → Sees saw old new (row_of (tid_at number slot) (body_by (overflows now segment) content))
-      → Sees saw first new (flat_map (row_at held segment number) (range_with_len 0 (slot + 1)))
-  page_shown saw first old new before last =
+  pub page_shown : {V : Type 0} {is_good : V → List ℕ → Bool} {saw : V → Rows → Type 0} {first old new : V} → Sees is_good saw first old (flat_map (row_at held segment number) (range_with_len 0 slot)) → Sees is_good saw old new (row_of (tid_at number slot) (body_by (overflows now segment) content))
+      → Sees is_good saw first new (flat_map (row_at held segment number) (range_with_len 0 (slot + 1)))
+  page_shown before last =
       let row : row_of (tid_at number slot) (body_by (overflows now segment) content) ≡ row_at held segment number slot =
       ap (λ (h : Held). row_of (tid_at number slot) (body_by (overflows h segment) content)) same ∙ ap (λ (c : Content). row_of (tid_at number slot) (body_by (overflows held segment) c)) (sym here) in
-      sees_as saw first new _ _ (sym (flat_more (row_at held segment number) slot)) (sees_then saw first old new _ _ before (sees_as saw old new _ _ row last))
+      sees_as (sym (flat_more (row_at held segment number) slot)) (sees_then before (sees_as row last))
 
   -- where all pages are sound, it may stand there
-  pub page_stands : (is_good : List ℕ → Bool) (marks : List ℕ) → AreSeen (homes held segment) (overflows held segment) is_good marks (in_front number slot) → IsSound held segment is_good → MayStand now segment marks is_good content
-  page_stands is_good marks seen sound = subst (λ (h : Held). MayStand h segment marks is_good content) (sym same) (subst (λ (c : Content). MayStand held segment marks is_good c) here (record {
+  pub page_stands : (is_good rule : List ℕ → Bool) (marks : List ℕ) → rule ≡ is_good → AreSeen (homes held segment) (overflows held segment) is_good marks (in_front number slot) → IsSound held segment is_good → MayStand now segment marks rule content
+  page_stands is_good rule marks agrees seen sound = subst (λ (r : List ℕ → Bool). MayStand now segment marks r content) (sym agrees) (subst (λ (h : Held). MayStand h segment marks is_good content) (sym same) (subst (λ (c : Content). MayStand held segment marks is_good c) here (record {
     slotted = λ page bytes is. (sound.formed (page_key segment Overflow page) bytes (refl, inr refl) is).formed.slotted;
     holds = may_hold (homes held segment) (overflows held segment) is_good marks (in_front number slot) seen number slot (front_off number slot) sound.linked (λ body is. sound.good (tid_at number slot) body is);
-  }))
+  })))
 
 -- all entries of a page were shown
-pub page_whole : {V : Type 0} (saw : V → Rows → Type 0) (old new : V) (held : Held) (segment number slot : ℕ) → slot ≡ 128 → Sees saw old new (flat_map (row_at held segment number) (range_with_len 0 slot)) → Sees saw old new (rows_on held segment number)
-page_whole saw old new held segment number slot all sees = subst (λ (n : ℕ). Sees saw old new (flat_map (row_at held segment number) (range_with_len 0 n))) all sees
+pub page_whole : {V : Type 0} {is_good : V → List ℕ → Bool} {saw : V → Rows → Type 0} {old new : V} (held : Held) (segment number slot : ℕ) → slot ≡ 128 → Sees is_good saw old new (flat_map (row_at held segment number) (range_with_len 0 slot)) → Sees is_good saw old new (rows_on held segment number)
+page_whole held segment number slot all sees = sees_as (ap (λ (n : ℕ). flat_map (row_at held segment number) (range_with_len 0 n)) all) sees

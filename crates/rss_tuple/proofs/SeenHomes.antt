@@ -192,11 +192,15 @@ tuples_more held segment page = flat_more (rows_on held segment) page
 
 -- ---- what a visitor saw
 
-pub sees_none : {V : Type 0} (saw : V → Rows → Type 0) (visitor : V) → Sees saw visitor visitor []
-sees_none saw visitor rows was = subst (saw visitor) (sym (append-nil rows)) was
+module _ {V : Type 0} {is_good : V → List ℕ → Bool} {saw : V → Rows → Type 0} where
+  pub sees_none : (visitor : V) → Sees is_good saw visitor visitor []
+  sees_none visitor = record { rule = refl; rows = λ rows was. subst (saw visitor) (sym (append-nil rows)) was }
 
-pub sees_then : {V : Type 0} (saw : V → Rows → Type 0) (old mid new : V) (first second : Rows) → Sees saw old mid first → Sees saw mid new second → Sees saw old new (first ++ second)
-sees_then saw old mid new first second one two rows was = subst (saw new) (append_assoc rows first second) (two (rows ++ first) (one rows was))
+  pub sees_then : {old mid new : V} {first second : Rows} → Sees is_good saw old mid first → Sees is_good saw mid new second → Sees is_good saw old new (first ++ second)
+  sees_then {new = new} {first = first} {second = second} one two = record {
+    rule = two.rule ∙ one.rule;
+    rows = λ rows was. subst (saw new) (append_assoc rows first second) (two.rows (rows ++ first) (one.rows rows was));
+  }
 
-pub sees_as : {V : Type 0} (saw : V → Rows → Type 0) (old new : V) (first second : Rows) → first ≡ second → Sees saw old new first → Sees saw old new second
-sees_as saw old new first second same sees = subst (Sees saw old new) same sees
+  pub sees_as : {old new : V} {first second : Rows} → first ≡ second → Sees is_good saw old new first → Sees is_good saw old new second
+  sees_as {old = old} {new = new} same sees = subst (Sees is_good saw old new) same sees

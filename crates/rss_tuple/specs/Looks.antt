@@ -35,9 +35,11 @@ pub record NamesDamage (fault : PageFault) : Type 0 where
   pub is : fault ≡ Damaged place
   pub elsewhere : place ≡ Room → ⊥
 
--- the visitor saw these tuples, behind those that it had seen before
-abbrev pub Sees : {V : Type 0} → (V → Rows → Type 0) → V → V → Rows → Type 0
-Sees saw old new more = (rows : Rows) → saw old rows → saw new (rows ++ more)
+-- The visitor saw these tuples, behind those that it had seen before, and its rule is the same.
+pub record Sees {V : Type 0} (is_good : V → List ℕ → Bool) (saw : V → Rows → Type 0)
+    (old new : V) (more : Rows) : Type 0 where
+  pub rule : is_good new ≡ is_good old
+  pub rows : (rows : Rows) → saw old rows → saw new (rows ++ more)
 
 -- ---- a page by itself
 

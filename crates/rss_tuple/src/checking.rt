@@ -29,14 +29,15 @@ use std::alloc::Global;
 /// What sees each tuple of a segment once, in the order of their identifiers.
 pub trait Visitor {
     /// Which bodies may stand there.
-    ghost is_good: { List ℕ → Bool };
+    ghost is_good: { Self → List ℕ → Bool };
 
     /// It has seen these tuples, the first one first.
     ghost saw: { Self → Rows → Type 0 };
 
     /// Sees a tuple, and tells whether the body may stand there.
     fn see(&mut self, tid: Tid, body: &[u8]) -> bool
-        ensures good { result ≡ is_good body.now }
+        ensures good { result ≡ is_good self.old body.now }
+        ensures same { is_good self.new ≡ is_good self.old }
         ensures saw { (rows : Rows) → saw self.old rows
             → saw self.new (rows ++ (tid, body.now) ∷ []) };
 }
@@ -54,16 +55,15 @@ pub fn check<P: Pages, V: Visitor>(
 ) -> Result<(), PageFault>
     requires segment { IsSegment segment }
     ensures sound { OnOk result (IsTold (P.view pages.old).disk
-        → IsSound (P.view pages.old).held segment V.is_good) }
+        → IsSound (P.view pages.old).held segment (V.is_good visitor.old)) }
     ensures saw { OnOk result (IsTold (P.view pages.old).disk
-        → (rows : Rows) → V.saw visitor.old rows
-        → V.saw visitor.new (rows ++ tuples_of (P.view pages.old).held segment
+        → Sees V.is_good V.saw visitor.old visitor.new (tuples_of (P.view pages.old).held segment
         (P.view pages.old).slots)) }
     ensures noted { OnOk result (IsTold (P.view pages.old).disk
         → AreNoted segment (P.view pages.new)) }
     ensures flawed { (place : AnyPlace) → result ≡ Err (PageDamaged place)
         → IsTold (P.view pages.old).disk
-        → IsSound (P.view pages.old).held segment V.is_good → ⊥ }
+        → IsSound (P.view pages.old).held segment (V.is_good visitor.old) → ⊥ }
     ensures elsewhere { IsErrOf result (PageDamaged Room) → ⊥ }
     ensures did { ChecksPages (pages_of segment) (130 * (P.view pages.old).slots)
         (P.view pages.old) (P.view pages.new) result }
@@ -90,12 +90,12 @@ fn look_at_homes<P: Pages, V: Visitor>(
         → IsNotedAt (P.view pages.old).held (P.view pages.new) (page_key segment Home number)) }
     ensures seen { OnOk result (IsTold (P.view pages.old).disk
         → AreSeen (homes (P.view pages.old).held segment) (overflows (P.view pages.old).held segment)
-        V.is_good led.new (in_front (P.view pages.old).slots 0)) }
+        (V.is_good visitor.old) led.new (in_front (P.view pages.old).slots 0)) }
     ensures saw { OnOk result (IsTold (P.view pages.old).disk
-        → Sees V.saw visitor.old visitor.new (tuples_of (P.view pages.old).held segment
+        → Sees V.is_good V.saw visitor.old visitor.new (tuples_of (P.view pages.old).held segment
         (P.view pages.old).slots)) }
     ensures size { OnOk result (length led.new ≡ (P.view pages.old).slots) }
-    ensures did { LooksCall (IsSound (P.view pages.old).held segment V.is_good)
+    ensures did { LooksCall (IsSound (P.view pages.old).held segment (V.is_good visitor.old))
         (pages_in segment Home) (129 * (P.view pages.old).slots)
         (P.view pages.old) (P.view pages.new) result }
 {
@@ -121,16 +121,17 @@ fn look_at_home<P: Pages, V: Visitor>(
     requires size { length led.old ≡ (P.view pages.old).slots }
     requires seen { IsTold (P.view pages.old).disk
         → AreSeen (homes (P.view pages.old).held segment) (overflows (P.view pages.old).held segment)
-        V.is_good led.old (in_front number 0) }
+        (V.is_good visitor.old) led.old (in_front number 0) }
     ensures formed { OnOk result (IsTold (P.view pages.old).disk
         → IsNotedAt (P.view pages.old).held (P.view pages.new) (page_key segment Home number)) }
     ensures seen { OnOk result (IsTold (P.view pages.old).disk
         → AreSeen (homes (P.view pages.old).held segment) (overflows (P.view pages.old).held segment)
-        V.is_good led.new (in_front number page_entries)) }
+        (V.is_good visitor.old) led.new (in_front number page_entries)) }
     ensures saw { OnOk result (IsTold (P.view pages.old).disk
-        → Sees V.saw visitor.old visitor.new (rows_on (P.view pages.old).held segment number)) }
+        → Sees V.is_good V.saw visitor.old visitor.new
+        (rows_on (P.view pages.old).held segment number)) }
     ensures size { OnOk result (length led.new ≡ (P.view pages.old).slots) }
-    ensures did { LooksCall (IsSound (P.view pages.old).held segment V.is_good)
+    ensures did { LooksCall (IsSound (P.view pages.old).held segment (V.is_good visitor.old))
         (only (page_key segment Home number)) 129 (P.view pages.old) (P.view pages.new) result }
 {
     let mut page = [0u8; PAGE_BYTES];
@@ -158,14 +159,14 @@ fn look_in<P: Pages, V: Visitor>(
     requires slotted { IsSlotted page.now }
     requires size { length led.old ≡ (P.view pages.old).slots }
     ensures holds { OnOk result (IsTold (P.view pages.old).disk
-        → MayHold (overflows (P.view pages.old).held segment) led.old V.is_good
+        → MayHold (overflows (P.view pages.old).held segment) led.old (V.is_good visitor.old)
         (held_at (entries page.now) tid.slot)) }
     ensures saw { OnOk result (IsTold (P.view pages.old).disk
-        → Sees V.saw visitor.old visitor.new (row_of tid
+        → Sees V.is_good V.saw visitor.old visitor.new (row_of tid
         (body_by (overflows (P.view pages.old).held segment) (held_at (entries page.now) tid.slot)))) }
     ensures marks { OnOk result (MarksGoal (held_at (entries page.now) tid.slot) led.old led.new) }
-    ensures did { LooksCall (MayStand (P.view pages.old).held segment led.old V.is_good
-        (held_at (entries page.now) tid.slot)) no_page 1
+    ensures did { LooksCall (MayStand (P.view pages.old).held segment led.old
+        (V.is_good visitor.old) (held_at (entries page.now) tid.slot)) no_page 1
         (P.view pages.old) (P.view pages.new) result }
 {
     match entry(page, tid.slot as u8) {
@@ -193,14 +194,15 @@ fn follow<P: Pages, V: Visitor>(
     requires slot { to.slot < page_entries }
     requires size { length led.old ≡ (P.view pages.old).slots }
     ensures holds { OnOk result (IsTold (P.view pages.old).disk
-        → MayHold (overflows (P.view pages.old).held segment) led.old V.is_good
+        → MayHold (overflows (P.view pages.old).held segment) led.old (V.is_good visitor.old)
         (Forward to.page to.slot)) }
     ensures saw { OnOk result (IsTold (P.view pages.old).disk
-        → Sees V.saw visitor.old visitor.new (row_of tid
+        → Sees V.is_good V.saw visitor.old visitor.new (row_of tid
         (body_in (overflows (P.view pages.old).held segment to.page to.slot)))) }
     ensures marks { OnOk result (MarksGoal (Forward to.page to.slot) led.old led.new) }
-    ensures did { LooksCall (MayStand (P.view pages.old).held segment led.old V.is_good
-        (Forward to.page to.slot)) no_page 1 (P.view pages.old) (P.view pages.new) result }
+    ensures did { LooksCall (MayStand (P.view pages.old).held segment led.old
+        (V.is_good visitor.old) (Forward to.page to.slot)) no_page 1
+        (P.view pages.old) (P.view pages.new) result }
 {
     let key = overflow(segment, to.page);
     if !pages.has(key) {
@@ -222,11 +224,12 @@ fn show_moved<V: Visitor>(
     visitor: &mut V,
 ) -> Result<(), PageFault>
     requires slot { to.slot < page_entries }
-    ensures good { OnOk result (HasGood V.is_good (held_at (entries page.now) to.slot)) }
-    ensures saw { OnOk result (Sees V.saw visitor.old visitor.new (row_of tid
+    ensures good { OnOk result (HasGood (V.is_good visitor.old)
+        (held_at (entries page.now) to.slot)) }
+    ensures saw { OnOk result (Sees V.is_good V.saw visitor.old visitor.new (row_of tid
         (body_in (held_at (entries page.now) to.slot)))) }
     ensures flawed { OnErr result (IsSlotted page.now
-        → HasGood V.is_good (held_at (entries page.now) to.slot) → ⊥) }
+        → HasGood (V.is_good visitor.old) (held_at (entries page.now) to.slot) → ⊥) }
     ensures names { IfErr result NamesDamage }
 {
     match checked_entry(page, to.slot as u8) {
@@ -240,9 +243,10 @@ fn show_moved<V: Visitor>(
 
 /// Shows the visitor a body.
 fn show<V: Visitor>(segment: u8, tid: Tid, body: &[u8], visitor: &mut V) -> Result<(), PageFault>
-    ensures good { OnOk result (HasGood V.is_good (Here body.now)) }
-    ensures saw { OnOk result (Sees V.saw visitor.old visitor.new (row_of tid (Some body.now))) }
-    ensures flawed { OnErr result (V.is_good body.now ≡ false) }
+    ensures good { OnOk result (HasGood (V.is_good visitor.old) (Here body.now)) }
+    ensures saw { OnOk result (Sees V.is_good V.saw visitor.old visitor.new
+        (row_of tid (Some body.now))) }
+    ensures flawed { OnErr result (V.is_good visitor.old body.now ≡ false) }
     ensures names { IfErr result NamesDamage }
 {
     if visitor.see(tid, body) {

@@ -21,13 +21,13 @@ told_mid : (g : _) (c : After-look_at_overflows g) → IsTold (g.P.Pages.view c.
 told_mid g c told = c.in_ok-look_at_homes.ensures.did.looks.step.passes.leaves.told.0 told
 
 -- both looks as one
-both : (g : _) (c : After-look_at_overflows g) → LooksCall (IsSound (g.P.Pages.view c.args.pages.now).held c.args.segment g.V.Visitor.is_good) (pages_of c.args.segment) (129 * (g.P.Pages.view c.args.pages.now).slots + (g.P.Pages.view c.look_at_homes.new.pages).slots) (g.P.Pages.view c.args.pages.now) (g.P.Pages.view c.look_at_overflows.new.pages) c.look_at_overflows.result
+both : (g : _) (c : After-look_at_overflows g) → LooksCall (IsSound (g.P.Pages.view c.args.pages.now).held c.args.segment (g.V.Visitor.is_good c.args.visitor.now)) (pages_of c.args.segment) (129 * (g.P.Pages.view c.args.pages.now).slots + (g.P.Pages.view c.look_at_homes.new.pages).slots) (g.P.Pages.view c.args.pages.now) (g.P.Pages.view c.look_at_overflows.new.pages) c.look_at_overflows.result
 both g c =
     let old = g.P.Pages.view c.args.pages.now in
     let homes = c.in_ok-look_at_homes.ensures in
     looks_call (looks_within (in_home c.args.segment) (omega arith) homes.did.looks) (λ told sound.
     subst (λ (h : Held). AreSoundOverflows h c.args.segment c.as_slice.result.now) (sym (homes.did.looks.held told))
-    (subst (AreSoundOverflows old.held c.args.segment) (sym (same_marks g c)) (sound_overflows old c.args.segment g.V.Visitor.is_good c.look_at_homes.new.led (g.met.P.Pages.holds c.args.pages.now told) (g.met.P.Pages.allowed c.args.pages.now) (homes.seen told) sound)))
+    (subst (AreSoundOverflows old.held c.args.segment) (sym (same_marks g c)) (sound_overflows old c.args.segment (g.V.Visitor.is_good c.args.visitor.now) c.look_at_homes.new.led (g.met.P.Pages.holds c.args.pages.now told) (g.met.P.Pages.allowed c.args.pages.now) (homes.seen told) sound)))
     (looks_wider (in_overflow c.args.segment) (omega arith) (λ told sound. sound) c.look_at_overflows.ensures.did)
 
 -- the pages are formed and noted
@@ -42,7 +42,7 @@ returns-clause-sound g c = on_ok_two c.look_at_overflows.result (λ overflows le
     let homes = c.in_ok-look_at_homes.ensures in
     let at = (goal.at.returns-clause-sound g c).After-look_at_overflows in
     let marked = subst (λ (h : Held). AreAllMarked h c.args.segment c.look_at_homes.new.led) (homes.did.looks.held told) (subst (AreAllMarked (g.P.Pages.view c.look_at_homes.new.pages).held c.args.segment) (same_marks g at) (led (told_mid g at told))) in
-    all_sound old c.args.segment g.V.Visitor.is_good c.look_at_homes.new.led (g.met.P.Pages.holds c.args.pages.now told) (g.met.P.Pages.allowed c.args.pages.now) (homes.seen told) marked (λ key bytes of is. without_note key bytes _ (noted g at told (overflows (told_mid g at told)) key bytes of is).heap))
+    all_sound old c.args.segment (g.V.Visitor.is_good c.args.visitor.now) c.look_at_homes.new.led (g.met.P.Pages.holds c.args.pages.now told) (g.met.P.Pages.allowed c.args.pages.now) (homes.seen told) marked (λ key bytes of is. without_note key bytes _ (noted g at told (overflows (told_mid g at told)) key bytes of is).heap))
     c.look_at_overflows.ensures.formed c.look_at_overflows.ensures.led
 
 pub returns-clause-saw : goal.returns-clause-saw

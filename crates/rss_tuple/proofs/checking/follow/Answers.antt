@@ -29,13 +29,13 @@ pub returns-then-not-has-clause-did : goal.returns-then-not-has-clause-did
 returns-then-not-has-clause-did g c = looks_damaged c.damaged.result (names_page c.damaged.result c.home.result c.damaged.ensures) (looks_none _) (λ told sound.
     let old = g.P.Pages.view c.args.pages.now in
     let unmapped : old.mapped (page_key c.args.segment Overflow c.args.to.page) ≡ false = ap (λ (key : PageKey). old.mapped key) (sym c.overflow-key.ensures) ∙ search rules in
-    leads_somewhere old.held c.args.segment c.args.led.now g.V.Visitor.is_good c.args.to.page c.args.to.slot sound (g.met.P.Pages.holds c.args.pages.now told (page_key c.args.segment Overflow c.args.to.page) ∙ unmapped))
+    leads_somewhere old.held c.args.segment c.args.led.now (g.V.Visitor.is_good c.args.visitor.now) c.args.to.page c.args.to.slot sound (g.met.P.Pages.holds c.args.pages.now told (page_key c.args.segment Overflow c.args.to.page) ∙ unmapped))
 
 pub returns-clause-holds : goal.returns-clause-holds
-returns-clause-holds g c = on_ok_then c.show_moved.result (λ has told. holds_moved (overflows (g.P.Pages.view c.args.pages.now).held c.args.segment) c.args.led.now g.V.Visitor.is_good c.args.to.page c.args.to.slot _ (entry_there g c told) (c.mark.ensures.fresh.0 (search rules)) has) c.show_moved.ensures.good
+returns-clause-holds g c = on_ok_then c.show_moved.result (λ has told. holds_moved (overflows (g.P.Pages.view c.args.pages.now).held c.args.segment) c.args.led.now (g.V.Visitor.is_good c.args.visitor.now) c.args.to.page c.args.to.slot _ (entry_there g c told) (c.mark.ensures.fresh.0 (search rules)) has) c.show_moved.ensures.good
 
 pub returns-clause-saw : goal.returns-clause-saw
-returns-clause-saw g c = on_ok_then c.show_moved.result (λ saw told. subst (λ (content : Content). Sees g.V.Visitor.saw c.args.visitor.now c.show_moved.new.visitor (row_of c.args.tid (body_in content))) (sym (entry_there g c told)) saw) c.show_moved.ensures.saw
+returns-clause-saw g c = on_ok_then c.show_moved.result (λ saw told. subst (λ (content : Content). Sees g.V.Visitor.is_good g.V.Visitor.saw c.args.visitor.now c.show_moved.new.visitor (row_of c.args.tid (body_in content))) (sym (entry_there g c told)) saw) c.show_moved.ensures.saw
 
 pub returns-clause-did : goal.returns-clause-did
-returns-clause-did g c = looks_ends c.show_moved.result c.show_moved.ensures.names (on_err_weaker c.show_moved.result (λ never told sound. never (sound.slotted c.args.to.page _ (page_there g c told)) (leads_to_good (g.P.Pages.view c.args.pages.now).held c.args.segment c.args.led.now g.V.Visitor.is_good c.args.to.page c.args.to.slot sound _ (entry_there g c told))) c.show_moved.ensures.flawed) c.in_ok-bring.ensures.did.looks
+returns-clause-did g c = looks_ends c.show_moved.result c.show_moved.ensures.names (on_err_weaker c.show_moved.result (λ never told sound. never (sound.slotted c.args.to.page _ (page_there g c told)) (leads_to_good (g.P.Pages.view c.args.pages.now).held c.args.segment c.args.led.now (g.V.Visitor.is_good c.args.visitor.now) c.args.to.page c.args.to.slot sound _ (entry_there g c told))) c.show_moved.ensures.flawed) c.in_ok-bring.ensures.did.looks

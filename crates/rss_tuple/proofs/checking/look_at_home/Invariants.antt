@@ -12,6 +12,6 @@ abbrev pub invariant-loop-slot : goal.invariant-loop-slot
 invariant-loop-slot g l = record {
   looks : LooksStep no_page l.slot (g.P.Pages.view l.initial.pages) (g.P.Pages.view l.pages);
   size : length l.led ≡ (g.P.Pages.view l.initial.pages).slots;
-  seen : IsTold (g.P.Pages.view l.fn.pages).disk → AreSeen (homes (g.P.Pages.view l.fn.pages).held l.segment) (overflows (g.P.Pages.view l.fn.pages).held l.segment) g.V.Visitor.is_good l.led (in_front l.number l.slot);
-  shown : IsTold (g.P.Pages.view l.fn.pages).disk → Sees g.V.Visitor.saw l.fn.visitor l.visitor (flat_map (row_at (g.P.Pages.view l.fn.pages).held l.segment l.number) (range_with_len 0 l.slot));
+  seen : IsTold (g.P.Pages.view l.fn.pages).disk → AreSeen (homes (g.P.Pages.view l.fn.pages).held l.segment) (overflows (g.P.Pages.view l.fn.pages).held l.segment) (g.V.Visitor.is_good l.fn.visitor) l.led (in_front l.number l.slot);
+  shown : IsTold (g.P.Pages.view l.fn.pages).disk → Sees g.V.Visitor.is_good g.V.Visitor.saw l.fn.visitor l.visitor (flat_map (row_at (g.P.Pages.view l.fn.pages).held l.segment l.number) (range_with_len 0 l.slot));
 }

@@ -1,4 +1,4 @@
-use Rattle.std.proofs.Common.{◌≡◌, ◌<◌, ◌≤◌, ℕ, refl, sym, ◌∙◌, subst, arith}
+use Rattle.std.proofs.Common.{◌≡◌, ◌<◌, ◌≤◌, ℕ, Bool, List, refl, sym, ◌∙◌, subst, arith}
 use Rattle.rss_base.specs.DiskRule.{IsTold}
 use Rattle.rss_base.specs.Paged.{Held, page_key}
 use Rattle.rss_base.specs.declared.key.Space.TheVariants.{Home}
@@ -27,8 +27,9 @@ pub look_at_home-requires-clause-seen : goal.look_at_home-requires-clause-seen
 look_at_home-requires-clause-seen g c = λ now.
     let so = c.loop-number.invariant in
     let told = so.looks.step.passes.leaves.told.1 now in
-    subst (λ (h : Held). AreSeen (homes h c.args.segment) (overflows h c.args.segment) g.V.Visitor.is_good c.loop-number.led (in_front c.in-Some.number 0)) (sym (so.looks.held told))
-    (seen_up_to (g.P.Pages.view c.args.pages.now).held c.args.segment g.V.Visitor.is_good c.loop-number.led c.loop-number.from c.in-Some.number c.in-Some.ensures.some.later (empty g (goal.at.look_at_home-requires-clause-seen g c).In-Some told) (so.seen told))
+    subst (λ (r : List ℕ → Bool). AreSeen (homes (g.P.Pages.view c.loop-number.pages).held c.args.segment) (overflows (g.P.Pages.view c.loop-number.pages).held c.args.segment) r c.loop-number.led (in_front c.in-Some.number 0)) (sym (so.shown told).rule)
+    (subst (λ (h : Held). AreSeen (homes h c.args.segment) (overflows h c.args.segment) (g.V.Visitor.is_good c.args.visitor.now) c.loop-number.led (in_front c.in-Some.number 0)) (sym (so.looks.held told))
+    (seen_up_to (g.P.Pages.view c.args.pages.now).held c.args.segment (g.V.Visitor.is_good c.args.visitor.now) c.loop-number.led c.loop-number.from c.in-Some.number c.in-Some.ensures.some.later (empty g (goal.at.look_at_home-requires-clause-seen g c).In-Some told) (so.seen told)))
 
 pub returns-in_err-look_at_home-clause-did : goal.returns-in_err-look_at_home-clause-did
 returns-in_err-look_at_home-clause-did g c =
@@ -36,7 +37,7 @@ returns-in_err-look_at_home-clause-did g c =
     let below = low g (goal.at.returns-in_err-look_at_home-clause-did g c).In-Some in
     let later = c.in-Some.ensures.some.later in
     looks_fails _ c.from_residual.ensures.1 (looks_wider (λ key is. is) (omega arith) (λ told sound. sound)
-    (looks_call {asks_then = 129} so.looks (λ told sound. subst (λ (h : Held). IsSound h c.args.segment g.V.Visitor.is_good) (sym (so.looks.held told)) sound)
+    (looks_call {asks_then = 129} so.looks (λ told sound. subst (IsSound (g.P.Pages.view c.loop-number.pages).held c.args.segment) (sym (so.shown told).rule) (subst (λ (h : Held). IsSound h c.args.segment (g.V.Visitor.is_good c.args.visitor.now)) (sym (so.looks.held told)) sound))
     (looks_wider (is_in (page_key c.args.segment Home c.in-Some.number) refl) (omega arith) (λ told sound. sound) c.in_err-look_at_home.ensures.did)))
 
 pub loop-number-preserved : goal.loop-number-preserved
@@ -50,9 +51,10 @@ loop-number-preserved g c =
       size = last.size ∙ so.looks.step.passes.slots;
       looks = looked_more 129 c.args.segment Home c.loop-number.from c.in-Some.number first.later so.looks last.did.looks;
       formed = λ told. noted_more c.args.segment Home c.loop-number.from c.in-Some.number so.looks (λ told key. g.met.P.Pages.holds c.args.pages.now told key) first.none_before first.later told last.did.looks (so.formed told) last.formed;
-      seen = λ told. seen_page (g.P.Pages.view c.args.pages.now).held c.args.segment g.V.Visitor.is_good c.look_at_home.new.led c.in-Some.number (subst (λ (h : Held). AreSeen (homes h c.args.segment) (overflows h c.args.segment) g.V.Visitor.is_good c.look_at_home.new.led (in_front c.in-Some.number 128)) (so.looks.held told) (last.seen (so.looks.step.passes.leaves.told.0 told)));
-      shown = λ told. shown_more g.V.Visitor.saw c.args.visitor.now c.loop-number.visitor c.look_at_home.new.visitor (g.P.Pages.view c.args.pages.now).held c.args.segment c.loop-number.from c.in-Some.number first.later (empty g at told) (so.shown told)
-          (subst (λ (h : Held). Sees g.V.Visitor.saw c.loop-number.visitor c.look_at_home.new.visitor (rows_on h c.args.segment c.in-Some.number)) (so.looks.held told) (last.saw (so.looks.step.passes.leaves.told.0 told)));
+      seen = λ told. seen_page (g.P.Pages.view c.args.pages.now).held c.args.segment (g.V.Visitor.is_good c.args.visitor.now) c.look_at_home.new.led c.in-Some.number (subst (λ (h : Held). AreSeen (homes h c.args.segment) (overflows h c.args.segment) (g.V.Visitor.is_good c.args.visitor.now) c.look_at_home.new.led (in_front c.in-Some.number 128)) (so.looks.held told)
+          (subst (λ (r : List ℕ → Bool). AreSeen (homes (g.P.Pages.view c.loop-number.pages).held c.args.segment) (overflows (g.P.Pages.view c.loop-number.pages).held c.args.segment) r c.look_at_home.new.led (in_front c.in-Some.number 128)) (so.shown told).rule (last.seen (so.looks.step.passes.leaves.told.0 told))));
+      shown = λ told. shown_more (g.P.Pages.view c.args.pages.now).held c.args.segment c.loop-number.from c.in-Some.number first.later (empty g at told) (so.shown told)
+          (subst (λ (h : Held). Sees g.V.Visitor.is_good g.V.Visitor.saw c.loop-number.visitor c.look_at_home.new.visitor (rows_on h c.args.segment c.in-Some.number)) (so.looks.held told) (last.saw (so.looks.step.passes.leaves.told.0 told)));
     }
 
 pub returns-clause-formed : goal.returns-clause-formed
@@ -62,12 +64,12 @@ pub returns-clause-seen : goal.returns-clause-seen
 returns-clause-seen g c = λ told.
     let so = c.loop-number.invariant in
     let old = g.P.Pages.view c.args.pages.now in
-    seen_up_to old.held c.args.segment g.V.Visitor.is_good c.loop-number.led c.loop-number.from old.slots so.low
+    seen_up_to old.held c.args.segment (g.V.Visitor.is_good c.args.visitor.now) c.loop-number.led c.loop-number.from old.slots so.low
     (empty_between old (g.P.Pages.view c.loop-number.pages) c.args.segment Home c.loop-number.from old.slots so.looks.mapped (λ told key. g.met.P.Pages.holds c.args.pages.now told key) (λ k from high. c.in_default.ensures.none k from) told) (so.seen told)
 
 pub returns-clause-saw : goal.returns-clause-saw
 returns-clause-saw g c = λ told.
     let so = c.loop-number.invariant in
     let old = g.P.Pages.view c.args.pages.now in
-    shown_all g.V.Visitor.saw c.args.visitor.now c.loop-number.visitor old.held c.args.segment c.loop-number.from old.slots so.low
+    shown_all old.held c.args.segment c.loop-number.from old.slots so.low
     (empty_between old (g.P.Pages.view c.loop-number.pages) c.args.segment Home c.loop-number.from old.slots so.looks.mapped (λ told key. g.met.P.Pages.holds c.args.pages.now told key) (λ k from high. c.in_default.ensures.none k from) told) (so.shown told)
