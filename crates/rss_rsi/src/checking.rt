@@ -90,7 +90,7 @@ struct Census {
 }
 
 impl Visitor for Census {
-    ghost is_good = { is_int_body };
+    ghost is_good = { λ census. is_int_body };
 
     ghost saw = { λ census rows. census.live ≡ min (length rows) (2 ^ 32 - 1) };
 

@@ -15,14 +15,14 @@ returns-in_err-check-clause-did g c = did_both _ (passed_on _ c.from_residual-in
 
 pub returns-then-census-gt-TUPLES_MOST-clause-none : goal.returns-then-census-gt-TUPLES_MOST-clause-none
 returns-then-census-gt-TUPLES_MOST-clause-none g c = λ place is.
-    none_few c.requires.keys (g.met.P.Pages.holds c.args.pages.now) (g.met.P.Pages.allowed c.args.pages.now) c.in_ok-check_system.ensures.did _ (λ told. c.in_ok-check.ensures.saw told [] (omega arith)) c.if-census-gt-TUPLES_MOST.true (λ room. cc)
+    none_few c.requires.keys (g.met.P.Pages.holds c.args.pages.now) (g.met.P.Pages.allowed c.args.pages.now) c.in_ok-check_system.ensures.did _ (λ told. (c.in_ok-check.ensures.saw told).rows [] (omega arith)) c.if-census-gt-TUPLES_MOST.true (λ room. cc)
 
 pub returns-then-census-gt-TUPLES_MOST-clause-did : goal.returns-then-census-gt-TUPLES_MOST-clause-did
 returns-then-census-gt-TUPLES_MOST-clause-did g c = did_both _ (λ is. absurd (cc)) c.in_ok-check_system.ensures.did c.in_ok-check.ensures.did
 
 pub returns-clause-finds : goal.returns-clause-finds
 returns-clause-finds g c =
-    finds_tables c.requires.keys (g.met.P.Pages.holds c.args.pages.now) (g.met.P.Pages.allowed c.args.pages.now) c.in_ok-check_system.ensures.did c.in_ok-check.ensures.did c.in_ok-check.ensures.sound _ c.if-census-gt-TUPLES_MOST.false c.in_ok-check_system.ensures.has (λ told. c.in_ok-check.ensures.saw told [] (omega arith)) c.in_ok-check.ensures.noted
+    finds_tables c.requires.keys (g.met.P.Pages.holds c.args.pages.now) (g.met.P.Pages.allowed c.args.pages.now) c.in_ok-check_system.ensures.did c.in_ok-check.ensures.did c.in_ok-check.ensures.sound _ c.if-census-gt-TUPLES_MOST.false c.in_ok-check_system.ensures.has (λ told. (c.in_ok-check.ensures.saw told).rows [] (omega arith)) c.in_ok-check.ensures.noted
 
 pub returns-clause-did : goal.returns-clause-did
 returns-clause-did g c = did_both _ (λ is. absurd (cc)) c.in_ok-check_system.ensures.did c.in_ok-check.ensures.did
