@@ -75,9 +75,9 @@ new_same old new segment barred tid slots mapped is = record {
 
 -- ---- what was picked
 
-pub picked_room : (segment length : ℕ) (barred : List Tid) (bytes : List ℕ) (tid : Tid) (old new : PagesView) → IsFoundSpot old new (home_for segment length barred) bytes tid → IsKey new.slots (page_key segment Home tid.page) → new.slots ≡ old.slots → IsPicked old segment length barred tid
-picked_room segment length barred bytes tid old new found key slots = record {
-  named = record { within = omega (arith, key.number, slots); low = found.spot.first.is.low; allowed = found.spot.first.is.allowed };
+pub picked_room : (segment length : ℕ) (barred : List Tid) (tid : Tid) (old new : PagesView) → IsFoundSpot old new (home_for segment length barred) tid → IsKey new.slots (page_key segment Home tid.page) → new.slots ≡ old.slots → IsPicked old segment length barred tid
+picked_room segment length barred tid old new found key slots = record {
+  named = record { within = omega (arith, key.number, slots); low = found.there.spot.first.is.low; allowed = found.there.spot.first.is.allowed };
   chosen = λ told. in_room (found.least told);
 }
 
@@ -93,9 +93,9 @@ module _ (segment length : ℕ) (barred : List Tid) (old mid : PagesView) (kept 
   none_before : NoneIs (IsNew mid segment barred) → NoneIs (IsNew old segment barred)
   none_before never = λ tid is. never tid (new_same old mid segment barred tid slots kept.mapped is)
 
-  pub picked_entry : (bytes : List ℕ) (tid : Tid) (new : PagesView) → NoneIs (IsNew mid segment barred) → (IsTold old.disk → IsTold mid.disk) → IsFoundSpot mid new (home_for segment 0 barred) bytes tid → IsKey new.slots (page_key segment Home tid.page) → new.slots ≡ mid.slots → IsPicked old segment length barred tid
-  picked_entry bytes tid new never told_mid found key same = record {
-    named = record { within = omega (arith, key.number, slots, same); low = found.spot.first.is.low; allowed = found.spot.first.is.allowed };
+  pub picked_entry : (tid : Tid) (new : PagesView) → NoneIs (IsNew mid segment barred) → (IsTold old.disk → IsTold mid.disk) → IsFoundSpot mid new (home_for segment 0 barred) tid → IsKey new.slots (page_key segment Home tid.page) → new.slots ≡ mid.slots → IsPicked old segment length barred tid
+  picked_entry tid new never told_mid found key same = record {
+    named = record { within = omega (arith, key.number, slots, same); low = found.there.spot.first.is.low; allowed = found.there.spot.first.is.allowed };
     chosen = λ told.
         let least = found.least (told_mid told) in
         by_entry (none told) (none_before never) (record {

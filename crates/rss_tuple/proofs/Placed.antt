@@ -89,8 +89,8 @@ taken_away segment number body key old mid new at unmapped holds took fills fill
 pub away_off : (segment p s page slot : ℕ) → ((p ≡ page) → (s ≡ slot) → ⊥) → page_key segment Overflow p ≡ page_key segment Overflow page → s ≡ slot → ⊥
 away_off segment p s page slot off same at = off (same_number segment segment Overflow Overflow p page same) at
 
-pub puts_found : {asks writes : ℕ} (segment length_there : ℕ) (body bytes : List ℕ) (to : Tid) (key : PageKey) (old mid new : PagesView) → length_there ≡ length body → key ≡ page_key segment Overflow to.page → IsFoundSpot old mid (overflow_for segment length_there) bytes to → KeepsEntries old mid → SetsEntry key to.slot (Here body) mid new → PagesStep (only key) asks writes mid new → IsTold old.disk → IsTold mid.disk → PutsAway segment body to old new
-puts_found segment length_there body bytes to key old mid new long at found kept sets_key step_key told told_mid =
+pub puts_found : {asks writes : ℕ} (segment length_there : ℕ) (body : List ℕ) (to : Tid) (key : PageKey) (old mid new : PagesView) → length_there ≡ length body → key ≡ page_key segment Overflow to.page → IsFoundSpot old mid (overflow_for segment length_there) to → KeepsEntries old mid → SetsEntry key to.slot (Here body) mid new → PagesStep (only key) asks writes mid new → IsTold old.disk → IsTold mid.disk → PutsAway segment body to old new
+puts_found segment length_there body to key old mid new long at found kept sets_key step_key told told_mid =
     let one = page_key segment Overflow to.page in
     let sets = subst (λ (k : PageKey). SetsEntry k to.slot (Here body) mid new) at sets_key in
     let step = step_at at step_key in

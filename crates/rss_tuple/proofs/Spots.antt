@@ -2,6 +2,7 @@
 use Rattle.std.proofs.Common.{◌≡◌, ◌⊎◌, inl, inr, ℕ, ◌+◌, ◌≤◌, ◌<◌, true, List, length, Option, Some, None, refl, sym, ◌∙◌, ap, subst, arith}
 use Rattle.std.specs.Prelude.{is_some, IfSome, MatchOption, Result, Err, IsErrAnd}
 use Rattle.std.proofs.lemmas.Bool.{cases_lt, cases_eq, cond-true}
+use Rattle.std.proofs.lemmas.List.Sums.{sum_by-set}
 use Rattle.rss_base.specs.DiskRule.{IsTold}
 use Rattle.rss_base.specs.PageMap.{IsKey}
 use Rattle.rss_base.specs.Paged.{Held, Mapped, page_key, is_same, IsFirstFrom, NoneFrom}
@@ -14,15 +15,16 @@ use Rattle.rss_base.specs.declared.key.Space.TheVariants.{Home, Overflow, Image,
 use Rattle.rss_base.specs.declared.tid.Tid.{Tid}
 use Rattle.rss_base.proofs.Keys.{is_same-itself}
 use Rattle.rss_base.proofs.Steps.{rests, then, then_call, among, within, widens, fails, is_in}
-use Rattle.rss_page.specs.Content.{Content, Empty}
-use Rattle.rss_page.specs.Slotted.{entries, body_bytes}
+use Rattle.rss_page.specs.Content.{Content, Empty, body_length}
+use Rattle.rss_page.specs.Slotted.{entries, body_bytes, HasRoom}
+use Rattle.rss_page.proofs.Contents.{length-entries}
 use Rattle.rss_page.specs.Surveyed.{held_at, AllTaken, IsFirstEmpty}
 use Rattle.rss_tuple.specs.Directory.{contents_in, contents, tid_at}
 use Rattle.rss_tuple.specs.Heaps.{CoversRoom, AreFormed}
 use Rattle.rss_tuple.specs.TupleSteps.{NoneIs}
 use Rattle.rss_tuple.specs.Placing.{Wanted, IsOpen, IsSpot}
 use Rattle.rss_tuple.specs.Edits.{IsRead, KeepsEntries}
-use Rattle.rss_tuple.specs.Spots.{HasSpot, HasNoSpot, IsRoom, IsFoundSpot}
+use Rattle.rss_tuple.specs.Spots.{HasSpot, HasNoSpot, IsRoom, ReadsSpot, IsFoundSpot}
 use Rattle.rss_tuple.proofs.Sets.{formed_but}
 
 pub noted_heap : (space : Space) → is_noted_space space ≡ true → (space ≡ Home) ⊎ (space ≡ Overflow)
@@ -46,6 +48,12 @@ spot_unbarred held count number barred (Some slot) none few first = record {
     lesser = λ other less is. first.lesser other less is.empty;
   };
 }
+
+-- where a page has so many free bytes, a body of this length fits at each slot
+pub spot_room : (page : List ℕ) (slot count : ℕ) → slot < 128 → body_bytes (entries page) + count ≤ 3056 → HasRoom (entries page) slot count
+spot_room page slot count low few =
+    let sums = sum_by-set body_length (entries page) slot Empty Empty (omega (arith, length-entries page)) in
+    omega (arith, sums, few)
 
 -- the key that a search looks at
 abbrev pub key_of : Wanted → ℕ → PageKey
@@ -123,25 +131,24 @@ module _ (start now : PagesView) (wanted : Wanted) (from : ℕ) (so : Searched s
     ];
   }
 
-  module _ (new : PagesView) (number : ℕ) (bytes : List ℕ) (first : IsFirstFrom (MayDo now.mapped now.notes (wanted.length + 1) wanted.segment wanted.space) from number) (read : IsRead new (key_of wanted number) bytes) (kept : KeepsEntries now new) (told_new : IsTold start.disk → IsTold new.disk) where
-    same_contents : IsTold start.disk → contents start.held (key_of wanted number) ≡ entries bytes
-    same_contents told = ap (λ (h : Held). contents h (key_of wanted number)) (sym ((kept_all new kept).held told)) ∙ ap contents_in (read.held (told_new told))
+  module _ (new : PagesView) (number : ℕ) (first : IsFirstFrom (MayDo now.mapped now.notes (wanted.length + 1) wanted.segment wanted.space) from number) (kept : KeepsEntries now new) (told_new : IsTold start.disk → IsTold new.disk) (slot : ℕ) (there : ReadsSpot new (key_of wanted number) wanted.length wanted.barred slot) where
+    same_contents : IsTold start.disk → contents start.held (key_of wanted number) ≡ entries there.bytes
+    same_contents told = ap (λ (h : Held). contents h (key_of wanted number)) (sym ((kept_all new kept).held told)) ∙ ap contents_in (there.read.held (told_new told))
 
-    pub found_spot : (slot : ℕ) → HasSpot (entries bytes) wanted.length wanted.barred number slot → IsFoundSpot start new wanted bytes (tid_at number slot)
-    found_spot slot spot = record {
-      read = read;
-      spot = spot;
+    pub found_spot : IsFoundSpot start new wanted (tid_at number slot)
+    found_spot = record {
+      there = there;
       least = λ told.
           let same = same_contents told in
           record {
             has = record {
-              mapped = sym (ap (λ (m : Mapped). m (key_of wanted number)) (kept_all new kept).mapped) ∙ read.mapped;
-              bytes = subst (λ (l : List Content). body_bytes l + wanted.length ≤ 3056) (sym same) spot.bytes;
-              open_there = subst (λ (l : List Content). IsOpen l wanted.barred (tid_at number slot)) (sym same) spot.first.is;
+              mapped = sym (ap (λ (m : Mapped). m (key_of wanted number)) (kept_all new kept).mapped) ∙ there.read.mapped;
+              bytes = subst (λ (l : List Content). body_bytes l + wanted.length ≤ 3056) (sym same) there.spot.bytes;
+              open_there = subst (λ (l : List Content). IsOpen l wanted.barred (tid_at number slot)) (sym same) there.spot.first.is;
             };
-            least = λ other low there. elim low [
-              | inl page ↦ before number first told other page there
-              | inr at ↦ spot.first.lesser other.slot at.1 (subst (λ (l : List Content). IsOpen l wanted.barred (tid_at number other.slot)) same (subst (λ (n : ℕ). IsOpen (contents start.held (key_of wanted n)) wanted.barred (tid_at n other.slot)) at.0 there.open_there))
+            least = λ other low is. elim low [
+              | inl page ↦ before number first told other page is
+              | inr at ↦ there.spot.first.lesser other.slot at.1 (subst (λ (l : List Content). IsOpen l wanted.barred (tid_at number other.slot)) same (subst (λ (n : ℕ). IsOpen (contents start.held (key_of wanted n)) wanted.barred (tid_at n other.slot)) at.0 is.open_there))
             ];
           };
     }
@@ -189,12 +196,7 @@ noted_kept key number bytes mid new notes step read room told formed =
       noted = subst (λ (n : Option ℕ). IfSome n (CoversRoom (entries other))) (sym (ap (λ (n : Noted). n key) notes.notes ∙ cond-true (is_same key key) (Some number) (mid.notes key) (is_same-itself key))) (subst (λ (b : List ℕ). CoversRoom (entries b) number) same room);
     })
 
--- what was found in a page is what a copy of it has
-pub found_copied : (N M : Type 0) (P : List Content → ℕ → Type 0) (page into : List ℕ) (found : Option ℕ) → (N → M) → MatchOption found N (P (entries page)) → IfSome found (λ _. into ≡ page) → MatchOption found M (P (entries into))
-found_copied N M P page into None none is copied = none is
-found_copied N M P page into (Some slot) none is copied = subst (λ (bytes : List ℕ). P (entries bytes) slot) (sym copied) is
-
--- and where there is something, the copy is what was read
-pub copy_read : (view : PagesView) (key : PageKey) (page into : List ℕ) (found : Option ℕ) → IsRead view key page → IfSome found (λ _. into ≡ page) → IfSome found (λ _. IsRead view key into)
-copy_read view key page into None read copied = tt
-copy_read view key page into (Some slot) read copied = subst (IsRead view key) (sym copied) read
+-- what was found in a page that was read
+pub found_read : {N M : Type 0} (view : PagesView) (key : PageKey) (length : ℕ) (barred : List Tid) (page : List ℕ) (found : Option ℕ) → IsRead view key page → (N → M) → MatchOption found N (HasSpot (entries page) length barred key.number) → MatchOption found M (ReadsSpot view key length barred)
+found_read view key length barred page None read none is = none is
+found_read view key length barred page (Some slot) read none is = record { bytes = page; read = read; spot = is }

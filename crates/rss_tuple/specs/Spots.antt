@@ -4,6 +4,7 @@ use Rattle.rss_base.specs.Sizes.{page_entries}
 use Rattle.rss_base.specs.DiskRule.{IsTold}
 use Rattle.rss_base.specs.Paged.{page_key}
 use Rattle.rss_base.specs.Steps.{PagesView}
+use Rattle.rss_base.specs.declared.key.PageKey.{PageKey}
 use Rattle.rss_base.specs.declared.tid.Tid.{Tid}
 use Rattle.rss_page.specs.Content.{Content, Empty}
 use Rattle.rss_page.specs.Slotted.{bodies_room, entries, body_bytes}
@@ -40,12 +41,17 @@ pub record IsRoom (contents : List Content) (room : ℕ) : Type 0 where
   pub free : (slot : ℕ) → slot < page_entries → held_at contents slot ≡ Empty → room + body_bytes contents ≡ bodies_room + 1
   pub most : room ≤ bodies_room + 1
 
+-- a page was read that has so many free bytes, and its first open slot is this one
+pub record ReadsSpot (view : PagesView) (key : PageKey) (length : ℕ) (barred : List Tid) (slot : ℕ) : Type 0 where
+  pub bytes : List ℕ
+  pub read : IsRead view key bytes
+  pub spot : HasSpot (entries bytes) length barred key.number slot
+
 -- The page of this identifier was read, has what is looked for, and is the first one that had it before the search.
-pub record IsFoundSpot (old new : PagesView) (wanted : Wanted) (bytes : List ℕ) (tid : Tid) : Type 0 where
-  pub read : IsRead new (page_key wanted.segment wanted.space tid.page) bytes
-  pub spot : HasSpot (entries bytes) wanted.length wanted.barred tid.page tid.slot
+pub record IsFoundSpot (old new : PagesView) (wanted : Wanted) (tid : Tid) : Type 0 where
+  pub there : ReadsSpot new (page_key wanted.segment wanted.space tid.page) wanted.length wanted.barred tid.slot
   pub least : IsTold old.disk → IsLeast (IsSpot old wanted) tid
 
 -- It was looked for, and if no page has it, there was none before the search.
-abbrev pub FindsSpot : PagesView → PagesView → Wanted → List ℕ → Option Tid → Type 0
-FindsSpot old new wanted bytes found = MatchOption found (IsTold old.disk → NoneIs (IsSpot old wanted)) (IsFoundSpot old new wanted bytes)
+abbrev pub FindsSpot : PagesView → PagesView → Wanted → Option Tid → Type 0
+FindsSpot old new wanted found = MatchOption found (IsTold old.disk → NoneIs (IsSpot old wanted)) (IsFoundSpot old new wanted)

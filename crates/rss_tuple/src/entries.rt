@@ -1,5 +1,6 @@
 // One entry of a page that is changed.
 ghost use Rattle.std.specs.Prelude.{◌≡◌, ◌↔◌, ◌<◌, length, true, false, IsTrue, IfOk, OnOk};
+ghost use Rattle.rss_base.specs.DiskRule.{IsTold};
 ghost use Rattle.rss_base.specs.Sizes.{page_entries};
 ghost use Rattle.rss_base.specs.PageMap.{IsKey};
 ghost use Rattle.rss_base.specs.Steps.{PagesCall, no_page, only};
@@ -7,31 +8,39 @@ ghost use Rattle.rss_base.specs.declared.key.Space.TheVariants.{Home};
 ghost use Rattle.rss_page.specs.Content.{Empty, Here, Forward};
 ghost use Rattle.rss_page.specs.Slotted.{entries, HasRoom, IsHeapKey, IsSlotted};
 ghost use Rattle.rss_page.specs.Surveyed.{IsSurvey, IsVacant};
+ghost use Rattle.rss_tuple.specs.Directory.{contents};
 ghost use Rattle.rss_tuple.specs.Calls.{IsBodyLength};
 ghost use Rattle.rss_tuple.specs.Edits.{IsRead, MayRead, NamesEntry, MayEdit, Edits, FillsPage};
 
 use crate::keys::damaged;
 use crate::walking::taken_from;
-use rss_base::{PAGE_BYTES, Page, PageFault, PageKey, Pages, Tid};
+use rss_base::{Page, PageFault, PageKey, Pages, Tid};
 use rss_page::{Survey, blank, forward_at, put_found, remove, survey};
 
-/// Reads a page that is to be well-formed, and answers what a walk over it finds.
-pub(crate) fn read_formed<P: Pages>(
-    pages: &mut P,
-    key: PageKey,
-    page: &mut Page,
-) -> Result<Survey, PageFault>
+/// A copy of a well-formed page, and what a walk over it found.
+#[derive(Clone, Copy)]
+pub(crate) struct Formed {
+    pub(crate) page: Page,
+    pub(crate) survey: Survey,
+}
+
+/// Reads a page that is to be well-formed.
+pub(crate) fn read_formed<P: Pages>(pages: &mut P, key: PageKey) -> Result<Formed, PageFault>
     requires { MayRead (P.view pages.old) key }
-    ensures read { OnOk result (IsRead (P.view pages.new) key page.new) }
-    ensures found { IfOk result (IsSurvey page.new) }
+    ensures read { IfOk result (λ found. IsRead (P.view pages.new) key found.page) }
+    ensures survey { IfOk result (λ found. IsSurvey found.page found.survey) }
     ensures did { PagesCall no_page 1 1 (P.view pages.old) (P.view pages.new) result }
 {
     if !pages.has(key) {
         return Err(damaged(key));
     }
-    pages.read(key, page)?;
+    pages.load(key)?;
+    let page = pages.loaded(key);
     match survey(page, key) {
-        Some(found) => Ok(found),
+        Some(survey) => Ok(Formed {
+            page: *page,
+            survey,
+        }),
         None => Err(damaged(key)),
     }
 }
@@ -54,6 +63,27 @@ pub(crate) fn put_here<P: Pages>(
     put_found(page, slot, body, found);
     pages.write(key, page)?;
     Ok(())
+}
+
+/// Gives an entry of a page with room for it a body, whatever it held.
+pub(crate) fn put_in<P: Pages>(
+    pages: &mut P,
+    key: PageKey,
+    slot: u8,
+    body: &[u8],
+) -> Result<(), PageFault>
+    requires may { MayRead (P.view pages.old) key }
+    requires low { slot < page_entries }
+    requires length { IsBodyLength (length body.now) }
+    requires room { IsTold (P.view pages.old).disk
+        → HasRoom (contents (P.view pages.old).held key) slot (length body.now) }
+    ensures { Edits key slot (Here body.now) 2 (P.view pages.old) (P.view pages.new) result }
+{
+    let mut found = read_formed(pages, key)?;
+    if !found.survey.has_room(&found.page, slot, body.len() as u16) {
+        return Err(damaged(key));
+    }
+    put_here(pages, key, &mut found.page, slot, body, &found.survey)
 }
 
 /// Makes an entry of a home page that was read lead to an entry of an overflow page, whatever it
@@ -110,9 +140,8 @@ pub(crate) fn clear<P: Pages>(pages: &mut P, key: PageKey, slot: u8) -> Result<(
     ensures there { OnOk result ((P.view pages.old).mapped key ≡ true) }
     ensures edits { Edits key slot Empty 2 (P.view pages.old) (P.view pages.new) result }
 {
-    let mut page = [0u8; PAGE_BYTES];
-    read_formed(pages, key, &mut page)?;
-    clear_in(pages, key, &mut page, slot)
+    let mut found = read_formed(pages, key)?;
+    clear_in(pages, key, &mut found.page, slot)
 }
 
 /// Makes a page that was just taken one whose only body stands at this slot.

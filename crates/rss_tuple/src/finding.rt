@@ -1,5 +1,5 @@
 // The first page of a space with a free entry and enough free bytes.
-ghost use Rattle.std.specs.Prelude.{◌≡◌, ◌<◌, ◌≤◌, ◌↔◌, true, IsTrue, MatchOption, IfOk, IfSome};
+ghost use Rattle.std.specs.Prelude.{◌≡◌, ◌<◌, ◌≤◌, ◌↔◌, true, IsTrue, MatchOption, IfOk};
 ghost use Rattle.rss_base.specs.DiskRule.{IsTold};
 ghost use Rattle.rss_base.specs.Sizes.{page_entries};
 ghost use Rattle.rss_base.specs.Notes.{is_noted_space};
@@ -10,9 +10,9 @@ ghost use Rattle.rss_page.specs.Content.{Empty};
 ghost use Rattle.rss_page.specs.Surveyed.{held_at, IsSurvey};
 ghost use Rattle.rss_tuple.specs.Heaps.{body_most, AreFormed};
 ghost use Rattle.rss_tuple.specs.Calls.{IsSegment};
-ghost use Rattle.rss_tuple.specs.Edits.{IsRead, KeepsEntries};
+ghost use Rattle.rss_tuple.specs.Edits.{KeepsEntries};
 ghost use Rattle.rss_tuple.specs.Spots.{AreBarred, IsFirstOpen, NoneOpen, HasSpot, HasNoSpot};
-ghost use Rattle.rss_tuple.specs.Spots.{IsRoom, FindsSpot};
+ghost use Rattle.rss_tuple.specs.Spots.{IsRoom, ReadsSpot, FindsSpot};
 
 use crate::keys::damaged;
 use rss_base::{PAGE_ENTRIES, Page, PageFault, PageKey, Pages, Space, Tid};
@@ -85,60 +85,19 @@ pub(crate) fn room_of(page: &Page, found: &Survey) -> u16
     }
 }
 
-/// What was found in a page.
-#[derive(Clone, Copy)]
-struct Looked {
-    /// What is to be noted on it.
-    room: u16,
-    /// The slot that was looked for.
-    slot: Option<u8>,
-}
-
-/// Looks for such a slot in a page that was walked over. Where there is one, the page is copied.
-fn look_over(
-    page: &Page,
-    found: &Survey,
-    number: u32,
-    length: u16,
-    barred: &[Tid],
-    into: &mut Page,
-) -> Looked
-    requires { IsSurvey page.now found.now }
-    ensures room { IsRoom (entries page.now) result.room }
-    ensures slot { MatchOption result.slot (HasNoSpot (entries page.now) length barred.now number)
-        (HasSpot (entries page.now) length barred.now number) }
-    ensures copied { IfSome result.slot (λ _. into.new ≡ page.now) }
-{
-    let room = room_of(page, found);
-    match spot_in(page, number, length, barred, found) {
-        None => Looked { room, slot: None },
-        Some(slot) => {
-            *into = *page;
-            Looked {
-                room,
-                slot: Some(slot),
-            }
-        }
-    }
-}
-
-/// Looks for such a slot in a mapped page, and notes the page's room. Where there is one, the page is
-/// left in `into`.
+/// Looks for such a slot in a mapped page, and notes the page's room.
 fn try_page<P: Pages>(
     pages: &mut P,
     key: PageKey,
     length: u16,
     barred: &[Tid],
-    into: &mut Page,
 ) -> Result<Option<u8>, PageFault>
     requires noted { is_noted_space key.space ≡ true }
     requires mapped { (P.view pages.old).mapped key ≡ true }
     requires formed { IsTold (P.view pages.old).disk → AreFormed (P.view pages.old) }
     ensures found { IfOk result (λ found. MatchOption found (IsTold (P.view pages.old).disk
         → HasNoSpot (contents (P.view pages.old).held key) length barred.now key.number)
-        (HasSpot (entries into.new) length barred.now key.number)) }
-    ensures read { IfOk result (λ found. IfSome found
-        (λ _. IsRead (P.view pages.new) key into.new)) }
+        (ReadsSpot (P.view pages.new) key length barred.now)) }
     ensures kept { KeepsEntries (P.view pages.old) (P.view pages.new) }
     ensures did { PagesCall (only key) 1 1 (P.view pages.old) (P.view pages.new) result }
 {
@@ -147,28 +106,27 @@ fn try_page<P: Pages>(
     let Some(found) = survey(page, key) else {
         return Err(damaged(key));
     };
-    let looked = look_over(page, &found, key.number, length, barred, into);
-    pages.note(key, looked.room);
-    Ok(looked.slot)
+    let room = room_of(page, &found);
+    let slot = spot_in(page, key.number, length, barred, &found);
+    pages.note(key, room);
+    Ok(slot)
 }
 
 /// Finds the first page of a segment and a space that has a free entry whose identifier isn't barred
-/// and so many free bytes, and there the first such entry. Leaves the page in `page`.
+/// and so many free bytes, and there the first such entry.
 pub(crate) fn find_page<P: Pages>(
     pages: &mut P,
     segment: u8,
     space: Space,
     length: u16,
     barred: &[Tid],
-    page: &mut Page,
 ) -> Result<Option<Tid>, PageFault>
     requires segment { IsSegment segment }
     requires noted { is_noted_space space ≡ true }
     requires most { length ≤ body_most }
     requires formed { IsTold (P.view pages.old).disk → AreFormed (P.view pages.old) }
     ensures found { IfOk result (FindsSpot (P.view pages.old) (P.view pages.new)
-        (record { segment = segment; space = space; length = length; barred = barred.now })
-        page.new) }
+        (record { segment = segment; space = space; length = length; barred = barred.now })) }
     ensures kept { KeepsEntries (P.view pages.old) (P.view pages.new) }
     ensures did { PagesCall (pages_in segment space) (P.view pages.old).slots
         (P.view pages.old).slots (P.view pages.old) (P.view pages.new) result }
@@ -182,7 +140,7 @@ pub(crate) fn find_page<P: Pages>(
             space,
             number,
         };
-        if let Some(slot) = try_page(pages, key, length, barred, page)? {
+        if let Some(slot) = try_page(pages, key, length, barred)? {
             return Ok(Some(Tid {
                 page: number,
                 slot: u16::from(slot),

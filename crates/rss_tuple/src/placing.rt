@@ -16,10 +16,12 @@ ghost use Rattle.rss_tuple.specs.Calls.{MayPut, MayInsert, HasTuple, HasSpare, M
 ghost use Rattle.rss_tuple.specs.Edits.{IsRead, MayRead};
 ghost use Rattle.rss_tuple.specs.Puts.{Changed, TakesAway, PutsAway, Puts, MovesBody, HomeRead, Stays};
 
-use crate::entries::{clear, clear_in, fill, put_forward, put_here, read_formed, take_here};
+use crate::entries::{
+    Formed, clear, clear_in, fill, put_forward, put_here, put_in, read_formed, take_here,
+};
 use crate::finding::find_page;
 use crate::keys::{damaged, home, overflow};
-use rss_base::{PAGE_BYTES, Page, PageFault, PageKey, Pages, Space, Tid};
+use rss_base::{Page, PageFault, PageKey, Pages, Space, Tid};
 use rss_page::{ENTRIES, Entry, Survey, entry};
 
 // ---- a body and its place
@@ -55,25 +57,9 @@ fn put_away<P: Pages>(pages: &mut P, segment: u8, tid: Tid, body: &[u8]) -> Resu
     ensures did { PagesCall (pages_in segment Overflow) ((P.view pages.old).slots + 2)
         ((P.view pages.old).slots + 2) (P.view pages.old) (P.view pages.new) result }
 {
-    let mut page = [0u8; PAGE_BYTES];
-    match find_page(
-        pages,
-        segment,
-        Space::Overflow,
-        body.len() as u16,
-        &[],
-        &mut page,
-    )? {
+    match find_page(pages, segment, Space::Overflow, body.len() as u16, &[])? {
         Some(to) => {
-            let found = Survey::of(&page);
-            put_here(
-                pages,
-                overflow(segment, to.page),
-                &mut page,
-                to.slot as u8,
-                body,
-                &found,
-            )?;
+            put_in(pages, overflow(segment, to.page), to.slot as u8, body)?;
             Ok(to)
         }
         None => {
@@ -136,9 +122,8 @@ pub(crate) fn insert_at<P: Pages>(
     if !pages.has(key) {
         return take_here(pages, key, tid.slot as u8, body);
     }
-    let mut page = [0u8; PAGE_BYTES];
-    let found = read_formed(pages, key, &mut page)?;
-    place(pages, segment, tid, &mut page, body, &found)
+    let mut found = read_formed(pages, key)?;
+    place(pages, segment, tid, &mut found.page, body, &found.survey)
 }
 
 /// Takes a tuple away. A page whose entries are all empty then is given back.
@@ -155,16 +140,15 @@ pub(crate) fn remove<P: Pages>(pages: &mut P, segment: u8, tid: Tid) -> Result<(
         return Err(damaged(key));
     }
     let slot = tid.slot as u8;
-    let mut page = [0u8; PAGE_BYTES];
-    read_formed(pages, key, &mut page)?;
-    match entry(&page, slot) {
+    let mut found = read_formed(pages, key)?;
+    match entry(&found.page, slot) {
         Entry::Empty => Err(damaged(key)),
-        Entry::Here { .. } => clear_in(pages, key, &mut page, slot),
+        Entry::Here { .. } => clear_in(pages, key, &mut found.page, slot),
         Entry::Forward {
             page: to,
             slot: to_slot,
         } => {
-            clear_in(pages, key, &mut page, slot)?;
+            clear_in(pages, key, &mut found.page, slot)?;
             clear(pages, overflow(segment, to), to_slot)
         }
     }
@@ -186,40 +170,48 @@ pub(crate) fn replace<P: Pages>(
         return Err(damaged(key));
     }
     let slot = tid.slot as u8;
-    let mut page = [0u8; PAGE_BYTES];
-    let found = read_formed(pages, key, &mut page)?;
-    match entry(&page, slot) {
+    let mut found = read_formed(pages, key)?;
+    match entry(&found.page, slot) {
         Entry::Empty => Err(damaged(key)),
-        Entry::Here { .. } => place(pages, segment, tid, &mut page, body, &found),
+        Entry::Here { .. } => place(pages, segment, tid, &mut found.page, body, &found.survey),
         Entry::Forward {
             page: to,
             slot: to_slot,
-        } => move_on(pages, segment, tid, &mut page, to, to_slot, body, &found),
+        } => move_on(
+            pages,
+            segment,
+            tid,
+            &mut found.page,
+            to,
+            to_slot,
+            body,
+            &found.survey,
+        ),
     }
 }
 
 /// Whether a body of this length stays in the overflow page where it stands: it fits there, and not at
-/// home. Then the page is left in `away`, and what a walk over it finds is answered.
+/// home. Then that page is answered.
 fn stays<P: Pages>(
     pages: &mut P,
     home: &Page,
     found: &Survey,
     slot: u8,
     key: PageKey,
-    away: &mut Page,
     to_slot: u8,
     length: u16,
-) -> Result<Option<Survey>, PageFault>
+) -> Result<Option<Formed>, PageFault>
     requires slotted { IsSlotted home.now }
     requires found { IsSurvey home.now found.now }
     requires slot { slot < page_entries }
     requires to_slot { to_slot < page_entries }
     requires may { MayRead (P.view pages.old) key }
     ensures read { IfOk result (λ stays. IfSome stays
-        (λ _. IsRead (P.view pages.new) key away.new)) }
-    ensures found { IfOk result (λ stays. IfSome stays (IsSurvey away.new)) }
+        (λ away. IsRead (P.view pages.new) key away.page)) }
+    ensures survey { IfOk result (λ stays. IfSome stays
+        (λ away. IsSurvey away.page away.survey)) }
     ensures stays { IfOk result (λ stays. IfSome stays
-        (λ _. Stays (entries home.now) slot (entries away.new) to_slot length)) }
+        (λ away. Stays (entries home.now) slot (entries away.page) to_slot length)) }
     ensures leaves { IfOk result (λ stays. IfNone stays (IsTold (P.view pages.old).disk
         → Stays (entries home.now) slot (contents (P.view pages.old).held key) to_slot length → ⊥)) }
     ensures did { PagesCall no_page 1 1 (P.view pages.old) (P.view pages.new) result }
@@ -227,8 +219,8 @@ fn stays<P: Pages>(
     if found.has_room(home, slot, length) {
         return Ok(None);
     }
-    let there = read_formed(pages, key, away)?;
-    if there.has_room(away, to_slot, length) {
+    let there = read_formed(pages, key)?;
+    if there.survey.has_room(&there.page, to_slot, length) {
         Ok(Some(there))
     } else {
         Ok(None)
@@ -257,11 +249,10 @@ fn move_on<P: Pages>(
         (P.view pages.new) result }
 {
     let key = overflow(segment, to);
-    let mut away = [0u8; PAGE_BYTES];
     let length = body.len() as u16;
     let slot = tid.slot as u8;
-    match stays(pages, page, found, slot, key, &mut away, to_slot, length)? {
-        Some(there) => put_here(pages, key, &mut away, to_slot, body, &there),
+    match stays(pages, page, found, slot, key, to_slot, length)? {
+        Some(mut away) => put_here(pages, key, &mut away.page, to_slot, body, &away.survey),
         None => {
             place(pages, segment, tid, page, body, found)?;
             clear(pages, key, to_slot)

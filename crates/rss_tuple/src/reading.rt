@@ -107,7 +107,10 @@ fn look_in(page: &Page, slot: u8, into: &mut Body) -> Option<Found>
             if usize::from(length) > BODY_BYTES {
                 return None;
             }
-            *into = Body::new();
+            // A new one is zeroed, which costs more than all else here.
+            if !into.as_slice().is_empty() {
+                *into = Body::new();
+            }
             into.extend_from_slice(bytes_at(page, place, length));
             Some(Found::Body)
         }

@@ -17,8 +17,8 @@ find_page-requires-clause-formed g c = c.requires.formed
 pub returns-in-Some-clause-picks : goal.returns-in-Some-clause-picks
 returns-in-Some-clause-picks g c =
     let found = rw c.in-Some.is at c.in_ok-tid.ensures.found in
-    picked_room c.args.segment c.args.length c.args.barred.now c.find_page.new.page c.in-Some.tid _ (g.P.Pages.view c.find_page.new.pages) found
-    (g.met.P.Pages.allowed c.find_page.new.pages (page_key c.args.segment Home c.in-Some.tid.page) found.read.mapped) c.find_page.ensures.did.step.passes.slots
+    picked_room c.args.segment c.args.length c.args.barred.now c.in-Some.tid _ (g.P.Pages.view c.find_page.new.pages) found
+    (g.met.P.Pages.allowed c.find_page.new.pages (page_key c.args.segment Home c.in-Some.tid.page) found.there.read.mapped) c.find_page.ensures.did.step.passes.slots
 
 pub returns-in-Some-first_new-clause-picks : goal.returns-in-Some-first_new-clause-picks
 returns-in-Some-first_new-clause-picks g c =
@@ -38,10 +38,10 @@ returns-clause-picks g c =
     let never = c.in_default-first_new.ensures in
     if_ok_then c.find_page-2.result (λ found is.
     match_found (IsTold mid.disk → NoneIs (IsSpot mid (home_for c.args.segment 0 c.args.barred.now))) (NonePicked old c.args.segment c.args.barred.now)
-    (IsFoundSpot mid new (home_for c.args.segment 0 c.args.barred.now) c.find_page-2.new.page) (IsPicked old c.args.segment c.args.length c.args.barred.now) found
+    (IsFoundSpot mid new (home_for c.args.segment 0 c.args.barred.now)) (IsPicked old c.args.segment c.args.length c.args.barred.now) found
     (λ no_spot. none_picked c.args.segment c.args.length c.args.barred.now old mid kept step.passes.slots none never (λ told. no_spot (step.passes.leaves.told.0 told)))
-    (λ tid there. picked_entry c.args.segment c.args.length c.args.barred.now old mid kept step.passes.slots none c.find_page-2.new.page tid new never step.passes.leaves.told.0 there
-    (g.met.P.Pages.allowed c.find_page-2.new.pages (page_key c.args.segment Home tid.page) there.read.mapped) c.find_page-2.ensures.did.step.passes.slots)
+    (λ tid there. picked_entry c.args.segment c.args.length c.args.barred.now old mid kept step.passes.slots none tid new never step.passes.leaves.told.0 there
+    (g.met.P.Pages.allowed c.find_page-2.new.pages (page_key c.args.segment Home tid.page) there.there.read.mapped) c.find_page-2.ensures.did.step.passes.slots)
     is)
     c.find_page-2.ensures.found
 

@@ -7,13 +7,13 @@ use Rattle.rss_tuple.proofs.entries.clear.Goals as goal
 
 pub clear_in-requires : goal.clear_in-requires
 clear_in-requires g c = record {
-  read = c.in_ok-read_formed.ensures.read;
+  read = c.in_ok-found.ensures.read;
   low = c.requires.low;
-  formed = formed_after c.in_ok-read_formed.ensures.did.step c.requires.may.formed;
+  formed = formed_after c.in_ok-found.ensures.did.step c.requires.may.formed;
 }
 
 pub returns-clause-there : goal.returns-clause-there
-returns-clause-there g c = on_ok c.clear_in.result (sym (ap (λ (m : Mapped). m c.args.key) (all_mapped c.in_ok-read_formed.ensures.did.step)) ∙ c.in_ok-read_formed.ensures.read.mapped)
+returns-clause-there g c = on_ok c.clear_in.result (sym (ap (λ (m : Mapped). m c.args.key) (all_mapped c.in_ok-found.ensures.did.step)) ∙ c.in_ok-found.ensures.read.mapped)
 
 pub returns-clause-edits : goal.returns-clause-edits
-returns-clause-edits g c = edits_after c.in_ok-read_formed.ensures.did.step c.clear_in.ensures
+returns-clause-edits g c = edits_after c.in_ok-found.ensures.did.step c.clear_in.ensures

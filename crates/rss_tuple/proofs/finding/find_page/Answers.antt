@@ -28,7 +28,7 @@ pub returns-in-Some-2-clause-found : goal.returns-in-Some-2-clause-found
 returns-in-Some-2-clause-found g c =
     let first = c.in-Some.ensures.some in
     let told = λ (told : _). c.in_ok-slot.ensures.did.step.passes.leaves.told.0 (c.loop-number.invariant.step.passes.leaves.told.0 told) in
-    rw c.from.ensures (found_spot _ _ _ _ c.loop-number.invariant (λ told key. g.met.P.Pages.holds c.loop-number.pages told key) c.requires.noted _ c.in-Some.number _ first (rw c.in-Some-2.is at c.in_ok-slot.ensures.read) c.in_ok-slot.ensures.kept told c.in-Some-2.slot (rw c.in-Some-2.is at c.in_ok-slot.ensures.found))
+    rw c.from.ensures (found_spot _ _ _ _ c.loop-number.invariant (λ told key. g.met.P.Pages.holds c.loop-number.pages told key) c.requires.noted _ c.in-Some.number first c.in_ok-slot.ensures.kept told c.in-Some-2.slot (rw c.in-Some-2.is at c.in_ok-slot.ensures.found))
 
 pub returns-in-Some-2-clause-kept : goal.returns-in-Some-2-clause-kept
 returns-in-Some-2-clause-kept g c = kept_too _ _ _ _ c.loop-number.invariant (λ told key. g.met.P.Pages.holds c.loop-number.pages told key) c.requires.noted _ c.in_ok-slot.ensures.kept

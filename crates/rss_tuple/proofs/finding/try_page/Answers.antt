@@ -1,14 +1,12 @@
-use Rattle.std.proofs.Common.{◌≡◌, ◌∙◌, rules, true, false, ℕ, List, sym, ap, subst}
-use Rattle.rss_base.specs.DiskRule.{IsTold}
+use Rattle.std.proofs.Common.{◌≡◌, ◌∙◌, rules, true, false, List, sym, ap, subst}
 use Rattle.rss_base.specs.Paged.{Held, Mapped}
 use Rattle.rss_base.proofs.Steps.{untouched, then, done, all_mapped, all_held, none_changed_more}
 use Rattle.rss_page.specs.Content.{Content}
-use Rattle.rss_page.specs.Slotted.{entries}
-use Rattle.rss_tuple.specs.Directory.{contents, contents_in}
+use Rattle.rss_tuple.specs.Directory.{contents_in}
 use Rattle.rss_tuple.specs.Edits.{IsRead}
-use Rattle.rss_tuple.specs.Spots.{HasSpot, HasNoSpot}
+use Rattle.rss_tuple.specs.Spots.{HasNoSpot}
 use Rattle.rss_tuple.proofs.Seen.{formed_after, found_damaged, kept_after}
-use Rattle.rss_tuple.proofs.Spots.{noted_heap, covers, noted_kept, found_copied, copy_read}
+use Rattle.rss_tuple.proofs.Spots.{noted_heap, covers, noted_kept, found_read}
 use Rattle.rss_tuple.proofs.finding.try_page.Goals as goal
 
 pub returns-in_err-load-clause-kept : goal.returns-in_err-load-clause-kept
@@ -30,23 +28,17 @@ returns-in_default-clause-did g c =
 pub returns-clause-found : goal.returns-clause-found
 returns-clause-found g c =
     let step = c.in_ok-load.ensures.did.step in
-    let old = g.P.Pages.view c.args.pages.now in
-    let page = c.loaded-page.result.now in
-    found_copied (HasNoSpot (entries page) c.args.length c.args.barred.now c.args.key.number) (IsTold old.disk → HasNoSpot (contents old.held c.args.key) c.args.length c.args.barred.now c.args.key.number)
-    (λ (l : List Content) (slot : ℕ). HasSpot l c.args.length c.args.barred.now c.args.key.number slot) page c.look_over-looked.new.into c.look_over-looked.result.slot
+    let noted = c.note.ensures.noted in
+    found_read (g.P.Pages.view c.note.new.self) c.args.key c.args.length c.args.barred.now c.loaded-page.result.now c.spot_in-slot.result
+    (record {
+      mapped = ap (λ (m : Mapped). m c.args.key) (noted.mapped ∙ all_mapped step) ∙ c.requires.mapped;
+      formed = c.survey.ensures.formed.0 (search rules);
+      held = λ told. ap (λ (h : Held). h c.args.key) noted.held ∙ c.loaded-page.ensures (c.note.ensures.did.passes.leaves.told.1 told);
+    })
     (λ none told.
     let there = ap (λ (h : Held). h c.args.key) (sym (all_held step told)) ∙ c.loaded-page.ensures (step.passes.leaves.told.0 told) in
     subst (λ (l : List Content). HasNoSpot l c.args.length c.args.barred.now c.args.key.number) (sym (ap contents_in there)) none)
-    c.look_over-looked.ensures.slot c.look_over-looked.ensures.copied
-
-pub returns-clause-read : goal.returns-clause-read
-returns-clause-read g c =
-    let noted = c.note.ensures.noted in
-    copy_read (g.P.Pages.view c.note.new.self) c.args.key c.loaded-page.result.now c.look_over-looked.new.into c.look_over-looked.result.slot (record {
-      mapped = ap (λ (m : Mapped). m c.args.key) (noted.mapped ∙ all_mapped c.in_ok-load.ensures.did.step) ∙ c.requires.mapped;
-      formed = c.survey.ensures.formed.0 (search rules);
-      held = λ told. ap (λ (h : Held). h c.args.key) noted.held ∙ c.loaded-page.ensures (c.note.ensures.did.passes.leaves.told.1 told);
-    }) c.look_over-looked.ensures.copied
+    c.spot_in-slot.ensures
 
 pub returns-clause-kept : goal.returns-clause-kept
 returns-clause-kept g c =
@@ -63,7 +55,7 @@ returns-clause-kept g c =
       changed = λ key is. none_changed_more step key (sym (ap (λ (m : Mapped). m key) noted.changed) ∙ is);
       formed = λ told.
           let now = step.passes.leaves.told.0 told in
-          noted_kept c.args.key c.look_over-looked.result.room c.loaded-page.result.now _ _ noted c.note.ensures.did read (covers _ c.look_over-looked.result.room c.look_over-looked.ensures.room) now (formed_after step c.requires.formed now);
+          noted_kept c.args.key c.room_of-room.result c.loaded-page.result.now _ _ noted c.note.ensures.did read (covers _ c.room_of-room.result c.room_of-room.ensures) now (formed_after step c.requires.formed now);
     }
 
 pub returns-clause-did : goal.returns-clause-did

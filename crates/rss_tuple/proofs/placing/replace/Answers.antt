@@ -62,8 +62,8 @@ place-requires-clause-away g c = λ told full.
     let view = g.P.Pages.view c.args.pages.now in
     let read = read_key c.home-key.ensures c.in_ok-found.ensures.read in
     let here = c.in-Here.ensures.holds in
-    let spare : 0 < view.spare = spare_longer view c.args.segment c.args.tid (length c.args.body.now) c.read_formed.new.page c.args.tid.slot _ c.requires.room before
-    (body_read c.args.tid step read here before) read.formed.slotted (omega (arith, c.from.ensures, c.if-tid-from.false)) here (λ room. full (room_back (g.P.Pages.view c.read_formed.new.pages) _ c.read_formed.new.page c.args.tid.slot (length c.args.body.now) read told room)) in
+    let spare : 0 < view.spare = spare_longer view c.args.segment c.args.tid (length c.args.body.now) c.in_ok-found.found.page c.args.tid.slot _ c.requires.room before
+    (body_read c.args.tid step read here before) read.formed.slotted (omega (arith, c.from.ensures, c.if-tid-from.false)) here (λ room. full (room_back (g.P.Pages.view c.read_formed.new.pages) _ c.in_ok-found.found.page c.args.tid.slot (length c.args.body.now) read told room)) in
     record {
       never = λ p s fits. stands_here c.args.tid read here told p s fits.leads;
       room = omega (arith, spare, spare_after step (all_mapped step) (g.met.P.Pages.are_counted c.args.pages.now) (g.met.P.Pages.are_counted c.read_formed.new.pages));
@@ -86,7 +86,7 @@ pub move_on-requires-clause-leads : goal.move_on-requires-clause-leads
 move_on-requires-clause-leads g c = c.in-Forward.ensures.holds
 
 pub move_on-requires-clause-to_slot : goal.move_on-requires-clause-to_slot
-move_on-requires-clause-to_slot g c = low_forward _ c.read_formed.new.page c.args.tid.slot c.in-Forward.to c.in-Forward.to_slot c.in_ok-found.ensures.read.formed (omega (arith, c.from.ensures, c.if-tid-from.false)) c.in-Forward.ensures.spelled
+move_on-requires-clause-to_slot g c = low_forward _ c.in_ok-found.found.page c.args.tid.slot c.in-Forward.to c.in-Forward.to_slot c.in_ok-found.ensures.read.formed (omega (arith, c.from.ensures, c.if-tid-from.false)) c.in-Forward.ensures.spelled
 
 pub move_on-requires-clause-room : goal.move_on-requires-clause-room
 move_on-requires-clause-room g c = λ told bytes is longer.
