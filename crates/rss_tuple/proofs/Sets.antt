@@ -8,19 +8,21 @@ use Rattle.rss_base.specs.Paged.{Held, is_same}
 use Rattle.rss_base.specs.Notes.{Noted}
 use Rattle.rss_base.specs.Steps.{PagesView, Keys, no_page, only, WritesPage, GivesPage, PagesStep, PagesCall}
 use Rattle.rss_base.specs.declared.fault.PageFault.{PageFault}
+use Rattle.rss_base.specs.declared.fault.PageFault.TheVariants.{Damaged}
+use Rattle.rss_base.specs.declared.place.Place.TheVariants.{Page as PagePlace}
 use Rattle.rss_base.specs.declared.key.PageKey.{PageKey}
 use Rattle.rss_base.proofs.Keys.{is_same-true, is_same-itself}
-use Rattle.rss_base.proofs.Steps.{written_here, untouched, then_call, fails}
+use Rattle.rss_base.proofs.Steps.{written_here, untouched, then_call, fails, all_held}
 use Rattle.std.proofs.lemmas.Bool.{cond-true}
 use Rattle.rss_page.specs.Content.{Content, Empty, Here, body_length}
-use Rattle.rss_page.specs.Slotted.{entries, HasRoom, Sets}
+use Rattle.rss_page.specs.Slotted.{entries, HasRoom, Sets, IsHeapKey, IsWellFormed}
 use Rattle.rss_page.specs.Surveyed.{held_at, IsVacant}
 use Rattle.rss_page.proofs.Blanks.{blank_bytes}
 use Rattle.rss_page.proofs.Contents.{length-entries}
 use Rattle.rss_tuple.specs.Directory.{contents_in, content_at}
 use Rattle.rss_tuple.specs.Heaps.{IsHeap, AreFormed}
 use Rattle.rss_tuple.specs.Edits.{IsRead, SetsEntry, FillsPage, Edits}
-use Rattle.rss_tuple.proofs.Seen.{not_ok, on_ok_then, content_after}
+use Rattle.rss_tuple.proofs.Seen.{not_ok, on_ok_then, content_after, found_damaged}
 
 -- ---- all pages, where one was changed
 
@@ -117,6 +119,16 @@ sets_taken key slot body old mid new none fills mid_told step formed told =
 pub none_held : (page : Option (List ℕ)) → is_some page ≡ false → page ≡ None
 none_held None is = refl
 none_held (Some bytes) is = absurd (cc)
+
+-- ---- a page that is read
+
+-- a copy of a page in memory that a walk found well-formed
+pub is_read : (view : PagesView) (key : PageKey) (bytes : List ℕ) → view.mapped key ≡ true → IsWellFormed key bytes → (IsTold view.disk → view.held key ≡ Some bytes) → IsRead view key bytes
+is_read view key bytes mapped formed held = record { mapped = mapped; formed = formed; held = held }
+
+-- where a walk finds it ill-formed, the device tells nothing
+pub ill_formed : {asks writes : ℕ} {old mid : PagesView} (key : PageKey) (bytes : List ℕ) (fault : PageFault) → PagesStep no_page asks writes old mid → IsHeapKey key → (IsTold old.disk → AreFormed old) → (IsTold mid.disk → mid.held key ≡ Some bytes) → (IsWellFormed key bytes → ⊥) → fault ≡ Damaged (PagePlace key) → PagesCall {T = Unit {0}} no_page asks writes old mid (Err fault)
+ill_formed key bytes fault step heap formed held ill is = found_damaged fault is step (λ told. ill (formed told key bytes heap (ap (λ (h : Held). h key) (sym (all_held step told)) ∙ held (step.passes.leaves.told.0 told))).formed)
 
 -- ---- a call that edits
 

@@ -1,5 +1,5 @@
 // A look through all pages of a segment, whatever they hold.
-ghost use Rattle.std.specs.Prelude.{◌≡◌, ◌↔◌, ◌*◌, ◌<◌, ◌≤◌, ◌++◌, ◌∷◌, [], Some, None, Bool, List, length, ℕ, true, false, IsTrue, OnOk, OnErr, IfOk, IfErr, IfSome, IfNone, Err, IsErrOf};
+ghost use Rattle.std.specs.Prelude.{◌≡◌, ◌↔◌, ◌*◌, ◌<◌, ◌≤◌, ◌++◌, ◌∷◌, [], Some, None, Bool, List, length, ℕ, true, false, IsTrue, OnOk, OnErr, IfErr, IfSome, IfNone, Err, IsErrOf};
 ghost use Rattle.rss_base.specs.DiskRule.{IsTold};
 ghost use Rattle.rss_base.specs.Notes.{is_noted_space, note_most};
 ghost use Rattle.rss_base.specs.Paged.{page_key};
@@ -22,7 +22,7 @@ ghost use Rattle.rss_tuple.specs.Looks.{IsMarked, MarksGoal, AreMarked, AreAllMa
 
 use crate::finding::{is_empty, room_of};
 use crate::keys::{damaged, home, overflow};
-use rss_base::{BODY_BYTES, Page, PageFault, PageKey, Pages, Place, Space, Tid};
+use rss_base::{BODY_BYTES, PAGE_BYTES, Page, PageFault, PageKey, Pages, Place, Space, Tid};
 use rss_page::{ENTRIES, Entry, body, bytes_at, checked_entry, entry, survey};
 use std::alloc::Global;
 
@@ -134,7 +134,8 @@ fn look_at_home<P: Pages, V: Visitor>(
     ensures did { LooksCall (IsSound (P.view pages.old).held segment (V.is_good visitor.old))
         (only (page_key segment Home number)) 129 (P.view pages.old) (P.view pages.new) result }
 {
-    let page = look_at(pages, home(segment, number))?;
+    let mut page = [0u8; PAGE_BYTES];
+    look_at(pages, home(segment, number), &mut page)?;
     for slot in 0..ENTRIES {
         let tid = Tid {
             page: number,
@@ -306,7 +307,8 @@ fn look_at_overflow<P: Pages>(
         (P.view pages.old) (P.view pages.new) result }
 {
     let key = overflow(segment, number);
-    let page = look_at(pages, key)?;
+    let mut page = [0u8; PAGE_BYTES];
+    look_at(pages, key, &mut page)?;
     if !are_marked(&page, marks) {
         return Err(damaged(key));
     }
@@ -326,20 +328,20 @@ fn are_marked(page: &Page, marks: u128) -> bool
 }
 
 /// Looks at a page by itself, notes its room, and copies it.
-fn look_at<P: Pages>(pages: &mut P, key: PageKey) -> Result<Page, PageFault>
+fn look_at<P: Pages>(pages: &mut P, key: PageKey, into: &mut Page) -> Result<(), PageFault>
     requires mapped { (P.view pages.old).mapped key ≡ true }
     requires space { is_noted_space key.space ≡ true }
-    ensures looks { IfOk result (λ page. LooksAt key page (P.view pages.old) (P.view pages.new)) }
+    ensures looks { OnOk result (LooksAt key into.new (P.view pages.old) (P.view pages.new)) }
     ensures did { LooksCall (IsSoundAt (P.view pages.old).held key) (only key) 1
         (P.view pages.old) (P.view pages.new) result }
 {
     bring(pages, key)?;
-    let page = *pages.loaded(key);
-    let Some(room) = heap_room(&page, key) else {
+    *into = *pages.loaded(key);
+    let Some(room) = heap_room(into, key) else {
         return Err(damaged(key));
     };
     pages.note(key, room);
-    Ok(page)
+    Ok(())
 }
 
 /// Brings a page into memory. Where it is found to be damaged, it is named.

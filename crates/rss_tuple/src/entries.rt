@@ -1,46 +1,48 @@
 // One entry of a page that is changed.
-ghost use Rattle.std.specs.Prelude.{◌≡◌, ◌↔◌, ◌<◌, length, true, false, IsTrue, IfOk, OnOk};
+ghost use Rattle.std.specs.Prelude.{◌≡◌, ◌↔◌, ◌<◌, length, true, false, IsTrue, IfOk, IfErr, OnOk, OnErr};
 ghost use Rattle.rss_base.specs.DiskRule.{IsTold};
 ghost use Rattle.rss_base.specs.Sizes.{page_entries};
 ghost use Rattle.rss_base.specs.PageMap.{IsKey};
 ghost use Rattle.rss_base.specs.Steps.{PagesCall, no_page, only};
 ghost use Rattle.rss_base.specs.declared.key.Space.TheVariants.{Home};
+ghost use Rattle.rss_base.specs.declared.fault.PageFault.TheVariants.{Damaged as PageDamaged};
+ghost use Rattle.rss_base.specs.declared.place.Place.TheVariants.{Page as PagePlace};
 ghost use Rattle.rss_page.specs.Content.{Empty, Here, Forward};
-ghost use Rattle.rss_page.specs.Slotted.{entries, HasRoom, IsHeapKey, IsSlotted};
+ghost use Rattle.rss_page.specs.Slotted.{entries, HasRoom, IsHeapKey, IsSlotted, IsWellFormed};
 ghost use Rattle.rss_page.specs.Surveyed.{IsSurvey, IsVacant};
 ghost use Rattle.rss_tuple.specs.Directory.{contents};
 ghost use Rattle.rss_tuple.specs.Calls.{IsBodyLength};
-ghost use Rattle.rss_tuple.specs.Edits.{IsRead, MayRead, NamesEntry, MayEdit, Edits, FillsPage};
+ghost use Rattle.rss_tuple.specs.Edits.{MayRead, NamesEntry, MayEdit, Edits, FillsPage};
 
 use crate::keys::damaged;
 use crate::walking::taken_from;
 use rss_base::{Page, PageFault, PageKey, Pages, Tid};
 use rss_page::{Survey, blank, forward_at, put_found, remove, survey};
 
-/// A copy of a well-formed page, and what a walk over it found.
-#[derive(Clone, Copy)]
-pub(crate) struct Formed {
-    pub(crate) page: Page,
-    pub(crate) survey: Survey,
-}
-
-/// Reads a page that is to be well-formed.
-pub(crate) fn read_formed<P: Pages>(pages: &mut P, key: PageKey) -> Result<Formed, PageFault>
+/// Brings a page into memory that is to be mapped. A caller copies it from there, since a buffer to
+/// read it into would have to be zeroed before.
+pub(crate) fn load_there<P: Pages>(pages: &mut P, key: PageKey) -> Result<(), PageFault>
     requires { MayRead (P.view pages.old) key }
-    ensures read { IfOk result (λ found. IsRead (P.view pages.new) key found.page) }
-    ensures survey { IfOk result (λ found. IsSurvey found.page found.survey) }
+    ensures mapped { OnOk result ((P.view pages.new).mapped key ≡ true) }
+    ensures there { OnOk result ((P.view pages.new).in_memory key ≡ true) }
     ensures did { PagesCall no_page 1 1 (P.view pages.old) (P.view pages.new) result }
 {
     if !pages.has(key) {
         return Err(damaged(key));
     }
     pages.load(key)?;
-    let page = pages.loaded(key);
+    Ok(())
+}
+
+/// What a walk over a page finds that is to be well-formed.
+pub(crate) fn walk(page: &Page, key: PageKey) -> Result<Survey, PageFault>
+    ensures formed { OnOk result (IsWellFormed key page.now) }
+    ensures found { IfOk result (IsSurvey page.now) }
+    ensures damaged { IfErr result (λ fault. fault ≡ PageDamaged (PagePlace key)) }
+    ensures ill { OnErr result (IsWellFormed key page.now → ⊥) }
+{
     match survey(page, key) {
-        Some(survey) => Ok(Formed {
-            page: *page,
-            survey,
-        }),
+        Some(found) => Ok(found),
         None => Err(damaged(key)),
     }
 }
@@ -79,11 +81,13 @@ pub(crate) fn put_in<P: Pages>(
         → HasRoom (contents (P.view pages.old).held key) slot (length body.now) }
     ensures { Edits key slot (Here body.now) 2 (P.view pages.old) (P.view pages.new) result }
 {
-    let mut found = read_formed(pages, key)?;
-    if !found.survey.has_room(&found.page, slot, body.len() as u16) {
+    load_there(pages, key)?;
+    let mut page = *pages.loaded(key);
+    let found = walk(&page, key)?;
+    if !found.has_room(&page, slot, body.len() as u16) {
         return Err(damaged(key));
     }
-    put_here(pages, key, &mut found.page, slot, body, &found.survey)
+    put_here(pages, key, &mut page, slot, body, &found)
 }
 
 /// Makes an entry of a home page that was read lead to an entry of an overflow page, whatever it
@@ -140,8 +144,10 @@ pub(crate) fn clear<P: Pages>(pages: &mut P, key: PageKey, slot: u8) -> Result<(
     ensures there { OnOk result ((P.view pages.old).mapped key ≡ true) }
     ensures edits { Edits key slot Empty 2 (P.view pages.old) (P.view pages.new) result }
 {
-    let mut found = read_formed(pages, key)?;
-    clear_in(pages, key, &mut found.page, slot)
+    load_there(pages, key)?;
+    let mut page = *pages.loaded(key);
+    walk(&page, key)?;
+    clear_in(pages, key, &mut page, slot)
 }
 
 /// Makes a page that was just taken one whose only body stands at this slot.

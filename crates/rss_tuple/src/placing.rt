@@ -17,11 +17,11 @@ ghost use Rattle.rss_tuple.specs.Edits.{IsRead, MayRead};
 ghost use Rattle.rss_tuple.specs.Puts.{Changed, TakesAway, PutsAway, Puts, MovesBody, HomeRead, Stays};
 
 use crate::entries::{
-    Formed, clear, clear_in, fill, put_forward, put_here, put_in, read_formed, take_here,
+    clear, clear_in, fill, load_there, put_forward, put_here, put_in, take_here, walk,
 };
 use crate::finding::find_page;
 use crate::keys::{damaged, home, overflow};
-use rss_base::{Page, PageFault, PageKey, Pages, Space, Tid};
+use rss_base::{PAGE_BYTES, Page, PageFault, PageKey, Pages, Space, Tid};
 use rss_page::{ENTRIES, Entry, Survey, entry};
 
 // ---- a body and its place
@@ -122,8 +122,10 @@ pub(crate) fn insert_at<P: Pages>(
     if !pages.has(key) {
         return take_here(pages, key, tid.slot as u8, body);
     }
-    let mut found = read_formed(pages, key)?;
-    place(pages, segment, tid, &mut found.page, body, &found.survey)
+    load_there(pages, key)?;
+    let mut page = *pages.loaded(key);
+    let found = walk(&page, key)?;
+    place(pages, segment, tid, &mut page, body, &found)
 }
 
 /// Takes a tuple away. A page whose entries are all empty then is given back.
@@ -140,15 +142,17 @@ pub(crate) fn remove<P: Pages>(pages: &mut P, segment: u8, tid: Tid) -> Result<(
         return Err(damaged(key));
     }
     let slot = tid.slot as u8;
-    let mut found = read_formed(pages, key)?;
-    match entry(&found.page, slot) {
+    load_there(pages, key)?;
+    let mut page = *pages.loaded(key);
+    walk(&page, key)?;
+    match entry(&page, slot) {
         Entry::Empty => Err(damaged(key)),
-        Entry::Here { .. } => clear_in(pages, key, &mut found.page, slot),
+        Entry::Here { .. } => clear_in(pages, key, &mut page, slot),
         Entry::Forward {
             page: to,
             slot: to_slot,
         } => {
-            clear_in(pages, key, &mut found.page, slot)?;
+            clear_in(pages, key, &mut page, slot)?;
             clear(pages, overflow(segment, to), to_slot)
         }
     }
@@ -170,48 +174,41 @@ pub(crate) fn replace<P: Pages>(
         return Err(damaged(key));
     }
     let slot = tid.slot as u8;
-    let mut found = read_formed(pages, key)?;
-    match entry(&found.page, slot) {
+    load_there(pages, key)?;
+    let mut page = *pages.loaded(key);
+    let found = walk(&page, key)?;
+    match entry(&page, slot) {
         Entry::Empty => Err(damaged(key)),
-        Entry::Here { .. } => place(pages, segment, tid, &mut found.page, body, &found.survey),
+        Entry::Here { .. } => place(pages, segment, tid, &mut page, body, &found),
         Entry::Forward {
             page: to,
             slot: to_slot,
-        } => move_on(
-            pages,
-            segment,
-            tid,
-            &mut found.page,
-            to,
-            to_slot,
-            body,
-            &found.survey,
-        ),
+        } => move_on(pages, segment, tid, &mut page, to, to_slot, body, &found),
     }
 }
 
 /// Whether a body of this length stays in the overflow page where it stands: it fits there, and not at
-/// home. Then that page is answered.
+/// home. Then the page is left in `away`, and what a walk over it finds is answered.
 fn stays<P: Pages>(
     pages: &mut P,
     home: &Page,
     found: &Survey,
     slot: u8,
     key: PageKey,
+    away: &mut Page,
     to_slot: u8,
     length: u16,
-) -> Result<Option<Formed>, PageFault>
+) -> Result<Option<Survey>, PageFault>
     requires slotted { IsSlotted home.now }
     requires found { IsSurvey home.now found.now }
     requires slot { slot < page_entries }
     requires to_slot { to_slot < page_entries }
     requires may { MayRead (P.view pages.old) key }
     ensures read { IfOk result (λ stays. IfSome stays
-        (λ away. IsRead (P.view pages.new) key away.page)) }
-    ensures survey { IfOk result (λ stays. IfSome stays
-        (λ away. IsSurvey away.page away.survey)) }
+        (λ _. IsRead (P.view pages.new) key away.new)) }
+    ensures found { IfOk result (λ stays. IfSome stays (IsSurvey away.new)) }
     ensures stays { IfOk result (λ stays. IfSome stays
-        (λ away. Stays (entries home.now) slot (entries away.page) to_slot length)) }
+        (λ _. Stays (entries home.now) slot (entries away.new) to_slot length)) }
     ensures leaves { IfOk result (λ stays. IfNone stays (IsTold (P.view pages.old).disk
         → Stays (entries home.now) slot (contents (P.view pages.old).held key) to_slot length → ⊥)) }
     ensures did { PagesCall no_page 1 1 (P.view pages.old) (P.view pages.new) result }
@@ -219,8 +216,10 @@ fn stays<P: Pages>(
     if found.has_room(home, slot, length) {
         return Ok(None);
     }
-    let there = read_formed(pages, key)?;
-    if there.survey.has_room(&there.page, to_slot, length) {
+    load_there(pages, key)?;
+    *away = *pages.loaded(key);
+    let there = walk(away, key)?;
+    if there.has_room(away, to_slot, length) {
         Ok(Some(there))
     } else {
         Ok(None)
@@ -249,10 +248,11 @@ fn move_on<P: Pages>(
         (P.view pages.new) result }
 {
     let key = overflow(segment, to);
+    let mut away = [0u8; PAGE_BYTES];
     let length = body.len() as u16;
     let slot = tid.slot as u8;
-    match stays(pages, page, found, slot, key, to_slot, length)? {
-        Some(mut away) => put_here(pages, key, &mut away.page, to_slot, body, &away.survey),
+    match stays(pages, page, found, slot, key, &mut away, to_slot, length)? {
+        Some(there) => put_here(pages, key, &mut away, to_slot, body, &there),
         None => {
             place(pages, segment, tid, page, body, found)?;
             clear(pages, key, to_slot)

@@ -11,27 +11,27 @@ use Rattle.rss_tuple.proofs.LookedPages.{entry_is, sound_home, noted_still, page
 use Rattle.rss_tuple.proofs.checking.look_at_home.Goals as goal
 use Rattle.rss_tuple.proofs.checking.look_at_home.Goals.{After-look_in}
 
-pub returns-in_err-page-clause-did : goal.returns-in_err-page-clause-did
-returns-in_err-page-clause-did g c = looks_fails _ c.from_residual.ensures.1 (looks_wider (λ key is. is ∙ c.home.ensures) (omega arith) (λ told sound. sound_home (g.P.Pages.view c.args.pages.now).held c.args.segment c.args.number (g.V.Visitor.is_good c.args.visitor.now) c.home.result c.home.ensures sound) c.in_err-page.ensures.did)
+pub returns-in_err-look_at-clause-did : goal.returns-in_err-look_at-clause-did
+returns-in_err-look_at-clause-did g c = looks_fails _ c.from_residual.ensures.1 (looks_wider (λ key is. is ∙ c.home.ensures) (omega arith) (λ told sound. sound_home (g.P.Pages.view c.args.pages.now).held c.args.segment c.args.number (g.V.Visitor.is_good c.args.visitor.now) c.home.result c.home.ensures sound) c.in_err-look_at.ensures.did)
 
 -- what is held is as before
 same_held : (g : _) (c : After-look_in g) → IsTold (g.P.Pages.view c.args.pages.now).disk → (g.P.Pages.view c.loop-slot.pages).held ≡ (g.P.Pages.view c.args.pages.now).held
 same_held g c told =
-    let first = c.in_ok-page.ensures.did.looks in
+    let first = c.in_ok-look_at.ensures.did.looks in
     c.loop-slot.invariant.looks.held (first.step.passes.leaves.told.0 told) ∙ first.held told
 
 told_now : (g : _) (c : After-look_in g) → IsTold (g.P.Pages.view c.args.pages.now).disk → IsTold (g.P.Pages.view c.loop-slot.pages).disk
-told_now g c told = c.loop-slot.invariant.looks.step.passes.leaves.told.0 (c.in_ok-page.ensures.did.looks.step.passes.leaves.told.0 told)
+told_now g c told = c.loop-slot.invariant.looks.step.passes.leaves.told.0 (c.in_ok-look_at.ensures.did.looks.step.passes.leaves.told.0 told)
 
 -- the entry is that of the page
-here : (g : _) (c : After-look_in g) → IsTold (g.P.Pages.view c.args.pages.now).disk → homes (g.P.Pages.view c.args.pages.now).held c.args.segment c.args.number c.loop-slot.slot ≡ held_at (entries c.in_ok-page.page) c.from.result
-here g c told = entry_is (g.P.Pages.view c.args.pages.now).held c.args.segment c.args.number c.home.result c.in_ok-page.page c.home.ensures (c.in_ok-page.ensures.looks.held told) c.loop-slot.slot ∙ ap (held_at (entries c.in_ok-page.page)) (sym c.from.ensures)
+here : (g : _) (c : After-look_in g) → IsTold (g.P.Pages.view c.args.pages.now).disk → homes (g.P.Pages.view c.args.pages.now).held c.args.segment c.args.number c.loop-slot.slot ≡ held_at (entries c.look_at.new.into) c.from.result
+here g c told = entry_is (g.P.Pages.view c.args.pages.now).held c.args.segment c.args.number c.home.result c.look_at.new.into c.home.ensures (c.in_ok-look_at.ensures.looks.held told) c.loop-slot.slot ∙ ap (held_at (entries c.look_at.new.into)) (sym c.from.ensures)
 
 pub returns-in_err-look_in-clause-did : goal.returns-in_err-look_in-clause-did
 returns-in_err-look_in-clause-did g c =
     let so = c.loop-slot.invariant in
     looks_fails _ c.from_residual-in_err-look_in.ensures.1 (looks_wider (λ key is. is ∙ c.home.ensures) (omega arith) (λ told sound. sound)
-    (looks_call {asks_then = 1} (looks_then c.in_ok-page.ensures.did.looks (looks_more so.looks)) (λ told sound. page_stands _ _ c.args.segment c.args.number c.loop-slot.slot _ (same_held g (goal.at.returns-in_err-look_in-clause-did g c).After-look_in told) (here g (goal.at.returns-in_err-look_in-clause-did g c).After-look_in told) (g.V.Visitor.is_good c.args.visitor.now) (g.V.Visitor.is_good c.loop-slot.visitor) c.loop-slot.led (so.shown told).rule (so.seen told) sound)
+    (looks_call {asks_then = 1} (looks_then c.in_ok-look_at.ensures.did.looks (looks_more so.looks)) (λ told sound. page_stands _ _ c.args.segment c.args.number c.loop-slot.slot _ (same_held g (goal.at.returns-in_err-look_in-clause-did g c).After-look_in told) (here g (goal.at.returns-in_err-look_in-clause-did g c).After-look_in told) (g.V.Visitor.is_good c.args.visitor.now) (g.V.Visitor.is_good c.loop-slot.visitor) c.loop-slot.led (so.shown told).rule (so.seen told) sound)
     (looks_wider (λ key none. absurd none) (omega arith) (λ told sound. sound) c.in_err-look_in.ensures.did)))
 
 pub loop-slot-preserved : goal.loop-slot-preserved
@@ -44,14 +44,14 @@ loop-slot-preserved g c =
       size = last.marks.size ∙ so.size;
       seen = λ told. page_seen _ _ c.args.segment c.args.number c.loop-slot.slot _ (same_held g at told) (here g at told) (g.V.Visitor.is_good c.args.visitor.now) (g.V.Visitor.is_good c.loop-slot.visitor) c.loop-slot.led c.look_in.new.led (so.shown told).rule (so.seen told) (last.holds (told_now g at told)) last.marks;
       shown = λ told. page_shown _ _ c.args.segment c.args.number c.loop-slot.slot _ (same_held g at told) (here g at told) (so.shown told)
-          (subst (λ (n : ℕ). Sees g.V.Visitor.is_good g.V.Visitor.saw c.loop-slot.visitor c.look_in.new.visitor (row_of (tid_at c.args.number n) (body_by (overflows (g.P.Pages.view c.loop-slot.pages).held c.args.segment) (held_at (entries c.in_ok-page.page) c.from.result)))) c.from.ensures (last.saw (told_now g at told)));
+          (subst (λ (n : ℕ). Sees g.V.Visitor.is_good g.V.Visitor.saw c.loop-slot.visitor c.look_in.new.visitor (row_of (tid_at c.args.number n) (body_by (overflows (g.P.Pages.view c.loop-slot.pages).held c.args.segment) (held_at (entries c.look_at.new.into) c.from.result)))) c.from.ensures (last.saw (told_now g at told)));
     }
 
 pub returns-clause-formed : goal.returns-clause-formed
-returns-clause-formed g c = λ told. noted_still c.args.segment c.args.number Home c.home.result c.in_ok-page.page _ _ _ c.home.ensures c.in_ok-page.ensures.looks c.loop-slot.invariant.looks told
+returns-clause-formed g c = λ told. noted_still c.args.segment c.args.number Home c.home.result c.look_at.new.into _ _ _ c.home.ensures c.in_ok-look_at.ensures.looks c.loop-slot.invariant.looks told
 
 pub returns-clause-saw : goal.returns-clause-saw
 returns-clause-saw g c = λ told. page_whole (g.P.Pages.view c.args.pages.now).held c.args.segment c.args.number c.loop-slot.slot (omega arith) (c.loop-slot.invariant.shown told)
 
 pub returns-clause-did : goal.returns-clause-did
-returns-clause-did g c = looks_done _ (looks_within (λ key is. is ∙ c.home.ensures) (omega arith) (looks_then c.in_ok-page.ensures.did.looks (looks_more c.loop-slot.invariant.looks)))
+returns-clause-did g c = looks_done _ (looks_within (λ key is. is ∙ c.home.ensures) (omega arith) (looks_then c.in_ok-look_at.ensures.did.looks (looks_more c.loop-slot.invariant.looks)))

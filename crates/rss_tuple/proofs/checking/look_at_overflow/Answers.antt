@@ -13,15 +13,15 @@ use Rattle.rss_tuple.proofs.LookedPages.{noted_still}
 use Rattle.rss_tuple.proofs.checking.look_at_overflow.Goals as goal
 use Rattle.rss_tuple.proofs.checking.look_at_overflow.Goals.{After-are_marked}
 
-pub returns-in_err-page-clause-did : goal.returns-in_err-page-clause-did
-returns-in_err-page-clause-did g c = looks_fails _ c.from_residual.ensures.1 (looks_wider (λ key is. is ∙ c.overflow-key.ensures) (omega arith) (λ told sound. subst (IsSoundAt (g.P.Pages.view c.args.pages.now).held) (sym c.overflow-key.ensures) sound.heap) c.in_err-page.ensures.did)
+pub returns-in_err-look_at-clause-did : goal.returns-in_err-look_at-clause-did
+returns-in_err-look_at-clause-did g c = looks_fails _ c.from_residual.ensures.1 (looks_wider (λ key is. is ∙ c.overflow-key.ensures) (omega arith) (λ told sound. subst (IsSoundAt (g.P.Pages.view c.args.pages.now).held) (sym c.overflow-key.ensures) sound.heap) c.in_err-look_at.ensures.did)
 
 -- the entries are those of the page
-here : (g : _) (c : After-are_marked g) → IsTold (g.P.Pages.view c.args.pages.now).disk → contents (g.P.Pages.view c.args.pages.now).held (page_key c.args.segment Overflow c.args.number) ≡ entries c.in_ok-page.page
-here g c told = ap (contents (g.P.Pages.view c.args.pages.now).held) (sym c.overflow-key.ensures) ∙ ap contents_in (c.in_ok-page.ensures.looks.held told)
+here : (g : _) (c : After-are_marked g) → IsTold (g.P.Pages.view c.args.pages.now).disk → contents (g.P.Pages.view c.args.pages.now).held (page_key c.args.segment Overflow c.args.number) ≡ entries c.look_at.new.into
+here g c told = ap (contents (g.P.Pages.view c.args.pages.now).held) (sym c.overflow-key.ensures) ∙ ap contents_in (c.in_ok-look_at.ensures.looks.held told)
 
 pub returns-then-not-are_marked-clause-did : goal.returns-then-not-are_marked-clause-did
-returns-then-not-are_marked-clause-did g c = looks_damaged c.damaged.result (names_page c.damaged.result c.overflow-key.result c.damaged.ensures) (looks_within (λ key is. is ∙ c.overflow-key.ensures) (omega arith) c.in_ok-page.ensures.did.looks) (λ told sound.
+returns-then-not-are_marked-clause-did g c = looks_damaged c.damaged.result (names_page c.damaged.result c.overflow-key.result c.damaged.ensures) (looks_within (λ key is. is ∙ c.overflow-key.ensures) (omega arith) c.in_ok-look_at.ensures.did.looks) (λ told sound.
     let yes : c.are_marked.result ≡ true = c.are_marked.ensures.1 (subst (λ (l : List Content). AreMarked l c.args.marks) (here g (goal.at.returns-then-not-are_marked-clause-did g c).After-are_marked told) sound.marked) in
     let not : c.are_marked.result ≡ false = search rules in
     absurd (cc))
@@ -29,10 +29,10 @@ returns-then-not-are_marked-clause-did g c = looks_damaged c.damaged.result (nam
 pub returns-clause-formed : goal.returns-clause-formed
 returns-clause-formed g c = λ told.
     let still : LooksStep no_page 0 (g.P.Pages.view c.look_at.new.pages) (g.P.Pages.view c.look_at.new.pages) = looks_none _ in
-    noted_still c.args.segment c.args.number Overflow c.overflow-key.result c.in_ok-page.page _ _ _ c.overflow-key.ensures c.in_ok-page.ensures.looks still told
+    noted_still c.args.segment c.args.number Overflow c.overflow-key.result c.look_at.new.into _ _ _ c.overflow-key.ensures c.in_ok-look_at.ensures.looks still told
 
 pub returns-clause-led : goal.returns-clause-led
 returns-clause-led g c = λ told. subst (λ (l : List Content). AreMarked l c.args.marks) (sym (here g (goal.at.returns-clause-led g c).After-are_marked told)) (c.are_marked.ensures.0 (search rules))
 
 pub returns-clause-did : goal.returns-clause-did
-returns-clause-did g c = looks_done _ (looks_within (λ key is. is ∙ c.overflow-key.ensures) (omega arith) c.in_ok-page.ensures.did.looks)
+returns-clause-did g c = looks_done _ (looks_within (λ key is. is ∙ c.overflow-key.ensures) (omega arith) c.in_ok-look_at.ensures.did.looks)

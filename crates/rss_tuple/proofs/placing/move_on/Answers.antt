@@ -36,23 +36,23 @@ stays-requires-clause-may g c =
       formed = λ told. (c.requires.heaps told).formed;
     }
 
-pub returns-in_err-away : goal.returns-in_err-away
-returns-in_err-away g c = moves_fails _ c.from_residual.ensures.1 (λ key none. absurd none) (omega arith) (omega arith) c.in_err-away.ensures.did
+pub returns-in_err-there : goal.returns-in_err-there
+returns-in_err-there g c = moves_fails _ c.from_residual.ensures.1 (λ key none. absurd none) (omega arith) (omega arith) c.in_err-there.ensures.did
 
 -- ---- where the body stays
 
 pub put_here-requires-clause-may : goal.put_here-requires-clause-may
 put_here-requires-clause-may g c = record {
-  read = rw c.in-Some.is at c.in_ok-away.ensures.read;
+  read = rw c.in-Some.is at c.in_ok-there.ensures.read;
   low = c.requires.to_slot;
-  formed = formed_after c.in_ok-away.ensures.did.step (λ told. (c.requires.heaps told).formed);
+  formed = formed_after c.in_ok-there.ensures.did.step (λ told. (c.requires.heaps told).formed);
 }
 
 pub returns-in-Some : goal.returns-in-Some
 returns-in-Some g c =
-    let step = c.in_ok-away.ensures.did.step in
-    let there = rw c.in-Some.is at c.in_ok-away.ensures.stays in
-    let read_away = rw c.in-Some.is at c.in_ok-away.ensures.read in
+    let step = c.in_ok-there.ensures.did.step in
+    let there = rw c.in-Some.is at c.in_ok-there.ensures.stays in
+    let read_away = rw c.in-Some.is at c.in_ok-there.ensures.read in
     let view = g.P.Pages.view c.stays.new.pages in
     moves_after {cost = 1} step (record {
       moved = on_ok_then c.put_here.result (λ sets mid.
@@ -60,7 +60,7 @@ returns-in-Some g c =
           let lead = leads view c.args.segment c.args.tid c.args.page.now c.args.to c.args.to_slot read c.requires.leads mid in
           moved_stays c.args.segment c.args.tid c.args.body.now c.args.to c.args.to_slot c.overflow-key.result _ _ c.overflow-key.ensures lead
           (λ fits. there.not_home (room_read view (page_key c.args.segment Home c.args.tid.page) c.args.page.now c.args.tid.slot (length c.args.body.now) read mid fits))
-          (room_back view c.overflow-key.result c.in-Some.away.page c.args.to_slot (length c.args.body.now) read_away mid there.room)
+          (room_back view c.overflow-key.result c.stays.new.away c.args.to_slot (length c.args.body.now) read_away mid there.room)
           (sets mid) c.put_here.ensures.did.step mid)
           c.put_here.ensures.sets;
       takes = on_ok c.put_here.result (takes_none (takes_step c.put_here.ensures.did.step (inl read_away.mapped)));
@@ -71,22 +71,22 @@ returns-in-Some g c =
 
 pub place-requires-clause-home : goal.place-requires-clause-home
 place-requires-clause-home g c = record {
-  read = read_off c.in_ok-away.ensures.did.step (λ none. none) c.requires.home.read;
+  read = read_off c.in_ok-there.ensures.did.step (λ none. none) c.requires.home.read;
   low = c.requires.home.low;
 }
 
 pub place-requires-clause-formed : goal.place-requires-clause-formed
-place-requires-clause-formed g c = formed_after c.in_ok-away.ensures.did.step (λ told. (c.requires.heaps told).formed)
+place-requires-clause-formed g c = formed_after c.in_ok-there.ensures.did.step (λ told. (c.requires.heaps told).formed)
 
 pub place-requires-clause-away : goal.place-requires-clause-away
 place-requires-clause-away g c = λ mid full.
     let old = g.P.Pages.view c.args.pages.now in
     let now = g.P.Pages.view c.stays.new.pages in
-    let step = c.in_ok-away.ensures.did.step in
+    let step = c.in_ok-there.ensures.did.step in
     let told = step.passes.leaves.told.1 mid in
     let read = read_off step (λ none. none) c.requires.home.read in
     let lead = leads now c.args.segment c.args.tid c.args.page.now c.args.to c.args.to_slot read c.requires.leads mid in
-    let never : HasRoom (contents_in (old.held c.overflow-key.result)) c.args.to_slot (length c.args.body.now) → ⊥ = λ room. (rw c.in-None.is at c.in_ok-away.ensures.leaves) told (record {
+    let never : HasRoom (contents_in (old.held c.overflow-key.result)) c.args.to_slot (length c.args.body.now) → ⊥ = λ room. (rw c.in-None.is at c.in_ok-there.ensures.leaves) told (record {
       not_home = λ fits. full (room_back now (page_key c.args.segment Home c.args.tid.page) c.args.page.now c.args.tid.slot (length c.args.body.now) read mid fits);
       room = room;
     }) in
@@ -100,16 +100,16 @@ place-requires-clause-away g c = λ mid full.
 
 pub returns-in_err-place-in-None : goal.returns-in_err-place-in-None
 returns-in_err-place-in-None g c =
-    let slots = c.in_ok-away.ensures.did.step.passes.slots in
+    let slots = c.in_ok-there.ensures.did.step.passes.slots in
     let most = (g.P.Pages.view c.args.pages.now).slots + 3 in
     let fewer : (g.P.Pages.view c.stays.new.pages).slots + 3 ≤ most = omega (arith, slots) in
-    moves_fails _ c.from_residual-in_err-place-in-None.ensures.1 (λ key there. there) (omega arith) (omega arith) (then_call {asks_then = most} {writes_then = most} (untouched c.in_ok-away.ensures.did.step) (widens (λ key there. there) fewer fewer c.in_err-place-in-None.ensures.did))
+    moves_fails _ c.from_residual-in_err-place-in-None.ensures.1 (λ key there. there) (omega arith) (omega arith) (then_call {asks_then = most} {writes_then = most} (untouched c.in_ok-there.ensures.did.step) (widens (λ key there. there) fewer fewer c.in_err-place-in-None.ensures.did))
 
 -- the body that is left stands where it stood
 pub clear-requires-clause-may : goal.clear-requires-clause-may
 clear-requires-clause-may g c =
     let old = g.P.Pages.view c.args.pages.now in
-    let step = c.in_ok-away.ensures.did.step in
+    let step = c.in_ok-there.ensures.did.step in
     let placed = c.in_ok-place-in-None.ensures in
     let one = page_key c.args.segment Overflow c.args.to in
     record {
@@ -128,7 +128,7 @@ clear-requires-clause-may g c =
 pub returns-in_ok-place-in-None : goal.returns-in_ok-place-in-None
 returns-in_ok-place-in-None g c =
     let old = g.P.Pages.view c.args.pages.now in
-    let step = c.in_ok-away.ensures.did.step in
+    let step = c.in_ok-there.ensures.did.step in
     let placed = c.in_ok-place-in-None.ensures in
     let most = old.slots + 3 in
     let fewer : (g.P.Pages.view c.stays.new.pages).slots + 3 ≤ most = omega (arith, step.passes.slots) in

@@ -10,6 +10,7 @@ use Rattle.rss_tuple.proofs.Links.{not_empty}
 use Rattle.rss_tuple.proofs.Seen.{on_ok, on_ok_then, found_damaged, high_empty, formed_after}
 use Rattle.rss_tuple.proofs.Placed.{read_at, changed_before, changed_here, changed_away, mapped_there, entry_off, over_apart, over, low_forward, held_there}
 use Rattle.rss_tuple.proofs.Taken.{takes_step, takes_then, takes_same}
+use Rattle.rss_tuple.proofs.Sets.{is_read, ill_formed}
 use Rattle.rss_tuple.proofs.Changes.{entry_there}
 use Rattle.rss_tuple.proofs.placing.remove.Goals as goal
 use Rattle.rss_tuple.proofs.placing.remove.Goals.{In-Forward}
@@ -20,8 +21,8 @@ returns-then-tid-from-clause-did g c =
     found_damaged c.damaged.result c.damaged.ensures (rests view) (λ told.
     entry_there view c.args.segment c.args.tid c.requires told (high_empty view.held (page_key c.args.segment Home c.args.tid.page) c.args.tid.slot (omega (arith, c.from.ensures, c.if-tid-from.true))))
 
-pub read_formed-requires : goal.read_formed-requires
-read_formed-requires g c =
+pub load_there-requires : goal.load_there-requires
+load_there-requires g c =
     let view = g.P.Pages.view c.args.pages.now in
     let key = page_key c.args.segment Home c.args.tid.page in
     record {
@@ -30,37 +31,40 @@ read_formed-requires g c =
       formed = λ told. (c.requires.heaps told).formed;
     }
 
-pub returns-in_err-found-clause-did : goal.returns-in_err-found-clause-did
-returns-in_err-found-clause-did g c = fails _ c.from_residual.ensures.1 (λ key none. absurd none) (omega arith) (omega arith) c.in_err-found.ensures.did
+pub returns-in_err-load_there-clause-did : goal.returns-in_err-load_there-clause-did
+returns-in_err-load_there-clause-did g c = fails _ c.from_residual.ensures.1 (λ key none. absurd none) (omega arith) (omega arith) c.in_err-load_there.ensures.did
+
+pub returns-in_err-walk-clause-did : goal.returns-in_err-walk-clause-did
+returns-in_err-walk-clause-did g c = fails _ c.from_residual-in_err-walk.ensures.1 (λ key none. absurd none) (omega arith) (omega arith) (ill_formed _ _ _ c.in_ok-load_there.ensures.did.step (inl (ap (λ (k : PageKey). k.space) c.home-key.ensures)) (λ told. (c.requires.heaps told).formed) c.loaded.ensures c.in_err-walk.ensures.ill c.in_err-walk.ensures.damaged)
 
 pub clear_in-requires : goal.clear_in-requires
 clear_in-requires g c = record {
-  read = c.in_ok-found.ensures.read;
+  read = (is_read (g.P.Pages.view c.load_there.new.pages) _ _ c.in_ok-load_there.ensures.mapped c.in_ok-walk.ensures.formed c.loaded.ensures);
   low = omega (arith, c.from.ensures, c.if-tid-from.false);
-  formed = formed_after c.in_ok-found.ensures.did.step (λ told. (c.requires.heaps told).formed);
+  formed = formed_after c.in_ok-load_there.ensures.did.step (λ told. (c.requires.heaps told).formed);
 }
 
 pub clear_in-requires-in-Forward : goal.clear_in-requires-in-Forward
 clear_in-requires-in-Forward g c = record {
-  read = c.in_ok-found.ensures.read;
+  read = (is_read (g.P.Pages.view c.load_there.new.pages) _ _ c.in_ok-load_there.ensures.mapped c.in_ok-walk.ensures.formed c.loaded.ensures);
   low = omega (arith, c.from.ensures, c.if-tid-from.false);
-  formed = formed_after c.in_ok-found.ensures.did.step (λ told. (c.requires.heaps told).formed);
+  formed = formed_after c.in_ok-load_there.ensures.did.step (λ told. (c.requires.heaps told).formed);
 }
 
 -- where the home entry leads
 leads : (g : _) (c : In-Forward g) → IsTold (g.P.Pages.view c.args.pages.now).disk → homes (g.P.Pages.view c.args.pages.now).held c.args.segment c.args.tid.page c.args.tid.slot ≡ Forward c.in-Forward.to c.in-Forward.to_slot
-leads g c told = held_there c.home-key.result _ c.args.tid.slot c.home-key.ensures (g.P.Pages.view c.args.pages.now).held _ (read_at c.in_ok-found.ensures.did.step c.in_ok-found.ensures.read told c.args.tid.slot ∙ c.in-Forward.ensures.holds)
+leads g c told = held_there c.home-key.result _ c.args.tid.slot c.home-key.ensures (g.P.Pages.view c.args.pages.now).held _ (read_at c.in_ok-load_there.ensures.did.step (is_read (g.P.Pages.view c.load_there.new.pages) _ _ c.in_ok-load_there.ensures.mapped c.in_ok-walk.ensures.formed c.loaded.ensures) told c.args.tid.slot ∙ c.in-Forward.ensures.holds)
 
 pub returns-in_err-clear_in-in-Forward-clause-did : goal.returns-in_err-clear_in-in-Forward-clause-did
 returns-in_err-clear_in-in-Forward-clause-did g c =
-    fails _ c.from_residual-in_err-clear_in-in-Forward.ensures.1 (λ key there. there) (omega arith) (omega arith) (then_call {asks_then = 1} {writes_then = 1} (untouched c.in_ok-found.ensures.did.step) (widens (λ key is. inl (is ∙ c.home-key.ensures)) (omega arith) (omega arith) c.in_err-clear_in-in-Forward.ensures.did))
+    fails _ c.from_residual-in_err-clear_in-in-Forward.ensures.1 (λ key there. there) (omega arith) (omega arith) (then_call {asks_then = 1} {writes_then = 1} (untouched c.in_ok-load_there.ensures.did.step) (widens (λ key is. inl (is ∙ c.home-key.ensures)) (omega arith) (omega arith) c.in_err-clear_in-in-Forward.ensures.did))
 
 pub clear-requires-clause-low : goal.clear-requires-clause-low
-clear-requires-clause-low g c = low_forward _ c.in_ok-found.found.page c.args.tid.slot c.in-Forward.to c.in-Forward.to_slot c.in_ok-found.ensures.read.formed (omega (arith, c.from.ensures, c.if-tid-from.false)) c.in-Forward.ensures.spelled
+clear-requires-clause-low g c = low_forward _ c.loaded.result.now c.args.tid.slot c.in-Forward.to c.in-Forward.to_slot (is_read (g.P.Pages.view c.load_there.new.pages) _ _ c.in_ok-load_there.ensures.mapped c.in_ok-walk.ensures.formed c.loaded.ensures).formed (omega (arith, c.from.ensures, c.if-tid-from.false)) c.in-Forward.ensures.spelled
 
 pub clear-requires-clause-may : goal.clear-requires-clause-may
 clear-requires-clause-may g c =
-    let read = c.in_ok-found.ensures.did.step in
+    let read = c.in_ok-load_there.ensures.did.step in
     let cleared = c.in_ok-clear_in-in-Forward.ensures in
     let key = page_key c.args.segment Overflow c.in-Forward.to in
     let off = λ (same : key ≡ c.home-key.result). over_apart c.args.segment c.in-Forward.to c.args.segment c.args.tid.page (same ∙ c.home-key.ensures) in
@@ -77,31 +81,31 @@ clear-requires-clause-may g c =
 
 pub returns-in-Empty-clause-did : goal.returns-in-Empty-clause-did
 returns-in-Empty-clause-did g c =
-    let step = c.in_ok-found.ensures.did.step in
+    let step = c.in_ok-load_there.ensures.did.step in
     widens {asks_now = 4} {writes_now = 4} (λ key there. there) (omega arith) (omega arith) (found_damaged c.damaged-in-Empty.result c.damaged-in-Empty.ensures (untouched step) (λ told.
-    entry_there (g.P.Pages.view c.args.pages.now) c.args.segment c.args.tid c.requires told (held_there c.home-key.result _ c.args.tid.slot c.home-key.ensures (g.P.Pages.view c.args.pages.now).held _ (read_at step c.in_ok-found.ensures.read told c.args.tid.slot ∙ c.in-Empty.ensures.holds))))
+    entry_there (g.P.Pages.view c.args.pages.now) c.args.segment c.args.tid c.requires told (held_there c.home-key.result _ c.args.tid.slot c.home-key.ensures (g.P.Pages.view c.args.pages.now).held _ (read_at step (is_read (g.P.Pages.view c.load_there.new.pages) _ _ c.in_ok-load_there.ensures.mapped c.in_ok-walk.ensures.formed c.loaded.ensures) told c.args.tid.slot ∙ c.in-Empty.ensures.holds))))
 
 pub returns-in-Here-clause-changed : goal.returns-in-Here-clause-changed
 returns-in-Here-clause-changed g c =
-    let step = c.in_ok-found.ensures.did.step in
+    let step = c.in_ok-load_there.ensures.did.step in
     on_ok_then c.clear_in.result (λ sets told.
     let mid = step.passes.leaves.told.0 told in
     let held = all_held step told in
-    let here = read_at step c.in_ok-found.ensures.read told c.args.tid.slot ∙ c.in-Here.ensures.holds in
+    let here = read_at step (is_read (g.P.Pages.view c.load_there.new.pages) _ _ c.in_ok-load_there.ensures.mapped c.in_ok-walk.ensures.formed c.loaded.ensures) told c.args.tid.slot ∙ c.in-Here.ensures.holds in
     changed_before c.args.segment c.args.tid _ _ _ _ held (changed_here c.args.segment c.args.tid c.home-key.result _ _ c.home-key.ensures
     (λ p s is. let never = sym here ∙ ap (λ (k : PageKey). content_at (g.P.Pages.view c.args.pages.now).held k c.args.tid.slot) c.home-key.ensures ∙ ap (λ (h : _). homes h c.args.segment c.args.tid.page c.args.tid.slot) (sym held) ∙ is in absurd (cc))
     (sets mid) c.clear_in.ensures.did.step mid))
     c.clear_in.ensures.sets
 
 pub returns-in-Here-clause-takes : goal.returns-in-Here-clause-takes
-returns-in-Here-clause-takes g c = on_ok c.clear_in.result (takes_same (all_mapped c.in_ok-found.ensures.did.step) (takes_step c.clear_in.ensures.did.step (inl c.in_ok-found.ensures.read.mapped)))
+returns-in-Here-clause-takes g c = on_ok c.clear_in.result (takes_same (all_mapped c.in_ok-load_there.ensures.did.step) (takes_step c.clear_in.ensures.did.step (inl c.in_ok-load_there.ensures.mapped)))
 
 pub returns-in-Here-clause-did : goal.returns-in-Here-clause-did
-returns-in-Here-clause-did g c = widens (λ key there. there) (omega arith) (omega arith) (then_call {asks_then = 1} {writes_then = 1} (untouched c.in_ok-found.ensures.did.step) (widens (λ key is. inl (is ∙ c.home-key.ensures)) (omega arith) (omega arith) c.clear_in.ensures.did))
+returns-in-Here-clause-did g c = widens (λ key there. there) (omega arith) (omega arith) (then_call {asks_then = 1} {writes_then = 1} (untouched c.in_ok-load_there.ensures.did.step) (widens (λ key is. inl (is ∙ c.home-key.ensures)) (omega arith) (omega arith) c.clear_in.ensures.did))
 
 pub returns-in_ok-clear_in-in-Forward-clause-changed : goal.returns-in_ok-clear_in-in-Forward-clause-changed
 returns-in_ok-clear_in-in-Forward-clause-changed g c =
-    let read = c.in_ok-found.ensures.did.step in
+    let read = c.in_ok-load_there.ensures.did.step in
     let cleared = c.in_ok-clear_in-in-Forward.ensures in
     on_ok_then c.clear.result (λ sets told.
     let held = all_held read told in
@@ -114,9 +118,9 @@ returns-in_ok-clear_in-in-Forward-clause-changed g c =
 
 pub returns-in_ok-clear_in-in-Forward-clause-takes : goal.returns-in_ok-clear_in-in-Forward-clause-takes
 returns-in_ok-clear_in-in-Forward-clause-takes g c =
-    let first = takes_step c.in_ok-clear_in-in-Forward.ensures.did.step (inl c.in_ok-found.ensures.read.mapped) in
-    on_ok_then c.clear.result (λ there. takes_same (all_mapped c.in_ok-found.ensures.did.step) (takes_then first (takes_step c.clear.ensures.edits.did.step (inl there)))) c.clear.ensures.there
+    let first = takes_step c.in_ok-clear_in-in-Forward.ensures.did.step (inl c.in_ok-load_there.ensures.mapped) in
+    on_ok_then c.clear.result (λ there. takes_same (all_mapped c.in_ok-load_there.ensures.did.step) (takes_then first (takes_step c.clear.ensures.edits.did.step (inl there)))) c.clear.ensures.there
 
 pub returns-in_ok-clear_in-in-Forward-clause-did : goal.returns-in_ok-clear_in-in-Forward-clause-did
 returns-in_ok-clear_in-in-Forward-clause-did g c =
-    widens (λ key there. there) (omega arith) (omega arith) (then_call {asks_then = 2} {writes_then = 2} (then (untouched c.in_ok-found.ensures.did.step) (among (λ key is. inl (is ∙ c.home-key.ensures)) c.in_ok-clear_in-in-Forward.ensures.did.step)) (widens (over c.args.segment c.in-Forward.to c.args.tid c.overflow.result c.overflow.ensures) (omega arith) (omega arith) c.clear.ensures.edits.did))
+    widens (λ key there. there) (omega arith) (omega arith) (then_call {asks_then = 2} {writes_then = 2} (then (untouched c.in_ok-load_there.ensures.did.step) (among (λ key is. inl (is ∙ c.home-key.ensures)) c.in_ok-clear_in-in-Forward.ensures.did.step)) (widens (over c.args.segment c.in-Forward.to c.args.tid c.overflow.result c.overflow.ensures) (omega arith) (omega arith) c.clear.ensures.edits.did))
