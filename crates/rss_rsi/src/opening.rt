@@ -23,7 +23,7 @@ use rss_tuple::Store;
 use std::alloc::Global;
 
 /// How many pages are kept in memory.
-const FRAMES: u32 = 256;
+const FRAMES: u32 = 1024;
 
 /// The selected root with its number, and the map that it names.
 #[derive(Drop)]
@@ -126,7 +126,7 @@ fn store_of<D: Device>(
     Ok(Rss::new(alloc, Store { pages }, root, number, session))
 }
 
-/// Opens the store that a device holds, with 256 of its pages in memory.
+/// Opens the store that a device holds, with 1,024 of its pages in memory.
 ///
 /// It syncs the device, reads the whole store, and writes nothing. The device is handed back where
 /// it holds none: `NotAStore` names the first place at which the layout of the device, of its root
