@@ -7,3 +7,4 @@ pub mod Steps
 pub mod Counts
 pub mod Keys
 pub mod Numbers
+pub mod Looking

@@ -12,4 +12,7 @@ pub mod StoredPages
 pub mod Answers
 pub mod LogRecords
 pub mod LogPages
+pub mod Names
 pub mod TupleTypes
+pub mod Listings
+pub mod Looking

@@ -39,9 +39,13 @@ log_pages_least = 8
 abbrev pub log_pages_most : ℕ
 log_pages_most = 4096
 
--- how many segments there are
+-- how many segments there may be
 abbrev pub segments : ℕ
 segments = 8
+
+-- how many relations there may be
+abbrev pub relations_most : ℕ
+relations_most = 48
 
 -- how many pages the system space has
 abbrev pub system_pages : ℕ

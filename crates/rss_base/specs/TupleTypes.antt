@@ -12,6 +12,8 @@ use Rattle.rss_base.specs.declared.value.Value.TheVariants.{Int, Text}
 use Rattle.rss_base.specs.declared.value.FieldKind.{FieldKind}
 use Rattle.rss_base.specs.declared.value.FieldKind.TheVariants.{Int as IntField, Text as TextField}
 use Rattle.rss_base.specs.declared.field.FieldDef.{FieldDef}
+use Rattle.rss_base.specs.declared.name.Name.{Name}
+use Rattle.rss_base.specs.Names.{IsName, AreApart}
 
 -- the kinds of these fields
 abbrev pub kinds : List FieldDef → List FieldKind
@@ -90,10 +92,25 @@ key_part_width (TextField n) = n
 abbrev pub key_width : List FieldKind → ℕ
 key_width fields = sum_by key_part_width fields
 
--- a relation may have these fields
-pub record AreFields (fields : List FieldKind) : Type 0 where
-  pub few : length fields ≤ most_fields
-  pub narrow : width fields ≤ most_width
+-- an INT, or a TEXT of 1 to 255 bytes
+abbrev pub is_kind : FieldKind → Bool
+is_kind IntField = true
+is_kind (TextField n) = nat_le 1 n && nat_le n 255
+
+-- a relation may have fields of these kinds
+abbrev pub are_kinds : List FieldKind → Bool
+are_kinds fields = nat_le 1 (length fields) && nat_le (length fields) most_fields && list_all is_kind fields
+
+-- the names of these fields
+abbrev pub field_names : List FieldDef → List Name
+field_names fields = map (λ field. field.name) fields
+
+-- A relation may have these fields: they are of such kinds, their values are no wider than they may be, and no name stands twice.
+pub record AreFields (fields : List FieldDef) : Type 0 where
+  pub formed : are_kinds (kinds fields) ≡ true
+  pub narrow : width (kinds fields) ≤ most_width
+  pub names : All IsName (field_names fields)
+  pub apart : AreApart (field_names fields)
 
 -- ---- the bytes of a tuple
 

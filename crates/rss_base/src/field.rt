@@ -1,5 +1,5 @@
 // Fields of relations.
-ghost use Rattle.std.specs.Prelude.{◌≡◌, [], ◌∷◌, ◌++◌, OnOk, OnErr};
+ghost use Rattle.std.specs.Prelude.{◌≡◌, [], ◌∷◌, ◌++◌, IfOk, OnOk, OnErr};
 
 use crate::{FieldKind, Name};
 use std::alloc::{AllocError, Global};
@@ -38,6 +38,14 @@ impl Fields {
         Fields {
             fields: Vec::new(alloc),
         }
+    }
+
+    /// No fields, with room for so many in one allocation.
+    pub fn with_capacity(alloc: Global, fields: usize) -> Result<Self, AllocError>
+        ensures { IfOk result (λ fields. fields ≡ []) }
+    {
+        let fields = Vec::with_capacity(alloc, fields)?;
+        Ok(Fields { fields })
     }
 
     pub fn push(&mut self, field: FieldDef) -> Result<(), AllocError>

@@ -6,8 +6,3 @@
 pub struct Name {
     pub bytes: [u8; 16],
 }
-
-/// The one relation of a store.
-pub const RELATION_R: Name = Name {
-    bytes: *b"r\0\0\0\0\0\0\0\0\0\0\0\0\0\0\0",
-};
