@@ -96,7 +96,7 @@ length-fitting fields values none = AllZip-long FitsAt (kinds fields) values (fi
 
 -- ---- how many bytes there are
 
-value_short : (field : FieldKind) (value : Value) → fits field value ≡ true → length (value_bytes value) ≤ field_width field
+pub value_short : (field : FieldKind) (value : Value) → fits field value ≡ true → length (value_bytes value) ≤ field_width field
 value_short IntField (Int z) fit = omega (arith, length-int_bytes z)
 value_short IntField (Text bytes) fit = cc
 value_short (TextField n) (Int z) fit = cc

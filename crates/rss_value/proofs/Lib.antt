@@ -7,3 +7,4 @@ pub mod Bytes
 pub mod Walking
 pub mod Choosing
 pub mod Sums
+pub mod Spelling

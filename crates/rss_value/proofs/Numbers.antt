@@ -16,7 +16,7 @@ use Rattle.rss_value.proofs.Orders.{parts_cmp}
 
 -- ---- bytes, the highest first
 
-byte_at_is : (k n : ℕ) → byte_at k n ≡ n / 256 ^ k % 256
+pub byte_at_is : (k n : ℕ) → byte_at k n ≡ n / 256 ^ k % 256
 byte_at_is zero n = sym (ap (λ (m : ℕ). m % 256) (div-one n))
 byte_at_is (suc k) n = refl
 

@@ -51,7 +51,7 @@ reads_none kind before after none = record {
 
 -- ---- numbers
 
-int_front : (before bytes rest : List ℕ) (z : ℤ) → bytes ≡ take 8 before → rest ≡ drop 8 before → IsInt bytes z → IsFront IntField before (Int z) rest
+pub int_front : (before bytes rest : List ℕ) (z : ℤ) → bytes ≡ take 8 before → rest ≡ drop 8 before → IsInt bytes z → IsFront IntField before (Int z) rest
 int_front before bytes rest z front behind number = record {
   fit = refl;
   storable = number.fit;

@@ -1,6 +1,7 @@
 // Tuples: whether they fit, and their bytes.
-ghost use Rattle.std.specs.Prelude.{◌≡◌, ◌+◌, ◌≤◌, ◌++◌, List, length, Some, None, IfOk, IfErr, IfSome, OnOk};
-ghost use Rattle.rss_base.specs.TupleTypes.{kinds, misfit, most_fields, width, tuple_bytes, Spells};
+ghost use Rattle.std.specs.Prelude.{◌≡◌, ◌↔◌, ◌+◌, ◌≤◌, ◌++◌, List, length, Some, None, IsTrue, IfOk, IfErr, IfSome, OnOk};
+ghost use Rattle.rss_base.specs.TupleTypes.{kinds, misfit, most_fields, width, tuple_bytes, Spells, SpellsSome};
+ghost use Rattle.rss_value.specs.Spelled.{is_spelled};
 ghost use Rattle.rss_base.specs.declared.value.Value.{Value};
 
 use crate::cursor::Cursor;
@@ -41,6 +42,20 @@ pub fn encode(fields: &[FieldDef], tuple: &Tuple, into: &mut Body)
     for (field, value) in fields.iter().zip(tuple.as_slice()) {
         ValueRef::new(value).write(field.kind, into);
     }
+}
+
+/// Whether the bytes are those of the values of a tuple that fits the fields. It takes no memory.
+pub fn spells(fields: &[FieldDef], bytes: &[u8]) -> bool
+    ensures exact { IsTrue result ↔ SpellsSome (kinds fields.now) bytes.now }
+    ensures read { result ≡ is_spelled (kinds fields.now) bytes.now }
+{
+    let mut cursor = Cursor::new(bytes);
+    for field in fields {
+        if cursor.read(field.kind).is_none() {
+            return false;
+        }
+    }
+    cursor.is_at_end()
 }
 
 /// The tuple whose values' bytes these are, or `None` where they spell no tuple that fits the
