@@ -1,0 +1,9 @@
+pub mod Numbered
+pub mod Listed
+pub mod Pieces
+pub mod Spelled
+pub mod Read
+pub mod Loaded
+pub mod Stored
+pub mod Tested
+pub mod Same

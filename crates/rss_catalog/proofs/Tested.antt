@@ -1,0 +1,249 @@
+-- What the tests of a listing find.
+use Rattle.std.proofs.Common.{◌≡◌, ◌⊎◌, ℕ, ◌+◌, ◌-◌, ◌<◌, ◌≤◌, ◌^◌, suc, zero, Bool, true, false, List, [], ◌∷◌, ◌++◌, length, take, drop, get_or, set, replicate, Option, Some, None, All, refl, sym, ◌∙◌, ap, subst, inl, inr, arith, length-append}
+use Rattle.std.specs.Prelude.{map, Contains, nat_le, ◌&&◌}
+use Rattle.std.proofs.lemmas.Bool.{cases_eq, cases_lt, and_parts, leb-true, le-leb}
+use Rattle.std.proofs.lemmas.Option.{none-some, same_Some}
+use Rattle.std.proofs.lemmas.List.{length-map, length-take, length-replicate, take-append-drop, take_at, drop_at, get_or-map, get_or-take, get_or_default, get_or_append_left, get_or-append-add, get_or-replicate, get_or_past, take_more, take_more_set}
+use Rattle.std.proofs.lemmas.List.Elements.{All-head, All-tail, All-cons, All-weaker, All-replicate, All-map}
+use Rattle.rss_base.specs.Names.{IsName, IsLetter, IsNameByte, AreApart}
+use Rattle.std.specs.List.{list_all}
+use Rattle.rss_base.specs.TupleTypes.{AreFields, field_names, kinds, is_kind, width, most_fields, most_width}
+use Rattle.rss_base.specs.declared.value.FieldKind.TheVariants.{Int}
+use Rattle.rss_base.specs.Sizes.{segments, relations_most}
+use Rattle.rss_base.specs.Listings.{numbered, ListingFits}
+use Rattle.rss_base.specs.declared.relation.RelationEntry.{RelationEntry}
+use Rattle.rss_base.specs.declared.name.Name.{Name}
+use Rattle.rss_base.specs.declared.field.FieldDef.{FieldDef}
+use Rattle.rss_catalog.specs.Checking.{AreNames, AreOnce, IsTaken, IsNameText, FitsIn, MayStand, listing_of, relation_names}
+use Rattle.rss_catalog.proofs.Numbered.{numbered_at, numbered_within}
+
+-- ---- one name
+
+zeros_all : (bytes : List ℕ) → All (λ byte. byte ≡ 0) bytes → bytes ≡ replicate (length bytes) 0
+zeros_all [] all = refl
+zeros_all (x ∷ xs) all =
+    let here = All-head (λ byte. byte ≡ 0) x xs all in
+    let rest = zeros_all xs (All-tail (λ byte. byte ≡ 0) x xs all) in
+    λ i. here i ∷ rest i
+
+-- a text and zeros are a name
+pub name_of_text : (name : Name) (text zeros : List ℕ) → name.bytes ≡ text ++ zeros → length name.bytes ≡ 16 → IsNameText text → All (λ byte. byte ≡ 0) zeros → IsName name
+name_of_text name [] zeros is long text all = absurd text
+name_of_text name (first ∷ rest) zeros is long text all =
+    let count : length zeros ≡ 15 - length rest = omega (arith, long, ap length is, length-append (first ∷ rest) zeros, text.2) in
+    record {
+      first = first;
+      rest = rest;
+      bytes = is ∙ ap (λ (l : List ℕ). (first ∷ rest) ++ l) (zeros_all zeros all ∙ ap (λ (n : ℕ). replicate n 0) count);
+      letter = text.0;
+      each = text.1;
+      few = omega (arith, text.2);
+    }
+
+-- no byte of a name's text is a zero
+name_byte : (b : ℕ) → IsNameByte b → b ≡ 0 → ⊥
+name_byte b (inl letter) is = omega (arith, letter.0, is)
+name_byte b (inr (inl digit)) is = omega (arith, digit.0, is)
+name_byte b (inr (inr line)) is = omega (arith, line, is)
+
+zero_at : (count k : ℕ) → get_or (replicate {A = ℕ} count 0) k 0 ≡ 0
+zero_at count k = elim (cases_lt k count) [
+  | inl low ↦ get_or-replicate count k 0 0 low
+  | inr past ↦ get_or_past (replicate count 0) k 0 (omega (arith, length-replicate {A = ℕ} count 0))
+]
+
+-- the text of a name ends at its first zero
+pub text_long : {name : Name} (is : IsName name) (bytes : List ℕ) (long : ℕ) → bytes ≡ name.bytes → long ≤ length bytes → ((k : ℕ) → k < long → get_or bytes k 0 ≡ 0 → ⊥) → (long < length bytes → get_or bytes long 0 ≡ 0) → long ≡ length (is.first ∷ is.rest)
+text_long is bytes long same within text ends =
+    let front = is.first ∷ is.rest in
+    let zeros = replicate (15 - length is.rest) 0 in
+    let whole : bytes ≡ front ++ zeros = same ∙ is.bytes in
+    let count = ap length whole ∙ length-append front zeros in
+    let end : length front ≡ length front + 0 = omega arith in
+    let nonzero : All (λ byte. byte ≡ 0 → ⊥) front = All-cons (λ byte. byte ≡ 0 → ⊥) is.first is.rest (λ none. name_byte is.first (inl is.letter) none) (All-weaker IsNameByte (λ byte. byte ≡ 0 → ⊥) name_byte is.rest is.each) in
+    elim (cases_lt long (length front)) [
+      | inl short ↦ absurd (nonzero long 0 short (sym (ap (λ (l : List ℕ). get_or l long 0) whole ∙ get_or_append_left front zeros 0 long short) ∙ ends (omega (arith, count, short))))
+      | inr enough ↦ elim (cases_lt (length front) long) [
+        | inl past ↦ absurd (text (length front) past (ap (λ (l : List ℕ). get_or l (length front) 0) whole ∙ ap (λ (n : ℕ). get_or (front ++ zeros) n 0) end ∙ get_or-append-add front zeros 0 0 ∙ zero_at (15 - length is.rest) 0))
+        | inr most ↦ omega (arith, enough, most)
+      ]
+    ]
+
+-- so a name is a text and zeros
+pub text_of_name : {name : Name} (is : IsName name) (bytes : List ℕ) (long : ℕ) → bytes ≡ name.bytes → long ≡ length (is.first ∷ is.rest) → IsNameText (take long bytes) × All (λ byte. byte ≡ 0) (drop long bytes)
+text_of_name is bytes long same here =
+    let front = is.first ∷ is.rest in
+    let zeros = replicate (15 - length is.rest) 0 in
+    let whole : bytes ≡ front ++ zeros = same ∙ is.bytes in
+    let text : IsNameText front = (is.letter, is.each, omega (arith, is.few)) in
+    let none : All (λ byte. byte ≡ 0) zeros = All-replicate (λ byte. byte ≡ 0) (15 - length is.rest) 0 refl in (
+      subst IsNameText (sym (ap (take long) whole ∙ take_at front zeros long (sym here))) text,
+      subst (λ (l : List ℕ). All (λ byte. byte ≡ 0) l) (sym (ap (drop long) whole ∙ drop_at front zeros long (sym here))) none,
+    )
+
+-- ---- names by their numbers
+
+-- what a place has, its number has
+pub has_number : {A : Type 0} (items : List (Option A)) (k : ℕ) (d : Option A) (item : A) → k < length items → get_or items k d ≡ Some item → numbered items (k + 1) ≡ Some item
+has_number items k d item low is = numbered_at items (k + 1) (omega arith) (omega arith) ∙ ap (λ (n : ℕ). get_or items n None) (omega arith) ∙ get_or_default items k None d low ∙ is
+
+-- and what a number has, its place has
+pub place_has : {A : Type 0} (items : List (Option A)) (number : ℕ) (item : A) → numbered items number ≡ Some item → get_or items (number - 1) None ≡ Some item
+place_has items number item is = let within = numbered_within items number item is in sym (numbered_at items number within.0 within.1) ∙ is
+
+pub names_all : (items : List (Option Name)) (count : ℕ) → length items ≤ count → ((k : ℕ) (name : Name) → k < count → get_or items k None ≡ Some name → IsName name) → AreNames items
+names_all items count all each number name is = let within = numbered_within items number name is in each (number - 1) name (omega (arith, within, all)) (place_has items number name is)
+
+-- no name stands before itself: it stands once
+pub once_all : (items : List (Option Name)) (count : ℕ) → length items ≤ count → ((j k : ℕ) (name : Name) → j < k → k < count → get_or items j None ≡ Some name → get_or items k None ≡ Some name → ⊥) → AreOnce items
+once_all items count all apart one other name is_one is_other =
+    let a = numbered_within items one name is_one in
+    let b = numbered_within items other name is_other in
+    elim (cases_lt one other) [
+      | inl less ↦ absurd (apart (one - 1) (other - 1) name (omega (arith, a, less)) (omega (arith, b, all)) (place_has items one name is_one) (place_has items other name is_other))
+      | inr rest ↦ elim (cases_lt other one) [
+        | inl more ↦ absurd (apart (other - 1) (one - 1) name (omega (arith, b, more)) (omega (arith, a, all)) (place_has items other name is_other) (place_has items one name is_one))
+        | inr same ↦ omega (arith, rest, same)
+      ]
+    ]
+
+-- a name that stands before a place stands twice
+pub taken_twice : (items : List (Option Name)) (place : ℕ) → place < length items → IsTaken (take place items) (get_or items place None) → AreOnce items → ⊥
+taken_twice items place low taken once =
+    let name = taken.0 in
+    let found = taken.2 in
+    let k = found.0 in
+    let few = length-take place items in
+    let here : get_or items k (Some name) ≡ Some name = sym (get_or-take place items k (Some name) (omega (arith, found.1, few))) ∙ found.2 in
+    let same = once (k + 1) (place + 1) name (has_number items k (Some name) name (omega (arith, found.1, few)) here) (has_number items place None name low taken.1) in
+    omega (arith, same, found.1, few)
+
+-- one place more
+pub once_more : (items : List (Option Name)) (place : ℕ) → place < length items → (IsTaken (take place items) (get_or items place None) → ⊥) → ((j k : ℕ) (name : Name) → j < k → k < place → get_or items j None ≡ Some name → get_or items k None ≡ Some name → ⊥)
+    → (j k : ℕ) (name : Name) → j < k → k < place + 1 → get_or items j None ≡ Some name → get_or items k None ≡ Some name → ⊥
+once_more items place low free before j k name less most is_j is_k = elim (cases_eq k place) [
+  | inl here ↦
+      let it : get_or items place None ≡ Some name = ap (λ (n : ℕ). get_or items n None) (sym here) ∙ is_k in
+      let within : j < length (take place items) = omega (arith, length-take place items, less, here, low) in
+      free (name, it, (j, within, get_or-take place items j (Some name) (omega (arith, less, here)) ∙ get_or_default items j (Some name) None (omega (arith, less, here, low)) ∙ is_j))
+  | inr off ↦ before j k name less (omega (arith, off)) is_j is_k
+]
+
+-- ---- names of fields and relations
+
+-- one more was put in its place
+pub put_more : {A : Type 0} (names target : List A) (place : ℕ) (item d : A) → place < length names → place < length target → take place names ≡ take place target → item ≡ get_or target place d → take (place + 1) (set names place item) ≡ take (place + 1) target
+put_more names target place item d low within same is =
+    take_more_set names place item low ∙ (λ i. same i ++ is i ∷ []) ∙ sym (take_more target place d within)
+
+-- the names of fields, each at its place
+abbrev pub named_fields : List FieldDef → List (Option Name)
+named_fields fields = map (λ field. Some field.name) fields
+
+field_at : (fields : List FieldDef) (k : ℕ) (d : Name) → k < length fields → get_or (named_fields fields) k None ≡ Some (get_or (field_names fields) k d)
+field_at fields k d low =
+    let f : FieldDef = record { name = d; kind = Int } in
+    get_or-map (λ (field : FieldDef). Some field.name) fields k f None low ∙ ap Some (sym (get_or-map (λ (field : FieldDef). field.name) fields k f d low))
+
+pub apart_of_once : (fields : List FieldDef) → AreOnce (named_fields fields) → AreApart (field_names fields)
+apart_of_once fields once j k d low_j low_k same =
+    let long = length-map fields (λ (field : FieldDef). field.name) in
+    let places = length-map fields (λ (field : FieldDef). Some field.name) in
+    let name = get_or (field_names fields) k d in
+    let one = once (j + 1) (k + 1) name
+    (has_number (named_fields fields) j None name (omega (arith, low_j, long, places)) (field_at fields j d (omega (arith, low_j, long)) ∙ ap Some same))
+    (has_number (named_fields fields) k None name (omega (arith, low_k, long, places)) (field_at fields k d (omega (arith, low_k, long)))) in
+    omega (arith, one)
+
+pub once_of_apart : (fields : List FieldDef) → AreApart (field_names fields) → AreOnce (named_fields fields)
+once_of_apart fields apart one other name is_one is_other =
+    let a = numbered_within (named_fields fields) one name is_one in
+    let b = numbered_within (named_fields fields) other name is_other in
+    let long = length-map fields (λ (field : FieldDef). field.name) in
+    let places = length-map fields (λ (field : FieldDef). Some field.name) in
+    let first = same_Some (get_or (field_names fields) (one - 1) name) name (sym (field_at fields (one - 1) name (omega (arith, a, places))) ∙ place_has (named_fields fields) one name is_one) in
+    let second = same_Some (get_or (field_names fields) (other - 1) name) name (sym (field_at fields (other - 1) name (omega (arith, b, places))) ∙ place_has (named_fields fields) other name is_other) in
+    let same = apart (one - 1) (other - 1) name (omega (arith, a, long, places)) (omega (arith, b, long, places)) (first ∙ sym second) in
+    omega (arith, same, a, b)
+
+-- ---- fields
+
+kinds_all : (fields : List FieldDef) → All (λ field. is_kind field.kind ≡ true) fields → list_all is_kind (kinds fields) ≡ true
+kinds_all [] all = refl
+kinds_all (field ∷ fields) all =
+    let here = All-head (λ (f : FieldDef). is_kind f.kind ≡ true) field fields all in
+    let rest = kinds_all fields (All-tail (λ (f : FieldDef). is_kind f.kind ≡ true) field fields all) in
+    (λ i. here i && rest i)
+
+all_kinds : (fields : List FieldDef) → list_all is_kind (kinds fields) ≡ true → All (λ field. is_kind field.kind ≡ true) fields
+all_kinds [] is = λ k d low. absurd (omega arith)
+all_kinds (field ∷ fields) is =
+    let parts = and_parts (is_kind field.kind) (list_all is_kind (kinds fields)) is in
+    All-cons (λ (f : FieldDef). is_kind f.kind ≡ true) field fields parts.0 (all_kinds fields parts.1)
+
+-- what fields of a relation are, as it is tested
+pub record AreTested (fields : List FieldDef) : Type 0 where
+  pub some : 1 ≤ length fields
+  pub kinds_fit : All (λ field. is_kind field.kind ≡ true) fields
+  pub narrow : width (kinds fields) ≤ most_width
+  pub names : All (λ field. IsName field.name) fields
+  pub apart : AreApart (field_names fields)
+
+pub fields_tested : (fields : List FieldDef) → AreFields fields → AreTested fields
+fields_tested fields are =
+    let count = length (kinds fields) in
+    let long = length-map fields (λ (field : FieldDef). field.kind) in
+    let names_long = length-map fields (λ (field : FieldDef). field.name) in
+    let parts : ((nat_le 1 count && nat_le count most_fields) ≡ true) × (list_all is_kind (kinds fields) ≡ true) = and_parts _ _ are.formed in
+    let few = and_parts (nat_le 1 count) (nat_le count most_fields) parts.0 in
+    record {
+      some = omega (arith, leb-true 1 count few.0, long);
+      kinds_fit = all_kinds fields parts.1;
+      narrow = are.narrow;
+      names = λ k d low. subst IsName (get_or-map (λ (field : FieldDef). field.name) fields k d d.name low) (are.names k d.name (omega (arith, low, names_long)));
+      apart = are.apart;
+    }
+
+pub tested_fields : (fields : List FieldDef) → length fields ≤ most_fields → AreTested fields → AreFields fields
+tested_fields fields few are =
+    let long = length-map fields (λ (field : FieldDef). field.kind) in
+    let low = le-leb 1 (length (kinds fields)) (omega (arith, are.some, long)) in
+    let high = le-leb (length (kinds fields)) most_fields (omega (arith, few, long)) in
+    let all = kinds_all fields are.kinds_fit in
+    record {
+      formed = λ i. low i && high i && all i;
+      narrow = are.narrow;
+      names = All-map IsName (λ (field : FieldDef). field.name) fields are.names;
+      apart = are.apart;
+    }
+
+-- ---- the listing
+
+-- a relation of a listing that fits may stand beside its segments
+pub fits_in : (names : List (Option Name)) (items : List (Option RelationEntry)) → ListingFits (listing_of names items) → (k : ℕ) (d : Option RelationEntry) (entry : RelationEntry) → k < length items → get_or items k d ≡ Some entry → FitsIn names entry
+fits_in names items fits k d entry low is =
+    let fit = fits.relations (k + 1) entry (has_number items k d entry low is) in
+    record { name = fit.name; segment = fit.segment; fields = fit.fields; live = fit.live }
+
+-- one relation more may stand
+pub stand_more : (names : List (Option Name)) (items : List (Option RelationEntry)) (place : ℕ) (read : Option RelationEntry) → place < length items → read ≡ get_or items place read → MayStand names read → ((k : ℕ) (entry : RelationEntry) → k < place → get_or items k None ≡ Some entry → FitsIn names entry)
+    → (k : ℕ) (entry : RelationEntry) → k < place + 1 → get_or items k None ≡ Some entry → FitsIn names entry
+stand_more names items place read low at may before k entry less is = elim (cases_eq k place) [
+  | inl here ↦ may entry (at ∙ get_or_default items place read None low ∙ ap (λ (n : ℕ). get_or items n None) (sym here) ∙ is)
+  | inr off ↦ before k entry (omega (arith, off)) is
+]
+
+-- all may
+pub listing_fits : (names : List (Option Name)) (items : List (Option RelationEntry)) (count : ℕ) → length names ≡ segments → length items ≡ relations_most → AreNames names → AreOnce names → AreOnce (relation_names items) → length items ≤ count
+    → ((k : ℕ) (entry : RelationEntry) → k < count → get_or items k None ≡ Some entry → FitsIn names entry) → ListingFits (listing_of names items)
+listing_fits names items count many most are_names once once_relations all each = record {
+  segment_places = many;
+  relation_places = most;
+  segment_names = are_names;
+  segments_once = once;
+  relations_once = once_relations;
+  relations = λ number entry is.
+      let within = numbered_within items number entry is in
+      let fit = each (number - 1) entry (omega (arith, within, all)) (place_has items number entry is) in
+      record { name = fit.name; segment = fit.segment; fields = fit.fields; live = fit.live };
+}

@@ -1,0 +1,12 @@
+use Rattle.std.proofs.Common.{◌∙◌, ◌*◌, ◌++◌, ap, sym, refl, ℕ, List}
+use Rattle.std.proofs.lemmas.List.{append-nil}
+use Rattle.std.specs.Prelude.{map}
+use Rattle.rss_catalog.specs.Reading.{relation_of}
+use Rattle.rss_catalog.proofs.Pieces.{pieces_none, piece_behind}
+use Rattle.rss_catalog.proofs.decoding.read_relations.Goals as goal
+
+pub loop-place-init : goal.loop-place-init
+loop-place-init c = sym (ap (λ (l : List (List ℕ)). c.args.relations.now.items ++ map relation_of l) (pieces_none 512 c.args.page.now) ∙ append-nil c.args.relations.now.items)
+
+pub loop-place-preserved : goal.loop-place-preserved
+loop-place-preserved c = piece_behind relation_of 512 c.loop-place.place _ c.args.page.now c.args.relations.now.items _ _ _ c.loop-place.invariant c.in_ok-push.ensures.items refl c.in_ok-read_relation.ensures

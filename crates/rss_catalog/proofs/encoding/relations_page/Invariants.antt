@@ -1,0 +1,10 @@
+use Rattle.std.proofs.Common.{◌≡◌, ◌*◌, length, take}
+use Rattle.std.specs.Prelude.{flat_map}
+use Rattle.rss_base.specs.Listings.{relation_spelled}
+use Rattle.rss_catalog.proofs.encoding.relations_page.Given as goal
+
+abbrev pub invariant-loop-item : goal.invariant-loop-item
+invariant-loop-item l = record {
+  put : l.bytes ≡ flat_map relation_spelled (take l.item-index l.items);
+  long : length l.bytes ≡ 512 * l.item-index;
+}

@@ -1,0 +1,98 @@
+-- What there is to see of a catalog, and what the calls on it do.
+use Rattle.std.specs.Prelude.{◌≡◌, ℕ, ◌+◌, ◌-◌, ◌/◌, ◌<◌, ◌≤◌, Bool, true, false, List, length, replicate, slice_set, slice_index_or, Option, Some, None}
+use Rattle.rss_base.specs.Sizes.{segments, system_pages}
+use Rattle.rss_base.specs.DiskRule.{IsTold}
+use Rattle.rss_base.specs.Paged.{Mapped, page_key}
+use Rattle.rss_base.specs.Steps.{PagesView, Keys}
+use Rattle.rss_base.specs.TupleTypes.{kinds, width, most_fields, most_width}
+use Rattle.rss_base.specs.Listings.{Listing, ListingFits, HoldsListing, catalog_page, relation_at, with_segment, with_relation, relations_of_page}
+use Rattle.rss_base.specs.declared.relation.RelationEntry.{RelationEntry}
+use Rattle.rss_base.specs.declared.refusal.Kind.{Kind}
+use Rattle.rss_base.specs.declared.refusal.Kind.TheVariants.{Segment, Relation, Image, Link, Field, Scan}
+use Rattle.rss_base.specs.declared.place.Place.{Place}
+use Rattle.rss_base.specs.declared.place.Place.TheVariants.{Catalog as CatalogPlace}
+use Rattle.rss_base.specs.declared.key.PageKey.{PageKey}
+use Rattle.rss_base.specs.declared.key.Space.TheVariants.{System}
+
+-- listing: what is defined.
+-- pending: for each page of the system space, whether what it spells has changed since it was written.
+pub record CatalogView : Type 0 where
+  pub listing : Listing
+  pub pending : List Bool
+
+abbrev pub none_pending : List Bool
+none_pending = replicate system_pages false
+
+-- the page of this number has changed
+abbrev pub IsPending : CatalogView → ℕ → Type 0
+IsPending catalog page = slice_index_or catalog.pending page false ≡ true
+
+-- the pages of the system space that have changed
+pub record pending_pages (catalog : CatalogView) (key : PageKey) : Type 0 where
+  pub page : ℕ
+  pub is : key ≡ page_key 0 System page
+  pub pending : IsPending catalog page
+
+-- ---- the pages of the system space
+
+-- all of them are mapped
+abbrev pub HasSystemPages : Mapped → Type 0
+HasSystemPages mapped = (page : ℕ) → page < system_pages → mapped (page_key 0 System page) ≡ true
+
+-- The catalog is that of these pages.
+pub record Loads (pages : PagesView) (catalog : CatalogView) : Type 0 where
+  pub mapped : HasSystemPages pages.mapped
+  pub fits : ListingFits catalog.listing
+  pub holds : IsTold pages.disk → HoldsListing pages.held catalog.listing
+  pub written : catalog.pending ≡ none_pending
+
+-- a page of the system space is named
+pub record IsCatalogPlace (place : Place) : Type 0 where
+  pub page : ℕ
+  pub low : page < system_pages
+  pub is : place ≡ CatalogPlace page
+
+-- Each page that has changed is written.
+pub record StoresListing (catalog : CatalogView) (old new : PagesView) : Type 0 where
+  pub mapped : new.mapped ≡ old.mapped
+  pub wrote : IsTold old.disk → (page : ℕ) → IsPending catalog page
+      → new.held (page_key 0 System page) ≡ Some (catalog_page catalog.listing page)
+
+-- ---- changes
+
+-- the page that spells the definition of a number
+abbrev pub page_of : Kind → ℕ → ℕ
+page_of Segment number = 0
+page_of Relation number = 1 + (number - 1) / relations_of_page
+page_of Image number = 0
+page_of Link number = 0
+page_of Field number = 0
+page_of Scan number = 0
+
+-- The catalog lists this now, and one page more may have changed.
+pub record Lists (listing : Listing) (page : ℕ) (old new : CatalogView) : Type 0 where
+  pub is : new.listing ≡ listing
+  pub pending : new.pending ≡ slice_set old.pending page true
+
+-- the listing without the definition of this number
+abbrev pub without : Kind → Listing → ℕ → Listing
+without Segment listing number = with_segment listing number None
+without Relation listing number = with_relation listing number None
+without Image listing number = listing
+without Link listing number = listing
+without Field listing number = listing
+without Scan listing number = listing
+
+-- a relation of this segment is listed
+pub record HasRelationIn (listing : Listing) (segment : ℕ) : Type 0 where
+  pub number : ℕ
+  pub relation : RelationEntry
+  pub at : relation_at listing number ≡ Some relation
+  pub within : relation.segment ≡ segment
+
+-- a relation that a listing may have, as far as its numbers go
+pub record IsSafe (relation : RelationEntry) : Type 0 where
+  pub segment_low : 1 ≤ relation.segment
+  pub segment_high : relation.segment ≤ segments
+  pub few : length relation.fields ≤ most_fields
+  pub narrow : width (kinds relation.fields) ≤ most_width

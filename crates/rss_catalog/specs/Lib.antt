@@ -1,0 +1,5 @@
+pub use Rattle.rss_base.specs.Listings
+pub mod Catalogs
+pub mod Reading
+pub mod Loading
+pub mod Checking

@@ -1,0 +1,63 @@
+-- What bytes of the catalog read as, whether or not they are in form: what was read is in form where it is spelled by the same bytes.
+use Rattle.std.specs.Prelude.{◌≡◌, ℕ, ◌+◌, ◌-◌, ◌*◌, ◌≤◌, ◌==◌, zero, suc, min, if◌then◌else◌, List, [], ◌∷◌, ◌++◌, length, replicate, map, flat_map, take, drop, slice_index, Option, Some, None, IfSome}
+use Rattle.std.specs.Int.{w32, to_be_bytes, from_be_bytes}
+use Rattle.rss_base.specs.Names.{name_bytes}
+use Rattle.rss_base.specs.TupleTypes.{most_fields}
+use Rattle.rss_base.specs.Listings.{field_spelled, field_bytes}
+use Rattle.rss_base.specs.declared.name.Name.{Name}
+use Rattle.rss_base.specs.declared.value.FieldKind.{FieldKind}
+use Rattle.rss_base.specs.declared.value.FieldKind.TheVariants.{Int, Text}
+use Rattle.rss_base.specs.declared.field.FieldDef.{FieldDef}
+use Rattle.rss_base.specs.declared.relation.RelationEntry.{RelationEntry}
+
+-- ---- what is spelled in front of the zeros of a relation
+
+abbrev pub definition_spelled : RelationEntry → List ℕ
+definition_spelled relation =
+    relation.name.bytes ++ relation.segment ∷ length relation.fields ∷ 0 ∷ 0 ∷ []
+    ++ to_be_bytes w32 relation.live ++ replicate 8 0 ++ flat_map field_spelled relation.fields
+
+abbrev pub definition_bytes : RelationEntry → ℕ
+definition_bytes relation = 32 + field_bytes * length relation.fields
+
+-- a relation that has a place has no more fields than there is room for
+abbrev pub HasFewFields : Option RelationEntry → Type 0
+HasFewFields relation = (entry : RelationEntry) → relation ≡ Some entry → length entry.fields ≤ most_fields
+
+-- ---- what is read
+
+-- the first so many pieces of one width
+unfoldable pub pieces : ℕ → ℕ → List ℕ → List (List ℕ)
+pieces width zero bytes = []
+pieces width (suc count) bytes = pieces width count bytes ++ take width (drop (width * count) bytes) ∷ []
+
+-- the name of these bytes
+abbrev pub name_of : List ℕ → Name
+name_of bytes = record { bytes = bytes }
+
+-- no name begins with a zero
+abbrev pub segment_of : List ℕ → Option Name
+segment_of bytes = if slice_index bytes 0 == 0 then None else Some (name_of bytes)
+
+abbrev pub kind_of : ℕ → ℕ → FieldKind
+kind_of code most = if code == 1 then Int else Text most
+
+abbrev pub field_of : List ℕ → FieldDef
+field_of bytes = record {
+  name = name_of (take name_bytes bytes);
+  kind = kind_of (slice_index bytes 16) (slice_index bytes 17);
+}
+
+abbrev pub fields_of : ℕ → List ℕ → List FieldDef
+fields_of count bytes = map field_of (pieces field_bytes count bytes)
+
+abbrev pub entry_of : List ℕ → RelationEntry
+entry_of bytes = record {
+  name = name_of (take name_bytes bytes);
+  segment = slice_index bytes 16;
+  fields = fields_of (min (slice_index bytes 17) most_fields) (drop 32 bytes);
+  live = from_be_bytes w32 (take 4 (drop 20 bytes));
+}
+
+abbrev pub relation_of : List ℕ → Option RelationEntry
+relation_of bytes = if slice_index bytes 0 == 0 then None else Some (entry_of bytes)

@@ -1,0 +1,348 @@
+// The catalog, and the calls on it.
+ghost use Rattle.std.specs.Prelude.{◌≡◌, ◌↔◌, ℕ, ◌≤◌, ◌<◌, true, None, length, replicate, is_some, count_by, Some, Err, IsTrue, IfOk, IfSome, IfNone, OnOk, OnErr};
+ghost use Rattle.rss_base.specs.DiskRule.{IsTold};
+ghost use Rattle.rss_base.specs.Looking.{ChecksPages};
+ghost use Rattle.rss_base.specs.Names.{IsName};
+ghost use Rattle.rss_base.specs.Sizes.{segments as segments_most, relations_most, system_pages};
+ghost use Rattle.rss_base.specs.Steps.{PagesCall, no_page};
+ghost use Rattle.rss_base.specs.Listings.{Listing, numbered, names_of, segment_at, relation_at, IsNumberOf, IsUnlisted};
+ghost use Rattle.rss_base.specs.Listings.{IsLeastUnused, AreAllUsed, EntryFits, ListingFits, HoldsListing};
+ghost use Rattle.rss_base.specs.Listings.{no_listing, with_segment, with_relation, with_count, catalog_page};
+ghost use Rattle.rss_base.specs.declared.fault.PageFault.TheVariants.{Damaged as PageDamaged};
+ghost use Rattle.rss_base.specs.declared.place.Place.{Place as AnyPlace};
+ghost use Rattle.rss_base.specs.declared.relation.RelationEntry.{RelationEntry as Entry};
+ghost use Rattle.rss_base.specs.declared.refusal.Kind.TheVariants.{Segment, Relation};
+ghost use Rattle.rss_catalog.specs.Catalogs.{none_pending, pending_pages, page_of, Loads, IsCatalogPlace};
+ghost use Rattle.rss_catalog.specs.Catalogs.{StoresListing, HasSystemPages, Lists, without, HasRelationIn, IsSafe};
+
+use crate::checking::flaw;
+use crate::encoding::{RELATIONS_OF_PAGE, relations_page, segments_page};
+use crate::loading::{check_zeros, damaged, key_of, load_relations, load_segments};
+use rss_base::{
+    Kind, Name, PAGE_BYTES, Page, PageFault, Pages, RELATIONS_MOST, RelationEntry, SEGMENTS,
+    SYSTEM_PAGES,
+};
+use std::alloc::{AllocError, Global};
+use std::marker::Model;
+
+/// How many pages the system space has.
+const PAGES: usize = SYSTEM_PAGES as usize;
+
+/// The page that spells a relation.
+pub(crate) fn page_of(number: u8) -> u8
+    requires low { 1 ≤ number }
+    requires high { number ≤ relations_most }
+    ensures page { result ≡ page_of Relation number }
+    ensures within { result < system_pages }
+{
+    1 + (number - 1) / RELATIONS_OF_PAGE
+}
+
+/// So many places, with nothing at any of them.
+fn free_places<T: Drop>(alloc: Global, count: u8) -> Result<Vec<Option<T>>, AllocError>
+    ensures { IfOk result (λ places. places.items ≡ replicate count None) }
+{
+    let mut places = Vec::with_capacity(alloc, usize::from(count))?;
+    for _ in 0..count {
+        places.push(None)?;
+    }
+    Ok(places)
+}
+
+/// What has this number, if anything does.
+pub(crate) fn at<T>(items: &[Option<T>], number: u8) -> Option<&T>
+    ensures some { IfSome result (λ item. numbered items.now number ≡ Some item.now) }
+    ensures none { IfNone result (numbered items.now number ≡ None) }
+{
+    let number = usize::from(number);
+    if number == 0 || number > items.len() {
+        return None;
+    }
+    items[number - 1].as_ref()
+}
+
+/// The definitions of a store by their numbers, which count from 1, and the counts of its tuples.
+///
+/// They are kept in memory, and written to the pages of the system space by `store`. The form of
+/// these pages is that of `docs/CATALOG.md`.
+#[derive(Drop)]
+pub struct Catalog {
+    segments: Vec<Option<Name>>,
+    relations: Vec<Option<RelationEntry>>,
+    /// Which pages have changed since they were written.
+    pending: [bool; PAGES],
+    ghost segment_places: { length segments.items ≡ segments_most },
+    ghost relation_places: { length relations.items ≡ relations_most },
+    ghost safe: { (number : ℕ) (relation : Entry) → numbered relations.items number ≡ Some relation
+        → IsSafe relation },
+}
+
+impl Model for Catalog {
+    ghost use Rattle.rss_catalog.specs.Catalogs.{CatalogView};
+
+    ghost Value = { CatalogView };
+
+    ghost view = { λ c. record {
+      listing = record {
+        segments = c.segments.items;
+        relations = c.relations.items;
+      };
+      pending = c.pending;
+    } };
+}
+
+impl Catalog {
+    /// Nothing is defined.
+    pub fn empty(alloc: Global) -> Result<Self, AllocError>
+        ensures { IfOk result (λ catalog.
+            catalog ≡ record { listing = no_listing; pending = none_pending }) }
+    {
+        Ok(Catalog {
+            segments: free_places(alloc, SEGMENTS)?,
+            relations: free_places(alloc, RELATIONS_MOST)?,
+            pending: [false; PAGES],
+        })
+    }
+
+    /// The catalog in the pages of the system space. `Damaged` names one of them that isn't there or
+    /// isn't in form: an entry that isn't spelled as `docs/CATALOG.md` says, a name that stands twice,
+    /// a relation of no segment or with fields that no relation has.
+    pub fn load<P: Pages>(alloc: Global, pages: &mut P) -> Result<Self, PageFault>
+        ensures loaded { IfOk result (λ catalog. Loads (P.view pages.old) catalog) }
+        ensures flawed { (place : AnyPlace) → result ≡ Err (PageDamaged place)
+            → IsTold (P.view pages.old).disk → (listing : Listing) → ListingFits listing
+            → HoldsListing (P.view pages.old).held listing → ⊥ }
+        ensures named { (place : AnyPlace) → result ≡ Err (PageDamaged place)
+            → IsCatalogPlace place }
+        ensures did { ChecksPages no_page system_pages
+            (P.view pages.old) (P.view pages.new) result }
+    {
+        let segments = load_segments(alloc, pages)?;
+        let relations = load_relations(alloc, pages)?;
+        check_zeros(pages)?;
+        match flaw(&segments, &relations) {
+            Some(page) => Err(damaged(page)),
+            None => Ok(Catalog {
+                segments,
+                relations,
+                pending: [false; PAGES],
+            }),
+        }
+    }
+
+    /// Writes the pages of the system space that have changed since they were written, and no other.
+    pub fn store<P: Pages>(&mut self, pages: &mut P) -> Result<(), PageFault>
+        requires { HasSystemPages (P.view pages.old).mapped }
+        ensures stores { OnOk result (StoresListing self.old (P.view pages.old) (P.view pages.new)) }
+        ensures written { OnOk result (self.new.pending ≡ none_pending) }
+        ensures same { self.new.listing ≡ self.old.listing }
+        ensures failed { OnErr result (self.new ≡ self.old) }
+        ensures did { PagesCall (pending_pages self.old) 0 (count_by (λ b. b) self.old.pending)
+            (P.view pages.old) (P.view pages.new) result }
+    {
+        for number in 0..PAGES {
+            if self.pending[number] {
+                let number = number as u8;
+                pages.write(key_of(number), &self.page(number))?;
+            }
+        }
+        self.pending = [false; PAGES];
+        Ok(())
+    }
+
+    /// The number of the definition of a kind that has this name.
+    pub fn find(&self, kind: Kind, name: &Name) -> Option<u8>
+        ensures some { IfSome result (IsNumberOf kind self.now.listing name.now) }
+        ensures none { IfNone result (IsUnlisted kind self.now.listing name.now) }
+    {
+        for place in 0..self.places(kind) {
+            if self.name_at(kind, place + 1) == Some(*name) {
+                return Some(place + 1);
+            }
+        }
+        None
+    }
+
+    /// Whether a number of a kind is in use.
+    pub fn used(&self, kind: Kind, number: u8) -> bool
+        ensures { result ≡ is_some (numbered (names_of kind self.now.listing) number) }
+    {
+        self.name_at(kind, number).is_some()
+    }
+
+    /// Whether no more of a kind can be defined.
+    pub fn is_full(&self, kind: Kind) -> bool
+        ensures { IsTrue result ↔ AreAllUsed kind self.now.listing }
+    {
+        self.first_unused(kind).is_none()
+    }
+
+    /// The name of a segment.
+    pub fn segment(&self, number: u8) -> Name
+        requires { is_some (segment_at self.now.listing number) ≡ true }
+        ensures { segment_at self.now.listing number ≡ Some result }
+    {
+        match at(&self.segments, number) {
+            Some(name) => *name,
+            None => unreachable!(),
+        }
+    }
+
+    pub fn relation(&self, number: u8) -> &RelationEntry
+        requires { is_some (relation_at self.now.listing number) ≡ true }
+        ensures is { relation_at self.now.listing number ≡ Some result.now }
+        ensures safe { IsSafe result.now }
+    {
+        match at(&self.relations, number) {
+            Some(relation) => relation,
+            None => unreachable!(),
+        }
+    }
+
+    /// Whether a relation of this segment is defined.
+    pub fn has_relation_in(&self, segment: u8) -> bool
+        ensures { IsTrue result ↔ HasRelationIn self.now.listing segment }
+    {
+        for relation in &self.relations {
+            if let Some(relation) = relation
+                && relation.segment == segment
+            {
+                return true;
+            }
+        }
+        false
+    }
+
+    /// Defines a segment by the least number that is not in use, and answers this.
+    pub fn add_segment(&mut self, name: Name) -> u8
+        requires name { IsName name }
+        requires fresh { IsUnlisted Segment self.old.listing name }
+        requires room { AreAllUsed Segment self.old.listing → ⊥ }
+        ensures least { IsLeastUnused Segment self.old.listing result }
+        ensures lists { Lists (with_segment self.old.listing result (Some name)) 0
+            self.old self.new }
+        ensures fits { ListingFits self.old.listing → ListingFits self.new.listing }
+    {
+        let number = self.first_unused(Kind::Segment).unwrap();
+        self.set_segment(number, Some(name));
+        number
+    }
+
+    /// Defines a relation by the least number that is not in use, and answers this.
+    pub fn add_relation(&mut self, relation: RelationEntry) -> u8
+        requires entry { EntryFits self.old.listing relation }
+        requires fresh { IsUnlisted Relation self.old.listing relation.name }
+        requires room { AreAllUsed Relation self.old.listing → ⊥ }
+        ensures least { IsLeastUnused Relation self.old.listing result }
+        ensures lists { Lists (with_relation self.old.listing result (Some relation))
+            (page_of Relation result) self.old self.new }
+        ensures fits { ListingFits self.old.listing → ListingFits self.new.listing }
+    {
+        let number = self.first_unused(Kind::Relation).unwrap();
+        self.set_relation(number, Some(relation));
+        number
+    }
+
+    /// Takes a definition away.
+    pub fn remove(&mut self, kind: Kind, number: u8)
+        requires { is_some (numbered (names_of kind self.old.listing) number) ≡ true }
+        ensures lists { Lists (without kind self.old.listing number) (page_of kind number)
+            self.old self.new }
+        ensures fits { (kind ≡ Segment → HasRelationIn self.old.listing number → ⊥)
+            → ListingFits self.old.listing → ListingFits self.new.listing }
+    {
+        match kind {
+            Kind::Segment => self.set_segment(number, None),
+            Kind::Relation => self.set_relation(number, None),
+            Kind::Image | Kind::Link | Kind::Field | Kind::Scan => unreachable!(),
+        }
+    }
+
+    /// Sets how many tuples a relation has.
+    pub fn set_count(&mut self, number: u8, live: u32)
+        requires { is_some (relation_at self.old.listing number) ≡ true }
+        ensures lists { (relation : Entry) → relation_at self.old.listing number ≡ Some relation
+            → Lists (with_relation self.old.listing number (Some (with_count live relation)))
+            (page_of Relation number) self.old self.new }
+        ensures fits { ListingFits self.old.listing → ListingFits self.new.listing }
+    {
+        let Some(relation) = &mut self.relations[usize::from(number) - 1] else {
+            unreachable!()
+        };
+        relation.live = live;
+        self.pending[usize::from(page_of(number))] = true;
+    }
+
+    /// The page of this number of the system space.
+    fn page(&self, number: u8) -> Page
+        requires { number < system_pages }
+        ensures { result ≡ catalog_page self.now.listing number }
+    {
+        if number == 0 {
+            return segments_page(&self.segments);
+        }
+        let first = usize::from((number - 1) * RELATIONS_OF_PAGE);
+        if first >= self.relations.len() {
+            return [0; PAGE_BYTES];
+        }
+        relations_page(&self.relations[first..first + usize::from(RELATIONS_OF_PAGE)])
+    }
+
+    /// How many places a kind has.
+    fn places(&self, kind: Kind) -> u8
+        ensures places { result ≡ length (names_of kind self.now.listing) }
+        ensures few { result ≤ relations_most }
+    {
+        match kind {
+            Kind::Segment => self.segments.len() as u8,
+            Kind::Relation => self.relations.len() as u8,
+            Kind::Image | Kind::Link | Kind::Field | Kind::Scan => 0,
+        }
+    }
+
+    /// The name of a number of a kind, if it is in use.
+    fn name_at(&self, kind: Kind, number: u8) -> Option<Name>
+        ensures { result ≡ numbered (names_of kind self.now.listing) number }
+    {
+        match kind {
+            Kind::Segment => at(&self.segments, number).copied(),
+            Kind::Relation => at(&self.relations, number).map(|relation| relation.name),
+            Kind::Image | Kind::Link | Kind::Field | Kind::Scan => None,
+        }
+    }
+
+    /// The least number of a kind that is not in use.
+    fn first_unused(&self, kind: Kind) -> Option<u8>
+        ensures some { IfSome result (IsLeastUnused kind self.now.listing) }
+        ensures none { IfNone result (AreAllUsed kind self.now.listing) }
+    {
+        for place in 0..self.places(kind) {
+            if !self.used(kind, place + 1) {
+                return Some(place + 1);
+            }
+        }
+        None
+    }
+
+    /// Puts this at the place of a segment.
+    fn set_segment(&mut self, number: u8, segment: Option<Name>)
+        requires low { 1 ≤ number }
+        requires high { number ≤ length self.old.listing.segments }
+        ensures { Lists (with_segment self.old.listing number segment) 0 self.old self.new }
+    {
+        self.segments[usize::from(number) - 1] = segment;
+        self.pending[0] = true;
+    }
+
+    /// Puts this at the place of a relation.
+    fn set_relation(&mut self, number: u8, relation: Option<RelationEntry>)
+        requires low { 1 ≤ number }
+        requires high { number ≤ length self.old.listing.relations }
+        requires fits { IfSome relation (EntryFits self.old.listing) }
+        ensures { Lists (with_relation self.old.listing number relation) (page_of Relation number)
+            self.old self.new }
+    {
+        self.relations[usize::from(number) - 1] = relation;
+        self.pending[usize::from(page_of(number))] = true;
+    }
+}

@@ -1,0 +1,110 @@
+// What the bytes of the catalog's pages read as, whether or not they are in form.
+ghost use Rattle.std.specs.Prelude.{◌≡◌, ◌+◌, ◌*◌, ◌<◌, ◌≤◌, ◌++◌, length, map, take, IfOk, OnOk, All};
+ghost use Rattle.rss_base.specs.Sizes.{page_bytes, segments};
+ghost use Rattle.rss_base.specs.Names.{name_bytes};
+ghost use Rattle.rss_base.specs.TupleTypes.{most_fields};
+ghost use Rattle.rss_base.specs.Listings.{field_bytes, relation_bytes, relations_of_page};
+ghost use Rattle.rss_catalog.specs.Reading.{pieces, segment_of, kind_of, field_of, fields_of};
+ghost use Rattle.rss_catalog.specs.Reading.{relation_of, HasFewFields};
+
+use crate::encoding::{FIELD_BYTES, NAME_BYTES, RELATION_BYTES, RELATIONS_OF_PAGE};
+use rss_base::{FieldDef, FieldKind, Fields, MOST_FIELDS, Name, Page, RelationEntry, SEGMENTS};
+use std::alloc::{AllocError, Global};
+
+/// The segments of their page.
+pub(crate) fn read_segments(alloc: Global, page: &Page) -> Result<Vec<Option<Name>>, AllocError>
+    ensures { IfOk result (λ read. read.items ≡ map segment_of (pieces name_bytes segments page.now)) }
+{
+    let mut segments = Vec::with_capacity(alloc, usize::from(SEGMENTS))?;
+    for place in 0..usize::from(SEGMENTS) {
+        let at = NAME_BYTES * place;
+        segments.push(read_segment(&page[at..at + NAME_BYTES]))?;
+    }
+    Ok(segments)
+}
+
+/// Puts the relations of a page behind those that are there.
+pub(crate) fn read_relations(
+    alloc: Global,
+    page: &Page,
+    relations: &mut Vec<Option<RelationEntry>>,
+) -> Result<(), AllocError>
+    ensures read { OnOk result (relations.new.items ≡ relations.old.items
+        ++ map relation_of (pieces relation_bytes relations_of_page page.now)) }
+{
+    for place in 0..usize::from(RELATIONS_OF_PAGE) {
+        let at = RELATION_BYTES * place;
+        relations.push(read_relation(alloc, &page[at..at + RELATION_BYTES])?)?;
+    }
+    Ok(())
+}
+
+fn read_segment(bytes: &[u8]) -> Option<Name>
+    requires { length bytes.now ≡ name_bytes }
+    ensures { result ≡ segment_of bytes.now }
+{
+    if bytes[0] == 0 {
+        return None;
+    }
+    Some(read_name(bytes))
+}
+
+fn read_relation(alloc: Global, bytes: &[u8]) -> Result<Option<RelationEntry>, AllocError>
+    requires { length bytes.now ≡ relation_bytes }
+    ensures { IfOk result (λ read. read ≡ relation_of bytes.now) }
+{
+    if bytes[0] == 0 {
+        return Ok(None);
+    }
+    let count = usize::from(bytes[17]).min(MOST_FIELDS);
+    let mut live = [0u8; 4];
+    live.copy_from_slice(&bytes[20..24]);
+    Ok(Some(RelationEntry {
+        name: read_name(&bytes[..NAME_BYTES]),
+        segment: bytes[16],
+        fields: read_fields(alloc, count, &bytes[32..])?,
+        live: u32::from_be_bytes(live),
+    }))
+}
+
+fn read_fields(alloc: Global, count: usize, bytes: &[u8]) -> Result<Fields, AllocError>
+    requires few { count ≤ most_fields }
+    requires room { field_bytes * count ≤ length bytes.now }
+    ensures { IfOk result (λ fields. fields ≡ fields_of count bytes.now) }
+{
+    let mut fields = Fields::with_capacity(alloc, count)?;
+    for place in 0..count {
+        let at = FIELD_BYTES * place;
+        fields.push(read_field(&bytes[at..at + FIELD_BYTES]))?;
+    }
+    Ok(fields)
+}
+
+fn read_field(bytes: &[u8]) -> FieldDef
+    requires { length bytes.now ≡ field_bytes }
+    ensures { result ≡ field_of bytes.now }
+{
+    FieldDef {
+        name: read_name(&bytes[..NAME_BYTES]),
+        kind: read_kind(bytes[16], bytes[17]),
+    }
+}
+
+fn read_kind(code: u8, most: u8) -> FieldKind
+    ensures { result ≡ kind_of code most }
+{
+    if code == 1 {
+        FieldKind::Int
+    } else {
+        FieldKind::Text(most)
+    }
+}
+
+fn read_name(bytes: &[u8]) -> Name
+    requires { length bytes.now ≡ name_bytes }
+    ensures { result.bytes ≡ bytes.now }
+{
+    let mut name = [0; NAME_BYTES];
+    name.copy_from_slice(bytes);
+    Name { bytes: name }
+}

@@ -1,0 +1,138 @@
+// The bytes of the catalog's pages.
+ghost use Rattle.std.specs.Prelude.{◌≡◌, ◌+◌, ◌*◌, ◌<◌, ◌≤◌, ◌++◌, length, flat_map, IfSome, All};
+ghost use Rattle.rss_base.specs.Sizes.{page_bytes};
+ghost use Rattle.rss_base.specs.TupleTypes.{most_fields};
+ghost use Rattle.rss_base.specs.Listings.{padded, relation_bytes, relations_of_page, field_bytes};
+ghost use Rattle.rss_base.specs.Listings.{segment_spelled, kind_spelled, field_spelled};
+ghost use Rattle.rss_base.specs.Listings.{relation_spelled};
+ghost use Rattle.rss_base.specs.Sizes.{segments};
+ghost use Rattle.rss_catalog.specs.Reading.{definition_bytes, definition_spelled, HasFewFields};
+
+use rss_base::{
+    BoundedBytes, FieldDef, FieldKind, Name, PAGE_BYTES, Page, RelationEntry, put_bytes,
+};
+
+/// How many bytes a name, a field and a relation have.
+pub(crate) const NAME_BYTES: usize = 16;
+
+pub(crate) const FIELD_BYTES: usize = 18;
+
+pub(crate) const RELATION_BYTES: usize = 512;
+
+/// How many relations a page has.
+pub(crate) const RELATIONS_OF_PAGE: u8 = 8;
+
+/// The bytes of a page, as far as they are written.
+type PageBytes = BoundedBytes<PAGE_BYTES>;
+
+/// The page of the segments.
+pub(crate) fn segments_page(items: &[Option<Name>]) -> Page
+    requires { length items.now ≤ segments }
+    ensures { result ≡ padded page_bytes (flat_map segment_spelled items.now) }
+{
+    let mut bytes = PageBytes::new();
+    for item in items {
+        put_segment(&mut bytes, item);
+    }
+    page_of(&bytes)
+}
+
+/// A page of relations.
+pub(crate) fn relations_page(items: &[Option<RelationEntry>]) -> Page
+    requires many { length items.now ≤ relations_of_page }
+    requires few { All HasFewFields items.now }
+    ensures { result ≡ padded page_bytes (flat_map relation_spelled items.now) }
+{
+    let mut bytes = PageBytes::new();
+    for item in items {
+        put_relation(&mut bytes, item);
+    }
+    page_of(&bytes)
+}
+
+/// The page that begins with these bytes; zeros stand behind them.
+fn page_of(bytes: &PageBytes) -> Page
+    ensures { result ≡ padded page_bytes bytes.now }
+{
+    let mut page = [0u8; PAGE_BYTES];
+    put_bytes(&mut page, 0, bytes.as_slice());
+    page
+}
+
+fn put_segment(bytes: &mut PageBytes, segment: &Option<Name>)
+    requires { length bytes.old + NAME_BYTES ≤ page_bytes }
+    ensures put { bytes.new ≡ bytes.old ++ segment_spelled segment.now }
+    ensures long { length bytes.new ≡ length bytes.old + NAME_BYTES }
+{
+    match segment {
+        Some(name) => bytes.extend_from_slice(&name.bytes),
+        None => bytes.extend_from_slice(&[0; NAME_BYTES]),
+    }
+}
+
+fn put_relation(bytes: &mut PageBytes, relation: &Option<RelationEntry>)
+    requires room { length bytes.old + relation_bytes ≤ page_bytes }
+    requires few { HasFewFields relation.now }
+    ensures put { bytes.new ≡ bytes.old ++ relation_spelled relation.now }
+    ensures long { length bytes.new ≡ length bytes.old + relation_bytes }
+{
+    let zeros = [0; RELATION_BYTES];
+    match relation {
+        Some(relation) => {
+            put_definition(bytes, relation);
+            let long = RELATION_BYTES - definition_bytes(relation);
+            bytes.extend_from_slice(&zeros[..long]);
+        }
+        None => bytes.extend_from_slice(&zeros),
+    }
+}
+
+/// How many bytes of a relation's aren't the zeros behind it.
+fn definition_bytes(relation: &RelationEntry) -> usize
+    requires { length relation.now.fields ≤ most_fields }
+    ensures { result ≡ definition_bytes relation.now }
+{
+    32 + FIELD_BYTES * relation.fields.as_slice().len()
+}
+
+fn put_definition(bytes: &mut PageBytes, relation: &RelationEntry)
+    requires room { length bytes.old + relation_bytes ≤ page_bytes }
+    requires few { length relation.now.fields ≤ most_fields }
+    ensures put { bytes.new ≡ bytes.old ++ definition_spelled relation.now }
+    ensures long { length bytes.new ≡ length bytes.old + definition_bytes relation.now }
+{
+    let fields = relation.fields.as_slice();
+    bytes.extend_from_slice(&relation.name.bytes);
+    bytes.extend_from_slice(&[relation.segment, fields.len() as u8, 0, 0]);
+    bytes.extend_from_slice(&relation.live.to_be_bytes());
+    bytes.extend_from_slice(&[0; 8]);
+    put_fields(bytes, fields);
+}
+
+fn put_fields(bytes: &mut PageBytes, fields: &[FieldDef])
+    requires { length bytes.old + field_bytes * length fields.now ≤ page_bytes }
+    ensures put { bytes.new ≡ bytes.old ++ flat_map field_spelled fields.now }
+    ensures long { length bytes.new ≡ length bytes.old + field_bytes * length fields.now }
+{
+    for field in fields {
+        put_field(bytes, field);
+    }
+}
+
+fn put_field(bytes: &mut PageBytes, field: &FieldDef)
+    requires { length bytes.old + field_bytes ≤ page_bytes }
+    ensures put { bytes.new ≡ bytes.old ++ field_spelled field.now }
+    ensures long { length bytes.new ≡ length bytes.old + field_bytes }
+{
+    bytes.extend_from_slice(&field.name.bytes);
+    bytes.extend_from_slice(&kind_bytes(field.kind));
+}
+
+fn kind_bytes(kind: FieldKind) -> [u8; 2]
+    ensures { result ≡ kind_spelled kind }
+{
+    match kind {
+        FieldKind::Int => [1, 0],
+        FieldKind::Text(most) => [2, most],
+    }
+}

@@ -1,0 +1,10 @@
+//! The catalog of a store: what is defined, by numbers, in the pages of the system space.
+#![tactic(auto)]
+
+mod catalog;
+mod checking;
+mod decoding;
+mod encoding;
+mod loading;
+
+pub use catalog::Catalog;
