@@ -15,11 +15,12 @@ use Rattle.rss_base.specs.declared.key.Space.TheVariants.{Home, Overflow}
 use Rattle.rss_page.specs.Content.{Content, Empty, Forward}
 use Rattle.rss_tuple.specs.Directory.{homes, overflows, body_by}
 use Rattle.rss_tuple.specs.Heaps.{IsHeap, AreLinked}
-use Rattle.rss_tuple.specs.Checked.{pages_of, IsSound, IsNoted, LooksStep, ChecksPages}
+use Rattle.rss_base.specs.Looking.{LooksStep, ChecksPages}
+use Rattle.rss_tuple.specs.Checked.{pages_of, IsSound, IsNoted}
 use Rattle.rss_tuple.specs.Looks.{LooksCall, IsNotedAt, AreAllMarked, AreSoundOverflows, IsMarked, in_front, AreSeen}
 use Rattle.rss_tuple.proofs.Seen.{some_there, high_empty}
 use Rattle.rss_tuple.proofs.Spots.{low_number}
-use Rattle.rss_tuple.proofs.Looks.{looks_within}
+use Rattle.rss_base.proofs.Looking.{looks_within}
 
 -- ---- the pages of a segment
 

@@ -10,9 +10,10 @@ use Rattle.rss_base.specs.declared.key.Space.{Space}
 use Rattle.rss_base.proofs.Steps.{is_in}
 use Rattle.rss_page.specs.Content.{Empty}
 use Rattle.rss_tuple.specs.Directory.{contents, contents_in, content_at, homes, overflows}
-use Rattle.rss_tuple.specs.Checked.{Rows, rows_on, tuples_of, IsNoted, LooksStep}
+use Rattle.rss_base.specs.Looking.{LooksStep}
+use Rattle.rss_tuple.specs.Checked.{Rows, rows_on, tuples_of, IsNoted}
 use Rattle.rss_tuple.specs.Looks.{IsNotedAt, AreMarked, Sees, in_front, AreSeen}
-use Rattle.rss_tuple.proofs.Looks.{looks_then, looks_within}
+use Rattle.rss_base.proofs.Looking.{looks_then, looks_within}
 use Rattle.rss_tuple.proofs.Sets.{none_held}
 use Rattle.rss_tuple.proofs.SeenHomes.{seen_same, front_page, front_pages, front_next, front_whole, tuples_skip, tuples_more, sees_as, sees_then}
 

@@ -14,7 +14,8 @@ use Rattle.rss_page.specs.Content.{Content}
 use Rattle.rss_page.specs.Slotted.{entries}
 use Rattle.rss_page.specs.Surveyed.{held_at}
 use Rattle.rss_tuple.specs.Directory.{contents_in, homes, overflows, body_by, tid_at}
-use Rattle.rss_tuple.specs.Checked.{Rows, row_of, row_at, rows_on, IsSound, IsNoted, LooksStep}
+use Rattle.rss_base.specs.Looking.{LooksStep}
+use Rattle.rss_tuple.specs.Checked.{Rows, row_of, row_at, rows_on, IsSound, IsNoted}
 use Rattle.rss_tuple.specs.Looks.{LooksAt, Sees, IsSoundAt, IsNotedAt, in_front, MarksGoal, MayHold, MayStand, AreSeen}
 use Rattle.rss_tuple.proofs.SeenHomes.{seen_more, may_hold, front_more, front_within, front_here, front_off, flat_more, sees_as, sees_then}
 

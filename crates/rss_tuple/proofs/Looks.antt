@@ -11,54 +11,11 @@ use Rattle.rss_base.specs.declared.place.Place.TheVariants.{Room, Page as PagePl
 use Rattle.rss_base.specs.declared.fault.PageFault.{PageFault}
 use Rattle.rss_base.specs.declared.fault.PageFault.TheVariants.{Device as DeviceFailed, Damaged}
 use Rattle.rss_base.specs.declared.key.PageKey.{PageKey}
-use Rattle.rss_base.proofs.Moments.{reads_none, reads_then}
-use Rattle.rss_base.proofs.Steps.{rests, then, within, all_mapped, all_held, none_changed_more}
-use Rattle.rss_tuple.specs.Checked.{LooksStep}
+use Rattle.rss_base.proofs.Looking.{looks_then, looks_within, looks_more}
+use Rattle.rss_base.specs.Looking.{LooksStep}
 use Rattle.rss_tuple.specs.Looks.{LooksCall, NamesDamage}
 
 -- ---- looks
-
-pub still_none : (old new : PagesView) → AreAmong new.changed old.changed → NoneChanged old → NoneChanged new
-still_none old new among none key = elim (cases_Bool (new.changed key)) [
-  | inl is ↦ let was = among key is in let not = none key in cc
-  | inr not ↦ not
-]
-
--- nothing is done
-pub looks_none : {noted : Keys} {asks : ℕ} (view : PagesView) → LooksStep noted asks view view
-looks_none view = record {
-  step = rests view;
-  mapped = refl;
-  held = λ told. refl;
-  changed = λ key is. is;
-  unwritten = λ none. reads_none (device_below view);
-}
-
-pub looks_then : {noted : Keys} {asks asks_then : ℕ} {old mid new : PagesView} → LooksStep noted asks old mid → LooksStep noted asks_then mid new → LooksStep noted (asks + asks_then) old new
-looks_then {old = old} {mid = mid} one two = record {
-  step = then one.step two.step;
-  mapped = two.mapped ∙ one.mapped;
-  held = λ told. two.held (one.step.passes.leaves.told.0 told) ∙ one.held told;
-  changed = λ key is. one.changed key (two.changed key is);
-  unwritten = λ none. reads_then (one.unwritten none) (two.unwritten (still_none old mid one.changed none));
-}
-
--- more pages may be noted, and more asked for
-pub looks_within : {noted more : Keys} {asks asks_now : ℕ} {old new : PagesView} → ((key : PageKey) → noted key → more key) → asks ≤ asks_now → LooksStep noted asks old new → LooksStep more asks_now old new
-looks_within is few looks = record {
-  step = within is few few looks.step;
-  mapped = looks.mapped;
-  held = looks.held;
-  changed = looks.changed;
-  unwritten = looks.unwritten;
-}
-
-pub looks_more : {more : Keys} {asks : ℕ} {old new : PagesView} → LooksStep no_page asks old new → LooksStep more asks old new
-looks_more {asks = asks} looks = looks_within (λ key none. absurd none) (omega arith) looks
-
--- a page was brought into memory
-pub brought : {old new : PagesView} → PagesStep no_page 1 1 old new → (NoneChanged old → OnlyReads (device_below old) (device_below new)) → LooksStep no_page 1 old new
-brought step unwritten = record { step = step; mapped = all_mapped step; held = λ told. all_held step told; changed = none_changed_more step; unwritten = unwritten }
 
 -- a page was noted
 pub noted_one : {key : PageKey} {number : ℕ} {old new : PagesView} → NotesPage key number old new → (NoneChanged old → OnlyReads (device_below old) (device_below new)) → PagesStep (only key) 0 0 old new → LooksStep (only key) 0 old new

@@ -17,7 +17,8 @@ use Rattle.rss_page.specs.Slotted.{IsSlotted}
 use Rattle.rss_page.specs.Surveyed.{held_at}
 use Rattle.rss_tuple.specs.Directory.{Entries, contents, overflows, body_by}
 use Rattle.rss_tuple.specs.Heaps.{body_most, IsHeap, HasBody}
-use Rattle.rss_tuple.specs.Checked.{Rows, IsNoted, LooksStep}
+use Rattle.rss_base.specs.Looking.{LooksStep}
+use Rattle.rss_tuple.specs.Checked.{Rows, IsNoted}
 
 -- ---- calls that look
 

@@ -16,7 +16,8 @@ ghost use Rattle.rss_tuple.specs.Calls.{IsSegment};
 ghost use Rattle.rss_tuple.specs.Directory.{contents, homes, overflows, body_in, body_by};
 ghost use Rattle.rss_tuple.specs.Heaps.{IsHeap};
 ghost use Rattle.rss_tuple.specs.Spots.{IsRoom};
-ghost use Rattle.rss_tuple.specs.Checked.{Rows, row_of, rows_on, tuples_of, pages_of, IsSound, AreNoted, ChecksPages};
+ghost use Rattle.rss_base.specs.Looking.{ChecksPages};
+ghost use Rattle.rss_tuple.specs.Checked.{Rows, row_of, rows_on, tuples_of, pages_of, IsSound, AreNoted};
 ghost use Rattle.rss_tuple.specs.Looks.{LooksCall, NamesDamage, Sees, AreShort, IsSoundAt, IsNotedAt, LooksAt};
 ghost use Rattle.rss_tuple.specs.Looks.{IsMarked, MarksGoal, AreMarked, AreAllMarked, IsSoundOverflow, AreSoundOverflows, HasGood, MayHold, MayStand, in_front, AreSeen};
 

@@ -1,5 +1,6 @@
 use Rattle.std.proofs.Common.{◌∙◌, Err, ap}
-use Rattle.rss_tuple.proofs.Looks.{brought, looks_done}
+use Rattle.rss_base.proofs.Looking.{brought}
+use Rattle.rss_tuple.proofs.Looks.{looks_done}
 use Rattle.rss_tuple.proofs.checking.bring.Goals as goal
 
 pub returns-in-Ok-clause-did : goal.returns-in-Ok-clause-did

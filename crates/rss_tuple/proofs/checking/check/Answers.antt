@@ -7,7 +7,8 @@ use Rattle.rss_base.specs.declared.key.Space.TheVariants.{Overflow}
 use Rattle.rss_tuple.specs.Checked.{pages_of, IsSound, IsNoted}
 use Rattle.rss_tuple.specs.Looks.{LooksCall, IsNotedAt, AreAllMarked, AreSoundOverflows}
 use Rattle.rss_tuple.proofs.Seen.{on_ok, on_ok_then}
-use Rattle.rss_tuple.proofs.Looks.{looks_within, looks_wider, looks_call}
+use Rattle.rss_base.proofs.Looking.{looks_within}
+use Rattle.rss_tuple.proofs.Looks.{looks_wider, looks_call}
 use Rattle.rss_tuple.proofs.Checked.{in_home, in_overflow, sound_overflows, all_sound, all_noted, without_note, checks, on_ok_two}
 use Rattle.rss_tuple.proofs.checking.check.Goals as goal
 use Rattle.rss_tuple.proofs.checking.check.Goals.{After-look_at_overflows}

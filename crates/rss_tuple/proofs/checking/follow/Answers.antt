@@ -11,7 +11,8 @@ use Rattle.rss_tuple.specs.Checked.{row_of}
 use Rattle.rss_tuple.specs.Directory.{overflows, body_in}
 use Rattle.rss_tuple.specs.Looks.{Sees}
 use Rattle.rss_tuple.proofs.Seen.{on_ok_then}
-use Rattle.rss_tuple.proofs.Looks.{looks_none, looks_damaged, looks_ends, names_page}
+use Rattle.rss_base.proofs.Looking.{looks_none}
+use Rattle.rss_tuple.proofs.Looks.{looks_damaged, looks_ends, names_page}
 use Rattle.rss_tuple.proofs.Followed.{holds_moved, content_of_page, leads_somewhere, leads_to_good}
 use Rattle.rss_tuple.proofs.checking.follow.Goals as goal
 

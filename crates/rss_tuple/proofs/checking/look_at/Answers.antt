@@ -1,6 +1,7 @@
 use Rattle.std.proofs.Common.{◌∙◌, sym, ap}
 use Rattle.rss_base.specs.Paged.{Held}
-use Rattle.rss_tuple.proofs.Looks.{looks_done, looks_damaged, looks_then, looks_more, noted_one, names_page}
+use Rattle.rss_base.proofs.Looking.{looks_then, looks_more}
+use Rattle.rss_tuple.proofs.Looks.{looks_done, looks_damaged, noted_one, names_page}
 use Rattle.rss_tuple.proofs.checking.look_at.Goals as goal
 
 pub returns-in_default-clause-did : goal.returns-in_default-clause-did

@@ -6,7 +6,8 @@ use Rattle.rss_page.specs.Surveyed.{held_at}
 use Rattle.rss_tuple.specs.Directory.{homes, overflows, body_by, tid_at}
 use Rattle.rss_tuple.specs.Checked.{row_of}
 use Rattle.rss_tuple.specs.Looks.{Sees}
-use Rattle.rss_tuple.proofs.Looks.{looks_done, looks_then, looks_within, looks_more, looks_call, looks_wider, looks_fails}
+use Rattle.rss_base.proofs.Looking.{looks_then, looks_within, looks_more}
+use Rattle.rss_tuple.proofs.Looks.{looks_done, looks_call, looks_wider, looks_fails}
 use Rattle.rss_tuple.proofs.LookedPages.{entry_is, sound_home, noted_still, page_seen, page_shown, page_stands, page_whole}
 use Rattle.rss_tuple.proofs.checking.look_at_home.Goals as goal
 use Rattle.rss_tuple.proofs.checking.look_at_home.Goals.{After-look_in}

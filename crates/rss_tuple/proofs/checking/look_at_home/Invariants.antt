@@ -4,7 +4,8 @@ use Rattle.std.specs.List.{range_with_len}
 use Rattle.rss_base.specs.DiskRule.{IsTold}
 use Rattle.rss_base.specs.Steps.{no_page}
 use Rattle.rss_tuple.specs.Directory.{homes, overflows}
-use Rattle.rss_tuple.specs.Checked.{row_at, LooksStep}
+use Rattle.rss_base.specs.Looking.{LooksStep}
+use Rattle.rss_tuple.specs.Checked.{row_at}
 use Rattle.rss_tuple.specs.Looks.{Sees, in_front, AreSeen}
 use Rattle.rss_tuple.proofs.checking.look_at_home.Given as goal
 

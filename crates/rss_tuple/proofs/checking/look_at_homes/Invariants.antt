@@ -3,7 +3,8 @@ use Rattle.rss_base.specs.DiskRule.{IsTold}
 use Rattle.rss_base.specs.Paged.{page_key}
 use Rattle.rss_base.specs.Steps.{pages_in}
 use Rattle.rss_base.specs.declared.key.Space.TheVariants.{Home}
-use Rattle.rss_tuple.specs.Checked.{tuples_of, LooksStep}
+use Rattle.rss_base.specs.Looking.{LooksStep}
+use Rattle.rss_tuple.specs.Checked.{tuples_of}
 use Rattle.rss_tuple.specs.Directory.{homes, overflows}
 use Rattle.rss_tuple.specs.Looks.{IsNotedAt, Sees, in_front, AreSeen}
 use Rattle.rss_tuple.proofs.checking.look_at_homes.Given as goal

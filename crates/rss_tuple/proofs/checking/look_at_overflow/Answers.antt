@@ -6,9 +6,10 @@ use Rattle.rss_base.specs.Steps.{no_page}
 use Rattle.rss_page.specs.Content.{Content}
 use Rattle.rss_page.specs.Slotted.{entries}
 use Rattle.rss_tuple.specs.Directory.{contents, contents_in}
-use Rattle.rss_tuple.specs.Checked.{LooksStep}
+use Rattle.rss_base.specs.Looking.{LooksStep}
 use Rattle.rss_tuple.specs.Looks.{AreMarked, IsSoundAt}
-use Rattle.rss_tuple.proofs.Looks.{looks_none, looks_done, looks_damaged, names_page, looks_within, looks_wider, looks_fails}
+use Rattle.rss_base.proofs.Looking.{looks_none, looks_within}
+use Rattle.rss_tuple.proofs.Looks.{looks_done, looks_damaged, names_page, looks_wider, looks_fails}
 use Rattle.rss_tuple.proofs.LookedPages.{noted_still}
 use Rattle.rss_tuple.proofs.checking.look_at_overflow.Goals as goal
 use Rattle.rss_tuple.proofs.checking.look_at_overflow.Goals.{After-are_marked}

@@ -4,7 +4,7 @@ use Rattle.rss_base.specs.Paged.{page_key}
 use Rattle.rss_base.specs.Steps.{pages_in}
 use Rattle.rss_base.specs.declared.key.Space.TheVariants.{Overflow}
 use Rattle.rss_tuple.specs.Directory.{contents}
-use Rattle.rss_tuple.specs.Checked.{LooksStep}
+use Rattle.rss_base.specs.Looking.{LooksStep}
 use Rattle.rss_tuple.specs.Looks.{IsNotedAt, AreMarked}
 use Rattle.rss_tuple.proofs.checking.look_at_overflows.Given as goal
 
