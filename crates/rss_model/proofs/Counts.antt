@@ -7,11 +7,13 @@ use Rattle.std.specs.FinMap as map
 use Rattle.std.specs.FinMap.{FinMap, get-empty, get-remove, get-retain_keys, len-empty, len-insert, len-remove, same_map, empty_of_len, nat_cmp-IsAntisymmetric}
 use Rattle.std.proofs.lemmas.Bool.{cases_Bool, cases_lt, true≢false, cond-true, cond-false}
 use Rattle.rss_base.specs.declared.name.Name.{Name}
+use Rattle.rss_base.specs.declared.tid.Tid.{Tid}
 use Rattle.rss_base.specs.declared.item.Item.{Item}
-use Rattle.rss_model.specs.Items.{Content, item_cmp}
+use Rattle.rss_base.specs.declared.item.Item.TheVariants.{Segment, Relation, Tuple, Chain, Key}
+use Rattle.rss_model.specs.Items.{Content, item_cmp, name_cmp}
 use Rattle.rss_model.specs.Tables.{Contents, content, put, is_tuple_of, tuple_count}
-use Rattle.rss_model.proofs.Codes.{item_total, item_apart}
-use Rattle.rss_model.proofs.Contents.{same_item_of, content_put}
+use Rattle.rss_model.proofs.Codes.{item_total, item_apart, name_total, name_apart}
+use Rattle.rss_model.proofs.Contents.{tied, same_item_of, content_put}
 
 abbrev tuples_of : Contents → Name → Contents
 tuples_of contents relation = map.retain_keys contents (is_tuple_of relation)
@@ -84,6 +86,33 @@ counts_none relation =
     same_none : (b : Bool) → cond {A = Option Content} b None None ≡ None
     same_none true = refl
     same_none false = refl
+
+-- a relation that has no tuples has none with any identifier
+pub none_counted : (contents : Contents) (relation : Name) → tuple_count contents relation ≡ 0 → (tid : Tid) → content contents (Tuple relation tid) ≡ None
+unfolding tuple_count
+none_counted contents relation none tid =
+    sym (cond-true (is_tuple_of relation (Tuple relation tid)) (content contents (Tuple relation tid)) None (tied name_total name_apart relation)) ∙ sym (found contents relation (Tuple relation tid))
+    ∙ ap (λ (m : Contents). content m (Tuple relation tid)) (empty_of_len (tuples_of contents relation) none) ∙ get-empty item_cmp (Tuple relation tid)
+
+-- and the other way
+pub count_of_none : (contents : Contents) (relation : Name) → ((tid : Tid) → content contents (Tuple relation tid) ≡ None) → tuple_count contents relation ≡ 0
+unfolding tuple_count
+count_of_none contents relation none = ap map.len (same_map item_total item_apart (tuples_of contents relation) map.empty (λ q. found contents relation q ∙ each q ∙ sym (get-empty item_cmp q))) ∙ len-empty item_cmp Content
+  where
+    off : (q : Item) → is_tuple_of relation q ≡ false → cond (is_tuple_of relation q) (content contents q) None ≡ None
+    off q is = cond-false (is_tuple_of relation q) (content contents q) None is
+
+    each : (q : Item) → cond (is_tuple_of relation q) (content contents q) None ≡ None
+    each (Segment name) = off (Segment name) refl
+    each (Relation name) = off (Relation name) refl
+    each (Chain link parent) = off (Chain link parent) refl
+    each (Key image values) = off (Key image values) refl
+    each (Tuple name tid) = elim (cases_Bool (is_tuple_of relation (Tuple name tid))) [
+      | inl on ↦
+          let same : relation ≡ name = name_apart relation name ((Equal-is (name_cmp relation name)).0 on) in
+          cond-true _ (content contents (Tuple name tid)) None on ∙ ap (λ (n : Name). content contents (Tuple n tid)) (sym same) ∙ none tid
+      | inr not_on ↦ off (Tuple name tid) not_on
+    ]
 
 -- ---- maps of one entry at most
 

@@ -1,13 +1,15 @@
 -- The ways in which a call on an engine ends.
 use Rattle.std.proofs.Common.{◌≡◌, inl, ℕ, ◌≤◌, length, ◌+◌, Option, Some, None, refl, sym, ◌∙◌, ap, subst, arith}
-use Rattle.std.specs.Prelude.{Result, Err, IsErrAnd, IfSome}
+use Rattle.std.specs.Prelude.{true, Result, Ok, Err, IsErrAnd, IfSome}
 use Rattle.std.proofs.lemmas.Result.{err_from_is_err_and}
 use Rattle.rss_base.specs.DiskRule.{IsTold, Passes, Continues}
 use Rattle.rss_base.specs.Answers.{page_error}
 use Rattle.rss_base.specs.Paged.{AreAmong, HasPageCause}
 use Rattle.rss_base.specs.declared.call.Call.{Call}
-use Rattle.rss_base.specs.declared.call.Call.TheVariants.{Begin, End, Insert, Fetch, Update, Delete}
+use Rattle.rss_base.specs.declared.call.Call.TheVariants.{Begin, End, Insert, Fetch, Update, Delete, MakeSegment, MakeRelation, DropSegment, DropRelation}
 use Rattle.rss_base.specs.declared.answer.Reply.{Reply}
+use Rattle.rss_base.specs.declared.answer.Reply.TheVariants.{Ok as Done}
+use Rattle.rss_base.specs.declared.key.PageKey.{PageKey}
 use Rattle.rss_base.specs.declared.answer.CallError.{CallError}
 use Rattle.rss_base.specs.declared.answer.CallError.TheVariants.{Refused, Down}
 use Rattle.rss_base.specs.declared.fault.PageFault.{PageFault}
@@ -16,9 +18,12 @@ use Rattle.rss_base.specs.declared.refusal.Refusal.{Refusal}
 use Rattle.rss_base.proofs.Moments.{started, widened}
 use Rattle.rss_model.specs.Turns.{IsStopped}
 use Rattle.rss_model.specs.Machine.{State}
-use Rattle.rss_model.specs.Steps.{refusal}
-use Rattle.rss_model.specs.Steps.Step.{refuses}
-use Rattle.rss_model.specs.Store.{OpensTo}
+use Rattle.rss_model.specs.Tables.{Definitions}
+use Rattle.rss_model.specs.Meter.{Meter, IsCheckpointed}
+use Rattle.rss_model.specs.Defining.{defined, with_definitions, DefinesNames}
+use Rattle.rss_model.specs.Steps.{refusal, redefined}
+use Rattle.rss_model.specs.Steps.Step.{refuses, defines}
+use Rattle.rss_model.specs.Store.{OpensTo, OpensToEither}
 use Rattle.rss_model.specs.ReplyText.{IsShort}
 use Rattle.rss_model.specs.Costs.{RisesAtMost, most_asks, most_writes, LeavesChanged, changes_after}
 use Rattle.rss_model.specs.Calls.{EngineView, GoesOn, IsAnswer, IsUnanswered, IsOutcome, IsCallOf}
@@ -57,6 +62,10 @@ refused_leaves (Insert t relation values) why = tt
 refused_leaves (Fetch t relation tid) why = tt
 refused_leaves (Update t relation tid values) why = tt
 refused_leaves (Delete t relation tid) why = tt
+refused_leaves (MakeSegment name) why = tt
+refused_leaves (MakeRelation name segment fields) why = tt
+refused_leaves (DropSegment name) why = tt
+refused_leaves (DropRelation name) why = tt
 
 pub refused_since : (call : Call) (why : Refusal) (since : ℕ) → changes_after call (Err why) since ≡ since
 refused_since (Begin t) why since = refl
@@ -65,6 +74,10 @@ refused_since (Insert t relation values) why since = refl
 refused_since (Fetch t relation tid) why since = refl
 refused_since (Update t relation tid values) why since = refl
 refused_since (Delete t relation tid) why since = refl
+refused_since (MakeSegment name) why since = refl
+refused_since (MakeRelation name segment fields) why since = refl
+refused_since (DropSegment name) why since = refl
+refused_since (DropRelation name) why since = refl
 
 -- By a refusal, which leaves the engine as it was but for its pages in memory.
 pub refused_by : {old new : EngineView} {call : Call} {why : Refusal} → new.is_up → IsShort (Err why) → AreAmong new.changed old.changed → new.since ≡ old.since
@@ -78,6 +91,58 @@ refused_by {call = call} {why = why} up short among since stays = record {
   changed = λ key is. inl (among key is, refused_leaves call why);
   since = since ∙ sym (refused_since call why _);
 }
+
+-- ---- definitions
+
+-- a call that defines
+abbrev pub IsDefinition : Call → Type 0
+IsDefinition (Begin t) = ⊥
+IsDefinition (End t) = ⊥
+IsDefinition (Insert t relation values) = ⊥
+IsDefinition (Fetch t relation tid) = ⊥
+IsDefinition (Update t relation tid values) = ⊥
+IsDefinition (Delete t relation tid) = ⊥
+IsDefinition (MakeSegment name) = Unit {0}
+IsDefinition (MakeRelation name segment fields) = Unit {0}
+IsDefinition (DropSegment name) = Unit {0}
+IsDefinition (DropRelation name) = Unit {0}
+
+-- once one was made, no change waits for a commit
+pub definition_since : (call : Call) (since : ℕ) → IsDefinition call → changes_after call (Ok Done) since ≡ 0
+definition_since (Begin t) since is = absurd is
+definition_since (End t) since is = absurd is
+definition_since (Insert t relation values) since is = absurd is
+definition_since (Fetch t relation tid) since is = absurd is
+definition_since (Update t relation tid values) since is = absurd is
+definition_since (Delete t relation tid) since is = absurd is
+definition_since (MakeSegment name) since is = refl
+definition_since (MakeRelation name segment fields) since is = refl
+definition_since (DropSegment name) since is = refl
+definition_since (DropRelation name) since is = refl
+
+-- A definition was made over a state of the machine, which was at rest: it was not refused, and it is committed.
+pub record IsDefined (old new : EngineView) (state : State) (call : Call) : Type 0 where
+  pub definitions : Definitions
+  pub meter : Meter
+  pub passed : refusal state call ≡ None
+  pub so : defined call state.base.definitions ≡ Some definitions
+  pub counted : IsCheckpointed state.size.slots (with_definitions definitions state.base) state.meter.over meter
+  pub shows : new.shows (redefined definitions meter state)
+  pub moments : Passes old.disk new.disk (OpensToEither state.size state.base (with_definitions definitions state.base))
+
+-- By a definition, after which no page waits for a commit.
+pub defined_by : {old new : EngineView} {call : Call} → IsDefinition call → DefinesNames call → new.is_up → ((key : PageKey) → new.changed key ≡ true → ⊥) → new.since ≡ 0 → (IsTold old.disk → (state : State) → old.shows state → IsDefined old new state call) → IsAnswer old new call (Ok Done)
+defined_by {old = old} {call = call} is names up none since made = record {
+  answered = λ told state shown.
+      let so = made told state shown in
+      record { next = redefined so.definitions so.meter state; shows = so.shows; answered = record { step = defines call so.definitions so.meter so.passed names so.so so.counted; moments = so.moments } };
+  up = up;
+  short = omega arith;
+  changed = λ key waits. absurd (none key waits);
+  since = since ∙ sym (definition_since call old.since is);
+}
+
+-- ---- calls
 
 -- an engine that was up, with what came of the call
 pub comes_to : {old new : EngineView} {call : Call} {result : Result Reply CallError} → old.is_up → GoesOn old new call → IsOutcome old new call result → IsCallOf old new call result

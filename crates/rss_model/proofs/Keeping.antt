@@ -4,7 +4,7 @@ use Rattle.std.specs.Prelude.{Option, Some, None, is_some, is_none, ◌&&◌, Al
 use Rattle.std.specs.Ordering.{nat_cmp, eq_by_cmp}
 use Rattle.std.specs.Cmp.{Equal-is, nat_cmp_total}
 use Rattle.std.specs.FinMap as map
-use Rattle.std.specs.FinMap.{get-insert, len-insert, len-remove, len-empty}
+use Rattle.std.specs.FinMap.{FinMap, get-empty, get-insert, len-insert, len-remove, len-empty}
 use Rattle.std.proofs.lemmas.Bool.{cases_Bool, cases_eq, true≢false, ne_eqb, cond-true, cond-false, leb-false}
 use Rattle.std.proofs.lemmas.List.{append-nil}
 use Rattle.std.proofs.lemmas.List.Sums.{sum_by-cons}
@@ -15,39 +15,28 @@ use Rattle.rss_base.specs.declared.tid.Tid.{Tid}
 use Rattle.rss_base.specs.declared.value.Value.{Value}
 use Rattle.rss_base.specs.declared.value.FieldKind.{FieldKind}
 use Rattle.rss_base.specs.declared.item.Item.TheVariants.{Tuple}
+use Rattle.rss_base.specs.declared.call.Call.{Call}
 use Rattle.rss_base.specs.declared.call.Call.TheVariants.{Begin, End, Insert, Update, Delete}
-use Rattle.rss_base.specs.declared.refusal.Refusal.{Refusal}
 use Rattle.rss_base.specs.declared.refusal.Refusal.TheVariants.{BadTuple}
 use Rattle.rss_base.specs.TupleTypes.{misfit}
 use Rattle.rss_model.specs.Items.{Content, Values, name_cmp}
-use Rattle.rss_model.specs.Tables.{content, fields_of, segment_of, tuple_count, put, is_tuple_of}
+use Rattle.rss_model.specs.Tables.{Definitions, content, fields_of, segment_of, tuple_count, put, is_tuple_of}
 use Rattle.rss_model.specs.Changes.{Change, IsTupleChange, is_delete_of, own, others, after, Chained}
 use Rattle.rss_model.specs.Changes.IsTupleChange.{insert, update, delete}
 use Rattle.rss_model.specs.Fits.{Fits, IsIdentifier, IsLive, IsTupleOf, tuple_limit}
-use Rattle.rss_model.specs.Machine.{StoreSize, State, with_changes, now}
-use Rattle.rss_model.specs.Meter.{Meter}
-use Rattle.rss_model.specs.Steps.{first_of, refused_unless, refused_if, misfit_of, tests, refusal, is_open, transaction_limit, used_tuples, IsFree, HasValues, begun, changed, tuple_change, insertion, replacement, deletion, ended}
-use Rattle.rss_model.specs.Steps.Step.{refuses, begins, inserts, fetches, updates, deletes, ends}
+use Rattle.rss_model.specs.Machine.{StoreSize, State, IsAtRest, with_changes, now}
+use Rattle.rss_model.specs.Meter.{Meter, IsCheckpointed, heap_pages}
+use Rattle.rss_model.specs.Defining.{DefinesNames, defined, with_definitions}
+use Rattle.rss_model.specs.Steps.{misfit_of, tests, refusal, is_open, transaction_limit, used_tuples, IsFree, HasValues, begun, changed, tuple_change, insertion, replacement, deletion, ended, redefined}
+use Rattle.rss_model.specs.Steps.Step.{refuses, begins, inserts, fetches, updates, deletes, ends, defines}
 use Rattle.rss_model.specs.Kept.{FitOnTheWay, Kept, StepsKeep, RestKeeps, KeptFit}
 use Rattle.rss_model.proofs.Codes.{name_apart}
 use Rattle.rss_model.proofs.Putting.{fits_put}
+use Rattle.rss_model.proofs.Redefined.{defined_fits}
+use Rattle.rss_model.proofs.Tests.{all_none, holds, holds_not, definition_closed, may_define}
 use Rattle.rss_model.proofs.Counts.{one_if, the_only, counts_same, counts_put}
 
--- ---- a call that isn't refused
-
-pub all_none : (options : List (Option Refusal)) → first_of options ≡ None → All (λ o. o ≡ None) options
-all_none [] is k d lt = absurd (omega arith)
-all_none (None ∷ rest) is zero d lt = refl
-all_none (None ∷ rest) is (suc k) d lt = all_none rest is k d (omega (arith, lt))
-all_none (Some why ∷ rest) is k d lt = absurd (cc)
-
-pub holds : (b : Bool) (why : Refusal) → refused_unless b why ≡ None → b ≡ true
-holds true why is = refl
-holds false why is = absurd (cc)
-
-pub holds_not : (b : Bool) (why : Refusal) → refused_if b why ≡ None → b ≡ false
-holds_not true why is = absurd (cc)
-holds_not false why is = refl
+-- ---- a tuple
 
 -- the tuple fits the fields of its relation
 fits_of : (fields : Option (List FieldKind)) (values : List Value) → is_some fields ≡ true → misfit_of fields values ≡ None → (of : List FieldKind) × (fields ≡ Some of) × (misfit of values ≡ None)
@@ -267,6 +256,47 @@ keeps_end old t meter is kept =
           omega (arith, same, before, ap (count_by (is_delete_of relation)) none);
     }
 
+-- ---- a definition
+
+-- Where nothing is open nothing is changed.
+pub none_changed : {state : State} → Kept state → state.marks ≡ map.empty → state.changes ≡ []
+none_changed {state = state} kept closed = by state.changes refl
+  where
+    by : (changes : List Change) → state.changes ≡ changes → changes ≡ []
+    by [] is = refl
+    by (change ∷ rest) is =
+        let has = subst (All (λ (c : Change). is_open state c.by ≡ true)) is kept.opened in
+        absurd (true≢false (sym (has 0 change (omega arith)) ∙ ap (λ (marks : FinMap nat_cmp (List ℕ)). is_some (map.get marks change.by)) closed ∙ ap is_some (get-empty nat_cmp change.by)))
+
+-- the committed tables fit
+pub committed_fit : {state : State} → Kept state → Fits state.size.slots state.base
+committed_fit {state = state} kept = kept.fit 0 (own 0 state.changes) [] (sym (append-nil (own 0 state.changes)))
+
+keeps_definition : (old : State) (call : Call) (definitions : Definitions) (meter : Meter) → refusal old call ≡ None → DefinesNames call → defined call old.base.definitions ≡ Some definitions → Kept old → Kept (redefined definitions meter old)
+keeps_definition old call definitions meter is names so kept =
+    let none = none_changed kept (definition_closed old call definitions so is) in
+    record {
+      few = kept.few;
+      opened = kept.opened;
+      kinds = kept.kinds;
+      chained = kept.chained;
+      fit = λ t. on_the_way_none (redefined definitions meter old) t (ap (own t) none) (defined_fits (committed_fit kept) call definitions names (may_define old call is) so);
+      counted = kept.counted;
+    }
+
+-- a definition leaves the machine at rest
+pub definition_rests : (old : State) (call : Call) (definitions : Definitions) (meter : Meter) → refusal old call ≡ None → defined call old.base.definitions ≡ Some definitions → IsCheckpointed old.size.slots (with_definitions definitions old.base) old.meter.over meter → Kept old
+    → IsAtRest old.size (with_definitions definitions old.base) (redefined definitions meter old)
+definition_rests old call definitions meter is so counted kept =
+    let closed = definition_closed old call definitions so is in
+    record {
+      same_size = refl;
+      committed = refl;
+      none_changed = none_changed kept closed;
+      none_open = closed;
+      meter = record { heap = counted.heap ∙ ap (λ (over : ℕ). heap_pages old.size.slots (with_definitions definitions old.base) + over) (sym counted.same_over); since = counted.since; same_over = refl };
+    }
+
 pub steps_keep : StepsKeep
 steps_keep old _ _ _ (refuses _ why is) kept = kept
 steps_keep old _ _ _ (begins t is) kept = keeps_begin old t is kept
@@ -274,7 +304,8 @@ steps_keep old _ _ _ (inserts t relation values tid meter is free counted) kept 
 steps_keep old _ _ _ (fetches t relation tid values is found) kept = kept
 steps_keep old _ _ _ (updates t relation tid was values meter is found counted) kept = keeps_update old t relation tid was values meter is found kept
 steps_keep old _ _ _ (deletes t relation tid was meter is found counted) kept = keeps_delete old t relation tid was meter is found kept
-steps_keep old _ _ _ (ends t meter is after) kept = keeps_end old t meter is kept
+steps_keep old _ _ _ (ends t meter is so) kept = keeps_end old t meter is kept
+steps_keep old _ _ _ (defines call definitions meter is names so counted) kept = keeps_definition old call definitions meter is names so kept
 
 -- ---- at rest
 
@@ -292,10 +323,10 @@ rest_keeps size tables state rest fit =
     }
 
 pub kept_fit : KeptFit
-kept_fit state kept = (kept.fit 0 (own 0 state.changes) [] (sym (append-nil (own 0 state.changes))), now_fit state.changes refl)
+kept_fit state kept = (committed_fit kept, now_fit state.changes refl)
   where
     now_fit : (changes : List Change) → state.changes ≡ changes → Fits state.size.slots (now state)
-    now_fit [] is = subst (λ (l : List Change). Fits state.size.slots (with_changes state.base l)) (sym is) (kept.fit 0 (own 0 state.changes) [] (sym (append-nil (own 0 state.changes))))
+    now_fit [] is = subst (λ (l : List Change). Fits state.size.slots (with_changes state.base l)) (sym is) (committed_fit kept)
     now_fit (c ∷ rest) is = now_fits kept c.by (first_open c rest is)
       where
         first_open : (c : Change) (rest : List Change) → state.changes ≡ c ∷ rest → is_open state c.by ≡ true

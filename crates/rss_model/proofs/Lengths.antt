@@ -1,17 +1,23 @@
 -- The lines of answers are short.
-use Rattle.std.proofs.Common.{◌≡◌, ℕ, ◌+◌, ◌^◌, ◌<◌, ◌≤◌, ℤ, List, [], ◌∷◌, ◌++◌, length, subst, sym, arith, length-append}
-use Rattle.std.specs.Prelude.{Ok, Err, codes, decimal, FitsSigned}
-use Rattle.std.specs.Int.{w64}
-use Rattle.std.specs.Fmt.{signed_decimal}
+use Rattle.std.proofs.Common.{◌≡◌, inl, inr, ℕ, suc, ◌+◌, ◌*◌, ◌-◌, ◌^◌, ◌<◌, ◌≤◌, List, [], ◌∷◌, ◌++◌, length, true, sym, ◌∙◌, ap, arith, length-append}
+use Rattle.std.specs.Prelude.{Some, None, nat_le, All, Ok, Err, codes, decimal, replicate, not, ◌==◌}
+use Rattle.std.specs.List.{prefix_len}
+use Rattle.std.proofs.lemmas.List.{length-take, length-replicate}
 use Rattle.std.proofs.lemmas.Fmt.{length-decimal-le, length_signed_le}
 use Rattle.rss_base.specs.declared.name.Name.{Name}
 use Rattle.rss_base.specs.declared.tid.Tid.{Tid}
-use Rattle.rss_base.specs.declared.value.Value.TheVariants.{Int}
+use Rattle.rss_base.specs.declared.value.Value.{Value}
+use Rattle.rss_base.specs.declared.value.Value.TheVariants.{Int, Text}
+use Rattle.rss_base.specs.declared.value.FieldKind.{FieldKind}
+use Rattle.rss_base.specs.declared.value.FieldKind.TheVariants.{Int as IntField, Text as TextField}
+use Rattle.rss_base.specs.TupleTypes.{fits, misfit, misfit_from, width, most_width, field_width, is_allowed_text, IsStorable}
+use Rattle.std.proofs.lemmas.Bool.{cases_Bool, cond-true, cond-false, leb-true, and_parts}
+use Rattle.std.proofs.lemmas.List.Sums.{sum_by-cons}
 use Rattle.rss_base.specs.declared.answer.Reply.TheVariants.{Tid as Identifier, Tuple as TupleReply}
 use Rattle.rss_base.specs.declared.refusal.Refusal.TheVariants.{BadTuple, NoTuple, Full}
-use Rattle.rss_model.specs.Store.{relation_r}
-use Rattle.rss_model.specs.Spellings.{tid_text}
-use Rattle.rss_model.specs.ReplyText.{answer_line}
+use Rattle.rss_base.specs.Names.{IsName}
+use Rattle.rss_model.specs.Spellings.{quote, doubled, value_text, name_text, tid_text}
+use Rattle.rss_model.specs.ReplyText.{values_text, answer_line}
 
 -- a text of this length, and then the end of its line
 ended : (front text : List ℕ) (n : ℕ) → length text ≤ n → length ((front ++ text) ++ codes "\n") ≤ length front + n + 1
@@ -37,12 +43,53 @@ full_line slots needed few small =
     let second = length-decimal-le 20 needed (omega arith) (omega (arith, small)) (omega (arith, small)) in
     omega (arith, first, second, length-append (decimal slots ++ codes " " ++ decimal needed) (codes "\n"), length-append (decimal slots ++ codes " ") (decimal needed), length-append (decimal slots) (codes " "))
 
-pub no_tuple_line : (relation : Name) (tid : Tid) → relation ≡ relation_r → tid.page < 2 ^ 32 → tid.slot < 2 ^ 32 → length (answer_line (Err (NoTuple relation tid))) ≤ 8192
-no_tuple_line relation tid is page slot =
-    let here : length (answer_line (Err (NoTuple relation_r tid))) ≤ 8192 = omega (arith, ended (codes "refused 9 no tuple r ") (tid_text tid) 21 (tid_short tid page slot)) in
-    subst (λ (name : Name). length (answer_line (Err (NoTuple name tid))) ≤ 8192) (sym is) here
+name_short : (name : Name) → IsName name → length (name_text name) ≤ 16
+name_short name is =
+    let bytes : length name.bytes ≤ 16 = omega (arith, ap length is.bytes, is.few, length-append is.rest (replicate (15 - length is.rest) 0), length-replicate {A = ℕ} (15 - length is.rest) 0) in
+    omega (arith, bytes, length-take (prefix_len (λ (b : ℕ). not (b == 0)) name.bytes) name.bytes)
 
-pub tuple_line : (z : ℤ) → FitsSigned w64 z → length (answer_line (Ok (TupleReply (Int z ∷ [])))) ≤ 8192
-tuple_line z fits =
-    let short = length_signed_le 19 z (omega (arith, fits.sfits)) fits.sfits in
-    omega (arith, ended (codes "ok ") (signed_decimal z ++ []) 20 (omega (arith, short, length-append (signed_decimal z) [])))
+pub no_tuple_line : (relation : Name) (tid : Tid) → IsName relation → tid.page < 2 ^ 32 → tid.slot < 2 ^ 32 → length (answer_line (Err (NoTuple relation tid))) ≤ 8192
+no_tuple_line relation tid is page slot =
+    let name = name_short relation is in
+    omega (arith, name, tid_short tid page slot, length-append (name_text relation ++ codes " " ++ tid_text tid) (codes "\n"), length-append (name_text relation ++ codes " ") (tid_text tid), length-append (name_text relation) (codes " "))
+
+-- ---- the line of a tuple
+
+doubled_short : (bytes : List ℕ) → length (doubled bytes) ≤ 2 * length bytes
+doubled_short [] = omega arith
+doubled_short (b ∷ bytes) = elim (cases_Bool (b == quote)) [
+  | inl is ↦ omega (arith, doubled_short bytes, ap length (cond-true (b == quote) (quote ∷ quote ∷ doubled bytes) (b ∷ doubled bytes) is))
+  | inr off ↦ omega (arith, doubled_short bytes, ap length (cond-false (b == quote) (quote ∷ quote ∷ doubled bytes) (b ∷ doubled bytes) off))
+]
+
+-- a value has at most thrice as many bytes as its field's width, with the space before it
+value_short : (field : FieldKind) (value : Value) → fits field value ≡ true → IsStorable value → 1 + length (value_text value) ≤ 3 * field_width field
+value_short IntField (Int z) is stored = omega (arith, length_signed_le 19 z (omega (arith, stored.sfits)) stored.sfits)
+value_short IntField (Text bytes) is stored = absurd (cc)
+value_short (TextField n) (Int z) is stored = absurd (cc)
+value_short (TextField n) (Text bytes) is stored =
+    let few = leb-true (length bytes) n (and_parts (nat_le (length bytes) n) (is_allowed_text bytes) is).0 in
+    omega (arith, few, doubled_short bytes, length-append (doubled bytes) (quote ∷ []))
+
+-- the first value fits, and so do the others
+pub first_fits : (k : ℕ) (field : FieldKind) (fields : List FieldKind) (value : Value) (values : List Value) → misfit_from k (field ∷ fields) (value ∷ values) ≡ None → (fits field value ≡ true) × (misfit_from (k + 1) fields values ≡ None)
+first_fits k field fields value values is = elim (cases_Bool (fits field value)) [
+  | inl on ↦ (on, sym (cond-true (fits field value) (misfit_from (k + 1) fields values) (Some k) on) ∙ is)
+  | inr off ↦ absurd (some-none (sym (cond-false (fits field value) (misfit_from (k + 1) fields values) (Some k) off) ∙ is))
+]
+  where
+    some-none : Some k ≡ None → ⊥
+    some-none e = cc
+
+values_short : (k : ℕ) (fields : List FieldKind) (values : List Value) → misfit_from k fields values ≡ None → All IsStorable values → length (values_text values) ≤ 3 * width fields
+values_short k [] [] fit stored = omega arith
+values_short k [] (value ∷ values) fit stored = absurd (cc)
+values_short k (field ∷ fields) [] fit stored = absurd (cc)
+values_short k (field ∷ fields) (value ∷ values) fit stored =
+    let parts = first_fits k field fields value values fit in
+    let first = value_short field value parts.0 (stored 0 value (omega arith)) in
+    let rest = values_short (k + 1) fields values parts.1 (λ j d lt. stored (suc j) d (omega (arith, lt))) in
+    omega (arith, first, rest, length-append (value_text value) (values_text values), sum_by-cons field_width field fields)
+
+pub tuple_line : (fields : List FieldKind) (values : List Value) → misfit fields values ≡ None → width fields ≤ most_width → All IsStorable values → length (answer_line (Ok (TupleReply values))) ≤ 8192
+tuple_line fields values fit narrow stored = omega (arith, narrow, values_short 1 fields values fit stored, length-append (values_text values) (codes "\n"))

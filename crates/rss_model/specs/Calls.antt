@@ -5,7 +5,7 @@ use Rattle.rss_base.specs.Faults.{Rises}
 use Rattle.rss_base.specs.Paged.{Mapped, AreAmong, HasEach}
 use Rattle.rss_base.specs.declared.key.PageKey.{PageKey}
 use Rattle.rss_base.specs.declared.call.Call.{Call}
-use Rattle.rss_base.specs.declared.call.Call.TheVariants.{Begin, End, Insert, Fetch, Update, Delete}
+use Rattle.rss_base.specs.declared.call.Call.TheVariants.{Begin, End, Insert, Fetch, Update, Delete, MakeSegment, MakeRelation, DropSegment, DropRelation}
 use Rattle.rss_base.specs.declared.answer.Reply.{Reply}
 use Rattle.rss_base.specs.declared.answer.CallError.{CallError}
 use Rattle.rss_base.specs.declared.answer.CallError.TheVariants.{Refused, Damaged, Device, NoMemory, Down}
@@ -96,6 +96,10 @@ OnlyLooks (Insert transaction relation tuple) = ⊥
 OnlyLooks (Fetch transaction relation tid) = ⊤
 OnlyLooks (Update transaction relation tid tuple) = ⊥
 OnlyLooks (Delete transaction relation tid) = ⊥
+OnlyLooks (MakeSegment name) = ⊥
+OnlyLooks (MakeRelation name segment fields) = ⊥
+OnlyLooks (DropSegment name) = ⊥
+OnlyLooks (DropRelation name) = ⊥
 
 -- By want of memory: a stop leaves the committed tables. The engine stays up where the call only looks, and where it is up nothing has changed.
 pub record IsUnanswered (old new : EngineView) (call : Call) : Type 0 where

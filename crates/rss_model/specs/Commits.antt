@@ -1,27 +1,47 @@
 -- What a run of the machine commits.
-use Rattle.std.specs.Prelude.{◌≡◌, ℕ, List, Ok, All}
+use Rattle.std.specs.Prelude.{◌≡◌, List, Option, Some, None, Ok, All, ⊤}
 use Rattle.rss_base.specs.declared.call.Call.{Call}
-use Rattle.rss_base.specs.declared.call.Call.TheVariants.{End}
+use Rattle.rss_base.specs.declared.call.Call.TheVariants.{Begin, End, Insert, Fetch, Update, Delete, MakeSegment, MakeRelation, DropSegment, DropRelation}
 use Rattle.rss_base.specs.declared.answer.Reply.TheVariants.{Ok as Done}
-use Rattle.rss_model.specs.Tables.{Tables}
+use Rattle.rss_model.specs.Tables.{Definitions, Tables}
 use Rattle.rss_model.specs.Changes.{own}
 use Rattle.rss_model.specs.Machine.{State, with_changes}
+use Rattle.rss_model.specs.Defining.{defined, with_definitions}
 use Rattle.rss_model.specs.Steps.{Answer, Step}
 use Rattle.rss_model.specs.Runs.{Turn, Run}
 
--- The committed tables after a call: where it ended a transaction, with that transaction's own changes, else as they were.
+-- these tables with what a call defines, if it defines anything
+abbrev pub with_defined : Tables → Option Definitions → Tables
+with_defined tables None = tables
+with_defined tables (Some definitions) = with_definitions definitions tables
+
+-- The committed tables after a call: where it ended a transaction, with that transaction's own changes; where it was a definition, with that; else as they were.
 abbrev pub committed : State → Call → Answer → Tables
 committed old (End t) (Ok Done) = with_changes old.base (own t old.changes)
+committed old call (Ok Done) = with_defined old.base (defined call old.base.definitions)
 committed old call answer = old.base
 
--- the turn ended no transaction
-abbrev pub IsNoEnd : Turn → Type 0
-IsNoEnd turn = (t : ℕ) → turn.call ≡ End t → turn.answer ≡ Ok Done → ⊥
+-- the calls that commit, where they are answered
+abbrev pub MayCommit : Call → Type 0
+MayCommit (Begin t) = ⊥
+MayCommit (End t) = ⊤
+MayCommit (Insert t relation values) = ⊥
+MayCommit (Fetch t relation tid) = ⊥
+MayCommit (Update t relation tid values) = ⊥
+MayCommit (Delete t relation tid) = ⊥
+MayCommit (MakeSegment name) = ⊤
+MayCommit (MakeRelation name segment fields) = ⊤
+MayCommit (DropSegment name) = ⊤
+MayCommit (DropRelation name) = ⊤
+
+-- the turn committed nothing
+abbrev pub CommitsNothing : Turn → Type 0
+CommitsNothing turn = MayCommit turn.call → turn.answer ≡ Ok Done → ⊥
 
 -- a step commits what is said above, and nothing else
-abbrev pub OnlyEndsCommit : Type 0
-OnlyEndsCommit = (old new : State) (call : Call) (answer : Answer) → Step old call answer new → new.base ≡ committed old call answer
+abbrev pub CommitsOnly : Type 0
+CommitsOnly = (old new : State) (call : Call) (answer : Answer) → Step old call answer new → new.base ≡ committed old call answer
 
--- turns that end no transaction leave the committed tables, whatever they changed
+-- turns that commit nothing leave the committed tables, whatever they changed
 abbrev pub OpenLeavesNoTrace : Type 0
-OpenLeavesNoTrace = (start last : State) (turns : List Turn) → Run start turns last → All IsNoEnd turns → last.base ≡ start.base
+OpenLeavesNoTrace = (start last : State) (turns : List Turn) → Run start turns last → All CommitsNothing turns → last.base ≡ start.base

@@ -2,11 +2,12 @@
 use Rattle.std.specs.Prelude.{◌≡◌, ◌⊎◌, ℕ, suc, zero, ◌+◌, ◌≤◌, Option, Some, None, Ok, IfSome}
 use Rattle.rss_base.specs.declared.tid.Tid.{Tid}
 use Rattle.rss_base.specs.declared.key.PageKey.{PageKey}
-use Rattle.rss_base.specs.declared.key.Space.TheVariants.{Home, Overflow}
+use Rattle.rss_base.specs.declared.key.Space.TheVariants.{Home, Overflow, System}
 use Rattle.rss_base.specs.declared.call.Call.{Call}
-use Rattle.rss_base.specs.declared.call.Call.TheVariants.{Begin, End, Insert, Fetch, Update, Delete}
+use Rattle.rss_base.specs.declared.call.Call.TheVariants.{Begin, End, Insert, Fetch, Update, Delete, MakeSegment, MakeRelation, DropSegment, DropRelation}
 use Rattle.rss_base.specs.declared.answer.Reply.TheVariants.{Ok as Done, Tid as Identifier}
 use Rattle.rss_base.specs.Layout.{map_pages}
+use Rattle.rss_base.specs.Listings.{relation_pages}
 use Rattle.rss_model.specs.Steps.{Answer}
 
 -- a count has risen by no more than this, where a bound is claimed
@@ -21,11 +22,19 @@ most_asks (Insert transaction relation tuple) = None
 most_asks (Fetch transaction relation tid) = Some 2
 most_asks (Update transaction relation tid tuple) = None
 most_asks (Delete transaction relation tid) = None
+most_asks (MakeSegment name) = Some 0
+most_asks (MakeRelation name segment fields) = Some 0
+most_asks (DropSegment name) = Some 0
+most_asks (DropRelation name) = Some 0
 
--- A commit writes the pages that were changed, the map, a root and the selector. Where no change was made since the last one it writes nothing.
+-- A commit writes the pages that were changed, the map, a root and the selector. The pages of the catalog that have counts are brought up to date first, and each may drive out of memory another page that was changed. Where no change was made since the last commit it writes nothing.
 abbrev pub commit_writes : ℕ → ℕ → ℕ → ℕ
 commit_writes slots pages zero = 0
-commit_writes slots pages (suc more) = pages + map_pages slots + 2
+commit_writes slots pages (suc more) = pages + relation_pages + map_pages slots + 2
+
+-- a definition is a commit of one page of the catalog, which may drive out another
+abbrev pub definition_writes : ℕ → ℕ
+definition_writes slots = 2 + map_pages slots + 2
 
 -- How many writes of the device a call makes at most, where so many pages and so many changes wait for a commit. A page that is brought into memory may drive out another that was changed.
 abbrev pub most_writes : ℕ → ℕ → ℕ → Call → Option ℕ
@@ -35,6 +44,10 @@ most_writes slots pages since (Insert transaction relation tuple) = None
 most_writes slots pages since (Fetch transaction relation tid) = Some 2
 most_writes slots pages since (Update transaction relation tid tuple) = None
 most_writes slots pages since (Delete transaction relation tid) = None
+most_writes slots pages since (MakeSegment name) = Some (definition_writes slots)
+most_writes slots pages since (MakeRelation name segment fields) = Some (definition_writes slots)
+most_writes slots pages since (DropSegment name) = Some (definition_writes slots)
+most_writes slots pages since (DropRelation name) = Some (definition_writes slots)
 
 -- ---- what waits for a commit
 
@@ -42,16 +55,24 @@ most_writes slots pages since (Delete transaction relation tid) = None
 abbrev pub IsPageFor : Tid → PageKey → Type 0
 IsPageFor tid key = ((key.space ≡ Home) × (key.number ≡ tid.page)) ⊎ (key.space ≡ Overflow)
 
+-- and a page of the catalog, for the count of a relation's tuples
+abbrev pub IsCountedPage : Tid → PageKey → Type 0
+IsCountedPage tid key = IsPageFor tid key ⊎ (key.space ≡ System)
+
 -- the pages that a call may change, by its answer
 abbrev pub ChangesPage : Call → Answer → PageKey → Type 0
-ChangesPage (Insert transaction relation tuple) (Ok (Identifier tid)) key = IsPageFor tid key
+ChangesPage (Insert transaction relation tuple) (Ok (Identifier tid)) key = IsCountedPage tid key
 ChangesPage (Update transaction relation tid tuple) (Ok Done) key = IsPageFor tid key
-ChangesPage (Delete transaction relation tid) (Ok Done) key = IsPageFor tid key
+ChangesPage (Delete transaction relation tid) (Ok Done) key = IsCountedPage tid key
 ChangesPage call answer key = ⊥
 
--- once a transaction has ended, no page that was changed before waits
+-- once a transaction has ended or a definition was made, no page that was changed before waits
 abbrev pub LeavesChanged : Call → Answer → Type 0
 LeavesChanged (End transaction) (Ok Done) = ⊥
+LeavesChanged (MakeSegment name) (Ok Done) = ⊥
+LeavesChanged (MakeRelation name segment fields) (Ok Done) = ⊥
+LeavesChanged (DropSegment name) (Ok Done) = ⊥
+LeavesChanged (DropRelation name) (Ok Done) = ⊥
 LeavesChanged call answer = Unit {0}
 
 -- how many changes wait for a commit after a call, by its answer
@@ -60,4 +81,8 @@ changes_after (Insert transaction relation tuple) (Ok (Identifier tid)) since = 
 changes_after (Update transaction relation tid tuple) (Ok Done) since = since + 1
 changes_after (Delete transaction relation tid) (Ok Done) since = since + 1
 changes_after (End transaction) (Ok Done) since = 0
+changes_after (MakeSegment name) (Ok Done) since = 0
+changes_after (MakeRelation name segment fields) (Ok Done) since = 0
+changes_after (DropSegment name) (Ok Done) since = 0
+changes_after (DropRelation name) (Ok Done) since = 0
 changes_after call answer since = since

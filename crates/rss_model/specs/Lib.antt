@@ -6,12 +6,15 @@ pub use Rattle.rss_base.specs.PageMap
 pub use Rattle.rss_base.specs.Paged
 pub use Rattle.rss_base.specs.StoredPages
 pub use Rattle.rss_base.specs.TupleTypes
+pub use Rattle.rss_base.specs.Names
+pub use Rattle.rss_base.specs.Listings
 pub mod Items
 pub mod Tables
 pub mod Fits
 pub mod Changes
 pub mod Meter
 pub mod Machine
+pub mod Defining
 pub mod Steps
 pub mod Kept
 pub mod Runs

@@ -2,15 +2,16 @@
 use Rattle.std.specs.Prelude.{◌≡◌, ◌≢◌, ℕ, ◌^◌, ◌<◌, ◌≤◌, List, [], ◌∷◌, ◌++◌, length, All, true, codes, decimal, FitsSigned, ⊤}
 use Rattle.std.specs.Int.{w64}
 use Rattle.rss_base.specs.Sizes.{page_entries, slots_most}
-use Rattle.rss_base.specs.TupleTypes.{is_allowed_text}
+use Rattle.rss_base.specs.TupleTypes.{most_fields, is_allowed_text, is_kind}
 use Rattle.rss_base.specs.declared.name.Name.{Name}
 use Rattle.rss_base.specs.declared.tid.Tid.{Tid}
 use Rattle.rss_base.specs.declared.value.Value.{Value}
 use Rattle.rss_base.specs.declared.value.Value.TheVariants.{Int, Text}
+use Rattle.rss_base.specs.declared.field.FieldDef.{FieldDef}
 use Rattle.rss_base.specs.declared.call.Call.{Call}
-use Rattle.rss_base.specs.declared.call.Call.TheVariants.{Begin, End, Insert, Fetch, Update, Delete}
-use Rattle.rss_model.specs.Fits.{IsName}
-use Rattle.rss_model.specs.Spellings.{space, name_text, tid_text, value_text}
+use Rattle.rss_base.specs.declared.call.Call.TheVariants.{Begin, End, Insert, Fetch, Update, Delete, MakeSegment, MakeRelation, DropSegment, DropRelation}
+use Rattle.rss_base.specs.Names.{IsName}
+use Rattle.rss_model.specs.Spellings.{space, name_text, tid_text, value_text, field_text}
 
 -- ---- lines
 
@@ -79,10 +80,10 @@ pub record IsTransaction (word : List ℕ) (t : ℕ) : Type 0 where
   pub some : 1 ≤ t
   pub below : t < number_limit
 
--- the name of a relation
-pub record IsRelation (word : List ℕ) (relation : Name) : Type 0 where
-  pub spelled : word ≡ name_text relation
-  pub name : IsName relation
+-- the name of what is defined
+pub record IsNameWord (word : List ℕ) (name : Name) : Type 0 where
+  pub spelled : word ≡ name_text name
+  pub is_name : IsName name
 
 -- an identifier: two numbers without leading zeros
 pub record IsTid (word : List ℕ) (tid : Tid) : Type 0 where
@@ -99,12 +100,27 @@ pub record IsValue (word : List ℕ) (value : Value) : Type 0 where
   pub spelled : word ≡ value_text value
   pub proper : IsProper value
 
--- each word is the value at its place
+-- a field of a relation: its name and its kind
+pub record IsField (word : List ℕ) (field : FieldDef) : Type 0 where
+  pub spelled : word ≡ field_text field
+  pub is_name : IsName field.name
+  pub kind : is_kind field.kind ≡ true
+
+-- each word stands for the item at its place
+abbrev pub StandFor : {A : Type 0} → (List ℕ → A → Type 0) → List (List ℕ) → List A → Type 0
+StandFor Is [] [] = ⊤
+StandFor Is [] (item ∷ items) = ⊥
+StandFor Is (word ∷ words) [] = ⊥
+StandFor Is (word ∷ words) (item ∷ items) = Is word item × StandFor Is words items
+
 abbrev pub AreValues : List (List ℕ) → List Value → Type 0
-AreValues [] [] = ⊤
-AreValues [] (value ∷ values) = ⊥
-AreValues (word ∷ words) [] = ⊥
-AreValues (word ∷ words) (value ∷ values) = IsValue word value × AreValues words values
+AreValues words values = StandFor IsValue words values
+
+-- the fields of a relation, of which there is one, and no more than a relation may have
+pub record AreFieldWords (words : List (List ℕ)) (fields : List FieldDef) : Type 0 where
+  pub each : StandFor IsField words fields
+  pub some : 1 ≤ length fields
+  pub few : length fields ≤ most_fields
 
 -- ---- calls
 
@@ -116,19 +132,29 @@ pub data Names : List (List ℕ) → Call → Type 0 where
       → Names (codes "end" ∷ word ∷ []) (End t)
   insert : {first second : List ℕ} {words : List (List ℕ)}
       {t : ℕ} {relation : Name} {values : List Value}
-      → IsTransaction first t → IsRelation second relation → AreValues words values
+      → IsTransaction first t → IsNameWord second relation → AreValues words values
       → Names (codes "insert" ∷ first ∷ second ∷ words) (Insert t relation values)
   fetch : {first second third : List ℕ} {t : ℕ} {relation : Name} {tid : Tid}
-      → IsTransaction first t → IsRelation second relation → IsTid third tid
+      → IsTransaction first t → IsNameWord second relation → IsTid third tid
       → Names (codes "fetch" ∷ first ∷ second ∷ third ∷ []) (Fetch t relation tid)
   update : {first second third : List ℕ} {words : List (List ℕ)}
       {t : ℕ} {relation : Name} {tid : Tid} {values : List Value}
-      → IsTransaction first t → IsRelation second relation → IsTid third tid
+      → IsTransaction first t → IsNameWord second relation → IsTid third tid
       → AreValues words values
       → Names (codes "update" ∷ first ∷ second ∷ third ∷ words) (Update t relation tid values)
   delete : {first second third : List ℕ} {t : ℕ} {relation : Name} {tid : Tid}
-      → IsTransaction first t → IsRelation second relation → IsTid third tid
+      → IsTransaction first t → IsNameWord second relation → IsTid third tid
       → Names (codes "delete" ∷ first ∷ second ∷ third ∷ []) (Delete t relation tid)
+  segment : {word : List ℕ} {name : Name} → IsNameWord word name
+      → Names (codes "segment" ∷ word ∷ []) (MakeSegment name)
+  relation : {first second : List ℕ} {words : List (List ℕ)}
+      {name in_segment : Name} {fields : List FieldDef}
+      → IsNameWord first name → IsNameWord second in_segment → AreFieldWords words fields
+      → Names (codes "relation" ∷ first ∷ second ∷ words) (MakeRelation name in_segment fields)
+  drop_segment : {word : List ℕ} {name : Name} → IsNameWord word name
+      → Names (codes "drop" ∷ codes "segment" ∷ word ∷ []) (DropSegment name)
+  drop_relation : {word : List ℕ} {name : Name} → IsNameWord word name
+      → Names (codes "drop" ∷ codes "relation" ∷ word ∷ []) (DropRelation name)
 
 -- ---- what a line is
 

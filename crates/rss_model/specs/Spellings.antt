@@ -5,6 +5,9 @@ use Rattle.rss_base.specs.declared.name.Name.{Name}
 use Rattle.rss_base.specs.declared.tid.Tid.{Tid}
 use Rattle.rss_base.specs.declared.value.Value.{Value}
 use Rattle.rss_base.specs.declared.value.Value.TheVariants.{Int, Text}
+use Rattle.rss_base.specs.declared.value.FieldKind.{FieldKind}
+use Rattle.rss_base.specs.declared.value.FieldKind.TheVariants.{Int as IntField, Text as TextField}
+use Rattle.rss_base.specs.declared.field.FieldDef.{FieldDef}
 
 abbrev pub space : ℕ
 space = 32
@@ -28,3 +31,11 @@ doubled (b ∷ bytes) = if b == quote then quote ∷ quote ∷ doubled bytes els
 abbrev pub value_text : Value → List ℕ
 value_text (Int z) = signed_decimal z
 value_text (Text bytes) = quote ∷ (doubled bytes ++ quote ∷ [])
+
+-- the kind of a field: a number, or a text of at most so many bytes
+abbrev pub field_kind_text : FieldKind → List ℕ
+field_kind_text IntField = codes "int"
+field_kind_text (TextField n) = codes "text" ++ decimal n
+
+abbrev pub field_text : FieldDef → List ℕ
+field_text field = name_text field.name ++ codes ":" ++ field_kind_text field.kind

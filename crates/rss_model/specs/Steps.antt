@@ -1,26 +1,30 @@
 -- A step of the relation machine: which reply a call may get, and the state that follows.
-use Rattle.std.specs.Prelude.{◌≡◌, ℕ, ◌+◌, Bool, if◌then◌else◌, nat_le, nat_lt, List, [], ◌∷◌, Option, Some, None, is_some, option_map, Result, Ok, Err, All, count_by}
+use Rattle.std.specs.Prelude.{◌≡◌, ℕ, ◌+◌, ◌==◌, ◌&&◌, Bool, false, not, nat_le, nat_lt, List, [], ◌∷◌, Option, Some, None, is_some, is_none, option_map, unwrap_or, Result, Ok, Err, All, count_by}
+use Rattle.std.specs.List.{list_any, list_all, range_with_len}
 use Rattle.std.specs.FinMap as map
 use Rattle.rss_base.specs.declared.name.Name.{Name}
 use Rattle.rss_base.specs.declared.tid.Tid.{Tid}
 use Rattle.rss_base.specs.declared.value.Value.{Value}
 use Rattle.rss_base.specs.declared.value.FieldKind.{FieldKind}
-use Rattle.rss_base.specs.declared.item.Item.TheVariants.{Tuple as TupleItem}
+use Rattle.rss_base.specs.declared.item.Item.{Item}
+use Rattle.rss_base.specs.declared.item.Item.TheVariants.{Segment as SegmentItem, Relation as RelationItem, Tuple as TupleItem, Chain as ChainItem, Key as KeyItem}
 use Rattle.rss_base.specs.declared.call.Call.{Call}
-use Rattle.rss_base.specs.declared.call.Call.TheVariants.{Begin, End, Insert, Fetch, Update, Delete}
+use Rattle.rss_base.specs.declared.call.Call.TheVariants.{Begin, End, Insert, Fetch, Update, Delete, MakeSegment, MakeRelation, DropSegment, DropRelation}
 use Rattle.rss_base.specs.declared.answer.Reply.{Reply}
 use Rattle.rss_base.specs.declared.answer.Reply.TheVariants.{Ok as Done, Tid as Identifier, Tuple as TupleReply}
 use Rattle.rss_base.specs.declared.refusal.Kind.TheVariants.{Relation as RelationKind}
 use Rattle.rss_base.specs.declared.refusal.Refusal.{Refusal}
-use Rattle.rss_base.specs.declared.refusal.LimitKind.TheVariants.{Tuples as TupleLimit}
+use Rattle.rss_base.specs.declared.refusal.LimitKind.TheVariants.{Tuples as TupleLimit, Identifiers as IdentifierLimit}
 use Rattle.rss_base.specs.declared.refusal.Refusal.TheVariants.{NoTransaction, AlreadyOpen, TooMany, NoSuch, Limit, BadTuple, NoTuple, Full}
+use Rattle.rss_base.specs.Sizes.{page_entries}
 use Rattle.rss_base.specs.TupleTypes.{misfit}
 use Rattle.rss_model.specs.Items.{Values}
-use Rattle.rss_model.specs.Tables.{content, fields_of, segment_of, tuple_count}
+use Rattle.rss_model.specs.Tables.{Definitions, content, fields_of, segment_of, tuple_count}
 use Rattle.rss_model.specs.Fits.{tuple_limit, IsIdentifier}
 use Rattle.rss_model.specs.Changes.{Change, is_delete_of, own, others}
-use Rattle.rss_model.specs.Meter.{Meter, IsCheckpointed, IsCounted, needed_slots}
+use Rattle.rss_model.specs.Meter.{Meter, IsCheckpointed, IsCounted, needed_slots, relations_in}
 use Rattle.rss_model.specs.Machine.{State, with_changes, now}
+use Rattle.rss_model.specs.Defining.{refused_unless, refused_if, definition_tests, defined, with_definitions, DefinesNames}
 
 -- A call is answered by a reply or refused.
 abbrev pub Answer : Type 0
@@ -29,13 +33,6 @@ Answer = Result Reply Refusal
 -- at most so many transactions are open
 abbrev pub transaction_limit : ℕ
 transaction_limit = 1
-
--- The tests of a call, each with its refusal where it fails.
-abbrev pub refused_unless : Bool → Refusal → Option Refusal
-refused_unless holds why = if holds then None else Some why
-
-abbrev pub refused_if : Bool → Refusal → Option Refusal
-refused_if holds why = if holds then Some why else None
 
 abbrev pub is_open : State → ℕ → Bool
 is_open state transaction = is_some (map.get state.marks transaction)
@@ -78,6 +75,35 @@ abbrev pub if_used_up : State → Name → Option Refusal
 if_used_up state relation =
     refused_if (nat_le tuple_limit (used_tuples state relation)) (Limit TupleLimit)
 
+-- the item is the tuple with this identifier, in some relation
+abbrev pub is_tuple_at : Tid → Item → Bool
+is_tuple_at tid (SegmentItem name) = false
+is_tuple_at tid (RelationItem name) = false
+is_tuple_at tid (TupleItem relation other) = (other.page == tid.page) && (other.slot == tid.slot)
+is_tuple_at tid (ChainItem link parent) = false
+is_tuple_at tid (KeyItem image values) = false
+
+-- the relations of a relation's segment
+abbrev pub relations_beside : State → Name → List Name
+relations_beside state relation =
+    unwrap_or (option_map (relations_in state.base) (segment_of state.base relation)) []
+
+-- a new tuple of a transaction may have this identifier, as far as what is there goes
+abbrev pub is_free : State → ℕ → Name → Tid → Bool
+is_free state t relation tid =
+    list_all (λ other. is_none (content (now state).contents (TupleItem other tid)))
+    (relations_beside state relation)
+    && list_all (λ change. not (is_tuple_at tid change.item && not (change.by == t))) state.changes
+
+-- it may have some identifier
+unfoldable pub some_free : State → ℕ → Name → Bool
+some_free state t relation =
+    list_any (λ page. list_any (λ slot. is_free state t relation (record { page = page; slot = slot }))
+    (range_with_len 0 page_entries)) (range_with_len 0 state.size.slots)
+
+abbrev pub unless_free : State → ℕ → Name → Option Refusal
+unless_free state t relation = refused_unless (some_free state t relation) (Limit IdentifierLimit)
+
 abbrev pub if_full : State → Option Refusal
 if_full state =
     refused_if (nat_lt state.size.slots (needed_slots state.meter))
@@ -99,6 +125,7 @@ tests state (Insert t relation values) =
     ∷ unless_defined state relation
     ∷ misfit_of (fields_of state.base relation) values
     ∷ if_used_up state relation
+    ∷ unless_free state t relation
     ∷ if_full state
     ∷ []
 tests state (Fetch t relation tid) =
@@ -119,6 +146,10 @@ tests state (Delete t relation tid) =
     ∷ unless_live state relation tid
     ∷ if_full state
     ∷ []
+tests state (MakeSegment name) = definition_tests state (MakeSegment name)
+tests state (MakeRelation name segment fields) = definition_tests state (MakeRelation name segment fields)
+tests state (DropSegment name) = definition_tests state (DropSegment name)
+tests state (DropRelation name) = definition_tests state (DropRelation name)
 
 abbrev pub refusal : State → Call → Option Refusal
 refusal state call = first_of (tests state call)
@@ -183,7 +214,12 @@ ended t meter state = record state {
   meter = meter;
 }
 
--- The machine leaves open which meter follows, but for what it must be.
+-- these are the committed definitions
+abbrev pub redefined : Definitions → Meter → State → State
+redefined definitions meter state =
+    record state { base = with_definitions definitions state.base; meter = meter }
+
+-- The machine leaves open which meter follows, but for what it must be. A definition is a commit of its own.
 pub data Step (old : State) : Call → Answer → State → Type 0 where
   refuses : (call : Call) (why : Refusal) → refusal old call ≡ Some why → Step old call (Err why) old
   begins : (t : ℕ) → refusal old (Begin t) ≡ None → Step old (Begin t) (Ok Done) (begun t old)
@@ -207,3 +243,8 @@ pub data Step (old : State) : Call → Answer → State → Type 0 where
       (changed (deletion t relation tid was) meter old)
   ends : (t : ℕ) (meter : Meter) → refusal old (End t) ≡ None → IsMeterAfter (own t old.changes) old meter
       → Step old (End t) (Ok Done) (ended t meter old)
+  defines : (call : Call) (definitions : Definitions) (meter : Meter)
+      → refusal old call ≡ None → DefinesNames call
+      → defined call old.base.definitions ≡ Some definitions
+      → IsCheckpointed old.size.slots (with_definitions definitions old.base) old.meter.over meter
+      → Step old call (Ok Done) (redefined definitions meter old)

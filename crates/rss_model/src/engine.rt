@@ -2,6 +2,7 @@
 ghost use Rattle.std.specs.Prelude.{◌≡◌, IsErrOf};
 ghost use Rattle.rss_base.specs.DiskRule.{IsTold};
 ghost use Rattle.rss_model.specs.Calls.{EngineView, IsCallOf, ShowsState, OpensShown};
+ghost use Rattle.rss_model.specs.Defining.{DefinesNames};
 
 use rss_base::{Call, CallError, Reply};
 
@@ -12,8 +13,10 @@ pub trait Engine {
     ghost view: { Self → EngineView };
 
     /// Makes a call. Over a device that tells its contents it is a step of the machine, and each
-    /// image at a moment of it opens to the committed tables before or after.
+    /// image at a moment of it opens to the committed tables before or after. The names that it
+    /// is to define have the form of names, as those of a script's lines do.
     fn call(&mut self, call: &Call) -> Result<Reply, CallError>
+        requires { DefinesNames call.now }
         ensures done { IsCallOf (view self.old) (view self.new) call.now result }
         ensures untouched { IsErrOf result CallError.Down → self.new ≡ self.old };
 

@@ -1,12 +1,13 @@
 // The laws of the machine.
 ghost use Rattle.rss_model.specs.Changes.{UndoTurnsBack};
-ghost use Rattle.rss_model.specs.Commits.{OnlyEndsCommit, OpenLeavesNoTrace};
+ghost use Rattle.rss_model.specs.Commits.{CommitsOnly, OpenLeavesNoTrace};
 ghost use Rattle.rss_model.specs.Kept.{StepsKeep, RestKeeps, KeptFit, StoresFit};
 
-/// Only the end of a transaction changes the committed tables, and it brings in that transaction's
-/// own changes and no others. So a transaction that never ends leaves no trace.
-pub fn only_ends_commit()
-    ensures ends { OnlyEndsCommit }
+/// Only the end of a transaction and a call that defines change the committed tables. The end
+/// brings in that transaction's own changes and no others, so a transaction that never ends leaves
+/// no trace.
+pub fn what_commits()
+    ensures commits { CommitsOnly }
     ensures no_trace { OpenLeavesNoTrace }
 {}
 

@@ -6,4 +6,4 @@ mod engine;
 mod laws;
 
 pub use engine::Engine;
-pub use laws::{only_ends_commit, tables_fit, undo_turns_back};
+pub use laws::{tables_fit, undo_turns_back, what_commits};

@@ -1,0 +1,237 @@
+-- The pages of the system space spell one listing.
+use Rattle.std.proofs.Common.{◌≡◌, ℕ, zero, suc, ◌+◌, ◌-◌, ◌*◌, ◌^◌, ◌<◌, ◌≤◌, List, [], ◌∷◌, ◌++◌, length, take, drop, replicate, refl, sym, ◌∙◌, ap, arith, length-append, append_assoc, append-nil, suc-mul, subst}
+use Rattle.std.specs.Prelude.{Option, Some, None, All, flat_map, nat_le, ◌&&◌, ◌==◌, min}
+use Rattle.std.specs.List.{list_all}
+use Rattle.std.specs.Int.{w32, to_be_bytes, from_be_bytes}
+use Rattle.std.proofs.lemmas.Bool.{and_parts, leb-true, cond-false, ne_eqb}
+use Rattle.std.proofs.lemmas.List.{get_or-map, length-replicate, length-take, length-drop, length-map, take-append-drop, drop-drop, get_or_default}
+use Rattle.std.proofs.lemmas.List.Elements.{All-take, All-drop}
+use Rattle.std.proofs.lemmas.Nat.{from_be_bytes-to_be_bytes_4}
+use Rattle.std.proofs.lemmas.Option.{same_Some}
+use Rattle.rss_base.specs.Sizes.{page_bytes, system_pages}
+use Rattle.rss_base.specs.Paged.{Held}
+use Rattle.rss_base.specs.Names.{IsName}
+use Rattle.rss_base.specs.TupleTypes.{kinds, most_fields, is_kind, AreFields}
+use Rattle.rss_base.specs.Listings.{Listing, ListingFits, HoldsListing, catalog_page, padded, segment_spelled, kind_spelled, field_spelled, relation_spelled, relations_on, relation_bytes}
+use Rattle.rss_base.specs.declared.name.Name.{Name}
+use Rattle.rss_base.specs.declared.field.FieldDef.{FieldDef}
+use Rattle.rss_base.specs.declared.value.FieldKind.{FieldKind}
+use Rattle.rss_base.specs.declared.value.FieldKind.TheVariants.{Int as IntField, Text as TextField}
+use Rattle.rss_base.specs.declared.relation.RelationEntry.{RelationEntry}
+use Rattle.rss_model.proofs.Listed.{at_place}
+use Rattle.rss_model.proofs.Spelled.{front_parts}
+
+-- ---- lists whose items are spelled by as many bytes each
+
+module _ {A : Type 0} (spell : A → List ℕ) (width : ℕ) (Fit : A → Type 0) (wide : (a : A) → Fit a → length (spell a) ≡ width) (same : (a b : A) → Fit a → Fit b → spell a ≡ spell b → a ≡ b) where
+  pub spelled_length : (list : List A) → All Fit list → length (flat_map spell list) ≡ length list * width
+  spelled_length [] fit = omega arith
+  spelled_length (a ∷ list) fit =
+      let rest = spelled_length list (λ k d lt. fit (suc k) d (omega (arith, lt))) in
+      let first = wide a (fit 0 a (omega arith)) in
+      let more : length (a ∷ list) * width ≡ length list * width + width = suc-mul (length list) width in
+      omega (arith, rest, first, more, length-append (spell a) (flat_map spell list))
+
+  pub spelled_same : (x y : List A) (u v : List ℕ) → length x ≡ length y → All Fit x → All Fit y → flat_map spell x ++ u ≡ flat_map spell y ++ v → x ≡ y
+  spelled_same [] [] u v long fit fits whole = refl
+  spelled_same [] (b ∷ y) u v long fit fits whole = absurd (omega (arith, long))
+  spelled_same (a ∷ x) [] u v long fit fits whole = absurd (omega (arith, long))
+  spelled_same (a ∷ x) (b ∷ y) u v long fit fits whole =
+      let mine = fit 0 a (omega arith) in
+      let theirs = fits 0 b (omega arith) in
+      let parts = front_parts (spell a) (spell b) (flat_map spell x ++ u) (flat_map spell y ++ v) (wide a mine ∙ sym (wide b theirs))
+      (sym (append_assoc (spell a) (flat_map spell x) u) ∙ whole ∙ append_assoc (spell b) (flat_map spell y) v) in
+      let first : a ≡ b = same a b mine theirs parts.0 in
+      let rest = spelled_same x y u v (omega (arith, long)) (λ k d lt. fit (suc k) d (omega (arith, lt))) (λ k d lt. fits (suc k) d (omega (arith, lt))) parts.1 in
+      λ i. first i ∷ rest i
+
+-- ---- names
+
+name_length : (name : Name) → IsName name → length name.bytes ≡ 16
+name_length name is = omega (arith, ap length is.bytes, is.few, length-append is.rest (replicate (15 - length is.rest) 0), length-replicate {A = ℕ} (15 - length is.rest) 0)
+
+same_name : (a b : Name) → a.bytes ≡ b.bytes → a ≡ b
+same_name a b same = λ i. record { bytes = same i }
+
+-- zeros begin with no letter
+no_letter : (n first : ℕ) (rest : List ℕ) → 97 ≤ first → first ∷ rest ≡ replicate n 0 → ⊥
+no_letter zero first rest letter same = absurd (cc)
+no_letter (suc n) first rest letter same = let none : first ≡ 0 = cc in omega (arith, none, letter)
+
+name_not_zeros : (name : Name) (n : ℕ) (rest : List ℕ) → IsName name → name.bytes ++ rest ≡ replicate n 0 → ⊥
+name_not_zeros name n rest is same = no_letter n is.first _ is.letter.0 (ap (λ (bytes : List ℕ). bytes ++ rest) (sym is.bytes) ∙ same)
+
+-- ---- segments
+
+abbrev pub IsSegment : Option Name → Type 0
+IsSegment segment = (name : Name) → segment ≡ Some name → IsName name
+
+segment_length : (segment : Option Name) → IsSegment segment → length (segment_spelled segment) ≡ 16
+segment_length None is = refl
+segment_length (Some name) is = name_length name (is name refl)
+
+segment_same : (a b : Option Name) → IsSegment a → IsSegment b → segment_spelled a ≡ segment_spelled b → a ≡ b
+segment_same None None is other same = refl
+segment_same None (Some name) is other same = absurd (name_not_zeros name 16 [] (other name refl) (append-nil name.bytes ∙ sym same))
+segment_same (Some name) None is other same = absurd (name_not_zeros name 16 [] (is name refl) (append-nil name.bytes ∙ same))
+segment_same (Some a) (Some b) is other same = ap Some (same_name a b same)
+
+-- ---- fields
+
+kind_same : (a b : FieldKind) → kind_spelled a ≡ kind_spelled b → a ≡ b
+kind_same IntField IntField same = refl
+kind_same IntField (TextField m) same = absurd (cc)
+kind_same (TextField n) IntField same = absurd (cc)
+kind_same (TextField n) (TextField m) same = let one : n ≡ m = cc in ap TextField one
+
+abbrev pub IsNamed : FieldDef → Type 0
+IsNamed field = IsName field.name
+
+kind_length : (kind : FieldKind) → length (kind_spelled kind) ≡ 2
+kind_length IntField = refl
+kind_length (TextField n) = refl
+
+field_length : (field : FieldDef) → IsNamed field → length (field_spelled field) ≡ 18
+field_length field is = omega (arith, length-append field.name.bytes (kind_spelled field.kind), name_length field.name is, kind_length field.kind)
+
+field_same : (a b : FieldDef) → IsNamed a → IsNamed b → field_spelled a ≡ field_spelled b → a ≡ b
+field_same a b is other same =
+    let parts = front_parts a.name.bytes b.name.bytes (kind_spelled a.kind) (kind_spelled b.kind) (name_length a.name is ∙ sym (name_length b.name other)) same in
+    let name = same_name a.name b.name parts.0 in
+    let kind = kind_same a.kind b.kind parts.1 in
+    λ i. record { name = name i; kind = kind i }
+
+fields_named : (fields : List FieldDef) → AreFields fields → All IsNamed fields
+fields_named fields fit k d lt = subst IsName (get_or-map (λ (f : FieldDef). f.name) fields k d d.name lt) (fit.names k d.name (omega (arith, lt, length-map fields (λ (f : FieldDef). f.name))))
+
+fields_few : (fields : List FieldDef) → AreFields fields → length fields ≤ 16
+fields_few fields fit =
+    let some = and_parts (nat_le 1 (length (kinds fields)) && nat_le (length (kinds fields)) most_fields) (list_all is_kind (kinds fields)) fit.formed in
+    let few = leb-true (length (kinds fields)) most_fields (and_parts (nat_le 1 (length (kinds fields))) (nat_le (length (kinds fields)) most_fields) some.0).1 in
+    omega (arith, few, length-map fields (λ (f : FieldDef). f.kind))
+
+-- ---- relations
+
+-- what a listing asks of a relation, as far as its own bytes go
+pub record IsEntry (relation : RelationEntry) : Type 0 where
+  pub name : IsName relation.name
+  pub fields : AreFields relation.fields
+  pub live : relation.live < 2 ^ 32
+
+abbrev head_of : RelationEntry → List ℕ
+head_of relation = relation.segment ∷ length relation.fields ∷ 0 ∷ 0 ∷ []
+
+-- the bytes of a relation before the zeros
+abbrev body_of : RelationEntry → List ℕ
+body_of relation = relation.name.bytes ++ head_of relation ++ to_be_bytes w32 relation.live ++ replicate 8 0 ++ flat_map field_spelled relation.fields
+
+abbrev zeros_of : RelationEntry → List ℕ
+zeros_of relation = replicate (512 - length (body_of relation)) 0
+
+-- what stands behind its name
+abbrev tail_of : RelationEntry → List ℕ
+tail_of relation = head_of relation ++ (to_be_bytes w32 relation.live ++ (replicate 8 0 ++ flat_map field_spelled relation.fields))
+
+shift : (n h b r f : List ℕ) → n ++ h ++ b ++ r ++ f ≡ n ++ (h ++ (b ++ (r ++ f)))
+shift n h b r f = simp append_assoc
+
+body_is : (relation : RelationEntry) → body_of relation ≡ relation.name.bytes ++ tail_of relation
+body_is relation = shift relation.name.bytes (head_of relation) (to_be_bytes w32 relation.live) (replicate 8 0) (flat_map field_spelled relation.fields)
+
+entry_bytes : (relation : RelationEntry) → relation_spelled (Some relation) ≡ relation.name.bytes ++ (tail_of relation ++ zeros_of relation)
+entry_bytes relation = ap (λ (bytes : List ℕ). bytes ++ zeros_of relation) (body_is relation) ∙ append_assoc relation.name.bytes (tail_of relation) (zeros_of relation)
+
+body_length : (relation : RelationEntry) → IsEntry relation → length (body_of relation) ≤ 512
+body_length relation is =
+    let fields = spelled_length field_spelled 18 IsNamed field_length field_same relation.fields (fields_named relation.fields is.fields) in
+    omega (arith, ap length (body_is relation), length-append relation.name.bytes (tail_of relation), name_length relation.name is.name, fields, fields_few relation.fields is.fields)
+
+abbrev pub IsRelation : Option RelationEntry → Type 0
+IsRelation found = (relation : RelationEntry) → found ≡ Some relation → IsEntry relation
+
+relation_length : (found : Option RelationEntry) → IsRelation found → length (relation_spelled found) ≡ 512
+relation_length None is = length-replicate {A = ℕ} relation_bytes 0
+relation_length (Some relation) is = omega (arith, length-append (body_of relation) (zeros_of relation), length-replicate {A = ℕ} (512 - length (body_of relation)) 0, body_length relation (is relation refl))
+
+-- of two relations, what stands behind their names
+tails_same : (a b : RelationEntry) → a.name ≡ b.name → IsEntry a → IsEntry b → tail_of a ++ zeros_of a ≡ tail_of b ++ zeros_of b → a ≡ b
+tails_same a b name is other same =
+    let segment : a.segment ≡ b.segment = cc in
+    let count : length a.fields ≡ length b.fields = cc in
+    let later : (to_be_bytes w32 a.live ++ (replicate 8 0 ++ flat_map field_spelled a.fields)) ++ zeros_of a ≡ (to_be_bytes w32 b.live ++ (replicate 8 0 ++ flat_map field_spelled b.fields)) ++ zeros_of b = ap (drop 4) same in
+    let counts = front_parts (to_be_bytes w32 a.live) (to_be_bytes w32 b.live) ((replicate 8 0 ++ flat_map field_spelled a.fields) ++ zeros_of a) ((replicate 8 0 ++ flat_map field_spelled b.fields) ++ zeros_of b) refl later in
+    let live : a.live ≡ b.live = sym (from_be_bytes-to_be_bytes_4 a.live is.live) ∙ ap (from_be_bytes w32) counts.0 ∙ from_be_bytes-to_be_bytes_4 b.live other.live in
+    let rest : flat_map field_spelled a.fields ++ zeros_of a ≡ flat_map field_spelled b.fields ++ zeros_of b = ap (drop 8) counts.1 in
+    let fields = spelled_same field_spelled 18 IsNamed field_length field_same a.fields b.fields (zeros_of a) (zeros_of b) count (fields_named a.fields is.fields) (fields_named b.fields other.fields) rest in
+    λ i. record { name = name i; segment = segment i; fields = fields i; live = live i }
+
+relation_same : (a b : Option RelationEntry) → IsRelation a → IsRelation b → relation_spelled a ≡ relation_spelled b → a ≡ b
+relation_same None None is other same = refl
+relation_same None (Some b) is other same = absurd (name_not_zeros b.name relation_bytes (tail_of b ++ zeros_of b) (other b refl).name (sym (entry_bytes b) ∙ sym same))
+relation_same (Some a) None is other same = absurd (name_not_zeros a.name relation_bytes (tail_of a ++ zeros_of a) (is a refl).name (sym (entry_bytes a) ∙ same))
+relation_same (Some a) (Some b) is other same =
+    let parts = front_parts a.name.bytes b.name.bytes (tail_of a ++ zeros_of a) (tail_of b ++ zeros_of b) (name_length a.name (is a refl).name ∙ sym (name_length b.name (other b refl).name)) (sym (entry_bytes a) ∙ same ∙ entry_bytes b) in
+    ap Some (tails_same a b (same_name a.name b.name parts.0) (is a refl) (other b refl) parts.1)
+
+-- ---- listings
+
+-- a list by its parts of eight
+by_eights : {A : Type 0} (n : ℕ) (x y : List A) → length x ≡ 8 * n → length y ≡ 8 * n → ((j : ℕ) → j < n → take 8 (drop (8 * j) x) ≡ take 8 (drop (8 * j) y)) → x ≡ y
+by_eights zero [] [] long too each = refl
+by_eights zero [] (b ∷ y) long too each = absurd (omega (arith, too))
+by_eights zero (a ∷ x) y long too each = absurd (omega (arith, long))
+by_eights (suc n) x y long too each =
+    let first : take 8 x ≡ take 8 y = each zero (omega arith) in
+    let rest = by_eights n (drop 8 x) (drop 8 y) (omega (arith, long, length-drop 8 x)) (omega (arith, too, length-drop 8 y)) (λ j low. ap (take 8) (later x j) ∙ each (suc j) (omega (arith, low)) ∙ sym (ap (take 8) (later y j))) in
+    sym (take-append-drop 8 x) ∙ (λ i. first i ++ rest i) ∙ take-append-drop 8 y
+  where
+    further : (j : ℕ) → 8 + 8 * j ≡ 8 * suc j
+    further j = omega arith
+
+    later : {A : Type 0} (z : List A) (j : ℕ) → drop (8 * j) (drop 8 z) ≡ drop (8 * suc j) z
+    later z j = drop-drop (8 * j) 8 z ∙ ap (λ (k : ℕ). drop k z) (further j)
+
+module _ (listing : Listing) (fits : ListingFits listing) where
+  listed_segments : All IsSegment listing.segments
+  listed_segments k d lt name is = fits.segment_names (suc k) name (at_place listing.segments k ∙ get_or_default listing.segments k None d lt ∙ is)
+
+  listed_relations : All IsRelation listing.relations
+  listed_relations k d lt relation is =
+      let entry = fits.relations (suc k) relation (at_place listing.relations k ∙ get_or_default listing.relations k None d lt ∙ is) in
+      record { name = entry.name; fields = entry.fields; live = entry.live }
+
+-- what a page of relations spells
+page_is : (listing : Listing) (j : ℕ) → catalog_page listing (suc j) ≡ padded page_bytes (flat_map relation_spelled (take 8 (drop (8 * j) listing.relations)))
+page_is listing j = ap (padded page_bytes) (cond-false (suc j == 0) (flat_map segment_spelled listing.segments) (flat_map relation_spelled (relations_on listing (suc j))) (ne_eqb (suc j) 0 (λ e. absurd (omega (arith, e))))
+    ∙ ap (λ (k : ℕ). flat_map relation_spelled (take 8 (drop (8 * k) listing.relations))) (less j))
+  where
+    less : (j : ℕ) → suc j - 1 ≡ j
+    less j = omega arith
+
+module _ (held : Held) {a b : Listing} (fit : ListingFits a) (fits : ListingFits b) (one : HoldsListing held a) (other : HoldsListing held b) where
+  page_same : (page : ℕ) → page < system_pages → catalog_page a page ≡ catalog_page b page
+  page_same page low = same_Some _ _ (sym (one page low) ∙ other page low)
+
+  same_segments : a.segments ≡ b.segments
+  same_segments = spelled_same segment_spelled 16 IsSegment segment_length segment_same a.segments b.segments
+      (replicate (page_bytes - length (flat_map segment_spelled a.segments)) 0) (replicate (page_bytes - length (flat_map segment_spelled b.segments)) 0)
+      (fit.segment_places ∙ sym fits.segment_places) (listed_segments a fit) (listed_segments b fits) (page_same 0 (omega arith))
+
+  same_eighth : (j : ℕ) → j < 6 → take 8 (drop (8 * j) a.relations) ≡ take 8 (drop (8 * j) b.relations)
+  same_eighth j low =
+      let x = take 8 (drop (8 * j) a.relations) in
+      let y = take 8 (drop (8 * j) b.relations) in
+      let long : length x ≡ length y = length-take 8 (drop (8 * j) a.relations) ∙ ap (λ (n : ℕ). min 8 n) (length-drop (8 * j) a.relations ∙ ap (λ (n : ℕ). n - 8 * j) (fit.relation_places ∙ sym fits.relation_places) ∙ sym (length-drop (8 * j) b.relations)) ∙ sym (length-take 8 (drop (8 * j) b.relations)) in
+      spelled_same relation_spelled 512 IsRelation relation_length relation_same x y (replicate (page_bytes - length (flat_map relation_spelled x)) 0) (replicate (page_bytes - length (flat_map relation_spelled y)) 0)
+      long (All-take IsRelation 8 (drop (8 * j) a.relations) (All-drop IsRelation (8 * j) a.relations (listed_relations a fit))) (All-take IsRelation 8 (drop (8 * j) b.relations) (All-drop IsRelation (8 * j) b.relations (listed_relations b fits)))
+      (sym (page_is a j) ∙ page_same (suc j) (omega (arith, low)) ∙ page_is b j)
+
+  same_relations : a.relations ≡ b.relations
+  same_relations = by_eights 6 a.relations b.relations fit.relation_places fits.relation_places same_eighth
+
+  -- one listing alone is spelled
+  pub listing_once : a ≡ b
+  listing_once =
+      let segments = same_segments in
+      let relations = same_relations in
+      λ i. record { segments = segments i; relations = relations i }

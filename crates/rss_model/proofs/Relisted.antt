@@ -1,0 +1,358 @@
+-- Pages that spell tables spell what a definition makes of them, by the listing with that definition.
+use Rattle.std.proofs.Common.{◌≡◌, ◌≢◌, ◌⊎◌, inl, inr, ℕ, zero, suc, ◌-◌, ◌≤◌, true, false, List, [], ◌∷◌, length, get_or, refl, sym, ◌∙◌, ap, arith}
+use Rattle.std.specs.Prelude.{Option, Some, None, is_some, option_map, slice_set, map as list_map}
+use Rattle.std.specs.FinMap as map
+use Rattle.std.proofs.lemmas.Bool.{cases_eq, cases_lt, true≢false}
+use Rattle.std.proofs.lemmas.List.{get_or_past, get_or-set_same, get_or-set_other, length-map}
+use Rattle.std.proofs.lemmas.Option.{none-some, same_Some}
+use Rattle.rss_base.specs.Paged.{Held, page_key}
+use Rattle.rss_base.specs.Listings.{Listing, ListingFits, IsLeastUnused, IsNumberOf, numbered, with_number, segment_at, relation_at, with_segment, with_relation}
+use Rattle.rss_base.specs.declared.key.PageKey.{PageKey}
+use Rattle.rss_base.specs.declared.key.Space.TheVariants.{Home, Overflow}
+use Rattle.rss_base.specs.declared.name.Name.{Name}
+use Rattle.rss_base.specs.declared.tid.Tid.{Tid}
+use Rattle.rss_base.specs.declared.item.Item.TheVariants.{Tuple}
+use Rattle.rss_base.specs.declared.relation.RelationEntry.{RelationEntry}
+use Rattle.rss_base.specs.declared.refusal.Kind.TheVariants.{Segment as SegmentKind, Relation as RelationKind}
+use Rattle.rss_page.specs.Content.{Content as Entry, Empty, Here, Forward}
+use Rattle.rss_page.specs.Slotted.{IsHeapKey}
+use Rattle.rss_page.specs.Surveyed.{held_at}
+use Rattle.rss_tuple.specs.Directory.{Bodies, contents_in, homes, overflows, bodies_of}
+use Rattle.rss_tuple.specs.Heaps.{IsLed}
+use Rattle.rss_model.specs.Tables.{Contents, Tables, content, tuple_count}
+use Rattle.rss_model.specs.Fits.{Fits}
+use Rattle.rss_model.specs.Defining.{with_definitions}
+use Rattle.rss_model.specs.Store.{Defines, HasNumber, SpellsContents, SpellsTables, definition_of}
+use Rattle.rss_model.proofs.Counts.{none_counted, count_of_none}
+use Rattle.rss_model.proofs.Heap.{empty_entry}
+use Rattle.rss_model.proofs.Listed.{at_place}
+use Rattle.rss_model.proofs.Named.{made, made_here, made_other, made_still, gone, gone_other}
+use Rattle.rss_model.proofs.Putting.{some_of}
+use Rattle.rss_model.proofs.Redefined.{live_defined}
+use Rattle.rss_model.proofs.Spelled.{named_relation}
+
+-- ---- one number of a listing
+
+number_at : {A : Type 0} (items : List (Option A)) (number : ℕ) → 1 ≤ number → numbered items number ≡ get_or items (number - 1) None
+number_at items zero low = absurd (omega (arith, low))
+number_at items (suc k) low = at_place items k ∙ ap (λ (j : ℕ). get_or items j None) (less k)
+  where
+    less : (k : ℕ) → k ≡ suc k - 1
+    less k = omega arith
+
+-- what has a number has one of the list
+pub number_within_list : {A : Type 0} (items : List (Option A)) (number : ℕ) (item : A) → numbered items number ≡ Some item → (1 ≤ number) × (number ≤ length items)
+number_within_list items zero item is = absurd (none-some item is)
+number_within_list items (suc k) item is = elim (cases_lt k (length items)) [
+  | inl low ↦ (omega arith, omega (arith, low))
+  | inr past ↦ absurd (none-some item (sym (at_place items k ∙ get_or_past items k None past) ∙ is))
+]
+
+module _ {A : Type 0} (items : List (Option A)) (number : ℕ) (item : Option A) (low : 1 ≤ number) where
+  -- it has this now
+  pub number_set : number ≤ length items → numbered (with_number items number item) number ≡ item
+  number_set high = number_at (with_number items number item) number low ∙ get_or-set_same items (number - 1) item None (omega (arith, low, high))
+
+  -- another has what it had
+  pub number_kept : (k : ℕ) → k ≢ number → numbered (with_number items number item) k ≡ numbered items k
+  number_kept zero other = refl
+  number_kept (suc k) other = at_place (slice_set items (number - 1) item) k ∙ get_or-set_other items (number - 1) k item None (λ same. other (above k same)) ∙ sym (at_place items k)
+    where
+      above : (k : ℕ) → k ≡ number - 1 → suc k ≡ number
+      above k same = omega (arith, low, same)
+
+-- a relation's number is that of its name
+pub number_of : (listing : Listing) (number : ℕ) (relation : RelationEntry) → relation_at listing number ≡ Some relation → IsNumberOf RelationKind listing relation.name number
+number_of listing zero relation at = absurd (none-some relation at)
+number_of listing (suc k) relation at = at_place (list_map (option_map (λ (r : RelationEntry). r.name)) listing.relations) k ∙ got listing.relations k (sym (at_place listing.relations k) ∙ at)
+  where
+    got : (relations : List (Option RelationEntry)) (k : ℕ) → get_or relations k None ≡ Some relation → get_or (list_map (option_map (λ (r : RelationEntry). r.name)) relations) k None ≡ Some relation.name
+    got [] k is = absurd (none-some relation is)
+    got (first ∷ relations) zero is = ap (option_map (λ (r : RelationEntry). r.name)) is
+    got (first ∷ relations) (suc k) is = got relations k is
+
+-- a number that no name has is that of no relation
+pub no_relation_at : (listing : Listing) (number : ℕ) → numbered (list_map (option_map (λ (r : RelationEntry). r.name)) listing.relations) number ≡ None → relation_at listing number ≡ None
+no_relation_at listing number free = by (relation_at listing number) refl
+  where
+    by : (found : Option RelationEntry) → relation_at listing number ≡ found → relation_at listing number ≡ None
+    by None is = is
+    by (Some relation) is = absurd (none-some relation.name (sym free ∙ number_of listing number relation is))
+
+-- ---- tuples, where the relations that have some keep their numbers
+
+-- the relation has a tuple with this identifier
+abbrev pub IsTupleThere : Contents → RelationEntry → Tid → Type 0
+IsTupleThere contents relation tid = is_some (content contents (Tuple relation.name tid)) ≡ true
+
+module _ (a b : Listing) (bodies : Bodies) (contents : Contents) where
+  contents_relisted : ((k : ℕ) (relation : RelationEntry) (tid : Tid) → relation_at a k ≡ Some relation → IsTupleThere contents relation tid → relation_at b k ≡ Some relation) → ((k : ℕ) (relation : RelationEntry) (tid : Tid) → relation_at b k ≡ Some relation → IsTupleThere contents relation tid → relation_at a k ≡ Some relation) → SpellsContents a bodies contents → SpellsContents b bodies contents
+  contents_relisted into back old = record {
+    stands = λ number relation tid values at holds. old.stands number relation tid values (back number relation tid at (ap is_some holds)) holds;
+    bodies_are = λ segment tid body is.
+        let of = old.bodies_are segment tid body is in
+        record { number = of.number; relation = of.relation; values = of.values; at = into of.number of.relation tid of.at (ap is_some of.holds); within = of.within; is = of.is; storable = of.storable; holds = of.holds };
+    only = λ item is.
+        let on = old.only item is in
+        record { number = on.number; relation = on.relation; tid = on.tid; at = into on.number on.relation on.tid on.at (ap (λ i. is_some (content contents i)) (sym on.is) ∙ is); is = on.is };
+  }
+
+-- ---- a segment is made
+
+module _ {held : Held} {listing : Listing} {tables : Tables} (spells : SpellsTables held listing tables) (number : ℕ) (name : Name) (least : IsLeastUnused SegmentKind listing number) (fits : ListingFits (with_segment listing number (Some name))) where
+  abbrev listed_now : Listing
+  listed_now = with_segment listing number (Some name)
+
+  here : segment_at listed_now number ≡ Some name
+  here = number_set listing.segments number (Some name) least.low least.high
+
+  still : (k : ℕ) → is_some (segment_at listing k) ≡ true → segment_at listed_now k ≡ segment_at listing k
+  still k there = number_kept listing.segments number (Some name) least.low k (λ same. true≢false (sym there ∙ ap (λ (n : ℕ). is_some (segment_at listing n)) same ∙ ap is_some least.free))
+
+  segment_made_defines : Defines listed_now (record tables.definitions { segments = map.insert tables.definitions.segments name tt })
+  segment_made_defines = record {
+    segments = λ q. (to q, from q);
+    relations = λ k relation segment l. spells.defines.relations k relation segment (record { at = l.at; within = sym (still relation.segment (spells.listed.relations k relation l.at).segment) ∙ l.within });
+    only_relations = spells.defines.only_relations;
+    no_images = spells.defines.no_images;
+    no_links = spells.defines.no_links;
+  }
+    where
+      to : (q : Name) → is_some (map.get (map.insert tables.definitions.segments name tt) q) ≡ true → HasNumber SegmentKind listed_now q
+      to q there = elim (made tables.definitions.segments name tt q) [
+        | inl same ↦ (number, here ∙ ap Some (sym same))
+        | inr was ↦ let had = (spells.defines.segments q).0 (ap is_some (sym was) ∙ there) in (had.0, still had.0 (ap is_some had.1) ∙ had.1)
+      ]
+
+      from : (q : Name) → HasNumber SegmentKind listed_now q → is_some (map.get (map.insert tables.definitions.segments name tt) q) ≡ true
+      from q (n, at) = elim (cases_eq n number) [
+        | inl same ↦
+            let is : name ≡ q = same_Some _ _ (sym here ∙ ap (segment_at listed_now) (sym same) ∙ at) in
+            ap (λ (m : Name). is_some (map.get (map.insert tables.definitions.segments name tt) m)) (sym is) ∙ ap is_some (made_here tables.definitions.segments name tt)
+        | inr other ↦ made_still tables.definitions.segments name tt q ((spells.defines.segments q).1 (n, sym (number_kept listing.segments number (Some name) least.low n other) ∙ at))
+      ]
+
+  pub segment_made_spells : SpellsTables held listed_now (with_definitions (record tables.definitions { segments = map.insert tables.definitions.segments name tt }) tables)
+  segment_made_spells = record {
+    only = λ key there. elim (spells.only key there) [
+      | inl system ↦ inl system
+      | inr heap ↦ inr (ap is_some (still key.segment heap.0) ∙ heap.0, heap.1)
+    ];
+    formed = spells.formed;
+    linked = spells.linked;
+    listed = fits;
+    defines = segment_made_defines;
+    counts = spells.counts;
+    contents = contents_relisted listing listed_now (bodies_of held) tables.contents (λ k relation tid at there. at) (λ k relation tid at there. at) spells.contents;
+  }
+
+-- ---- a segment is dropped
+
+module _ {held : Held} {listing : Listing} {tables : Tables} (spells : SpellsTables held listing tables) (number : ℕ) (name : Name) (at : segment_at listing number ≡ Some name) (none : (k : ℕ) (relation : RelationEntry) → relation_at listing k ≡ Some relation → relation.segment ≡ number → ⊥)
+    (fits : ListingFits (with_segment listing number None)) where
+  abbrev listed_less : Listing
+  listed_less = with_segment listing number None
+
+  gone_number : segment_at listed_less number ≡ None
+  gone_number = let within = number_within_list listing.segments number name at in number_set listing.segments number None within.0 within.1
+
+  others : (k : ℕ) → k ≢ number → segment_at listed_less k ≡ segment_at listing k
+  others k other = number_kept listing.segments number None (number_within_list listing.segments number name at).0 k other
+
+  -- it has no pages
+  no_body : (tid : Tid) (body : Option (List ℕ)) → bodies_of held number tid ≡ body → body ≡ None
+  no_body tid None is = refl
+  no_body tid (Some body) is = let of = spells.contents.bodies_are number tid body is in absurd (none of.number of.relation of.at of.within)
+
+  no_home : (page : ℕ) (bytes : List ℕ) → held (page_key number Home page) ≡ Some bytes → ⊥
+  no_home page bytes is = (spells.formed (page_key number Home page) bytes (inl refl) is).some (λ slot.
+      let home = empty_entry (homes held number) (overflows held number) (spells.linked number) page slot (no_body (record { page = page; slot = slot }) _ refl) in
+      ap (λ (b : Option (List ℕ)). held_at (contents_in b) slot) (sym is) ∙ home)
+
+  no_forward : (page slot to_page to_slot : ℕ) → homes held number page slot ≡ Forward to_page to_slot → ⊥
+  no_forward page slot to_page to_slot forward = by (held (page_key number Home page)) refl
+    where
+      by : (bytes : Option (List ℕ)) → held (page_key number Home page) ≡ bytes → ⊥
+      by None is =
+          let empty : Empty ≡ Forward to_page to_slot = sym (ap (λ (b : Option (List ℕ)). held_at (contents_in b) slot) is) ∙ forward in
+          absurd (cc)
+      by (Some bytes) is = no_home page bytes is
+
+  no_overflow : (page : ℕ) (bytes : List ℕ) → held (page_key number Overflow page) ≡ Some bytes → ⊥
+  no_overflow page bytes is = (spells.formed (page_key number Overflow page) bytes (inr refl) is).some (λ slot. ap (λ (b : Option (List ℕ)). held_at (contents_in b) slot) (sym is) ∙ empty slot (overflows held number page slot) refl)
+    where
+      led : {slot : ℕ} → IsLed (homes held number) page slot → ⊥
+      led {slot = slot} by = no_forward by.from_page by.from_slot page slot by.forward
+
+      empty : (slot : ℕ) (entry : Entry) → overflows held number page slot ≡ entry → entry ≡ Empty
+      empty slot Empty is = refl
+      empty slot (Here body) is = absurd (led ((spells.linked number).led page slot (λ e. absurd (cc))))
+      empty slot (Forward to_page to_slot) is = absurd (led ((spells.linked number).led page slot (λ e. absurd (cc))))
+
+  no_page : (key : PageKey) → is_some (held key) ≡ true → IsHeapKey key → key.segment ≢ number
+  no_page key there heap same = elim heap [
+    | inl home ↦
+        let is : held key ≡ held (page_key number Home key.number) = λ i. held (page_key (same i) (home i) key.number) in
+        let bytes = some_of (held key) there in
+        no_home key.number bytes.0 (sym is ∙ bytes.1)
+    | inr over ↦
+        let is : held key ≡ held (page_key number Overflow key.number) = λ i. held (page_key (same i) (over i) key.number) in
+        let bytes = some_of (held key) there in
+        no_overflow key.number bytes.0 (sym is ∙ bytes.1)
+  ]
+
+  segment_gone_defines : Defines listed_less (record tables.definitions { segments = map.remove tables.definitions.segments name })
+  segment_gone_defines = record {
+    segments = λ q. (to q, from q);
+    relations = λ k relation segment l. spells.defines.relations k relation segment (record { at = l.at; within = sym (others relation.segment (none k relation l.at)) ∙ l.within });
+    only_relations = spells.defines.only_relations;
+    no_images = spells.defines.no_images;
+    no_links = spells.defines.no_links;
+  }
+    where
+      to : (q : Name) → is_some (map.get (map.remove tables.definitions.segments name) q) ≡ true → HasNumber SegmentKind listed_less q
+      to q there =
+          let was = gone tables.definitions.segments name q there in
+          let had = (spells.defines.segments q).0 (ap is_some (sym was.1) ∙ there) in
+          (had.0, others had.0 (λ same. was.0 (same_Some _ _ (sym had.1 ∙ ap (segment_at listing) same ∙ at))) ∙ had.1)
+
+      from : (q : Name) → HasNumber SegmentKind listed_less q → is_some (map.get (map.remove tables.definitions.segments name) q) ≡ true
+      from q (n, has) =
+          let other : n ≢ number = λ same. none-some q (sym gone_number ∙ ap (segment_at listed_less) (sym same) ∙ has) in
+          let had : segment_at listing n ≡ Some q = sym (others n other) ∙ has in
+          ap is_some (gone_other tables.definitions.segments name q (λ same. other (spells.listed.segments_once n number q had (at ∙ ap Some (sym same))))) ∙ (spells.defines.segments q).1 (n, had)
+
+  pub segment_gone_spells : SpellsTables held listed_less (with_definitions (record tables.definitions { segments = map.remove tables.definitions.segments name }) tables)
+  segment_gone_spells = record {
+    only = λ key there. elim (spells.only key there) [
+      | inl system ↦ inl system
+      | inr heap ↦ inr (ap is_some (others key.segment (no_page key there heap.1)) ∙ heap.0, heap.1)
+    ];
+    formed = spells.formed;
+    linked = spells.linked;
+    listed = fits;
+    defines = segment_gone_defines;
+    counts = spells.counts;
+    contents = contents_relisted listing listed_less (bodies_of held) tables.contents (λ k relation tid at there. at) (λ k relation tid at there. at) spells.contents;
+  }
+
+-- ---- a relation is made
+
+module _ {held : Held} {listing : Listing} {tables : Tables} {slots : ℕ} (spells : SpellsTables held listing tables) (fit : Fits slots tables) (number : ℕ) (new : RelationEntry) (segment : Name) (least : IsLeastUnused RelationKind listing number) (fits : ListingFits (with_relation listing number (Some new)))
+    (within : segment_at listing new.segment ≡ Some segment) (empty : new.live ≡ 0) (fresh : is_some (map.get tables.definitions.relations new.name) ≡ false) where
+  abbrev listed_more : Listing
+  listed_more = with_relation listing number (Some new)
+
+  new_here : relation_at listed_more number ≡ Some new
+  new_here = number_set listing.relations number (Some new) least.low (omega (arith, least.high, length-map listing.relations (option_map (λ (r : RelationEntry). r.name))))
+
+  other_kept : (k : ℕ) → k ≢ number → relation_at listed_more k ≡ relation_at listing k
+  other_kept k other = number_kept listing.relations number (Some new) least.low k other
+
+  -- the number was free
+  was_another : (k : ℕ) (relation : RelationEntry) → relation_at listing k ≡ Some relation → k ≢ number
+  was_another k relation at same = none-some relation (sym (no_relation_at listing number least.free) ∙ ap (relation_at listing) (sym same) ∙ at)
+
+  -- what has a number now is the new one, or had it
+  now_or_old : (k : ℕ) (relation : RelationEntry) → relation_at listed_more k ≡ Some relation → (new ≡ relation) ⊎ (relation_at listing k ≡ Some relation)
+  now_or_old k relation at = elim (cases_eq k number) [
+    | inl same ↦ inl (same_Some _ _ (sym new_here ∙ ap (relation_at listed_more) (sym same) ∙ at))
+    | inr other ↦ inr (sym (other_kept k other) ∙ at)
+  ]
+
+  -- the new one has no tuples
+  no_tuple : (tid : Tid) → is_some (content tables.contents (Tuple new.name tid)) ≡ true → ⊥
+  no_tuple tid lives = true≢false (sym (live_defined fit new.name tid lives) ∙ fresh)
+
+  relation_made_defines : Defines listed_more (record tables.definitions { relations = map.insert tables.definitions.relations new.name (definition_of segment new) })
+  relation_made_defines = record {
+    segments = spells.defines.segments;
+    relations = λ k relation stood l. elim (now_or_old k relation l.at) [
+      | inl same ↦
+          let stands : segment ≡ stood = same_Some _ _ (sym within ∙ ap (λ (r : RelationEntry). segment_at listing r.segment) same ∙ l.within) in
+          let get = λ (n : Name). map.get (map.insert tables.definitions.relations new.name (definition_of segment new)) n in
+          ap (λ (r : RelationEntry). get r.name) (sym same) ∙ made_here tables.definitions.relations new.name (definition_of segment new) ∙ (λ i. Some (definition_of (stands i) (same i)))
+      | inr was ↦
+          let had = spells.defines.relations k relation stood (record { at = was; within = l.within }) in
+          made_other tables.definitions.relations new.name (definition_of segment new) relation.name (λ same. true≢false (sym (ap is_some had) ∙ ap (λ (n : Name). is_some (map.get tables.definitions.relations n)) same ∙ fresh)) ∙ had
+    ];
+    only_relations = only;
+    no_images = spells.defines.no_images;
+    no_links = spells.defines.no_links;
+  }
+    where
+      only : (q : Name) → is_some (map.get (map.insert tables.definitions.relations new.name (definition_of segment new)) q) ≡ true → HasNumber RelationKind listed_more q
+      only q there = elim (made tables.definitions.relations new.name (definition_of segment new) q) [
+        | inl same ↦ (number, number_of listed_more number new new_here ∙ ap Some (sym same))
+        | inr was ↦
+            let had = named_relation listing q (spells.defines.only_relations q (ap is_some (sym was) ∙ there)) in
+            (had.number, number_of listed_more had.number had.relation (other_kept had.number (was_another had.number had.relation had.at) ∙ had.at) ∙ ap Some had.named)
+      ]
+
+  pub relation_made_spells : SpellsTables held listed_more (with_definitions (record tables.definitions { relations = map.insert tables.definitions.relations new.name (definition_of segment new) }) tables)
+  relation_made_spells = record {
+    only = spells.only;
+    formed = spells.formed;
+    linked = spells.linked;
+    listed = fits;
+    defines = relation_made_defines;
+    counts = λ k relation at. elim (now_or_old k relation at) [
+      | inl same ↦ ap (λ (r : RelationEntry). tuple_count tables.contents r.name) (sym same) ∙ count_of_none tables.contents new.name (λ tid. none_from _ (no_tuple tid)) ∙ sym empty ∙ ap (λ (r : RelationEntry). r.live) same
+      | inr was ↦ spells.counts k relation was
+    ];
+    contents = contents_relisted listing listed_more (bodies_of held) tables.contents (λ k relation tid at there. other_kept k (was_another k relation at) ∙ at) (λ k relation tid at there. elim (now_or_old k relation at) [
+      | inl same ↦ absurd (no_tuple tid (ap (λ (r : RelationEntry). is_some (content tables.contents (Tuple r.name tid))) same ∙ there))
+      | inr was ↦ was
+    ]) spells.contents;
+  }
+    where
+      none_from : {A : Type 0} (o : Option A) → (is_some o ≡ true → ⊥) → o ≡ None
+      none_from None not = refl
+      none_from (Some a) not = absurd (not refl)
+
+-- ---- a relation is dropped
+
+module _ {held : Held} {listing : Listing} {tables : Tables} (spells : SpellsTables held listing tables) (number : ℕ) (old : RelationEntry) (at : relation_at listing number ≡ Some old) (empty : tuple_count tables.contents old.name ≡ 0) (fits : ListingFits (with_relation listing number None)) where
+  abbrev listed_fewer : Listing
+  listed_fewer = with_relation listing number None
+
+  none_here : relation_at listed_fewer number ≡ None
+  none_here = let within = number_within_list listing.relations number old at in number_set listing.relations number None within.0 within.1
+
+  rest_kept : (k : ℕ) → k ≢ number → relation_at listed_fewer k ≡ relation_at listing k
+  rest_kept k other = number_kept listing.relations number None (number_within_list listing.relations number old at).0 k other
+
+  -- what has a number now had it
+  had_it : (k : ℕ) (relation : RelationEntry) → relation_at listed_fewer k ≡ Some relation → (k ≢ number) × (relation_at listing k ≡ Some relation)
+  had_it k relation is =
+      let other : k ≢ number = λ same. none-some relation (sym none_here ∙ ap (relation_at listed_fewer) (sym same) ∙ is) in
+      (other, sym (rest_kept k other) ∙ is)
+
+  relation_gone_defines : Defines listed_fewer (record tables.definitions { relations = map.remove tables.definitions.relations old.name })
+  relation_gone_defines = record {
+    segments = spells.defines.segments;
+    relations = λ k relation segment l.
+        let was = had_it k relation l.at in
+        gone_other tables.definitions.relations old.name relation.name (λ same. was.0 (spells.listed.relations_once k number relation.name (number_of listing k relation was.1) (number_of listing number old at ∙ ap Some (sym same))))
+        ∙ spells.defines.relations k relation segment (record { at = was.1; within = l.within });
+    only_relations = λ q there.
+        let was = gone tables.definitions.relations old.name q there in
+        let had = named_relation listing q (spells.defines.only_relations q (ap is_some (sym was.1) ∙ there)) in
+        let other : had.number ≢ number = λ same. was.0 (sym had.named ∙ ap (λ (r : RelationEntry). r.name) (same_Some _ _ (sym had.at ∙ ap (relation_at listing) same ∙ at))) in
+        (had.number, number_of listed_fewer had.number had.relation (rest_kept had.number other ∙ had.at) ∙ ap Some had.named);
+    no_images = spells.defines.no_images;
+    no_links = spells.defines.no_links;
+  }
+
+  pub relation_gone_spells : SpellsTables held listed_fewer (with_definitions (record tables.definitions { relations = map.remove tables.definitions.relations old.name }) tables)
+  relation_gone_spells = record {
+    only = spells.only;
+    formed = spells.formed;
+    linked = spells.linked;
+    listed = fits;
+    defines = relation_gone_defines;
+    counts = λ k relation is. spells.counts k relation (had_it k relation is).1;
+    contents = contents_relisted listing listed_fewer (bodies_of held) tables.contents (λ k relation tid is there.
+        let other : k ≢ number = λ same. let one : relation ≡ old = same_Some _ _ (sym is ∙ ap (relation_at listing) same ∙ at) in true≢false (sym there ∙ ap (λ (r : RelationEntry). is_some (content tables.contents (Tuple r.name tid))) one ∙ ap is_some (none_counted tables.contents old.name empty tid)) in
+        rest_kept k other ∙ is) (λ k relation tid is there. (had_it k relation is).1) spells.contents;
+  }

@@ -1,0 +1,198 @@
+-- Pages whose listing is known spell one tables, and no others.
+use Rattle.std.proofs.Common.{◌≡◌, ℕ, zero, suc, ◌+◌, true, List, [], ◌∷◌, ◌++◌, length, get_or, refl, sym, ◌∙◌, ap, subst, arith}
+use Rattle.std.specs.Prelude.{Option, Some, None, is_some, option_map, All, map as list_map}
+use Rattle.std.specs.FinMap as map
+use Rattle.std.specs.FinMap.{same_map}
+use Rattle.std.proofs.lemmas.Option.{none-some, same_Some}
+use Rattle.rss_base.specs.Paged.{Held}
+use Rattle.rss_base.specs.TupleTypes.{kinds, misfit, misfit_from, fits, tuple_bytes, value_bytes, int_bytes, IsStorable}
+use Rattle.rss_base.specs.Listings.{Listing, ListingFits, IsNumberOf, relation_at}
+use Rattle.rss_base.specs.declared.name.Name.{Name}
+use Rattle.rss_base.specs.declared.tid.Tid.{Tid}
+use Rattle.rss_base.specs.declared.item.Item.{Item}
+use Rattle.rss_base.specs.declared.item.Item.TheVariants.{Tuple}
+use Rattle.rss_base.specs.declared.value.Value.{Value}
+use Rattle.rss_base.specs.declared.value.Value.TheVariants.{Int, Text}
+use Rattle.rss_base.specs.declared.value.FieldKind.{FieldKind}
+use Rattle.rss_base.specs.declared.value.FieldKind.TheVariants.{Int as IntField, Text as TextField}
+use Rattle.rss_base.specs.declared.relation.RelationEntry.{RelationEntry}
+use Rattle.rss_base.specs.declared.refusal.Kind.TheVariants.{Relation as RelationKind}
+use Rattle.rss_base.proofs.Numbers.{int_bytes_same}
+use Rattle.rss_tuple.specs.Directory.{bodies_of}
+use Rattle.rss_model.specs.Items.{Content, Values}
+use Rattle.rss_model.specs.Tables.{RelationDef, Definitions, Tables, content, fields_of}
+use Rattle.rss_model.specs.Fits.{Fits}
+use Rattle.rss_model.specs.Store.{Defines, SpellsTables, definition_of, body_of}
+use Rattle.rss_model.proofs.Codes.{item_total, item_apart, name_total, name_apart}
+use Rattle.rss_model.proofs.Lengths.{first_fits}
+use Rattle.rss_model.proofs.Listed.{at_place, listed}
+use Rattle.rss_model.proofs.Putting.{some_of}
+
+-- ---- the bytes of tuples
+
+-- the fronts of one length, and what stands behind them
+pub front_parts : (x y u v : List ℕ) → length x ≡ length y → x ++ u ≡ y ++ v → (x ≡ y) × (u ≡ v)
+front_parts [] [] u v same whole = (refl, whole)
+front_parts [] (b ∷ y) u v same whole = absurd (omega (arith, same))
+front_parts (a ∷ x) [] u v same whole = absurd (omega (arith, same))
+front_parts (a ∷ x) (b ∷ y) u v same whole =
+    let first : a ≡ b = cc in
+    let later : x ++ u ≡ y ++ v = cc in
+    let rest = front_parts x y u v (omega (arith, same)) later in
+    (λ i. first i ∷ rest.0 i, rest.1)
+
+-- of two values of one kind, with what follows them
+value_parts : (field : FieldKind) (a b : Value) (u v : List ℕ) → fits field a ≡ true → fits field b ≡ true → IsStorable a → IsStorable b → value_bytes a ++ u ≡ value_bytes b ++ v → (a ≡ b) × (u ≡ v)
+value_parts IntField (Int z) (Int w) u v one other stored stored_too whole =
+    let parts = front_parts (int_bytes z) (int_bytes w) u v (refl) whole in
+    (ap Int (int_bytes_same z w stored stored_too parts.0), parts.1)
+value_parts IntField (Int z) (Text bytes) u v one other stored stored_too whole = absurd (cc)
+value_parts IntField (Text bytes) b u v one other stored stored_too whole = absurd (cc)
+value_parts (TextField n) (Int z) b u v one other stored stored_too whole = absurd (cc)
+value_parts (TextField n) (Text bytes) (Int w) u v one other stored stored_too whole = absurd (cc)
+value_parts (TextField n) (Text bytes) (Text others) u v one other stored stored_too whole =
+    let first : length bytes ≡ length others = cc in
+    let later : bytes ++ u ≡ others ++ v = cc in
+    let parts = front_parts bytes others u v first later in
+    (ap Text parts.0, parts.1)
+
+-- tuples of the same fields that have the same bytes are one
+pub tuple_bytes_same : (k : ℕ) (fields : List FieldKind) (a b : List Value) → misfit_from k fields a ≡ None → misfit_from k fields b ≡ None → All IsStorable a → All IsStorable b → tuple_bytes a ≡ tuple_bytes b → a ≡ b
+tuple_bytes_same k [] [] [] one other stored stored_too whole = refl
+tuple_bytes_same k [] [] (y ∷ b) one other stored stored_too whole = absurd (cc)
+tuple_bytes_same k [] (x ∷ a) b one other stored stored_too whole = absurd (cc)
+tuple_bytes_same k (field ∷ fields) [] b one other stored stored_too whole = absurd (cc)
+tuple_bytes_same k (field ∷ fields) (x ∷ a) [] one other stored stored_too whole = absurd (cc)
+tuple_bytes_same k (field ∷ fields) (x ∷ a) (y ∷ b) one other stored stored_too whole =
+    let mine = first_fits k field fields x a one in
+    let theirs = first_fits k field fields y b other in
+    let parts = value_parts field x y (tuple_bytes a) (tuple_bytes b) mine.0 theirs.0 (stored 0 x (omega arith)) (stored_too 0 y (omega arith)) whole in
+    let rest = tuple_bytes_same (k + 1) fields a b mine.1 theirs.1 (λ j d lt. stored (suc j) d (omega (arith, lt))) (λ j d lt. stored_too (suc j) d (omega (arith, lt))) parts.1 in
+    λ i. parts.0 i ∷ rest i
+
+-- ---- relations that have a number
+
+-- the relation of a number, by its name
+pub record HasName (listing : Listing) (name : Name) : Type 0 where
+  pub number : ℕ
+  pub relation : RelationEntry
+  pub at : relation_at listing number ≡ Some relation
+  pub named : relation.name ≡ name
+
+pub named_relation : (listing : Listing) (name : Name) → (number : ℕ) × IsNumberOf RelationKind listing name number → HasName listing name
+named_relation listing name (zero, at) = absurd (none-some name at)
+named_relation listing name (suc k, at) =
+    let some = entry listing.relations k (sym (at_place (list_map (option_map (λ (r : RelationEntry). r.name)) listing.relations) k) ∙ at) in
+    record { number = suc k; relation = some.0; at = at_place listing.relations k ∙ some.1; named = some.2 }
+  where
+    named : (found : Option RelationEntry) → option_map (λ (r : RelationEntry). r.name) found ≡ Some name → (relation : RelationEntry) × (found ≡ Some relation) × (relation.name ≡ name)
+    named None is = absurd (cc)
+    named (Some relation) is = (relation, refl, same_Some _ _ is)
+
+    entry : (relations : List (Option RelationEntry)) (k : ℕ) → get_or (list_map (option_map (λ (r : RelationEntry). r.name)) relations) k None ≡ Some name → (relation : RelationEntry) × (get_or relations k None ≡ Some relation) × (relation.name ≡ name)
+    entry [] k is = absurd (cc)
+    entry (first ∷ relations) zero is = named first is
+    entry (first ∷ relations) (suc k) is = entry relations k is
+
+-- ---- definitions
+
+same_options : {A : Type 0} (a b : Option A) → ((x : A) → a ≡ Some x → b ≡ Some x) → ((x : A) → b ≡ Some x → a ≡ Some x) → a ≡ b
+same_options None None to from = refl
+same_options None (Some x) to from = from x refl
+same_options (Some x) b to from = sym (to x refl)
+
+module _ {listing : Listing} (fits : ListingFits listing) where
+  segments_too : {a b : Definitions} → Defines listing a → Defines listing b → (name : Name) (x : Unit {0}) → map.get a.segments name ≡ Some x → map.get b.segments name ≡ Some x
+  segments_too one other name x is = (some_of _ ((other.segments name).1 ((one.segments name).0 (ap is_some is)))).1
+
+  relations_too : {a b : Definitions} → Defines listing a → Defines listing b → (name : Name) (x : RelationDef) → map.get a.relations name ≡ Some x → map.get b.relations name ≡ Some x
+  relations_too {a = a} {b = b} one other name x is =
+      let has = named_relation listing name (one.only_relations name (ap is_some is)) in
+      let so = listed fits one has.number has.relation has.at in
+      let mine = one.relations has.number has.relation so.0 so.1 in
+      let theirs = other.relations has.number has.relation so.0 so.1 in
+      let same : definition_of so.0 has.relation ≡ x = same_Some _ _ (sym mine ∙ ap (map.get a.relations) has.named ∙ is) in
+      ap (map.get b.relations) (sym has.named) ∙ theirs ∙ ap Some same
+
+  -- what is listed is defined in one way
+  pub defines_once : {a b : Definitions} → Defines listing a → Defines listing b → a ≡ b
+  defines_once {a = a} {b = b} one other =
+      let segments : a.segments ≡ b.segments = same_map name_total name_apart _ _ (λ q. same_options _ _ (segments_too one other q) (segments_too other one q)) in
+      let relations : a.relations ≡ b.relations = same_map name_total name_apart _ _ (λ q. same_options _ _ (relations_too one other q) (relations_too other one q)) in
+      let images : a.images ≡ b.images = one.no_images ∙ sym other.no_images in
+      let links : a.links ≡ b.links = one.no_links ∙ sym other.no_links in
+      λ i. record { segments = segments i; relations = relations i; images = images i; links = links i }
+
+-- ---- tuples
+
+-- A tuple that is there: its relation's number, and its values, which bytes spell.
+pub record IsSpelled (held : Held) (listing : Listing) (tables : Tables) (item : Item) (c : Content) : Type 0 where
+  pub number : ℕ
+  pub relation : RelationEntry
+  pub tid : Tid
+  pub fields : List FieldKind
+  pub values : List Value
+  pub at : relation_at listing number ≡ Some relation
+  pub is : item ≡ Tuple relation.name tid
+  pub tuple : c ≡ Values values
+  pub defined : fields_of tables relation.name ≡ Some fields
+  pub fit : misfit fields values ≡ None
+  pub storable : All IsStorable values
+  pub stands : bodies_of held relation.segment tid ≡ Some (body_of number values)
+
+same_values : (a b : List Value) → Values a ≡ Values b → a ≡ b
+same_values a b same = cc
+
+pub spelled : {held : Held} {listing : Listing} {tables : Tables} {slots : ℕ} → SpellsTables held listing tables → Fits slots tables → (item : Item) (c : Content) → content tables.contents item ≡ Some c → IsSpelled held listing tables item c
+spelled {held = held} {listing = listing} {tables = tables} spells fit item c is =
+    let on = spells.contents.only item (ap is_some is) in
+    let here : content tables.contents (Tuple on.relation.name on.tid) ≡ Some c = ap (content tables.contents) (sym on.is) ∙ is in
+    let of = fit.tuples on.relation.name on.tid c here in
+    let stands = spells.contents.stands on.number on.relation on.tid of.values on.at (here ∙ ap Some of.tuple) in
+    let body = spells.contents.bodies_are on.relation.segment on.tid (body_of on.number of.values) stands in
+    let number : on.number ≡ body.number = first_same on.number body.number (tuple_bytes of.values) (tuple_bytes body.values) body.is in
+    let relation : body.relation ≡ on.relation = same_Some _ _ (sym body.at ∙ ap (relation_at listing) (sym number) ∙ on.at) in
+    let values : body.values ≡ of.values = same_values _ _ (same_Some _ _ (sym body.holds ∙ ap (λ (r : RelationEntry). content tables.contents (Tuple r.name on.tid)) relation ∙ here ∙ ap Some of.tuple)) in
+    record {
+      number = on.number;
+      relation = on.relation;
+      tid = on.tid;
+      fields = of.fields;
+      values = of.values;
+      at = on.at;
+      is = on.is;
+      tuple = of.tuple;
+      defined = of.defined;
+      fit = of.fit;
+      storable = subst (All IsStorable) values body.storable;
+      stands = stands;
+    }
+  where
+    first_same : (a b : ℕ) (x y : List ℕ) → a ∷ x ≡ b ∷ y → a ≡ b
+    first_same a b x y same = cc
+
+module _ {held : Held} {listing : Listing} {a b : Tables} {m n : ℕ} (one : SpellsTables held listing a) (other : SpellsTables held listing b) (fit : Fits m a) (fits : Fits n b) where
+  content_too : (item : Item) (c : Content) → content a.contents item ≡ Some c → content b.contents item ≡ Some c
+  content_too item c is =
+      let mine = spelled one fit item c is in
+      let body = other.contents.bodies_are mine.relation.segment mine.tid (body_of mine.number mine.values) mine.stands in
+      let parts = parts_of mine.number body.number (tuple_bytes mine.values) (tuple_bytes body.values) body.is in
+      let relation : body.relation ≡ mine.relation = same_Some _ _ (sym body.at ∙ ap (relation_at listing) (sym parts.0) ∙ mine.at) in
+      let holds : content b.contents (Tuple mine.relation.name mine.tid) ≡ Some (Values body.values) = ap (λ (r : RelationEntry). content b.contents (Tuple r.name mine.tid)) (sym relation) ∙ body.holds in
+      let of = fits.tuples mine.relation.name mine.tid (Values body.values) holds in
+      let definitions : a.definitions ≡ b.definitions = defines_once one.listed one.defines other.defines in
+      let fields : of.fields ≡ mine.fields = same_Some _ _ (sym of.defined ∙ ap (λ (d : Definitions). option_map (λ (r : RelationDef). kinds r.fields) (map.get d.relations mine.relation.name)) (sym definitions) ∙ mine.defined) in
+      let theirs : misfit mine.fields body.values ≡ None = ap (λ (f : List FieldKind). misfit f body.values) (sym fields) ∙ ap (misfit of.fields) (same_values _ _ of.tuple) ∙ of.fit in
+      let values = tuple_bytes_same 1 mine.fields mine.values body.values mine.fit theirs mine.storable body.storable parts.1 in
+      ap (content b.contents) mine.is ∙ holds ∙ ap Some (ap Values (sym values) ∙ sym mine.tuple)
+    where
+      parts_of : (k j : ℕ) (x y : List ℕ) → k ∷ x ≡ j ∷ y → (k ≡ j) × (x ≡ y)
+      parts_of k j x y same = (cc, cc)
+
+module _ {held : Held} {listing : Listing} {a b : Tables} {m n : ℕ} (one : SpellsTables held listing a) (other : SpellsTables held listing b) (fit : Fits m a) (fits : Fits n b) where
+  -- no two tables are spelled alike
+  pub spells_once : a ≡ b
+  spells_once =
+      let definitions : a.definitions ≡ b.definitions = defines_once one.listed one.defines other.defines in
+      let contents : a.contents ≡ b.contents = same_map item_total item_apart _ _ (λ q. same_options _ _ (content_too one other fit fits q) (content_too other one fits fit q)) in
+      λ i. record { definitions = definitions i; contents = contents i }
