@@ -2,15 +2,14 @@
 use Rattle.std.proofs.Common.{◌≡◌, ◌∙◌, ℕ, List, [], ◌∷◌, Option, Some, None, Result, Ok, Err, IfOk, IsErrAnd, IsErrOf, ok_or, refl, ap, sym, subst}
 use Rattle.std.specs.Borrow.{Bor}
 use Rattle.rss_base.specs.declared.name.Name.{Name}
-use Rattle.rss_base.specs.declared.value.Value.{Value}
 use Rattle.rss_base.specs.declared.call.Call.{Call}
-use Rattle.rss_model.specs.Script.{AreSpaces, AreValues, Begins, HasWords, IsTransaction, IsRelation, IsWords, Names, Spells}
-use Rattle.rss_line.specs.Reads.{IsPlain, Skips, ReadsPlain, ReadsAs, ReadsWord, BeginsTarget, ReadsTarget, ReadsWords, Ends, Behind}
+use Rattle.rss_model.specs.Script.{AreSpaces, Begins, HasWords, IsTransaction, IsNameWord, IsWords, Names, Spells}
+use Rattle.rss_line.specs.Reads.{IsPlain, Skips, ReadsPlain, ReadsAs, ReadsWord, BeginsTarget, ReadsTarget, ReadsWords, Ends}
 use Rattle.rss_line.specs.declared.reader.Target.{Target}
 use Rattle.rss_line.specs.declared.fault.LineFault.{LineFault}
 use Rattle.rss_line.specs.declared.fault.LineFault.TheVariants.{Words, NoMemory}
 use Rattle.rss_line.proofs.Cuts.{IsSolid, plain_solid, skipped, unskipped, at_once, no_begin}
-use Rattle.rss_line.proofs.Forms.{Word, Last, Values, Targeted, Tells, IsVerb, verb_of}
+use Rattle.rss_line.proofs.Forms.{Word, Last, Sequence, Targeted, Tells, Begun, verb_of}
 use Rattle.rss_line.proofs.Plain.{verb_plain}
 
 -- ---- one word
@@ -100,17 +99,17 @@ ends_line (Ok read) (same, spaces) = record { ok = ([], spaces, (refl, same)); a
 ends_line {bytes = bytes} (Err Words) ends = record { ok = tt; all = λ words x has (none, is). absurd (ends (has_as bytes none has)) }
 ends_line (Err NoMemory) ends = absurd ends
 
-module _ (make : List Value → Call) {bytes : List ℕ} where
-  pub stops_values : {e : LineFault} (r : Result Call LineFault) → ReadsWords AreValues bytes (Err e) → IsErrAnd r (λ why. why ≡ e) → ReadsWords (Values make) bytes r
-  stops_values (Ok x) reads is = absurd is
-  stops_values {e = e} (Err f) reads is = record {
+module _ {T : Type 0} {Are : List (List ℕ) → List T → Type 0} (make : List T → Call) {bytes : List ℕ} where
+  pub stops_sequence : {e : LineFault} (r : Result Call LineFault) → ReadsWords Are bytes (Err e) → IsErrAnd r (λ why. why ≡ e) → ReadsWords (Sequence Are make) bytes r
+  stops_sequence (Ok x) reads is = absurd is
+  stops_sequence {e = e} (Err f) reads is = record {
     ok = tt;
-    all = λ words x has (values, are, same). is ∙ reads.all words values has are;
+    all = λ words x has (items, are, same). is ∙ reads.all words items has are;
   }
 
-  pub then_values : {values : List Value} → ReadsWords AreValues bytes (Ok values) → ReadsWords (Values make) bytes (Ok (make values))
-  then_values {values = values} reads = record {
-    ok = let (words, has, are) = reads.ok in (words, has, (values, are, refl));
+  pub then_sequence : {items : List T} → ReadsWords Are bytes (Ok items) → ReadsWords (Sequence Are make) bytes (Ok (make items))
+  then_sequence {items = items} reads = record {
+    ok = let (words, has, are) = reads.ok in (words, has, (items, are, refl));
     all = λ words x has (others, are, same). (ap make (reads.all words others has are).0 ∙ sym same, tt);
   }
 
@@ -127,11 +126,11 @@ module _ {old mid : List ℕ} {t : ℕ} (read : ReadsWord IsTransaction old mid 
       let same = read.all begins.first begins.behind target.transaction begins.begins begins.transaction in
       (same.0, subst (λ (bytes : List ℕ). Begins bytes begins.second rest) (sym same.1) begins.then)
 
-  pub no_relation : {new : List ℕ} {e : LineFault} (r : Result Target LineFault) → ReadsWord IsRelation mid new (Err e) → IsErrAnd r (λ why. why ≡ e) → ReadsTarget old new r
+  pub no_relation : {new : List ℕ} {e : LineFault} (r : Result Target LineFault) → ReadsWord IsNameWord mid new (Err e) → IsErrAnd r (λ why. why ≡ e) → ReadsTarget old new r
   no_relation (Ok x) reads is = absurd is
   no_relation (Err f) reads is = record { ok = tt; all = λ target rest begins. is ∙ reads.all begins.second rest target.relation (behind target rest begins).1 begins.relation }
 
-  pub the_target : {new : List ℕ} {relation : Name} → ReadsWord IsRelation mid new (Ok relation) → ReadsTarget old new (Ok (record { transaction = t; relation = relation }))
+  pub the_target : {new : List ℕ} {relation : Name} → ReadsWord IsNameWord mid new (Ok relation) → ReadsTarget old new (Ok (record { transaction = t; relation = relation }))
   the_target {relation = relation} reads = record {
     ok = let (first, begins, is) = read.ok in
         let (second, follows, name) = reads.ok in
@@ -185,53 +184,53 @@ module _ {After : ℕ → Name → List (List ℕ) → Call → Type 0} {old mid
 
 -- ---- the first word
 
-told_ok : {first : List ℕ} {Form : List (List ℕ) → Call → Type 0} (old : List ℕ) (r : Result Call LineFault) → Tells first Form
+told_ok : {Are Form : List (List ℕ) → Call → Type 0} (old : List ℕ) (r : Result Call LineFault) → Tells Are Form
     → IfOk r (λ x. (words : List (List ℕ)) × HasWords old words × Form words x)
-    → IfOk r (λ x. (words : List (List ℕ)) × HasWords old words × Behind first words x)
+    → IfOk r (λ x. (words : List (List ℕ)) × HasWords old words × Are words x)
 told_ok old (Ok x) told (words, has, form) = (words, has, told.back words x form)
 told_ok old (Err e) told ok = tt
 
-pub by_form : {first : List ℕ} {Form : List (List ℕ) → Call → Type 0} {old : List ℕ} (r : Result Call LineFault) → Tells first Form → ReadsWords Form old r → ReadsWords (Behind first) old r
+pub by_form : {Are Form : List (List ℕ) → Call → Type 0} {old : List ℕ} (r : Result Call LineFault) → Tells Are Form → ReadsWords Form old r → ReadsWords Are old r
 by_form {old = old} r told reads = record {
   ok = told_ok old r told reads.ok;
   all = λ words x has names. reads.all words x has (told.of words x names);
 }
 
-module _ {old mid : List ℕ} where
-  pub no_verb : {e : LineFault} (r : Result Call LineFault) → ReadsPlain old mid (Err e) → IsErrAnd r (λ why. why ≡ e) → ReadsWords Names old r
-  no_verb (Ok x) reads is = absurd is
-  no_verb (Err f) reads is = record {
+module _ (Are : List (List ℕ) → Call → Type 0) (IsFirst : List ℕ → Type 0) (begun : Begun Are IsFirst) (plain : (word : List ℕ) → IsFirst word → IsPlain word) {old mid : List ℕ} where
+  pub no_first : {e : LineFault} (r : Result Call LineFault) → ReadsPlain old mid (Err e) → IsErrAnd r (λ why. why ≡ e) → ReadsWords Are old r
+  no_first (Ok x) reads is = absurd is
+  no_first (Err f) reads is = record {
     ok = tt;
     all = λ words call has names.
-        let (verb, rest, same, is_verb) = verb_of words call names in
+        let (first, rest, same, is_first) = begun words call names in
         let behind = has_as old same has in
-        absurd (reads.all verb behind.0 behind.1 (verb_plain is_verb));
+        absurd (reads.all first behind.0 behind.1 (plain first is_first));
   }
 
-  pub other_verb : {w : Bor (List ℕ)} → ReadsPlain old mid (Ok w) → (IsVerb w.now → ⊥) → ReadsWords Names old (Err Words)
-  other_verb reads none = record {
+  pub other_first : {w : Bor (List ℕ)} → ReadsPlain old mid (Ok w) → (IsFirst w.now → ⊥) → ReadsWords Are old (Err Words)
+  other_first reads none = record {
     ok = tt;
     all = λ words call has names.
-        let (verb, rest, same, is_verb) = verb_of words call names in
+        let (first, rest, same, is_first) = begun words call names in
         let behind = has_as old same has in
-        absurd (none (subst IsVerb (sym (reads.all verb behind.0 behind.1 (verb_plain is_verb)).0) is_verb));
+        absurd (none (subst IsFirst (sym (reads.all first behind.0 behind.1 (plain first is_first)).0) is_first));
   }
 
-  verb_ok : {first : List ℕ} {w : Bor (List ℕ)} (r : Result Call LineFault) → ReadsPlain old mid (Ok w) → w.now ≡ first
-      → IfOk r (λ x. (words : List (List ℕ)) × HasWords mid words × Behind first words x)
-      → IfOk r (λ x. (words : List (List ℕ)) × HasWords old words × Names words x)
-  verb_ok {first = first} (Ok x) reads is (words, has, names) = (first ∷ words, (mid, subst (λ (v : List ℕ). Begins old v mid) is reads.ok, has), names)
-  verb_ok (Err e) reads is ok = tt
+  first_ok : {first : List ℕ} {w : Bor (List ℕ)} (r : Result Call LineFault) → ReadsPlain old mid (Ok w) → w.now ≡ first
+      → IfOk r (λ x. (words : List (List ℕ)) × HasWords mid words × Are (first ∷ words) x)
+      → IfOk r (λ x. (words : List (List ℕ)) × HasWords old words × Are words x)
+  first_ok {first = first} (Ok x) reads is (words, has, names) = (first ∷ words, (mid, subst (λ (v : List ℕ). Begins old v mid) is reads.ok, has), names)
+  first_ok (Err e) reads is ok = tt
 
-  pub with_verb : {first : List ℕ} {w : Bor (List ℕ)} (r : Result Call LineFault) → ReadsPlain old mid (Ok w) → w.now ≡ first → ReadsWords (Behind first) mid r → ReadsWords Names old r
-  with_verb r reads is next = record {
-    ok = verb_ok r reads is next.ok;
+  pub with_first : {first : List ℕ} {w : Bor (List ℕ)} (r : Result Call LineFault) → ReadsPlain old mid (Ok w) → w.now ≡ first → ReadsWords (λ words call. Are (first ∷ words) call) mid r → ReadsWords Are old r
+  with_first r reads is next = record {
+    ok = first_ok r reads is next.ok;
     all = λ words call has names.
-        let (verb, rest, same, is_verb) = verb_of words call names in
+        let (first, rest, same, is_first) = begun words call names in
         let behind = has_as old same has in
-        let read = reads.all verb behind.0 behind.1 (verb_plain is_verb) in
+        let read = reads.all first behind.0 behind.1 (plain first is_first) in
         next.all rest call (subst (λ (bytes : List ℕ). HasWords bytes rest) (sym read.1) behind.2)
-        (subst (λ (v : List ℕ). Names (v ∷ rest) call) (sym read.0 ∙ is) (subst (λ (w : List (List ℕ)). Names w call) same names));
+        (subst (λ (v : List ℕ). Are (v ∷ rest) call) (sym read.0 ∙ is) (subst (λ (w : List (List ℕ)). Are w call) same names));
   }
 
 -- ---- a line
@@ -241,7 +240,7 @@ pub blank_no_call : {line : List ℕ} {call : Call} → AreSpaces line → Spell
 blank_no_call {line = line} {call = call} spaces spells =
     let (verb, rest, same, is_verb) = verb_of spells.words call spells.names in
     let behind = has_as line same spells.spaced in
-    no_begin spaces (plain_solid verb (verb_plain is_verb)) behind.1
+    no_begin spaces (plain_solid verb (verb_plain verb is_verb)) behind.1
 
 apart : {f e : LineFault} → f ≡ Words → f ≡ e → e ≡ NoMemory → ⊥
 apart is same memory = cc

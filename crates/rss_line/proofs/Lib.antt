@@ -5,6 +5,9 @@ mod Forms
 mod Plain
 mod Combining
 mod Values
+mod Sequences
 mod Lengths
 mod Tids
+mod Fields
 mod Names
+pub mod Defining

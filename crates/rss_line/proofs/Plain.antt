@@ -1,11 +1,11 @@
 -- Words that need no quotes.
-use Rattle.std.proofs.Common.{◌≡◌, ◌∙◌, inl, inr, ℕ, zero, suc, ◌-◌, ◌<◌, ◌≤◌, ◌^◌, not, cond, ◌==◌, List, [], ◌∷◌, ◌++◌, length, replicate, take_while, refl, ap, sym, subst, arith, rules, length-append}
+use Rattle.std.proofs.Common.{◌≡◌, ◌∙◌, inl, inr, ℕ, zero, suc, ◌-◌, ◌<◌, ◌≤◌, ◌^◌, not, cond, ◌==◌, List, [], ◌∷◌, ◌++◌, length, get_or, nat_le, true, replicate, take_while, refl, ap, sym, subst, arith, rules}
 use Rattle.std.specs.Prelude.{◌≢◌, All, ℤ, pos, negsuc, codes, decimal, FitsSigned}
 use Rattle.std.specs.Int.{w64}
 use Rattle.std.proofs.lemmas.Int.{ints}
-use Rattle.std.proofs.lemmas.Bool.{ne_eqb}
+use Rattle.std.specs.List.{list_all}
+use Rattle.std.proofs.lemmas.Bool.{ne_eqb, and_parts, leb-true}
 use Rattle.std.proofs.lemmas.List.Sums.{take_while-cons}
-use Rattle.rss_model.specs.Fits.{IsName, IsNameByte}
 use Rattle.std.specs.Fmt.{signed_decimal}
 use Rattle.std.specs.Str.{IsAscii}
 use Rattle.std.specs.Str.Parse.{AllDigits}
@@ -16,11 +16,16 @@ use Rattle.std.proofs.lemmas.Str.Parse.{numerals_by_value, tells_digits, not_in_
 use Rattle.std.proofs.lemmas.List.Elements.{All-cons, All-head, All-tail, All-append, All-weaker, All-get_or, All-from_get_or}
 use Rattle.rss_base.specs.declared.tid.Tid.{Tid}
 use Rattle.rss_base.specs.declared.name.Name.{Name}
-use Rattle.rss_model.specs.Spellings.{space, name_text}
-use Rattle.rss_model.specs.Script.{IsTransaction, IsRelation, IsTid}
+use Rattle.rss_base.specs.declared.value.FieldKind.{FieldKind}
+use Rattle.rss_base.specs.declared.value.FieldKind.TheVariants.{Int as IntField, Text as TextField}
+use Rattle.rss_base.specs.declared.field.FieldDef.{FieldDef}
+use Rattle.rss_base.specs.Names.{IsName, IsNameByte}
+use Rattle.rss_base.specs.TupleTypes.{is_kind}
+use Rattle.rss_model.specs.Spellings.{space, name_text, field_kind_text}
+use Rattle.rss_model.specs.Script.{IsTransaction, IsNameWord, IsTid, IsField}
 use Rattle.rss_line.specs.Reads.{IsPlain, IsInt}
-use Rattle.rss_line.proofs.Cuts.{bare_from}
-use Rattle.rss_line.proofs.Forms.{IsVerb, begins, ends, inserts, fetches, updates, deletes}
+use Rattle.rss_line.proofs.Cuts.{IsSolid, plain_solid, bare_from}
+use Rattle.rss_line.proofs.Forms.{IsVerb, begins, ends, inserts, fetches, updates, deletes, segments, relations, drops, IsDropped, a_segment, a_relation}
 use Rattle.rss_line.proofs.Numbers.{mag_fits}
 
 -- a byte that no digits have
@@ -41,16 +46,28 @@ decimal_plain n small = record {
 pub transaction_plain : (word : List ℕ) (t : ℕ) → IsTransaction word t → IsPlain word
 transaction_plain word t is = let below = is.below in subst IsPlain (sym is.spelled) (decimal_plain t (omega arith))
 
+-- two plain words as one
+plain_append : (a b : List ℕ) → IsPlain a → IsPlain b → IsPlain (a ++ b)
+plain_append a b one other = record {
+  some = λ none. one.some (front_none a b none);
+  bare = All-append (λ n. n ≢ space) a b one.bare other.bare;
+  ascii = IsAscii-append a b one.ascii other.ascii;
+}
+  where
+    front_none : (a b : List ℕ) → a ++ b ≡ [] → a ≡ []
+    front_none [] b none = refl
+    front_none (x ∷ a) b none = absurd (omega (arith, ap length none))
+
+-- a word as it stands in the code
+literal_plain : (first : ℕ) (rest : List ℕ) → list_all (λ b. not (b == space)) (first ∷ rest) ≡ true → IsAscii (first ∷ rest) → IsPlain (first ∷ rest)
+literal_plain first rest bare ascii = record { some = λ none. omega (arith, ap length none); bare = bare_from (first ∷ rest) bare; ascii = ascii }
+
 pub tid_plain : (word : List ℕ) (tid : Tid) → IsTid word tid → IsPlain word
 tid_plain word tid is = let low = is.page in let least = is.slot in
     let page = decimal_plain tid.page (omega arith) in
     let slot = decimal_plain tid.slot (omega arith) in
-    let point : IsPlain (codes ".") = record { some = λ none. omega (arith, ap length none); bare = bare_from (codes ".") refl; ascii = search rules } in
-    subst IsPlain (sym is.spelled) (record {
-      some = λ none. omega (arith, ap length none, length-append (decimal tid.page ++ codes ".") (decimal tid.slot), length-append (decimal tid.page) (codes "."));
-      bare = All-append (λ b. b ≢ space) (decimal tid.page ++ codes ".") (decimal tid.slot) (All-append (λ b. b ≢ space) (decimal tid.page) (codes ".") page.bare point.bare) slot.bare;
-      ascii = IsAscii-append (decimal tid.page ++ codes ".") (decimal tid.slot) (IsAscii-append (decimal tid.page) (codes ".") page.ascii point.ascii) slot.ascii;
-    })
+    let point : IsPlain (codes ".") = literal_plain _ _ refl (search rules) in
+    subst IsPlain (sym is.spelled) (plain_append (decimal tid.page ++ codes ".") (decimal tid.slot) (plain_append (decimal tid.page) (codes ".") page point) slot)
 
 -- the bytes of a number: neither a space nor a quote
 pub signed_off : (c : ℕ) (z : ℤ) → c < 45 → FitsSigned w64 z → All (λ b. b ≢ c) (signed_decimal z)
@@ -97,19 +114,61 @@ name_is is = ap (take_while (λ b. not (b == 0))) is.bytes ∙ before_zeros (is.
 ascii_from : (bytes : List ℕ) → All IsPlainByte bytes → IsAscii bytes
 ascii_from bytes all = IsAscii-from_reads bytes (length bytes) (omega arith) (λ k below. (All-get_or IsPlainByte bytes k 0 below all).1)
 
-pub relation_plain : (word : List ℕ) (relation : Name) → IsRelation word relation → IsPlain word
-relation_plain word relation is = subst IsPlain (sym (is.spelled ∙ name_is is.name)) (record {
+text_plain : {name : Name} → IsName name → IsPlain (name_text name)
+text_plain is = subst IsPlain (sym (name_is is)) (record {
   some = λ none. omega (arith, ap length none);
-  bare = All-weaker IsPlainByte (λ b. b ≢ space) (λ b low same. omega (arith, low.0, same)) (is.name.first ∷ is.name.rest) (plain_bytes is.name);
-  ascii = ascii_from (is.name.first ∷ is.name.rest) (plain_bytes is.name);
+  bare = All-weaker IsPlainByte (λ b. b ≢ space) (λ b low same. omega (arith, low.0, same)) (is.first ∷ is.rest) (plain_bytes is);
+  ascii = ascii_from (is.first ∷ is.rest) (plain_bytes is);
 })
+
+pub name_plain : (word : List ℕ) (name : Name) → IsNameWord word name → IsPlain word
+name_plain word name is = subst IsPlain (sym is.spelled) (text_plain is.is_name)
+
+-- no byte of a name is a colon
+colon_off : (b : ℕ) → IsNameByte b → b ≢ 58
+colon_off b (inl letter) is = omega (arith, letter.0, is)
+colon_off b (inr (inl digit)) is = omega (arith, digit.1, is)
+colon_off b (inr (inr under)) is = omega (arith, under, is)
+
+pub no_colon : {name : Name} → IsName name → (i : ℕ) → i < length (name_text name) → get_or (name_text name) i 0 ≢ 58
+no_colon is = subst (λ (w : List ℕ). (i : ℕ) → i < length w → get_or w i 0 ≢ 58) (sym (name_is is))
+    (λ i below. All-get_or (λ b. b ≢ 58) (is.first ∷ is.rest) i 0 below
+    (All-cons (λ b. b ≢ 58) is.first is.rest (colon_off is.first (inl is.letter)) (All-weaker IsNameByte (λ b. b ≢ 58) colon_off is.rest is.each)))
+
+-- ---- fields
+
+-- a text has 1 to 255 bytes
+pub kind_range : (n : ℕ) → is_kind (TextField n) ≡ true → (1 ≤ n) × (n ≤ 255)
+kind_range n kind = let both = and_parts (nat_le 1 n) (nat_le n 255) kind in (leb-true 1 n both.0, leb-true n 255 both.1)
+
+kind_plain : (kind : FieldKind) → is_kind kind ≡ true → IsPlain (field_kind_text kind)
+kind_plain IntField is = literal_plain _ _ refl (search rules)
+kind_plain (TextField n) is =
+    let range = kind_range n is in
+    plain_append (codes "text") (decimal n) (literal_plain _ _ refl (search rules)) (decimal_plain n (omega (arith, range.1)))
+
+pub field_plain : (word : List ℕ) (field : FieldDef) → IsField word field → IsPlain word
+field_plain word field is = subst IsPlain (sym is.spelled)
+    (plain_append (name_text field.name ++ codes ":") (field_kind_text field.kind)
+    (plain_append (name_text field.name) (codes ":") (text_plain is.is_name) (literal_plain _ _ refl (search rules)))
+    (kind_plain field.kind is.kind))
+
+pub field_solid : (word : List ℕ) (field : FieldDef) → IsField word field → IsSolid word
+field_solid word field is = plain_solid word (field_plain word field is)
 
 -- ---- the first word
 
-pub verb_plain : {verb : List ℕ} → IsVerb verb → IsPlain verb
-verb_plain begins = record { some = λ none. omega (arith, ap length none); bare = bare_from (codes "begin") refl; ascii = search rules }
-verb_plain ends = record { some = λ none. omega (arith, ap length none); bare = bare_from (codes "end") refl; ascii = search rules }
-verb_plain inserts = record { some = λ none. omega (arith, ap length none); bare = bare_from (codes "insert") refl; ascii = search rules }
-verb_plain fetches = record { some = λ none. omega (arith, ap length none); bare = bare_from (codes "fetch") refl; ascii = search rules }
-verb_plain updates = record { some = λ none. omega (arith, ap length none); bare = bare_from (codes "update") refl; ascii = search rules }
-verb_plain deletes = record { some = λ none. omega (arith, ap length none); bare = bare_from (codes "delete") refl; ascii = search rules }
+pub verb_plain : (verb : List ℕ) → IsVerb verb → IsPlain verb
+verb_plain _ begins = literal_plain _ _ refl (search rules)
+verb_plain _ ends = literal_plain _ _ refl (search rules)
+verb_plain _ inserts = literal_plain _ _ refl (search rules)
+verb_plain _ fetches = literal_plain _ _ refl (search rules)
+verb_plain _ updates = literal_plain _ _ refl (search rules)
+verb_plain _ deletes = literal_plain _ _ refl (search rules)
+verb_plain _ segments = literal_plain _ _ refl (search rules)
+verb_plain _ relations = literal_plain _ _ refl (search rules)
+verb_plain _ drops = literal_plain _ _ refl (search rules)
+
+pub dropped_plain : (word : List ℕ) → IsDropped word → IsPlain word
+dropped_plain _ a_segment = literal_plain _ _ refl (search rules)
+dropped_plain _ a_relation = literal_plain _ _ refl (search rules)

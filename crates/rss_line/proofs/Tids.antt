@@ -1,5 +1,5 @@
 -- The two numbers of an identifier.
-use Rattle.std.proofs.Common.{◌≡◌, ◌∙◌, ℕ, ◌^◌, ◌<◌, List, ◌∷◌, ◌++◌, length, get_or, Option, Some, None, ap₂, sym, arith, append_assoc}
+use Rattle.std.proofs.Common.{◌≡◌, ◌∙◌, ℕ, ◌^◌, ◌<◌, List, [], ◌∷◌, ◌++◌, length, get_or, Option, Some, None, ap₂, sym, arith, append_assoc}
 use Rattle.std.specs.Prelude.{◌≢◌, MatchOption, codes, decimal}
 use Rattle.std.specs.Borrow.{Bor}
 use Rattle.std.specs.Str.Parse.{AllDigits}
@@ -28,9 +28,9 @@ module _ (word : List ℕ) (r : Option (Bor (List ℕ) × Bor (List ℕ))) (tid 
 pub same_tid : (x y : Tid) → x.page ≡ y.page → x.slot ≡ y.slot → x ≡ y
 same_tid x y page slot = ap₂ (λ p s. record { page = p; slot = s }) page slot
 
--- what is cut at a point stands on both sides of it
-pub cut_at : (word : List ℕ) (r : Option (Bor (List ℕ) × Bor (List ℕ))) (x : Bor (List ℕ) × Bor (List ℕ)) → IsSplitOnceResult 46 word r → r ≡ Some x → word ≡ x.0.now ++ codes "." ++ x.1.now
-cut_at word r x cut some =
-    (MatchOption-at_some ((i : ℕ) → i < length word → get_or word i 0 ≢ 46)
-    (λ y. (word ≡ y.0.now ++ (46 ∷ y.1.now)) × ((i : ℕ) → i < length y.0.now → get_or y.0.now i 0 ≢ 46)) x some (split_parts 46 word r cut (omega arith))).0
-    ∙ sym (append_assoc x.0.now (codes ".") x.1.now)
+-- what is cut at a byte stands on both sides of it
+pub cut_at : (c : ℕ) → c < 128 → (word : List ℕ) (r : Option (Bor (List ℕ) × Bor (List ℕ))) (x : Bor (List ℕ) × Bor (List ℕ)) → IsSplitOnceResult c word r → r ≡ Some x → word ≡ x.0.now ++ (c ∷ []) ++ x.1.now
+cut_at c low word r x cut some =
+    (MatchOption-at_some ((i : ℕ) → i < length word → get_or word i 0 ≢ c)
+    (λ y. (word ≡ y.0.now ++ (c ∷ y.1.now)) × ((i : ℕ) → i < length y.0.now → get_or y.0.now i 0 ≢ c)) x some (split_parts c word r cut low)).0
+    ∙ sym (append_assoc x.0.now (c ∷ []) x.1.now)

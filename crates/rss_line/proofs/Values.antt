@@ -6,15 +6,14 @@ use Rattle.rss_base.specs.TupleTypes.{is_allowed_text}
 use Rattle.rss_base.specs.declared.value.Value.{Value}
 use Rattle.rss_base.specs.declared.value.Value.TheVariants.{Int, Text}
 use Rattle.rss_model.specs.Spellings.{space, quote, doubled}
-use Rattle.rss_model.specs.Script.{AreSpaces, IsApart, Begins, HasWords, IsValue, AreValues}
-use Rattle.rss_line.specs.Reads.{IsOff, Skips, IsInt, ReadsWord, ReadsWords, ReadsText}
+use Rattle.rss_model.specs.Script.{IsApart, Begins, IsValue}
+use Rattle.rss_line.specs.Reads.{IsOff, Skips, IsInt, ReadsWord, ReadsText}
 use Rattle.rss_line.specs.declared.fault.LineFault.{LineFault}
 use Rattle.rss_line.specs.declared.fault.LineFault.TheVariants.{Words, NoMemory}
 use Rattle.rss_line.proofs.Pieces.{doubled-append}
-use Rattle.rss_line.proofs.Cuts.{same_head, same_tail, not_empty, IsSolid, plain_solid, skipped, at_once, no_begin, no_second, same_text, apart_off}
+use Rattle.rss_line.proofs.Cuts.{same_head, same_tail, not_empty, IsSolid, plain_solid, skipped, at_once, no_second, same_text, apart_off}
 use Rattle.rss_line.proofs.Plain.{signed_off, int_plain}
 use Rattle.rss_line.proofs.Combining.{AreSolid, behind_spaces}
-use Rattle.rss_line.proofs.Forms.{GoesOn}
 
 -- ---- a value's first byte
 
@@ -113,67 +112,3 @@ module _ {old mid new : List ℕ} (skips : Skips old mid) (off : IsOff quote mid
       all : (word rest : List ℕ) (value : Value) → Begins mid word rest → IsValue word value → f ≡ NoMemory
       all word rest (Int y) begins has = is ∙ reads.all word rest y begins has
       all word rest (Text bytes) begins has = absurd (no_text skips.off off begins has)
-
--- ---- values one after another
-
-pub goes_start : (old : List ℕ) → GoesOn old [] old
-goes_start old = record {
-  on = λ words more has are. (words, has, are);
-  back = λ all given has are. (all, given, has, are, refl);
-}
-
-back_more : {mid new : List ℕ} (values : List Value) {v : Value} → ReadsWord IsValue mid new (Ok v)
-    → (words : List (List ℕ)) (more given : List Value) → HasWords mid words → AreValues words more → given ≡ values ++ more
-    → (words : List (List ℕ)) × (more : List Value) × HasWords new words × AreValues words more × (given ≡ (values ++ v ∷ []) ++ more)
-back_more values reads [] [] given has are e = let (word, begins, is) = reads.ok in absurd (no_begin has (value_solid word _ is) begins)
-back_more values reads [] (w ∷ more) given has are e = absurd are
-back_more values reads (word ∷ words) [] given has are e = absurd are
-back_more values {v = v} reads (word ∷ words) (w ∷ more) given (left, begins, has) (is, are) e =
-    let read = reads.all word left w begins is in (
-      words,
-      more,
-      subst (λ (bytes : List ℕ). HasWords bytes words) (sym read.1) has,
-      are,
-      e ∙ (ap (λ x. values ++ x ∷ more) (sym read.0) ∙ sym (append_assoc values (v ∷ []) more)),
-    )
-
-pub goes_more : {old mid new : List ℕ} {values : List Value} {v : Value} → GoesOn old values mid → ReadsWord IsValue mid new (Ok v) → GoesOn old (values ++ v ∷ []) new
-goes_more {new = new} {values = values} {v = v} goes reads = record {
-  on = λ words more has are.
-      let (word, begins, is) = reads.ok in
-      let (all, has_all, are_all) = goes.on (word ∷ words) (v ∷ more) (new, begins, has) (is, are) in
-      (all, has_all, subst (AreValues all) (sym (append_assoc values (v ∷ []) more)) are_all);
-  back = λ all given has are.
-      let (words, more, left, rest, e) = goes.back all given has are in
-      back_more values reads words more given left rest e;
-}
-
--- where no word is left, no value is
-none_left : (left : List ℕ) → AreSpaces left → (words : List (List ℕ)) (more : List Value) → HasWords left words → AreValues words more → more ≡ []
-none_left left spaces [] [] has are = refl
-none_left left spaces [] (w ∷ more) has are = absurd are
-none_left left spaces (word ∷ words) [] has are = absurd are
-none_left left spaces (word ∷ words) (w ∷ more) (rest, begins, has) (is, are) = absurd (no_begin spaces (value_solid word w is) begins)
-
-pub goes_end : {old left : List ℕ} {values : List Value} → GoesOn old values left → AreSpaces left → ReadsWords AreValues old (Ok values)
-goes_end {values = values} goes spaces = record {
-  ok = let (all, has, are) = goes.on [] [] spaces tt in (all, has, subst (AreValues all) (append-nil values) are);
-  all = λ all given has are.
-      let (words, more, left, rest, e) = goes.back all given has are in
-      (sym (e ∙ (ap (λ m. values ++ m) (none_left _ spaces words more left rest) ∙ append-nil values)), tt);
-}
-
-first_left : {left new : List ℕ} {e : LineFault} → (AreSpaces left → ⊥) → ReadsWord IsValue left new (Err e) → (words : List (List ℕ)) (more : List Value) → HasWords left words → AreValues words more → e ≡ NoMemory
-first_left some reads [] more has are = absurd (some has)
-first_left some reads (word ∷ words) [] has are = absurd are
-first_left some reads (word ∷ words) (w ∷ more) (rest, begins, has) (is, are) = reads.all word rest w begins is
-
-pub goes_stops : {old left new : List ℕ} {values : List Value} {e : LineFault} (r : Result (List Value) LineFault) → GoesOn old values left → (AreSpaces left → ⊥)
-    → ReadsWord IsValue left new (Err e) → IsErrAnd r (λ why. why ≡ e) → ReadsWords AreValues old r
-goes_stops (Ok x) goes some reads is = absurd is
-goes_stops (Err f) goes some reads is = record {
-  ok = tt;
-  all = λ all given has are.
-      let (words, more, left, rest, e) = goes.back all given has are in
-      is ∙ first_left some reads words more left rest;
-}

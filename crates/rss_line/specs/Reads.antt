@@ -1,13 +1,15 @@
 -- What the methods of the reader do. They see it as the bytes that are left.
-use Rattle.std.specs.Prelude.{◌≡◌, ◌≢◌, ℕ, ℤ, Bool, true, false, ◌==◌, List, [], ◌∷◌, ◌++◌, All, Option, Some, None, IfSome, Result, Ok, Err, IfOk, ⊤, ◌<◌, length, decimal}
+use Rattle.std.specs.Prelude.{◌≡◌, ◌≢◌, ℕ, ℤ, Bool, true, false, ◌==◌, List, [], ◌∷◌, ◌++◌, All, Option, Some, None, IfSome, Result, Ok, Err, IfOk, ⊤, ◌<◌, length, codes, decimal}
 use Rattle.std.specs.Result.{MatchResult}
 use Rattle.std.specs.Str.{IsAscii}
 use Rattle.rss_base.specs.declared.value.Value.TheVariants.{Int}
 use Rattle.rss_base.specs.declared.call.Call.{Call}
 use Rattle.std.specs.Borrow.{Bor}
-use Rattle.rss_model.specs.Fits.{IsLetter, IsNameByte}
-use Rattle.rss_model.specs.Spellings.{space, quote, doubled}
-use Rattle.rss_model.specs.Script.{AreSpaces, IsApart, Begins, HasWords, IsTransaction, IsRelation, IsValue, Names}
+use Rattle.rss_base.specs.Names.{IsLetter, IsNameByte}
+use Rattle.rss_base.specs.TupleTypes.{is_kind}
+use Rattle.rss_base.specs.declared.value.FieldKind.{FieldKind}
+use Rattle.rss_model.specs.Spellings.{space, quote, doubled, field_kind_text}
+use Rattle.rss_model.specs.Script.{AreSpaces, IsApart, Begins, HasWords, IsTransaction, IsNameWord, IsValue, Names}
 use Rattle.rss_line.specs.declared.reader.Target.{Target}
 use Rattle.rss_line.specs.declared.fault.LineFault.{LineFault}
 use Rattle.rss_line.specs.declared.fault.LineFault.TheVariants.{Words, NoMemory}
@@ -70,6 +72,11 @@ IsNameText (first ∷ rest) = IsLetter first × All IsNameByte rest × (length r
 abbrev pub IsBelow : ℕ → List ℕ → ℕ → Type 0
 IsBelow limit word n = (word ≡ decimal n) × (n < limit)
 
+-- the kind of a field
+pub record IsKind (word : List ℕ) (kind : FieldKind) : Type 0 where
+  pub spelled : word ≡ field_kind_text kind
+  pub allowed : is_kind kind ≡ true
+
 -- What is read is x, and P holds; or memory ran out.
 abbrev pub Gives : {T : Type 0} → T → Type 0 → Result T LineFault → Type 0
 Gives x P (Ok y) = (y ≡ x) × P
@@ -90,7 +97,7 @@ pub record BeginsTarget (bytes : List ℕ) (target : Target) (rest : List ℕ) :
   pub begins : Begins bytes first behind
   pub transaction : IsTransaction first target.transaction
   pub then : Begins behind second rest
-  pub relation : IsRelation second target.relation
+  pub relation : IsNameWord second target.relation
 
 -- the next two words are read, where they are such words
 pub record ReadsTarget (old new : List ℕ) (result : Result Target LineFault) : Type 0 where
@@ -141,3 +148,7 @@ Ends bytes call (Err NoMemory) = ⊥
 -- behind a first word, these words are the call
 abbrev pub Behind : List ℕ → List (List ℕ) → Call → Type 0
 Behind first words call = Names (first ∷ words) call
+
+-- behind a first word `drop` and this second one, these words are the call
+abbrev pub BehindDrop : List ℕ → List (List ℕ) → Call → Type 0
+BehindDrop second words call = Behind (codes "drop") (second ∷ words) call

@@ -2,6 +2,7 @@
 #![tactic(auto)]
 
 mod fault;
+mod field;
 mod name;
 mod number;
 mod reader;

@@ -1,7 +1,7 @@
 // Names of what a store defines.
 ghost use Rattle.std.specs.Prelude.{◌≡◌, ◌-◌, ◌≤◌, ◌++◌, ◌↔◌, IsTrue, All, length, replicate};
-ghost use Rattle.rss_model.specs.Fits.{IsNameByte};
-ghost use Rattle.rss_model.specs.Script.{IsRelation};
+ghost use Rattle.rss_base.specs.Names.{IsNameByte};
+ghost use Rattle.rss_model.specs.Script.{IsNameWord};
 ghost use Rattle.rss_line.specs.Reads.{ReadsAs, IsNameText};
 
 use rss_base::Name;
@@ -10,7 +10,7 @@ use rss_base::Name;
 const NAME_BYTES: usize = 16;
 
 pub fn read_name(word: &str) -> Option<Name>
-    ensures { ReadsAs (IsRelation word.now) result }
+    ensures { ReadsAs (IsNameWord word.now) result }
 {
     let bytes = word.as_bytes();
     if is_name(bytes) {

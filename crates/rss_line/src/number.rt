@@ -41,7 +41,7 @@ pub fn read_number(word: &str) -> Option<u64>
 }
 
 /// A number without a sign, below a limit.
-fn read_below(limit: u64, word: &str) -> Option<u64>
+pub fn read_below(limit: u64, word: &str) -> Option<u64>
     ensures { ReadsAs (IsBelow limit word.now) result }
 {
     let number = read_number(word)?;

@@ -2,15 +2,17 @@
 ghost use Rattle.std.specs.Prelude.{◌≡◌, ◌≤◌, ◌↔◌, ◌∷◌, IsTrue, codes, length};
 ghost use Rattle.std.specs.List.{list_all, prefix_len};
 ghost use Rattle.rss_model.specs.Spellings.{quote};
-ghost use Rattle.rss_model.specs.Script.{IsApart, IsTransaction, IsRelation, IsTid};
-ghost use Rattle.rss_model.specs.Script.{IsValue, AreValues, Names};
+ghost use Rattle.rss_model.specs.Script.{IsApart, IsTransaction, IsNameWord, IsTid, IsField};
+ghost use Rattle.rss_model.specs.Script.{IsValue, AreValues, StandFor, AreFieldWords, Names};
 ghost use Rattle.rss_line.specs.Reads.{is_space, Skips, ReadsFront, ReadsPlain, ReadsWord, IsInt};
-ghost use Rattle.rss_line.specs.Reads.{ReadsTarget, ReadsQuote, ReadsByte, ReadsText, HasLength, ReadsWords, Ends, Behind};
+ghost use Rattle.rss_line.specs.Reads.{ReadsTarget, ReadsQuote, ReadsByte, ReadsText, HasLength, ReadsWords, Ends};
+ghost use Rattle.rss_line.specs.Reads.{Behind, BehindDrop};
 
 use crate::LineFault;
+use crate::field::read_field;
 use crate::name::read_name;
 use crate::number::{read_int, read_tid, read_transaction};
-use rss_base::{Call, MOST_FIELDS, Name, Text, Tid, Tuple, Value};
+use rss_base::{Call, FieldDef, Fields, MOST_FIELDS, Name, Text, Tid, Tuple, Value};
 use rss_value::is_allowed_text;
 use std::alloc::Global;
 use std::marker::Model;
@@ -105,8 +107,8 @@ impl<'a> Reader<'a> {
         read_transaction(self.word()?).ok_or(LineFault::Words)
     }
 
-    fn relation(&mut self) -> Result<Name, LineFault>
-        ensures { ReadsWord IsRelation self.old self.new result }
+    fn name(&mut self) -> Result<Name, LineFault>
+        ensures { ReadsWord IsNameWord self.old self.new result }
     {
         read_name(self.word()?).ok_or(LineFault::Words)
     }
@@ -115,7 +117,7 @@ impl<'a> Reader<'a> {
         ensures { ReadsTarget self.old self.new result }
     {
         let transaction = self.transaction()?;
-        let relation = self.relation()?;
+        let relation = self.name()?;
         Ok(Target {
             transaction,
             relation,
@@ -216,6 +218,38 @@ impl<'a> Reader<'a> {
         Ok(tuple)
     }
 
+    fn field(&mut self) -> Result<FieldDef, LineFault>
+        ensures { ReadsWord IsField self.old self.new result }
+    {
+        read_field(self.word()?).ok_or(LineFault::Words)
+    }
+
+    /// The fields up to the line's end, however many there are.
+    fn field_list(&mut self, alloc: Global) -> Result<Fields, LineFault>
+        ensures { ReadsWords (StandFor IsField) self.old result }
+    {
+        let mut fields = Fields::new(alloc);
+        while !self.is_at_end() {
+            let field = self.field()?;
+            fields.push(field)?;
+        }
+        Ok(fields)
+    }
+
+    /// The fields of a relation up to the line's end: one at least, and as many at most as it may
+    /// have.
+    fn fields(&mut self, alloc: Global) -> Result<Fields, LineFault>
+        ensures { ReadsWords AreFieldWords self.old result }
+    {
+        let fields = self.field_list(alloc)?;
+        let count = fields.as_slice().len();
+        if count == 0 || count > MOST_FIELDS {
+            Err(LineFault::Words)
+        } else {
+            Ok(fields)
+        }
+    }
+
     /// The call, where no word is left.
     fn ended(&self, call: Call) -> Result<Call, LineFault>
         ensures { Ends self.now call result }
@@ -274,6 +308,50 @@ impl<'a> Reader<'a> {
         self.ended(Call::Delete(target.transaction, target.relation, tid))
     }
 
+    fn make_segment(&mut self) -> Result<Call, LineFault>
+        ensures { ReadsWords (Behind (codes "segment")) self.old result }
+    {
+        let name = self.name()?;
+        self.ended(Call::MakeSegment(name))
+    }
+
+    fn make_relation(&mut self, alloc: Global) -> Result<Call, LineFault>
+        ensures { ReadsWords (Behind (codes "relation")) self.old result }
+    {
+        let name = self.name()?;
+        let segment = self.name()?;
+        let fields = self.fields(alloc)?;
+        Ok(Call::MakeRelation(name, segment, fields))
+    }
+
+    fn drop_segment(&mut self) -> Result<Call, LineFault>
+        ensures { ReadsWords (BehindDrop (codes "segment")) self.old result }
+    {
+        let name = self.name()?;
+        self.ended(Call::DropSegment(name))
+    }
+
+    fn drop_relation(&mut self) -> Result<Call, LineFault>
+        ensures { ReadsWords (BehindDrop (codes "relation")) self.old result }
+    {
+        let name = self.name()?;
+        self.ended(Call::DropRelation(name))
+    }
+
+    /// The call that takes a segment or a relation away.
+    fn drop_definition(&mut self) -> Result<Call, LineFault>
+        ensures { ReadsWords (Behind (codes "drop")) self.old result }
+    {
+        let kind = self.word()?;
+        if kind == "segment" {
+            return self.drop_segment();
+        }
+        if kind == "relation" {
+            return self.drop_relation();
+        }
+        Err(LineFault::Words)
+    }
+
     /// The call that the line is.
     pub fn call(&mut self, alloc: Global) -> Result<Call, LineFault>
         ensures { ReadsWords Names self.old result }
@@ -296,6 +374,15 @@ impl<'a> Reader<'a> {
         }
         if verb == "delete" {
             return self.delete();
+        }
+        if verb == "segment" {
+            return self.make_segment();
+        }
+        if verb == "relation" {
+            return self.make_relation(alloc);
+        }
+        if verb == "drop" {
+            return self.drop_definition();
         }
         Err(LineFault::Words)
     }

@@ -31,7 +31,7 @@ returns c =
     let page = c.in_ok-page-2.ensures.some in
     let slot = c.in_ok-slot.ensures.some in
     let cut : c.args.word.now ≡ c.in_ok-page.page.now ++ codes "." ++ c.in_ok-page.slot.now =
-    cut_at c.args.word.now c.split_once.result _ c.split_once.ensures.cases c.in_ok-page.was in
+    cut_at 46 (omega arith) c.args.word.now c.split_once.result _ c.split_once.ensures.cases c.in_ok-page.was in
     record {
       some = record { spelled = cut ∙ ap₂ (λ p s. p ++ codes "." ++ s) page.0 slot.0; page = page.1; slot = slot.1 };
       all = λ tid is.

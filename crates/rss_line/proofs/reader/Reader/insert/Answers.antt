@@ -1,5 +1,5 @@
 use Rattle.rss_base.specs.declared.call.Call.TheVariants.{Insert}
-use Rattle.rss_line.proofs.Combining.{by_form, stops_target, then_target, stops_values, then_values}
+use Rattle.rss_line.proofs.Combining.{by_form, stops_target, then_target, stops_sequence, then_sequence}
 use Rattle.rss_line.proofs.Forms.{insert_told}
 use Rattle.rss_line.proofs.reader.Reader.insert.Goals as goal
 
@@ -9,9 +9,9 @@ returns-in_err-target c = by_form _ insert_told (stops_target _ c.in_err-target.
 pub returns-in_err-values : goal.returns-in_err-values
 returns-in_err-values c = by_form _ insert_told
     (then_target _ c.in_ok-target.ensures
-    (stops_values (Insert c.in_ok-target.target.transaction c.in_ok-target.target.relation) _ c.in_err-values.ensures c.from_residual-in_err-values.ensures.1))
+    (stops_sequence (Insert c.in_ok-target.target.transaction c.in_ok-target.target.relation) _ c.in_err-values.ensures c.from_residual-in_err-values.ensures.1))
 
 pub returns : goal.returns
 returns c = by_form _ insert_told
     (then_target _ c.in_ok-target.ensures
-    (then_values (Insert c.in_ok-target.target.transaction c.in_ok-target.target.relation) c.in_ok-values.ensures))
+    (then_sequence (Insert c.in_ok-target.target.transaction c.in_ok-target.target.relation) c.in_ok-values.ensures))

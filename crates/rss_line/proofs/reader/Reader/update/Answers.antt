@@ -1,5 +1,5 @@
 use Rattle.rss_base.specs.declared.call.Call.TheVariants.{Update}
-use Rattle.rss_line.proofs.Combining.{by_form, stops_word, then_word, stops_target, then_target, stops_values, then_values}
+use Rattle.rss_line.proofs.Combining.{by_form, stops_word, then_word, stops_target, then_target, stops_sequence, then_sequence}
 use Rattle.rss_line.proofs.Forms.{update_told}
 use Rattle.rss_line.proofs.reader.Reader.update.Goals as goal
 
@@ -15,10 +15,10 @@ pub returns-in_err-values : goal.returns-in_err-values
 returns-in_err-values c = by_form _ update_told
     (then_target _ c.in_ok-target.ensures
     (then_word _ c.in_ok-tid.ensures
-    (stops_values (Update c.in_ok-target.target.transaction c.in_ok-target.target.relation c.in_ok-tid.tid) _ c.in_err-values.ensures c.from_residual-in_err-values.ensures.1)))
+    (stops_sequence (Update c.in_ok-target.target.transaction c.in_ok-target.target.relation c.in_ok-tid.tid) _ c.in_err-values.ensures c.from_residual-in_err-values.ensures.1)))
 
 pub returns : goal.returns
 returns c = by_form _ update_told
     (then_target _ c.in_ok-target.ensures
     (then_word _ c.in_ok-tid.ensures
-    (then_values (Update c.in_ok-target.target.transaction c.in_ok-target.target.relation c.in_ok-tid.tid) c.in_ok-values.ensures)))
+    (then_sequence (Update c.in_ok-target.target.transaction c.in_ok-target.target.relation c.in_ok-tid.tid) c.in_ok-values.ensures)))
