@@ -1,18 +1,25 @@
 -- The answers of the calls on one tuple.
-use Rattle.std.proofs.Common.{◌≡◌, ℤ, false, refl, sym, ◌∙◌, ap, subst}
-use Rattle.std.specs.Prelude.{Option, Some, None, is_some, Result, Err, IsErrAnd}
+use Rattle.std.proofs.Common.{◌≡◌, ℕ, ◌^◌, ◌<◌, ◌≤◌, ◌++◌, length, arith, length-append, length-take, refl, sym, ◌∙◌, ap, subst}
+use Rattle.std.specs.Prelude.{Some, Result, Err, IsErrAnd, codes, decimal, not, ◌==◌}
+use Rattle.std.specs.List.{prefix_len}
+use Rattle.std.proofs.lemmas.Fmt.{length-decimal-le}
 use Rattle.std.proofs.lemmas.Result.{err_from_is_err_and}
 use Rattle.rss_base.specs.DiskRule.{IsTold}
+use Rattle.rss_base.proofs.Moments.{started}
 use Rattle.rss_base.specs.declared.call.Call.{Call}
 use Rattle.rss_base.specs.declared.answer.Reply.{Reply}
 use Rattle.rss_base.specs.declared.answer.CallError.{CallError}
 use Rattle.rss_base.specs.declared.answer.CallError.TheVariants.{Refused, NoMemory}
+use Rattle.rss_base.specs.declared.name.Name.{Name}
+use Rattle.rss_base.specs.declared.tid.Tid.{Tid}
 use Rattle.rss_base.specs.declared.refusal.Refusal.{Refusal}
+use Rattle.rss_base.specs.declared.refusal.Refusal.TheVariants.{NoTuple}
 use Rattle.rss_model.specs.Machine.{State}
-use Rattle.rss_model.specs.ReplyText.{IsShort}
+use Rattle.rss_model.specs.Spellings.{name_text, tid_text}
+use Rattle.rss_model.specs.ReplyText.{IsShort, answer_line}
 use Rattle.rss_model.specs.Steps.{refusal}
 use Rattle.rss_model.specs.Calls.{EngineView, GoesOn, IsCallOf}
-use Rattle.rss_model.proofs.Endings.{refused_by, refused_at_once, comes_to}
+use Rattle.rss_model.proofs.Endings.{costs_nothing, refused_by, refused_at_once, comes_to}
 use Rattle.rss_rsi.specs.Lookups.{LooksOn}
 
 -- by a test of the session, at once
@@ -21,9 +28,20 @@ refused_test {view = view} {call = call} result is up short refused =
     let why = err_from_is_err_and result is in
     subst (IsCallOf view view call) (sym (why.1 ∙ ap Err why.2)) (refused_at_once up short refused)
 
+-- by a test that says so where the device tells its contents
+pub refused_told : {view : EngineView} {call : Call} {why : Refusal} (result : Result Reply CallError) → IsErrAnd result (λ e. e ≡ Refused why) → view.is_up → IsShort (Err why) → (IsTold view.disk → (state : State) → view.shows state → refusal state call ≡ Some why) → IsCallOf view view call result
+refused_told {view = view} {call = call} result is up short refused =
+    let why = err_from_is_err_and result is in
+    subst (IsCallOf view view call) (sym (why.1 ∙ ap Err why.2))
+    (comes_to up (costs_nothing call refl refl refl (λ told. told) (λ told. started view.disk _) (omega arith)) (refused_by up short (λ key is. is) refl (λ told state shown. (refused told state shown, shown, started _ _))))
+
 -- by what a look found, or a test after it
 pub refused_looked : {old new : EngineView} {call : Call} {why : Refusal} → old.is_up → new.is_up → LooksOn old new → GoesOn old new call → IsShort (Err why) → (IsTold old.disk → (state : State) → old.shows state → refusal state call ≡ Some why) → IsCallOf old new call (Err (Refused why))
 refused_looked was_up is_up on goes short refused = comes_to was_up goes (refused_by is_up short on.changed on.since (λ told state shown. (refused told state shown, on.shows told state shown, on.moments told state shown)))
+
+-- by an error that was made of it
+pub refused_so : {old new : EngineView} {call : Call} {why : Refusal} (error : CallError) → error ≡ Refused why → old.is_up → new.is_up → LooksOn old new → GoesOn old new call → IsShort (Err why) → (IsTold old.disk → (state : State) → old.shows state → refusal state call ≡ Some why) → IsCallOf old new call (Err error)
+refused_so {old = old} {new = new} {call = call} error is was_up is_up on goes short refused = subst (λ (e : CallError). IsCallOf old new call (Err e)) (sym is) (refused_looked was_up is_up on goes short refused)
 
 pub refused_later : {old new : EngineView} {call : Call} {why : Refusal} (result : Result Reply CallError) → IsErrAnd result (λ e. e ≡ Refused why) → old.is_up → new.is_up → LooksOn old new → GoesOn old new call → IsShort (Err why) → (IsTold old.disk → (state : State) → old.shows state → refusal state call ≡ Some why) → IsCallOf old new call result
 refused_later {old = old} {new = new} {call = call} result is was_up is_up on goes short refused =
@@ -40,7 +58,18 @@ unanswered_looked call was_up is_up on goes = comes_to was_up goes (record {
   since = λ up. on.since;
 })
 
--- no value was found
-pub none_found : (found : Option ℤ) → is_some found ≡ false → found ≡ None
-none_found None is = refl
-none_found (Some z) is = absurd (cc)
+-- ---- the line of a tuple that is not there
+
+name_short : (name : Name) → length name.bytes ≡ 16 → length (name_text name) ≤ 16
+name_short name long = omega (arith, long, length-take (prefix_len (λ (b : ℕ). not (b == 0)) name.bytes) name.bytes)
+
+tid_short : (tid : Tid) → tid.page < 2 ^ 32 → tid.slot < 2 ^ 32 → length (tid_text tid) ≤ 21
+tid_short tid page slot =
+    let first = length-decimal-le 10 tid.page (omega arith) (omega (arith, page)) (omega (arith, page)) in
+    let second = length-decimal-le 10 tid.slot (omega arith) (omega (arith, slot)) (omega (arith, slot)) in
+    omega (arith, first, second, length-append (decimal tid.page ++ codes ".") (decimal tid.slot), length-append (decimal tid.page) (codes "."))
+
+-- whatever name it has
+pub no_tuple_short : (relation : Name) (tid : Tid) → length relation.bytes ≡ 16 → tid.page < 2 ^ 32 → tid.slot < 2 ^ 32 → length (answer_line (Err (NoTuple relation tid))) ≤ 8192
+no_tuple_short relation tid long page slot =
+    omega (arith, name_short relation long, tid_short tid page slot, length-append (name_text relation ++ codes " " ++ tid_text tid) (codes "\n"), length-append (name_text relation ++ codes " ") (tid_text tid), length-append (name_text relation) (codes " "))

@@ -9,7 +9,7 @@ use Rattle.rss_base.specs.Paged.{Mapped, page_key, mapped_in, mapped_of, mapped_
 use Rattle.rss_base.specs.declared.key.PageKey.{PageKey}
 use Rattle.rss_base.specs.declared.key.Space.{Space}
 use Rattle.rss_base.specs.declared.key.Space.TheVariants.{Home, Overflow, Image, System}
-use Rattle.rss_model.specs.Store.{IsStorePage}
+use Rattle.rss_rsi.specs.Ready.{IsSystemOrHeap}
 
 -- ---- sums over a range of numbers
 
@@ -128,11 +128,11 @@ module _ (old new : Mapped) (one : (key other : PageKey) → new key ≡ true �
 
 -- ---- the pages of a store
 
-module _ (mapped : Mapped) (only : (key : PageKey) → mapped key ≡ true → IsStorePage key) where
+module _ (mapped : Mapped) (only : (key : PageKey) → mapped key ≡ true → IsSystemOrHeap key) where
   no_image : (segment number : ℕ) → mapped (page_key segment Image number) ≡ false
   no_image segment number = false_from_ne_true (mapped (page_key segment Image number)) (λ is. elim (only (page_key segment Image number) is) [
     | inl system ↦ absurd (cc)
-    | inr heap ↦ ⊎_elim (λ home. absurd (cc)) (λ over. absurd (cc)) heap.1
+    | inr heap ↦ ⊎_elim (λ home. absurd (cc)) (λ over. absurd (cc)) heap
   ])
 
   -- those of the system space, and the home and overflow pages

@@ -1,6 +1,6 @@
 -- What a call on the pages of a store leaves of what holds between two calls.
-use Rattle.std.proofs.Common.{◌≡◌, ℕ, ◌+◌, ◌≤◌, true, refl, sym, ◌∙◌, ap, subst, arith}
-use Rattle.std.specs.Prelude.{IfSome}
+use Rattle.std.proofs.Common.{◌≡◌, ℕ, ◌+◌, ◌≤◌, Bool, true, false, refl, sym, ◌∙◌, ap, subst, arith}
+use Rattle.std.specs.Prelude.{IfSome, ◌||◌, slice_index_or, length}
 use Rattle.std.proofs.lemmas.Bool.{false_from_ne_true}
 use Rattle.std.proofs.Math.Logic.{∥∥₁_elim, ∥∥₁_prop}
 use Rattle.rss_base.specs.DiskRule.{Pages, IsTold, Passes}
@@ -15,6 +15,7 @@ use Rattle.rss_base.proofs.Moments.{widened, continues}
 use Rattle.rss_base.proofs.Steps.{all_mapped, all_held, all_notes, none_changed_more}
 use Rattle.rss_tuple.specs.Directory.{homes, overflows}
 use Rattle.rss_tuple.specs.Heaps.{IsHeap, AreLinked, AreHeaps}
+use Rattle.rss_catalog.specs.Catalogs.{CatalogView}
 use Rattle.rss_model.specs.Kept.{Kept}
 use Rattle.rss_model.specs.Machine.{State, now}
 use Rattle.rss_model.specs.Tables.{Tables}
@@ -22,7 +23,7 @@ use Rattle.rss_model.specs.Store.{SpellsTables, stored, IsStore, OpensTo}
 use Rattle.rss_model.specs.Costs.{most_asks, most_writes}
 use Rattle.rss_model.specs.Calls.{GoesOn, ShowsState}
 use Rattle.rss_model.proofs.Endings.{within_most}
-use Rattle.rss_rsi.specs.Ready.{engine_view, IsReady, IsIn}
+use Rattle.rss_rsi.specs.Ready.{engine_view, is_pending, AreWritten, IsReady, IsIn}
 use Rattle.rss_rsi.specs.Lookups.{LooksOn}
 use Rattle.rss_rsi.specs.Sessions.{Counts}
 use Rattle.rss_rsi.specs.declared.session.Session.{Session}
@@ -49,16 +50,16 @@ heaps_read {old = old} {new = new} held notes heaps = record {
 module _ {pages : PagesView} {number : ℕ} {root : Root} {session : Session} (ready : IsReady pages number root session) where
   -- a stop leaves the committed tables of each state that is shown
   pub opened : {image : Pages} {state : State} → IsIn pages number root session state → HasFixed pages.fixed image → OpensTo image state.size state.base
-  opened {state = state} shown has = record { stored = stored number root pages.backing.shadow state.base; store = shown.fixes _ has; same_size = shown.size; holds = refl }
+  opened {state = state} shown has = record { stored = stored number root pages.backing.shadow shown.saved state.base; store = shown.fixes _ has; same_size = shown.size; holds = refl }
 
   pub calls_open : {touched : Keys} {asks writes : ℕ} {new : PagesView} {state : State} → IsTold pages.disk → IsIn pages number root session state → PagesStep touched asks writes pages new → Passes pages.disk new.disk (λ image. OpensTo image state.size state.base)
   calls_open told shown step = widened (step.passes.leaves.moments ready.settled_now told) (λ image has. opened shown has)
 
   -- what is fixed is still
-  pub fixes_still : {touched : Keys} {asks writes : ℕ} {new : PagesView} {state : State} → IsTold pages.disk → IsIn pages number root session state → PagesStep touched asks writes pages new → (image : Pages) → HasFixed new.fixed image → IsStore image (stored number root new.backing.shadow state.base)
+  pub fixes_still : {touched : Keys} {asks writes : ℕ} {new : PagesView} {state : State} → IsTold pages.disk → (shown : IsIn pages number root session state) → PagesStep touched asks writes pages new → (image : Pages) → HasFixed new.fixed image → IsStore image (stored number root new.backing.shadow shown.saved state.base)
   fixes_still {state = state} told shown step image has =
       let store = shown.fixes image (subst (λ (f : Fixed). HasFixed f image) (step.passes.leaves.same ready.settled_now told) has) in
-      subst (λ (b : Backing). IsStore image (stored number root b.shadow state.base)) (sym step.passes.backing) store
+      subst (λ (b : Backing). IsStore image (stored number root b.shadow shown.saved state.base)) (sym step.passes.backing) store
 
   module _ {asks writes : ℕ} {new : PagesView} (step : PagesStep no_page asks writes pages new) where
     -- where pages were read alone
@@ -78,6 +79,9 @@ module _ {pages : PagesView} {number : ℕ} {root : Root} {session : Session} (r
           system = λ n low. ap (λ (m : Mapped). m (page_key 0 System n)) mapped ∙ ready.system n low;
           only = λ key is. ready.only key (sym (ap (λ (m : Mapped). m key) mapped) ∙ is);
           none_changed = λ none key. false_from_ne_true (new.changed key) (λ is. let was = none_changed_more step key is in let not = ready.none_changed none key in absurd (cc));
+          none_pending_yet = ready.none_pending_yet;
+          pending_places = ready.pending_places;
+          pending_counts = ready.pending_counts;
           settled_now = step.passes.leaves.stays_settled ready.settled_now;
           heaps = λ told. let before = step.passes.leaves.told.1 told in heaps_read (all_held step before) (all_notes step) (ready.heaps before);
         }
@@ -88,14 +92,16 @@ module _ {pages : PagesView} {number : ℕ} {root : Root} {session : Session} (r
       counts = shown.counts;
       kept = shown.kept;
       over = shown.over ∙ (λ i. mapped_of (sym (all_mapped step) i) Overflow (sym step.passes.slots i));
-      spells = subst (λ (h : Held). SpellsTables h (now state)) (sym (all_held step told)) shown.spells;
+      spells = subst (λ (h : Held). SpellsTables h session.catalog.listing (now state)) (sym (all_held step told)) shown.spells;
+      written = subst (λ (h : Held). AreWritten h session.catalog) (sym (all_held step told)) shown.written;
+      saved = shown.saved;
       fixes = fixes_still told shown step;
     }
 
 -- ---- where only the session changes
 
-pub ready_session : {pages : PagesView} {number : ℕ} {root : Root} {old new : Session} → new.heap ≡ old.heap → new.since ≡ old.since → IsReady pages number root old → IsReady pages number root new
-ready_session same_heap same_since ready = record {
+pub ready_session : {pages : PagesView} {number : ℕ} {root : Root} {old new : Session} → new.heap ≡ old.heap → new.since ≡ old.since → new.catalog ≡ old.catalog → IsReady pages number root old → IsReady pages number root new
+ready_session same_heap same_since same_catalog ready = record {
   number_low = ready.number_low;
   number_high = ready.number_high;
   formed = ready.formed;
@@ -108,25 +114,36 @@ ready_session same_heap same_since ready = record {
   system = ready.system;
   only = ready.only;
   none_changed = λ none. ready.none_changed (sym same_since ∙ none);
+  none_pending_yet = λ none. ap (λ (c : CatalogView). c.pending) same_catalog ∙ ready.none_pending_yet (sym same_since ∙ none);
+  pending_places = ap (λ (c : CatalogView). length c.pending) same_catalog ∙ ready.pending_places;
+  pending_counts = λ page is. ready.pending_counts page (ap (λ (c : CatalogView). slice_index_or c.pending page false) (sym same_catalog) ∙ is);
   settled_now = ready.settled_now;
   heaps = ready.heaps;
 }
 
-pub in_session : {pages : PagesView} {number : ℕ} {root : Root} {old new : Session} {state next : State} → IsIn pages number root old state → next.size ≡ state.size → next.base ≡ state.base → now next ≡ now state → next.meter.over ≡ state.meter.over → Counts new next → Kept next → IsIn pages number root new next
-in_session {pages = pages} {number = number} {root = root} shown size base tables over counts kept = record {
+pub in_session : {pages : PagesView} {number : ℕ} {root : Root} {old new : Session} {state next : State} → new.catalog ≡ old.catalog → IsIn pages number root old state → next.size ≡ state.size → next.base ≡ state.base → now next ≡ now state → next.meter.over ≡ state.meter.over → Counts new next → Kept next → IsIn pages number root new next
+in_session {pages = pages} {number = number} {root = root} {old = old} {next = next} same_catalog shown size base tables over counts kept = record {
   size = size ∙ shown.size;
   counts = counts;
   kept = kept;
   over = over ∙ shown.over;
-  spells = subst (λ (t : Tables). SpellsTables pages.held t) (sym tables) shown.spells;
-  fixes = λ image has. subst (λ (t : Tables). IsStore image (stored number root pages.backing.shadow t)) (sym base) (shown.fixes image has);
+  spells = subst (λ (c : CatalogView). SpellsTables pages.held c.listing (now next)) (sym same_catalog) (subst (λ (t : Tables). SpellsTables pages.held old.catalog.listing t) (sym tables) shown.spells);
+  written = subst (AreWritten pages.held) (sym same_catalog) shown.written;
+  saved = shown.saved;
+  fixes = λ image has. subst (λ (t : Tables). IsStore image (stored number root pages.backing.shadow shown.saved t)) (sym base) (shown.fixes image has);
 }
+
+-- no page was changed by it
+changed_less : (now before pending : Bool) → (now ≡ true → before ≡ true) → (now || pending) ≡ true → (before || pending) ≡ true
+changed_less true before pending less is = ap (λ (t : Bool). t || pending) (less refl)
+changed_less false true pending less is = refl
+changed_less false false pending less is = is
 
 -- what a look passes on
 pub looks_on : {pages new : PagesView} {number : ℕ} {root : Root} {session : Session} {up up_now : Type 0} → IsReady pages number root session → PagesStep no_page 2 2 pages new → LooksOn (engine_view pages number root session up) (engine_view new number root session up_now)
-looks_on ready step = record {
+looks_on {session = session} ready step = record {
   slots = refl;
-  changed = none_changed_more step;
+  changed = λ key is. changed_less _ _ (is_pending session.catalog key) (none_changed_more step key) is;
   since = refl;
   asks_low = step.passes.asks_low;
   asks_high = step.passes.asks_high;

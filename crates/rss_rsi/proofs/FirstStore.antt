@@ -1,20 +1,25 @@
 -- What an empty store opens to.
-use Rattle.std.proofs.Common.{◌≡◌, inl, inr, ℕ, ◌+◌, ◌-◌, ◌*◌, Bool, true, false, cond, List, replicate, Option, Some, None, option_map, refl, sym, ◌∙◌, ap, arith}
-use Rattle.std.specs.Prelude.{is_some, sum_by, map as list_map, if◌then◌else◌, ◌==◌, option_and_then}
+use Rattle.std.proofs.Common.{◌≡◌, inl, inr, ℕ, zero, suc, ◌+◌, ◌-◌, ◌*◌, ◌≤◌, true, cond, List, [], ◌∷◌, ◌++◌, length, get_or, take, drop, replicate, Option, Some, None, option_map, refl, sym, ◌∙◌, ap, arith, length-take}
+use Rattle.std.specs.Prelude.{is_some, sum_by, flat_map, map as list_map, ◌==◌}
 use Rattle.std.specs.List.{range_with_len}
 use Rattle.std.specs.FinMap.{get-empty}
-use Rattle.std.proofs.Math.Path.{fun_ext}
+use Rattle.std.proofs.lemmas.Bool.{cond-false, ne_eqb, true≢false}
+use Rattle.std.proofs.lemmas.List.{length-replicate, replicate-append-replicate}
 use Rattle.std.proofs.lemmas.Option.{none-some}
 use Rattle.std.proofs.lemmas.List.Sums.{sum_by-append}
 use Rattle.std.proofs.lemmas.List.Folds.{sum_by-replicate}
+use Rattle.rss_base.specs.declared.name.Name.{Name}
+use Rattle.rss_base.specs.declared.tid.Tid.{Tid}
 use Rattle.rss_base.specs.declared.item.Item.{Item}
-use Rattle.rss_base.specs.declared.item.Item.TheVariants.{Tuple as TupleItem}
+use Rattle.rss_base.specs.declared.relation.RelationEntry.{RelationEntry}
 use Rattle.rss_base.specs.declared.key.Space.TheVariants.{Home, Overflow, System}
 use Rattle.rss_base.specs.declared.key.PageKey.{PageKey}
-use Rattle.rss_base.specs.DiskRule.{Pages, page}
+use Rattle.rss_base.specs.DiskRule.{Pages, page as page_at}
 use Rattle.rss_base.specs.Layout.{slots_at}
+use Rattle.rss_base.specs.Listings.{ListingFits, HoldsListing, numbered, segment_at, relation_at, no_listing, padded, segment_spelled, relation_spelled, catalog_page}
 use Rattle.rss_base.specs.PageMap.{page_count}
 use Rattle.rss_base.specs.Paged.{Held, page_key}
+use Rattle.rss_base.specs.Sizes.{zero_page}
 use Rattle.rss_base.specs.StoredPages.{mapped_by, held_at}
 use Rattle.rss_shadow.specs.Maps.{HasPage}
 use Rattle.rss_shadow.proofs.Owned.{slot_of-owned, HasPage-mapped}
@@ -22,14 +27,18 @@ use Rattle.rss_page.specs.Content.{Content as Entry, Empty}
 use Rattle.rss_page.specs.Slotted.{IsHeapKey}
 use Rattle.rss_tuple.specs.Directory.{homes, overflows, body_by, bodies_of}
 use Rattle.rss_tuple.specs.Heaps.{AreLinked}
-use Rattle.rss_model.specs.Items.{Content, item_cmp}
+use Rattle.rss_model.specs.Items.{item_cmp}
 use Rattle.rss_model.specs.Tables.{content}
-use Rattle.rss_model.specs.Store.{relation_r, no_tuples, body_of, bodies_for, SpellsTables, stored, OpensTo}
-use Rattle.rss_model.proofs.Fitting.{no_tuples_fit}
+use Rattle.rss_model.specs.Store.{no_tables, SpellsTables, stored, OpensTo}
+use Rattle.rss_model.proofs.Fitting.{no_tables_fit}
+use Rattle.rss_model.proofs.Listed.{at_place}
 use Rattle.rss_rsi.specs.Formatted.{first_root, first_owners, IsFormatted}
 use Rattle.rss_rsi.proofs.FirstOwners.{owner_first, owner_is}
 use Rattle.rss_rsi.proofs.Empties.{entry_none, linked_none}
 use Rattle.rss_rsi.proofs.Holding.{held_mapped}
+use Rattle.rss_rsi.proofs.Looked.{times, times_most}
+use Rattle.rss_rsi.proofs.Made.{listing_defines}
+use Rattle.rss_rsi.proofs.Rows.{Each, each_drop, each_take}
 
 -- ---- its pages
 
@@ -72,51 +81,111 @@ module _ (held : Held) (none : (key : PageKey) → IsHeapKey key → held key �
   none_linked segment = linked_none (homes held segment) (overflows held segment) (home_empty segment)
       (λ page slot. entry_none held segment Overflow page slot (none (page_key segment Overflow page) (inr refl)))
 
-  no_bodies : bodies_of held ≡ bodies_for no_tuples
-  no_bodies = fun_ext (λ segment. fun_ext (λ tid.
-      ap (λ (e : Entry). body_by (overflows held segment) e) (home_empty segment tid.page tid.slot)
-      ∙ sym (either (segment == 1) _ (ap (λ (o : Option Content). option_and_then body_of o) (get-empty item_cmp (TupleItem relation_r tid))))))
-    where
-      either : (b : Bool) (o : Option (List ℕ)) → o ≡ None → (if b then o else None) ≡ None
-      either true o is = is
-      either false o is = refl
+  no_body : (segment : ℕ) (tid : Tid) → bodies_of held segment tid ≡ None
+  no_body segment tid = ap (λ (e : Entry). body_by (overflows held segment) e) (home_empty segment tid.page tid.slot)
 
-absent : (item : Item) → content no_tuples.contents item ≡ None
+absent : (item : Item) → content no_tables.contents item ≡ None
 absent item = get-empty item_cmp item
 
-no_tuple : (item : Item) (held : Content) → content no_tuples.contents item ≡ Some held → ⊥
-no_tuple item held is = none-some held (sym (absent item) ∙ is)
+-- ---- nothing is listed
 
-spells_none : (slots log_pages : ℕ) (pages : Pages) → IsFormatted slots log_pages pages → SpellsTables (held_at (slots_at slots log_pages) pages (first_owners slots)) no_tuples
+-- no place of a list has anything
+none_at : {A : Type 0} (n k : ℕ) → get_or (replicate {A = Option A} n None) k None ≡ None
+none_at zero k = refl
+none_at (suc n) zero = refl
+none_at (suc n) (suc k) = none_at n k
+
+none_numbered : {A : Type 0} (n number : ℕ) → numbered {A = A} (replicate n None) number ≡ None
+none_numbered n zero = refl
+none_numbered n (suc k) = at_place (replicate n None) k ∙ none_at n k
+
+no_relation : (number : ℕ) (relation : RelationEntry) → relation_at no_listing number ≡ Some relation → ⊥
+no_relation number relation is = none-some relation (sym (none_numbered 48 number) ∙ is)
+
+no_segment : (number : ℕ) (name : Name) → segment_at no_listing number ≡ Some name → ⊥
+no_segment number name is = none-some name (sym (none_numbered 8 number) ∙ is)
+
+no_listing_fits : ListingFits no_listing
+no_listing_fits = record {
+  segment_places = refl;
+  relation_places = refl;
+  segment_names = λ number name is. absurd (no_segment number name is);
+  segments_once = λ one other name is too. absurd (no_segment one name is);
+  relations_once = λ one other name is too. absurd (none-some name (sym (none_numbered {A = Name} 48 one) ∙ is));
+  relations = λ number relation is. absurd (no_relation number relation is);
+}
+
+-- ---- its pages of the catalog are zeros
+
+all_none : (A : Type 0) (n : ℕ) → Each (λ (o : Option A). o ≡ None) (replicate n None)
+all_none A zero = tt
+all_none A (suc n) = (refl, all_none A n)
+
+zeros_join : (m n : ℕ) → replicate m 0 ++ replicate n 0 ≡ replicate {A = ℕ} (n + m) 0
+zeros_join m n = replicate-append-replicate m n 0 ∙ ap (λ (k : ℕ). replicate {A = ℕ} k 0) (omega arith)
+
+zeros_padded : (count k : ℕ) → k ≤ count → padded count (replicate k 0) ≡ replicate count 0
+zeros_padded count k low =
+    let long : length (replicate {A = ℕ} k 0) ≡ k = length-replicate k 0 in
+    zeros_join k (count - length (replicate {A = ℕ} k 0)) ∙ ap (λ (n : ℕ). replicate {A = ℕ} n 0) (omega (arith, long, low))
+
+-- nothing is spelled by zeros
+zeros_spelled : {A : Type 0} (spelled : Option A → List ℕ) (width : ℕ) → spelled None ≡ replicate width 0 → (items : List (Option A)) → Each (λ (o : Option A). o ≡ None) items → flat_map spelled items ≡ replicate (times (length items) width) 0
+zeros_spelled spelled width none [] each = refl
+zeros_spelled spelled width none (item ∷ items) each =
+    (λ i. (ap spelled each.0 ∙ none) i ++ zeros_spelled spelled width none items each.1 i)
+    ∙ zeros_join width (times (length items) width)
+
+zeros_page : (page : ℕ) → catalog_page no_listing page ≡ zero_page
+zeros_page zero = ap (padded 4096) (zeros_spelled segment_spelled 16 refl (replicate 8 None) (all_none Name 8)) ∙ zeros_padded 4096 128 (omega arith)
+zeros_page (suc page) =
+    let on : List (Option RelationEntry) = take 8 (drop (8 * (suc page - 1)) (replicate 48 None)) in
+    let few : length on ≤ 8 = omega (arith, length-take 8 (drop (8 * (suc page - 1)) (replicate {A = Option RelationEntry} 48 None))) in
+    let most = times_most (length on) (8 - length on) 512 in
+    let eight : (8 - length on) + length on ≡ 8 = omega arith in
+    ap (padded 4096) (cond-false (suc page == 0) (flat_map segment_spelled no_listing.segments) (flat_map relation_spelled on) (ne_eqb (suc page) 0 (λ e. absurd (omega (arith, e))))
+    ∙ zeros_spelled relation_spelled 512 refl on (each_take _ 8 _ (each_drop _ (8 * (suc page - 1)) (replicate 48 None) (all_none RelationEntry 48))))
+    ∙ zeros_padded 4096 (times (length on) 512) (omega (arith, most, ap (λ (m : ℕ). times m 512) eight))
+
+-- ---- it spells no tables
+
+spells_none : (slots log_pages : ℕ) (pages : Pages) → IsFormatted slots log_pages pages → SpellsTables (held_at (slots_at slots log_pages) pages (first_owners slots)) no_listing no_tables
 spells_none slots log_pages pages made =
     let first = slots_at slots log_pages in
     let held : Held = held_at first pages (first_owners slots) in
     let none = none_held slots first pages in
     record {
-      system = λ number lt.
-          ap (option_map (λ (slot : ℕ). page pages (first + slot))) (slot_of-owned (first_owners slots) (page_key 0 System number) number made.map.begins.distinct (owner_first slots 10 number lt))
-          ∙ ap Some (made.system number lt);
       only = λ key is. inl (first_page slots key (sym (held_mapped first pages (first_owners slots) key) ∙ is));
       formed = λ key bytes is there. absurd (none-some bytes (sym (none key is) ∙ there));
       linked = none_linked held none;
-      bodies = no_bodies held none;
-      defined = refl;
-      others = λ item other. absent item;
-      storable = λ tid values is. absurd (no_tuple (TupleItem relation_r tid) _ is);
+      listed = no_listing_fits;
+      defines = listing_defines no_listing_fits;
+      counts = λ number relation at. absurd (no_relation number relation at);
+      contents = record {
+        stands = λ number relation tid values at is. absurd (no_relation number relation at);
+        bodies_are = λ segment tid body is. absurd (none-some body (sym (no_body held none segment tid) ∙ is));
+        only = λ item there. absurd (true≢false (sym there ∙ ap is_some (absent item)));
+      };
     }
+
+holds_none : (slots log_pages : ℕ) (pages : Pages) → IsFormatted slots log_pages pages → HoldsListing (held_at (slots_at slots log_pages) pages (first_owners slots)) no_listing
+holds_none slots log_pages pages made page low =
+    ap (option_map (λ (slot : ℕ). page_at pages (slots_at slots log_pages + slot))) (slot_of-owned (first_owners slots) (page_key 0 System page) page made.map.begins.distinct (owner_first slots 10 page low))
+    ∙ ap Some (made.system page low ∙ sym (zeros_page page))
 
 -- ---- the store
 
-pub opens_empty : (slots log_pages : ℕ) (pages : Pages) → IsFormatted slots log_pages pages → OpensTo pages (record { slots = slots; log_pages = log_pages }) no_tuples
+pub opens_empty : (slots log_pages : ℕ) (pages : Pages) → IsFormatted slots log_pages pages → OpensTo pages (record { slots = slots; log_pages = log_pages }) no_tables
 opens_empty slots log_pages pages made = record {
-  stored = stored 1 (first_root slots log_pages) (first_owners slots) no_tuples;
+  stored = stored 1 (first_root slots log_pages) (first_owners slots) no_listing no_tables;
   store = record {
     root_there = made.root_there;
     log = record { head = refl; checkpoint = refl; end = refl; tail = refl };
     map = made.map;
     room = omega (arith, ten_pages slots, made.root_there.there.formed.slots_least);
+    system = holds_none slots log_pages pages made;
     spells = spells_none slots log_pages pages made;
-    fit = no_tuples_fit slots;
+    fit = no_tables_fit slots;
   };
   same_size = refl;
   holds = refl;

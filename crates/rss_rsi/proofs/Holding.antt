@@ -5,6 +5,7 @@ use Rattle.std.proofs.Math.Path.{fun_ext}
 use Rattle.rss_base.specs.DiskRule.{Pages, page}
 use Rattle.rss_base.specs.Layout.{map_at, slots_at}
 use Rattle.rss_base.specs.PageMap.{IsMap, page_count}
+use Rattle.rss_base.specs.Listings.{Listing, HoldsListing}
 use Rattle.rss_base.specs.Paged.{Held}
 use Rattle.rss_base.specs.StoredPages.{slot_of, mapped_by, held_at, HoldsPages}
 use Rattle.rss_base.specs.declared.key.PageKey.{PageKey}
@@ -16,7 +17,7 @@ use Rattle.rss_model.specs.Fits.{Fits}
 use Rattle.rss_model.specs.Store.{SpellsTables, HasFirstLog, stored, IsStore}
 
 -- what stands in the slots of a store
-pub store_holds : {pages : Pages} {number : ℕ} {root : Root} {owners : List (Option PageKey)} {tables : Tables} → IsStore pages (stored number root owners tables) → HoldsPages pages number root owners (held_at (slots_at root.slots root.log_pages) pages owners)
+pub store_holds : {pages : Pages} {number : ℕ} {root : Root} {owners : List (Option PageKey)} {listing : Listing} {tables : Tables} → IsStore pages (stored number root owners listing tables) → HoldsPages pages number root owners (held_at (slots_at root.slots root.log_pages) pages owners)
 store_holds {pages = pages} {root = root} {owners = owners} store = record {
   root_there = store.root_there;
   count = store.map.count;
@@ -57,18 +58,19 @@ held_slots {pages = pages} {root = root} {owners = owners} {held = held} holds o
 -- ---- a store, and pages that are held
 
 -- pages that hold tables are a store
-pub holds_store : {pages : Pages} {number : ℕ} {root : Root} {owners : List (Option PageKey)} (held : Held) (tables : Tables) → HoldsPages pages number root owners held → ((key : PageKey) → is_some (held key) ≡ mapped_by owners key) → HasFirstLog root → 2 * page_count owners ≤ root.slots → SpellsTables held tables → Fits root.slots tables → IsStore pages (stored number root owners tables)
-holds_store {pages = pages} {root = root} {owners = owners} held tables holds only log room spells fit = record {
+pub holds_store : {pages : Pages} {number : ℕ} {root : Root} {owners : List (Option PageKey)} (held : Held) (listing : Listing) (tables : Tables) → HoldsPages pages number root owners held → ((key : PageKey) → is_some (held key) ≡ mapped_by owners key) → HasFirstLog root → 2 * page_count owners ≤ root.slots → HoldsListing held listing → SpellsTables held listing tables → Fits root.slots tables → IsStore pages (stored number root owners listing tables)
+holds_store {pages = pages} {root = root} {owners = owners} held listing tables holds only log room system spells fit = record {
   root_there = holds.root_there;
   log = log;
   map = subst (λ (n : ℕ). IsMap n pages (map_at n root.area) owners) holds.count holds.saved.map;
   room = room;
-  spells = subst (λ (h : Held). SpellsTables h tables) (sym (held_slots holds only)) spells;
+  system = subst (λ (h : Held). HoldsListing h listing) (sym (held_slots holds only)) system;
+  spells = subst (λ (h : Held). SpellsTables h listing tables) (sym (held_slots holds only)) spells;
   fit = fit;
 }
 
 -- pages that hold what a store holds
-pub same_store : {before image : Pages} {number : ℕ} {root : Root} {owners : List (Option PageKey)} {tables : Tables} → IsStore before (stored number root owners tables) → HoldsPages image number root owners (held_at (slots_at root.slots root.log_pages) before owners) → IsStore image (stored number root owners tables)
-same_store {before = before} {root = root} {owners = owners} {tables = tables} store holds =
-    holds_store (held_at (slots_at root.slots root.log_pages) before owners) tables holds
-    (held_mapped (slots_at root.slots root.log_pages) before owners) store.log store.room store.spells store.fit
+pub same_store : {before image : Pages} {number : ℕ} {root : Root} {owners : List (Option PageKey)} {listing : Listing} {tables : Tables} → IsStore before (stored number root owners listing tables) → HoldsPages image number root owners (held_at (slots_at root.slots root.log_pages) before owners) → IsStore image (stored number root owners listing tables)
+same_store {before = before} {root = root} {owners = owners} {listing = listing} {tables = tables} store holds =
+    holds_store (held_at (slots_at root.slots root.log_pages) before owners) listing tables holds
+    (held_mapped (slots_at root.slots root.log_pages) before owners) store.log store.room store.system store.spells store.fit

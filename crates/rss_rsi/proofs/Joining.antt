@@ -1,5 +1,5 @@
 -- How a look at a tuple and the rest of a call follow one another.
-use Rattle.std.proofs.Common.{◌≡◌, inl, inr, ⊎_elim, ℕ, ◌≤◌, ℤ, length, refl, sym, ◌∙◌, ap, subst, arith}
+use Rattle.std.proofs.Common.{◌≡◌, inl, inr, ⊎_elim, ℕ, ◌≤◌, Bool, length, refl, sym, ◌∙◌, ap, subst, arith}
 use Rattle.std.specs.Prelude.{Result, Ok, Err, IsErrAnd, IfSome, Option, None}
 use Rattle.std.proofs.lemmas.Result.{err_from_is_err_and}
 use Rattle.rss_base.specs.Answers.{page_error}
@@ -7,7 +7,6 @@ use Rattle.rss_base.specs.DiskRule.{IsTold}
 use Rattle.rss_base.specs.Paged.{HasPageCause}
 use Rattle.rss_base.specs.Steps.{PagesView}
 use Rattle.rss_base.specs.declared.root.Root.{Root}
-use Rattle.rss_base.specs.declared.tid.Tid.{Tid}
 use Rattle.rss_base.specs.declared.call.Call.{Call}
 use Rattle.rss_base.specs.declared.answer.Reply.{Reply}
 use Rattle.rss_base.specs.declared.answer.CallError.{CallError}
@@ -115,22 +114,22 @@ module _ {old mid : EngineView} (new : EngineView) (on : LooksOn old mid) where
   joined {call = call} {result = result} was_up is_up goes rest = comes_to was_up goes (outcome_joined call result (rest.outcome is_up))
 
 -- how a look ends by an error of its pages, each of which leaves the engine down but one of memory
-pub look_ends : (old new : EngineView) (tid : Tid) {T : Type 0} {fault : PageFault} (result : Result (Option ℤ) CallError) → IsErrAnd result (λ why. why ≡ page_error fault) → HasPageCause {T = T} old.disk old.faults new.faults (Err fault) → ((fault ≡ PageNoMemory → ⊥) → new.is_up → ⊥) → (fault ≡ PageNoMemory → new.is_up) → LookEnds old new tid result
-look_ends old new tid {T = T} {fault = fault} result is cause goes_down stays_up =
+pub look_ends : (old new : EngineView) {T : Type 0} {fault : PageFault} (result : Result Bool CallError) → IsErrAnd result (λ why. why ≡ page_error fault) → HasPageCause {T = T} old.disk old.faults new.faults (Err fault) → ((fault ≡ PageNoMemory → ⊥) → new.is_up → ⊥) → (fault ≡ PageNoMemory → new.is_up) → LookEnds old new result
+look_ends old new {T = T} {fault = fault} result is cause goes_down stays_up =
     let why = err_from_is_err_and result is in
-    subst (LookEnds old new tid) (sym (why.1 ∙ ap Err why.2)) (by_fault fault cause goes_down stays_up)
+    subst (LookEnds old new) (sym (why.1 ∙ ap Err why.2)) (by_fault fault cause goes_down stays_up)
   where
-    by_fault : (fault : PageFault) → HasPageCause {T = T} old.disk old.faults new.faults (Err fault) → ((fault ≡ PageNoMemory → ⊥) → new.is_up → ⊥) → (fault ≡ PageNoMemory → new.is_up) → LookEnds old new tid (Err (page_error fault))
+    by_fault : (fault : PageFault) → HasPageCause {T = T} old.disk old.faults new.faults (Err fault) → ((fault ≡ PageNoMemory → ⊥) → new.is_up → ⊥) → (fault ≡ PageNoMemory → new.is_up) → LookEnds old new (Err (page_error fault))
     by_fault PageDevice cause goes_down stays_up = (goes_down (λ e. absurd (cc)), cause.failed refl)
     by_fault (PageDamaged place) cause goes_down stays_up = (goes_down (λ e. absurd (cc)), cause.sound place refl)
     by_fault PageNoMemory cause goes_down stays_up = stays_up refl
 
 -- a look that failed
-pub look_failed : {old new : EngineView} {call : Call} (tid : Tid) (result : Result Reply CallError) (why : CallError) → result ≡ Err why → old.is_up → LooksOn old new → GoesOn old new call → LookEnds old new tid (Err why)
+pub look_failed : {old new : EngineView} {call : Call} (result : Result Reply CallError) (why : CallError) → result ≡ Err why → old.is_up → LooksOn old new → GoesOn old new call → LookEnds old new (Err why)
     → (IsTold old.disk → (state : State) → old.shows state → IsStopped old.disk new.disk state call) → IsCallOf old new call result
-look_failed {old = old} {new = new} {call = call} tid result why is was_up on goes look stopped = subst (IsCallOf old new call) (sym is) (comes_to was_up goes (by_error why look))
+look_failed {old = old} {new = new} {call = call} result why is was_up on goes look stopped = subst (IsCallOf old new call) (sym is) (comes_to was_up goes (by_error why look))
   where
-    by_error : (why : CallError) → LookEnds old new tid (Err why) → IsOutcome old new call (Err why)
+    by_error : (why : CallError) → LookEnds old new (Err why) → IsOutcome old new call (Err why)
     by_error Device fails = record { stopped = stopped; down = fails.0; cause = fails.1 }
     by_error (Damaged place) fails = record { sound = fails.1; down = fails.0 }
     by_error NoMemory up = record {

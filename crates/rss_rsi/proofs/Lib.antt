@@ -1,5 +1,8 @@
 pub mod TupleChanges
-pub mod Values
+pub mod Weighing
+pub mod Recounting
+pub mod Spelling
+pub mod Readied
 pub mod Refusals
 pub mod Holding
 pub mod FirstOwners
@@ -10,12 +13,22 @@ pub mod Refused
 pub mod Unopened
 pub mod Opened
 pub mod Empties
+pub mod Made
+pub mod OneListing
 pub mod Rows
 pub mod Found
+pub mod Census
 pub mod Looked
 pub mod Counting
 pub mod Following
+pub mod Numbered
+pub mod Counted
+pub mod Relisting
+pub mod Lines
+pub mod Definitions
 pub mod Tested
+pub mod Writing
+pub mod Pending
 pub mod Checkpoints
 pub mod Engines
 pub mod Looking
@@ -25,3 +38,4 @@ pub mod Ending
 pub mod Answering
 pub mod Changing
 pub mod Beginning
+pub mod Redefining

@@ -1,169 +1,247 @@
--- How looks through pages follow one another, and how a look through all of them ends.
-use Rattle.std.proofs.Common.{◌≡◌, inl, inr, ◌+◌, ◌-◌, ◌*◌, ◌^◌, ◌≤◌, ◌<◌, ℕ, true, List, length, refl, sym, ◌∙◌, ap, subst, arith}
-use Rattle.std.specs.Prelude.{Result, Ok, Err, IsErrAnd, is_some, min}
-use Rattle.std.proofs.lemmas.Bool.{cases_eq}
-use Rattle.std.proofs.lemmas.Result.{err_from_is_err_and}
+-- How a look through all pages of a store ends.
+use Rattle.std.proofs.Common.{◌≡◌, inl, inr, ℕ, zero, suc, ◌+◌, ◌-◌, ◌*◌, ◌<◌, ◌≤◌, true, false, refl, sym, ◌∙◌, ap, subst, arith}
+use Rattle.std.specs.Prelude.{Result, Ok, Err, Some, is_some}
+use Rattle.std.proofs.lemmas.Bool.{cases_eq, true≢false}
 use Rattle.rss_base.specs.DiskRule.{IsTold}
-use Rattle.rss_base.specs.Devices.{OnlyReads}
-use Rattle.rss_base.specs.PageMap.{IsKey}
+use Rattle.rss_base.specs.PageMap.{IsKey, IsSegmentOf as IsSegmentNumber}
 use Rattle.rss_base.specs.Paged.{Held, Mapped, page_key}
-use Rattle.rss_base.specs.Steps.{PagesView, Keys, no_page, PagesCall, NoneChanged, device_below}
+use Rattle.rss_base.specs.Sizes.{segments, system_pages}
+use Rattle.rss_base.specs.Steps.{PagesView, no_page}
+use Rattle.rss_base.specs.Looking.{ChecksPages}
+use Rattle.rss_base.specs.Listings.{Listing, ListingFits, HoldsListing, segment_at}
 use Rattle.rss_base.specs.declared.place.Place.{Place}
 use Rattle.rss_base.specs.declared.place.Place.TheVariants.{Room}
 use Rattle.rss_base.specs.declared.fault.PageFault.{PageFault}
 use Rattle.rss_base.specs.declared.fault.PageFault.TheVariants.{Device as DeviceFailed}
 use Rattle.rss_base.specs.declared.key.PageKey.{PageKey}
-use Rattle.rss_base.specs.declared.key.Space.TheVariants.{System}
+use Rattle.rss_base.specs.declared.key.Space.{Space}
+use Rattle.rss_base.specs.declared.key.Space.TheVariants.{Home, Overflow, Image, System}
+use Rattle.rss_base.proofs.Looking.{checks_none, checks_then, checks_within, checks_as}
+use Rattle.rss_page.specs.Slotted.{IsHeapKey}
 use Rattle.rss_tuple.specs.Directory.{homes, overflows}
-use Rattle.rss_tuple.specs.Heaps.{AreLinked, AreFormed}
-use Rattle.rss_tuple.proofs.Looks.{looks_none, looks_then, looks_within, looks_more, brought}
-use Rattle.rss_tuple.specs.Checked.{Row, tuples_of, IsSound, AreNoted, ChecksPages}
-use Rattle.rss_model.specs.Fits.{tuple_limit}
+use Rattle.rss_tuple.specs.Heaps.{AreLinked, AreHeaps}
+use Rattle.rss_tuple.specs.Checked.{pages_of, IsNoted, AreNoted}
+use Rattle.rss_catalog.specs.Catalogs.{CatalogView, Loads, IsCatalogPlace}
+use Rattle.rss_model.proofs.Putting.{some_of}
+use Rattle.rss_model.proofs.Relisted.{number_within_list}
 use Rattle.rss_model.specs.Store.{IsStorePage}
-use Rattle.rss_rsi.specs.Bodies.{is_int_body}
-use Rattle.rss_rsi.specs.Tuples.{heap_keys}
-use Rattle.rss_rsi.specs.Opening.{AreStorePages, HasZeros, HoldsSystem, HasSystem, LacksSystem, FindsTables, FindsNone}
-use Rattle.rss_rsi.proofs.Found.{spelled_sound, linked_all, holds_found, none_counted}
+use Rattle.rss_rsi.specs.Checks.{IsSegmentOf, ChecksSegment, MissesSegment, ChecksSegments, MissesOne}
+use Rattle.rss_rsi.specs.Opening.{FindsTables, FindsNone, AreAllNoted}
+use Rattle.rss_rsi.proofs.Found.{heap_listed, linked_found, holds_found, spelled_segment, none_by}
 
--- ---- looks in a row
+-- ---- pages of no segment that is listed
 
--- nothing is done
-pub checks_none : {T : Type 0} {noted : Keys} {asks : ℕ} (view : PagesView) (result : Result T PageFault) → (result ≡ Err DeviceFailed → ⊥) → ChecksPages noted asks view view result
-checks_none view result sound = record { looks = looks_none view; failed = λ is. absurd (sound is) }
+same_key : (key : PageKey) (segment : ℕ) (space : Space) → key.segment ≡ segment → key.space ≡ space → key ≡ page_key segment space key.number
+same_key key segment space one two = λ i. record { segment = one i; space = two i; number = key.number }
 
--- a page was brought into memory
-pub checks_load : {T U : Type 0} {noted : Keys} {old new : PagesView} {first : Result T PageFault} (result : Result U PageFault) → PagesCall no_page 1 1 old new first → (NoneChanged old → OnlyReads (device_below old) (device_below new)) → (result ≡ Err DeviceFailed → first ≡ Err DeviceFailed) → ChecksPages noted 1 old new result
-checks_load result call unwritten is = record { looks = looks_more (brought call.step unwritten); failed = λ failed. call.failed (is failed) }
+-- no page of a segment and a space is mapped
+pub none_mapped : (mapped : Mapped) (segment : ℕ) (space : Space) → ((number : ℕ) → 0 ≤ number → mapped (page_key segment space number) ≡ true → ⊥) → (key : PageKey) → key.segment ≡ segment → key.space ≡ space → mapped key ≡ true → ⊥
+none_mapped mapped segment space none key one two is = none key.number (omega arith) (ap mapped (sym (same_key key segment space one two)) ∙ is)
 
-pub checks_then : {T U : Type 0} {noted : Keys} {asks asks_then : ℕ} {old mid new : PagesView} {first : Result T PageFault} {second : Result U PageFault} → ChecksPages noted asks old mid first → ChecksPages noted asks_then mid new second → ChecksPages noted (asks + asks_then) old new second
-checks_then one two = record {
-  looks = looks_then one.looks two.looks;
-  failed = λ is. let rose = two.failed is in omega (arith, rose, one.looks.step.passes.later);
-}
+-- a page of the image space is that of no store
+pub image_foreign : (listing : Listing) (key : PageKey) → key.space ≡ Image → IsStorePage listing key → ⊥
+image_foreign listing key image (inl system) = cc
+image_foreign listing key image (inr listed) = elim listed.1 [ inl home ↦ absurd (cc) | inr over ↦ absurd (cc) ]
 
--- more pages may be noted, and more asked for
-pub checks_within : {T : Type 0} {noted more : Keys} {asks asks_now : ℕ} {old new : PagesView} {result : Result T PageFault} → ((key : PageKey) → noted key → more key) → asks ≤ asks_now → ChecksPages noted asks old new result → ChecksPages more asks_now old new result
-checks_within is few did = record { looks = looks_within is few did.looks; failed = did.failed }
+-- nor is one of a segment that isn't listed
+pub unlisted_foreign : (listing : Listing) (key : PageKey) → (key.space ≡ System → ⊥) → is_some (segment_at listing key.segment) ≡ false → IsStorePage listing key → ⊥
+unlisted_foreign listing key other none (inl system) = other system
+unlisted_foreign listing key other none (inr listed) = true≢false (sym listed.0 ∙ none)
 
--- another result, which is no fault of the device unless the first is
-pub checks_as : {T U : Type 0} {noted : Keys} {asks : ℕ} {old new : PagesView} {first : Result T PageFault} (second : Result U PageFault) → (second ≡ Err DeviceFailed → first ≡ Err DeviceFailed) → ChecksPages noted asks old new first → ChecksPages noted asks old new second
-checks_as second is did = record { looks = did.looks; failed = λ failed. did.failed (is failed) }
+-- by its space, a page is one of a store
+pub store_page : (listing : Listing) (key : PageKey) → (key.space ≡ Image → ⊥) → (IsHeapKey key → is_some (segment_at listing key.segment) ≡ true) → IsStorePage listing key
+store_page listing key image listed = by key.space refl
+  where
+    by : (space : Space) → key.space ≡ space → IsStorePage listing key
+    by Home is = inr (listed (inl is), inl is)
+    by Overflow is = inr (listed (inr is), inr is)
+    by Image is = absurd (image is)
+    by System is = inl is
+
+-- each page of a map is, where those of the segments that there may be are
+pub store_pages : (listing : Listing) (slots : ℕ) (key : PageKey) → IsKey slots key → ((1 ≤ key.segment) → key.segment ≤ segments → IsStorePage listing key) → IsStorePage listing key
+store_pages listing slots key is each = by key.space refl is.segment
+  where
+    by : (space : Space) → key.space ≡ space → IsSegmentNumber space key.segment → IsStorePage listing key
+    by Home at low = each low.0 low.1
+    by Overflow at low = each low.0 low.1
+    by Image at low = each low.0 low.1
+    by System at low = inl at
+
+-- ---- one segment after another
+
+-- so often as many
+abbrev pub times : ℕ → ℕ → ℕ
+times zero n = 0
+times (suc k) n = times k n + n
+
+pub times_most : (k j n : ℕ) → times k n ≤ times (j + k) n
+times_most k zero n = let same : zero + k ≡ k = omega arith in omega (arith, ap (λ (m : ℕ). times m n) same)
+times_most k (suc j) n = let same : suc j + k ≡ suc (j + k) = omega arith in omega (arith, times_most k j n, ap (λ (m : ℕ). times m n) same)
+
+-- at most eight segments are looked through
+pub eight_most : (k n : ℕ) → k ≤ 8 → times k (130 * n) ≤ 1040 * n
+eight_most k n few =
+    let most = times_most k (8 - k) (130 * n) in
+    let eight : (8 - k) + k ≡ 8 = omega arith in
+    omega (arith, most, ap (λ (m : ℕ). times m (130 * n)) eight)
 
 -- what succeeds is no fault
-no_fault : {U : Type 0} (value : U) → ◌≡◌ {A = Result U PageFault} (Ok value) (Err DeviceFailed) → ⊥
+pub no_fault : {U : Type 0} (value : U) → ◌≡◌ {A = Result U PageFault} (Ok value) (Err DeviceFailed) → ⊥
 no_fault value is = cc
 
--- the error of a call is passed on
-pub passed_on : {T U : Type 0} {fault why : PageFault} (result : Result U PageFault) → IsErrAnd result (λ e. e ≡ fault) → result ≡ Err why → ◌≡◌ {A = Result T PageFault} (Err fault) (Err why)
-passed_on {fault = fault} {why = why} result is error =
-    let from = err_from_is_err_and result is in
-    let same : fault ≡ why = let e = sym (from.1 ∙ ap Err from.2) ∙ error in cc in
-    ap Err same
+-- The segments with lower numbers were looked through.
+pub record LookedAt (listing : Listing) (number : ℕ) (old now : PagesView) : Type 0 where
+  pub did : ChecksPages {T = Unit {0}} IsHeapKey (times (number - 1) (130 * old.slots)) old now (Ok tt)
+  pub checks : (segment : ℕ) → segment < number → is_some (segment_at listing segment) ≡ true → ChecksSegment listing segment old now
 
--- ---- the pages of the system space
+-- there is no segment 0
+none_zero : (listing : Listing) (segment : ℕ) → segment < 1 → is_some (segment_at listing segment) ≡ true → ⊥
+none_zero listing zero low there = true≢false (sym there)
+none_zero listing (suc segment) low there = omega arith
 
--- the first ones are there, and so many pages were asked for
-pub record LookedAt (number : ℕ) (old now : PagesView) : Type 0 where
-  pub has : (n : ℕ) → n < number → HasZeros n old
-  pub did : ChecksPages {T = Unit {0}} no_page number old now (Ok tt)
+pub looked_none : (listing : Listing) (view : PagesView) → LookedAt listing 1 view view
+looked_none listing view = record { did = checks_none {T = Unit {0}} view (Ok tt) (λ is. cc); checks = λ segment low there. absurd (none_zero listing segment low there) }
 
-pub looked_none : (view : PagesView) → LookedAt 0 view view
-looked_none view = record { has = λ n low. absurd (omega arith); did = checks_none {T = Unit {0}} view (Ok tt) (λ is. cc) }
+module _ {listing : Listing} {number : ℕ} {old mid : PagesView} (low : 1 ≤ number) (so : LookedAt listing number old mid) where
+  -- one that is not listed
+  pub looked_past : is_some (segment_at listing number) ≡ false → LookedAt listing (number + 1) old mid
+  looked_past none = record {
+    did = checks_within (λ key is. is) (let more : number + 1 - 1 ≡ suc (number - 1) = omega arith in omega (arith, ap (λ (k : ℕ). times k (130 * old.slots)) more)) so.did;
+    checks = λ segment below there. elim (cases_eq segment number) [
+      | inl here ↦ absurd (true≢false (sym there ∙ ap (λ (n : ℕ). is_some (segment_at listing n)) here ∙ none))
+      | inr other ↦ so.checks segment (omega (arith, other)) there
+    ];
+  }
 
-pub looked_more : {T : Type 0} {number : ℕ} {old mid new : PagesView} {result : Result T PageFault} → LookedAt number old mid → HasZeros number mid → ChecksPages no_page 1 mid new result → LookedAt (number + 1) old new
-looked_more {number = number} {old = old} {mid = mid} so has did = record {
-  has = λ n low. elim (cases_eq n number) [
-    | inl here ↦ subst (λ (k : ℕ). HasZeros k old) (sym here) (record {
-      mapped = ap (λ (m : Mapped). m (page_key 0 System number)) (sym so.did.looks.mapped) ∙ has.mapped;
-      zeros = λ told. ap (λ (h : Held). h (page_key 0 System number)) (sym (so.did.looks.held told)) ∙ has.zeros (so.did.looks.step.passes.leaves.told.0 told);
-    })
-    | inr off ↦ so.has n (omega (arith, off))
-  ];
-  did = checks_as (Ok tt) (λ is. absurd (no_fault tt is)) (checks_then so.did did);
-}
+  told_mid : IsTold old.disk → IsTold mid.disk
+  told_mid told = so.did.looks.step.passes.leaves.told.0 told
 
-pub has_all : {number : ℕ} {old now : PagesView} → LookedAt number old now → 10 ≤ number → HasSystem old
-has_all so all = record {
-  mapped = λ n low. (so.has n (omega arith)).mapped;
-  zeros = λ told n low. (so.has n (omega arith)).zeros told;
-}
+  -- it is the same from before on
+  sound_before : {segment : ℕ} (told : IsTold old.disk) → IsSegmentOf mid.held mid.slots listing segment → IsSegmentOf old.held old.slots listing segment
+  sound_before {segment = segment} told is = subst (λ (h : Held). IsSegmentOf h old.slots listing segment) (so.did.looks.held told) (subst (λ (n : ℕ). IsSegmentOf mid.held n listing segment) so.did.looks.step.passes.slots is)
 
-pub lacks_before : {number : ℕ} {old mid : PagesView} {place : Place} → LookedAt number old mid → LacksSystem mid place → LacksSystem old place
-lacks_before so lacks = record {
-  lacks = λ told holds. lacks.lacks (so.did.looks.step.passes.leaves.told.0 told) (subst HoldsSystem (sym (so.did.looks.held told)) holds);
-  elsewhere = lacks.elsewhere;
-}
+  sound_after : {segment : ℕ} (told : IsTold old.disk) → IsSegmentOf old.held old.slots listing segment → IsSegmentOf mid.held mid.slots listing segment
+  sound_after {segment = segment} told is = subst (λ (h : Held). IsSegmentOf h mid.slots listing segment) (sym (so.did.looks.held told)) (subst (λ (n : ℕ). IsSegmentOf old.held n listing segment) (sym so.did.looks.step.passes.slots) is)
+
+  pub misses_one : {place : Place} → is_some (segment_at listing number) ≡ true → MissesSegment listing number mid place → MissesOne listing old place
+  misses_one there misses = record {
+    segment = number;
+    listed = there;
+    misses = record { is_not = λ told is. misses.is_not (told_mid told) (sound_after told is); elsewhere = misses.elsewhere };
+  }
+
+  module _ {T : Type 0} {new : PagesView} {result : Result T PageFault} (did : ChecksPages (pages_of number) (130 * mid.slots) mid new result) where
+    -- both looks together
+    pub did_more : {U : Type 0} (other : Result U PageFault) → (other ≡ Err DeviceFailed → result ≡ Err DeviceFailed) → ChecksPages IsHeapKey (times (number + 1 - 1) (130 * old.slots)) old new other
+    did_more other is =
+        let wide : ChecksPages IsHeapKey (130 * mid.slots) mid new result = checks_within (λ key page. page.1) (omega arith) did in
+        let more : number + 1 - 1 ≡ suc (number - 1) = omega arith in
+        checks_as other is (checks_within (λ key page. page) (omega (arith, so.did.looks.step.passes.slots, ap (λ (k : ℕ). times k (130 * old.slots)) more)) (checks_then so.did wide))
+
+    -- a note on a page of another segment stays
+    noted_still : (segment : ℕ) → (segment ≡ number → ⊥) → IsTold mid.disk → AreNoted segment mid → AreNoted segment new
+    noted_still segment other told noted key bytes page is =
+        let was : mid.held key ≡ Some bytes = ap (λ (h : Held). h key) (sym (did.looks.held told)) ∙ is in
+        let same : new.notes key ≡ mid.notes key = did.looks.step.notes_off key (λ of. other (sym page.0 ∙ of.0)) in
+        subst (IsNoted key bytes) (sym same) (noted key bytes page was)
+
+    pub looked_more : ChecksSegment listing number mid new → LookedAt listing (number + 1) old new
+    looked_more checks = record {
+      did = did_more (Ok tt) (λ is. absurd (no_fault tt is));
+      checks = λ segment below there. elim (cases_eq segment number) [
+        | inl here ↦ subst (λ (n : ℕ). ChecksSegment listing n old new) (sym here) (record {
+          is = λ told. sound_before told (checks.is (told_mid told));
+          noted = λ told. checks.noted (told_mid told);
+        })
+        | inr other ↦
+            let was = so.checks segment (omega (arith, other)) there in
+            record { is = was.is; noted = λ told. noted_still segment other (told_mid told) (was.noted told) }
+      ];
+    }
+
+-- all of them
+pub looked_all : {listing : Listing} {number : ℕ} {old now : PagesView} → ListingFits listing → 9 ≤ number → LookedAt listing number old now → ChecksSegments listing old now
+looked_all {listing = listing} fits all so segment there =
+    let name = some_of (segment_at listing segment) there in
+    let within = number_within_list listing.segments segment name.0 name.1 in
+    so.checks segment (omega (arith, within.1, fits.segment_places)) there
 
 -- ---- all pages
 
--- the pages of the system space aren't as they should be
-pub none_system : {old : PagesView} {place : Place} → LacksSystem old place → FindsNone old place
-none_system lacks = record { none = λ told tables spells fit. lacks.lacks told spells.system; elsewhere = lacks.elsewhere }
-
--- the pages of the segment are out of form
-pub none_sound : {T : Type 0} {asks : ℕ} {old mid : PagesView} {place : Place} {result : Result T PageFault} → ChecksPages no_page asks old mid result → (IsTold mid.disk → IsSound mid.held 1 is_int_body → ⊥) → (place ≡ Room → ⊥) → FindsNone old place
-none_sound did flawed elsewhere = record {
-  none = λ told tables spells fit. flawed (did.looks.step.passes.leaves.told.0 told) (subst (λ (h : Held). IsSound h 1 is_int_body) (sym (did.looks.held told)) (spelled_sound spells fit));
-  elsewhere = elsewhere;
+-- the pages of the system space spell no listing
+pub none_listed : {old : PagesView} {place : Place} → (IsTold old.disk → (listing : Listing) → ListingFits listing → HoldsListing old.held listing → ⊥) → IsCatalogPlace place → FindsNone old place
+none_listed flawed named = record {
+  none = λ told listing tables system spells fit. flawed told listing spells.listed system;
+  elsewhere = λ room. let at = named.is in absurd (cc);
 }
 
--- both looks together
-pub did_both : {T U V : Type 0} {old mid new : PagesView} {first : Result T PageFault} {second : Result U PageFault} (result : Result V PageFault) → (result ≡ Err DeviceFailed → second ≡ Err DeviceFailed) → ChecksPages no_page 10 old mid first → ChecksPages heap_keys (130 * mid.slots) mid new second → ChecksPages heap_keys (130 * old.slots + 10) old new result
-did_both {old = old} {mid = mid} {new = new} {first = first} {second = second} result is one two =
-    let wide : ChecksPages heap_keys 10 old mid first = checks_within (λ key none. absurd none) (omega arith) one in
-    let both : ChecksPages heap_keys (10 + 130 * mid.slots) old new second = checks_then wide two in
-    checks_as result is (checks_within (λ key there. there) (omega (arith, one.looks.step.passes.slots)) both)
+module _ {T : Type 0} {old mid : PagesView} {catalog : CatalogView} {first : Result T PageFault} (holds : IsTold old.disk → (key : PageKey) → is_some (old.held key) ≡ old.mapped key) (allowed : (key : PageKey) → old.mapped key ≡ true → IsKey old.slots key) (loads : Loads old catalog) (did : ChecksPages no_page system_pages old mid first) where
+  told_then : IsTold old.disk → IsTold mid.disk
+  told_then told = did.looks.step.passes.leaves.told.0 told
 
--- the visitor counted the tuples, up to what it can count
-abbrev pub IsCensus : ℕ → List Row → Type 0
-IsCensus live rows = live ≡ min (length rows) (2 ^ 32 - 1)
+  was_mapped : (key : PageKey) → mid.mapped key ≡ true → old.mapped key ≡ true
+  was_mapped key is = ap (λ (m : Mapped). m key) (sym did.looks.mapped) ∙ is
 
-module _ {T : Type 0} {old mid : PagesView} {first : Result T PageFault} (keys : AreStorePages old.mapped) (holds : IsTold old.disk → (key : PageKey) → is_some (old.held key) ≡ old.mapped key) (allowed : (key : PageKey) → old.mapped key ≡ true → IsKey old.slots key) (did : ChecksPages no_page 10 old mid first) where
-  told_mid : IsTold old.disk → IsTold mid.disk
-  told_mid told = did.looks.step.passes.leaves.told.0 told
-
-  only_held : IsTold old.disk → (key : PageKey) → is_some (old.held key) ≡ true → IsStorePage key
-  only_held told key is = keys key (sym (holds told key) ∙ is)
+  -- there is a page that no store with these definitions has
+  pub none_foreign : {place : Place} (key : PageKey) → mid.mapped key ≡ true → (IsStorePage catalog.listing key → ⊥) → (place ≡ Room → ⊥) → FindsNone old place
+  none_foreign key is foreign elsewhere = record {
+    none = λ told. none_by old.held old.slots catalog.listing loads.fits (loads.holds told) (λ tables spells fit. foreign (spells.only key (holds told key ∙ was_mapped key is)));
+    elsewhere = elsewhere;
+  }
 
   key_held : IsTold old.disk → (key : PageKey) → is_some (old.held key) ≡ true → IsKey old.slots key
   key_held told key is = allowed key (sym (holds told key) ∙ is)
 
-  rows_same : IsTold old.disk → tuples_of mid.held 1 mid.slots ≡ tuples_of old.held 1 old.slots
-  rows_same told = λ i. tuples_of (did.looks.held told i) 1 (did.looks.step.passes.slots i)
-
-  census_of : (live : ℕ) (told : IsTold old.disk) → IsCensus live (tuples_of mid.held 1 mid.slots) → IsCensus live (tuples_of old.held 1 old.slots)
-  census_of live told is = subst (IsCensus live) (rows_same told) is
-
-  -- there are more tuples than a relation may have
-  pub none_few : (live : ℕ) {place : Place} → (IsTold mid.disk → IsCensus live (tuples_of mid.held 1 mid.slots)) → tuple_limit < live → (place ≡ Room → ⊥) → FindsNone old place
-  none_few live census many elsewhere = record {
-    none = λ told. none_counted old.held old.slots (only_held told) (key_held told) (let is = census_of live told (census (told_mid told)) in omega arith);
-    elsewhere = elsewhere;
+  -- a segment isn't in form
+  pub none_sound : {place : Place} → MissesOne catalog.listing mid place → FindsNone old place
+  none_sound one = record {
+    none = λ told. none_by old.held old.slots catalog.listing loads.fits (loads.holds told) (λ tables spells fit.
+        one.misses.is_not (told_then told) (subst (λ (h : Held). IsSegmentOf h mid.slots catalog.listing one.segment) (sym (did.looks.held told))
+        (subst (λ (n : ℕ). IsSegmentOf old.held n catalog.listing one.segment) (sym did.looks.step.passes.slots) (spelled_segment (key_held told) spells fit one.segment))));
+    elsewhere = one.misses.elsewhere;
   }
 
-  module _ {U : Type 0} {new : PagesView} {second : Result U PageFault} (then_did : ChecksPages heap_keys (130 * mid.slots) mid new second) (sound : IsTold mid.disk → IsSound mid.held 1 is_int_body) where
-    sound_old : IsTold old.disk → IsSound old.held 1 is_int_body
-    sound_old told = subst (λ (h : Held). IsSound h 1 is_int_body) (did.looks.held told) (sound (told_mid told))
+  module _ {U : Type 0} {new : PagesView} {second : Result U PageFault} (did_then : ChecksPages IsHeapKey (1040 * mid.slots) mid new second) where
+    -- both looks together
+    pub did_all : {V : Type 0} (result : Result V PageFault) → (result ≡ Err DeviceFailed → second ≡ Err DeviceFailed) → ChecksPages IsHeapKey (1040 * old.slots + system_pages) old new result
+    did_all result is =
+        let wide : ChecksPages IsHeapKey system_pages old mid first = checks_within (λ key none. absurd none) (omega arith) did in
+        checks_as result is (checks_within (λ key page. page) (omega (arith, did.looks.step.passes.slots)) (checks_then wide did_then))
 
-    same_held : IsTold old.disk → new.held ≡ old.held
-    same_held told = then_did.looks.held (told_mid told) ∙ did.looks.held told
+    module _ (only : (key : PageKey) → mid.mapped key ≡ true → IsStorePage catalog.listing key) (checks : ChecksSegments catalog.listing mid new) where
+      only_mapped : (key : PageKey) → old.mapped key ≡ true → IsStorePage catalog.listing key
+      only_mapped key is = only key (ap (λ (m : Mapped). m key) did.looks.mapped ∙ is)
 
-    formed_now : IsTold old.disk → AreNoted 1 new → AreFormed new
-    formed_now told noted key bytes heap is = elim (only_held told key (ap (λ (h : Held). is_some (h key)) (sym (same_held told)) ∙ ap is_some is)) [
-      | inl system ↦ elim heap [ inl home ↦ absurd (cc) | inr over ↦ absurd (cc) ]
-      | inr one ↦ (noted key bytes one is).heap
-    ]
+      only_held : IsTold old.disk → (key : PageKey) → is_some (old.held key) ≡ true → IsStorePage catalog.listing key
+      only_held told key is = only_mapped key (sym (holds told key) ∙ is)
 
-    linked_now : IsTold old.disk → (segment : ℕ) → AreLinked (homes new.held segment) (overflows new.held segment)
-    linked_now told segment =
-        subst (λ (h : Held). AreLinked (homes h segment) (overflows h segment)) (sym (same_held told))
-        (linked_all old.held old.slots (only_held told) (key_held told) (sound_old told).linked segment)
+      sound_old : IsTold old.disk → (segment : ℕ) → is_some (segment_at catalog.listing segment) ≡ true → IsSegmentOf old.held old.slots catalog.listing segment
+      sound_old told segment there =
+          subst (λ (h : Held). IsSegmentOf h old.slots catalog.listing segment) (did.looks.held told)
+          (subst (λ (n : ℕ). IsSegmentOf mid.held n catalog.listing segment) did.looks.step.passes.slots ((checks segment there).is (told_then told)))
 
-    -- all are found
-    pub finds_tables : (live : ℕ) → live ≤ tuple_limit → HasSystem old → (IsTold mid.disk → IsCensus live (tuples_of mid.held 1 mid.slots)) → (IsTold mid.disk → AreNoted 1 new) → FindsTables old new live
-    finds_tables live few system census noted = record {
-      few = few;
-      system = system;
-      holds = λ told. holds_found old.held old.slots (only_held told) (key_held told) (sound_old told) (system.zeros told) live (let is = census_of live told (census (told_mid told)) in omega arith) few;
-      heaps = λ told. record { formed = formed_now told (noted (told_mid told)); linked = linked_now told };
-    }
+      same_held : IsTold old.disk → new.held ≡ old.held
+      same_held told = did_then.looks.held (told_then told) ∙ did.looks.held told
+
+      all_noted : IsTold old.disk → AreAllNoted catalog.listing new
+      all_noted told segment there = (checks segment there).noted (told_then told)
+
+      heaps_now : IsTold old.disk → AreHeaps new
+      heaps_now told = record {
+        formed = λ key bytes heap is.
+            let was : old.held key ≡ Some bytes = ap (λ (h : Held). h key) (sym (same_held told)) ∙ is in
+            (all_noted told key.segment (heap_listed old.held catalog.listing (only_held told) key heap (ap is_some was)) key bytes (refl, heap) is).heap;
+        linked = λ segment. subst (λ (h : Held). AreLinked (homes h segment) (overflows h segment)) (sym (same_held told))
+            (linked_found old.held old.slots catalog.listing loads.fits (only_held told) (key_held told) (sound_old told) segment);
+      }
+
+      -- all are found
+      pub finds_tables : FindsTables old new catalog
+      finds_tables = record {
+        loaded = loads;
+        only = only_mapped;
+        holds = λ told. holds_found old.held old.slots catalog.listing loads.fits (only_held told) (key_held told) (sound_old told) (loads.holds told);
+        heaps = heaps_now;
+        noted = all_noted;
+      }

@@ -1,9 +1,9 @@
 -- Why pages don't open.
-use Rattle.std.proofs.Common.{◌≡◌, inl, inr, ℕ, ◌*◌, ◌<◌, ◌≤◌, List, Option, refl, sym, ◌∙◌, ap, subst, arith}
+use Rattle.std.proofs.Common.{◌≡◌, inl, inr, ℕ, ◌*◌, ◌<◌, ◌≤◌, List, Option, refl, sym, ap, subst, arith}
 use Rattle.std.specs.Prelude.{is_some, count_by}
 use Rattle.rss_base.specs.Answers.{open_error}
 use Rattle.rss_base.specs.DiskRule.{Pages}
-use Rattle.rss_base.specs.Layout.{map_at, slots_at, HasRoot, IsLayoutFault}
+use Rattle.rss_base.specs.Layout.{map_at, HasRoot, IsLayoutFault}
 use Rattle.rss_base.specs.PageMap.{page_count, IsMap}
 use Rattle.rss_base.specs.declared.fault.OpenFault.{OpenFault}
 use Rattle.rss_base.specs.declared.fault.OpenFault.TheVariants.{Device as DeviceFailed, NotAStore, Damaged, WrongSize as NoSize, NoMemory as LacksMemory}
@@ -13,10 +13,8 @@ use Rattle.rss_base.specs.declared.key.PageKey.{PageKey}
 use Rattle.rss_base.specs.declared.place.Place.{Place}
 use Rattle.rss_base.specs.declared.place.Place.TheVariants.{Room}
 use Rattle.rss_base.specs.declared.root.Root.{Root}
-use Rattle.rss_shadow.proofs.Owned.{mapped-owned}
-use Rattle.rss_model.specs.Store.{IsStore, IsBrokenAt, IsOverfull, IsNoStore, stored}
-use Rattle.rss_rsi.specs.Opening.{IsForeign, LacksStore, IsRefused}
-use Rattle.rss_rsi.proofs.Holding.{held_mapped}
+use Rattle.rss_model.specs.Store.{HasFirstLog, IsStore, IsBrokenAt, IsOverfull, IsNoStore, stored}
+use Rattle.rss_rsi.specs.Opening.{LacksStore, IsRefused}
 use Rattle.rss_rsi.proofs.Stores.{one_root, one_map, sound_unbroken, broken_once}
 
 -- ---- a layout that is out of form
@@ -54,9 +52,9 @@ no_store : {pages : Pages} {number : ℕ} {root : Root} {owners : List (Option P
 no_store {pages = pages} {root = root} {owners = owners} has map lacks size tables opens =
     let is = opens.stored in
     let roots : root ≡ is.root = (one_root has opens.store.root_there).1 in
-    let there : IsStore pages (stored is.number root is.owners is.tables) = subst (λ (r : Root). IsStore pages (stored is.number r is.owners is.tables)) (sym roots) opens.store in
+    let there : IsStore pages (stored is.number root is.owners is.listing is.tables) = subst (λ (r : Root). IsStore pages (stored is.number r is.owners is.listing is.tables)) (sym roots) opens.store in
     let maps : owners ≡ is.owners = one_map has.there.formed map there.map in
-    lacks is.number is.tables (subst (λ (o : List (Option PageKey)). IsStore pages (stored is.number root o is.tables)) (sym maps) there)
+    lacks is.number is.listing is.tables (subst (λ (o : List (Option PageKey)). IsStore pages (stored is.number root o is.listing is.tables)) (sym maps) there)
 
 -- where there isn't room for each page in two slots, that is why
 pub refused_damaged : {pages : Pages} {number : ℕ} {root : Root} {owners : List (Option PageKey)} (place : Place) → HasRoot pages number root → IsMap root.slots pages (map_at root.slots root.area) owners → LacksStore pages root owners → (root.slots < 2 * count_by is_some owners → place ≡ Room) → (place ≡ Room → root.slots < 2 * count_by is_some owners) → IsRefused pages (Damaged place)
@@ -77,9 +75,10 @@ refused_look {pages = pages} PageDevice has map half lacks elsewhere = refused_d
 refused_look (PageDamaged place) has map half lacks elsewhere = refused_damaged place has map (lacks place refl) (λ over. absurd (omega (arith, half, over))) (λ is. absurd (elsewhere place refl is))
 refused_look {pages = pages} PageNoMemory has map half lacks elsewhere = refused_memory pages
 
--- ---- a map of no store
+-- a log that isn't as it is made is that of no store
+pub lacks_log : (pages : Pages) (root : Root) (owners : List (Option PageKey)) → (HasFirstLog root → ⊥) → LacksStore pages root owners
+lacks_log pages root owners other number listing tables store = other store.log
 
--- each page of a store's map is one that a store may have
-pub lacks_foreign : (pages : Pages) (root : Root) (owners : List (Option PageKey)) {key : PageKey} → IsForeign owners key → LacksStore pages root owners
-lacks_foreign pages root owners {key = key} foreign number tables store =
-    foreign.foreign (store.spells.only key (held_mapped (slots_at root.slots root.log_pages) pages owners key ∙ mapped-owned owners key foreign.slot foreign.owned))
+-- nor is a map without room
+pub lacks_room : (pages : Pages) (root : Root) (owners : List (Option PageKey)) → root.slots < 2 * page_count owners → LacksStore pages root owners
+lacks_room pages root owners over number listing tables store = omega (arith, over, store.room)

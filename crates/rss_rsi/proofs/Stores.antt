@@ -4,7 +4,8 @@ use Rattle.std.specs.Prelude.{count_by, is_some}
 use Rattle.rss_base.specs.DiskRule.{Pages}
 use Rattle.rss_base.specs.Layout.{map_at, slots_at, IsWellFormed, HasRoot, root_of}
 use Rattle.rss_base.specs.PageMap.{IsMap, IsMapFault}
-use Rattle.rss_base.specs.Paged.{mapped_of}
+use Rattle.rss_base.specs.Listings.{Listing, HoldsListing}
+use Rattle.rss_base.specs.Paged.{Held, mapped_of}
 use Rattle.rss_base.specs.StoredPages.{mapped_by, held_at}
 use Rattle.rss_base.specs.declared.key.Space.TheVariants.{Overflow}
 use Rattle.rss_base.specs.declared.key.PageKey.{PageKey}
@@ -15,8 +16,9 @@ use Rattle.rss_root.proofs.Faults.{fault_once, root_no_fault}
 use Rattle.rss_pagemap.proofs.Maps.{same_map, no_fault, one_fault}
 use Rattle.rss_model.specs.Tables.{Tables}
 use Rattle.rss_model.specs.Machine.{StoreSize}
-use Rattle.rss_model.specs.Store.{SpellsTables, Stored, size_of, overflow_pages, IsStore, OpensTo, IsBrokenAt, IsOverfull, at_root, at_map}
-use Rattle.rss_model.proofs.Heap.{spells_once}
+use Rattle.rss_model.specs.Store.{SpellsTables, Stored, size_of, held_in, overflow_pages, IsStore, OpensTo, IsBrokenAt, IsOverfull, at_root, at_map}
+use Rattle.rss_model.proofs.Spelled.{spells_once}
+use Rattle.rss_rsi.proofs.OneListing.{one_listing}
 
 -- one root is selected
 pub one_root : {pages : Pages} {m n : ℕ} {a b : Root} → HasRoot pages m a → HasRoot pages n b → (m ≡ n) × (a ≡ b)
@@ -36,10 +38,16 @@ module _ {pages : Pages} {one two : Stored} (first : IsStore pages one) (second 
   same_owners = one_map first.root_there.there.formed first.map
       (subst (λ (r : Root). IsMap r.slots pages (map_at r.slots r.area) two.owners) (sym same_roots) second.map)
 
+  -- what the second holds is what the first does
+  held_same : held_in pages two ≡ held_in pages one
+  held_same = λ i. held_at (slots_at (sym same_roots i).slots (sym same_roots i).log_pages) pages (sym same_owners i)
+
+  pub same_listing : two.listing ≡ one.listing
+  same_listing = one_listing (held_in pages one) two.listing one.listing second.spells.listed first.spells.listed (subst (λ (h : Held). HoldsListing h two.listing) held_same second.system) first.system
+
   pub same_tables : one.tables ≡ two.tables
   same_tables = spells_once first.spells
-      (subst (λ (o : List (Option PageKey)). SpellsTables (held_at (slots_at one.root.slots one.root.log_pages) pages o) two.tables) (sym same_owners)
-      (subst (λ (r : Root). SpellsTables (held_at (slots_at r.slots r.log_pages) pages two.owners) two.tables) (sym same_roots) second.spells))
+      (subst (λ (l : Listing). SpellsTables (held_in pages one) l two.tables) same_listing (subst (λ (h : Held). SpellsTables h two.listing two.tables) held_same second.spells))
       first.fit second.fit
 
   pub same_overflow : overflow_pages one ≡ overflow_pages two

@@ -1,16 +1,15 @@
 -- What a call on one tuple changes.
-use Rattle.std.proofs.Common.{SFits, to_z, of_z, ◌≡◌, ◌≢◌, ◌⊎◌, inl, inr, ⊎_elim, ℕ, zero, suc, ◌+◌, ◌<◌, ◌≤◌, true, false, Bool, cond, ◌&&◌, ◌==◌, List, [], length, set, map, Option, Some, None, refl, sym, ◌∙◌, ap, subst, arith, rules, ext_get_or, length-set}
-use Rattle.std.specs.Prelude.{Result, Ok, Err, OnOk, IsSome, ℤ, sum_by, sum, count_by, is_some}
+use Rattle.std.proofs.Common.{◌≡◌, ◌≢◌, ◌⊎◌, inl, inr, ⊎_elim, ℕ, zero, suc, ◌+◌, ◌-◌, ◌<◌, ◌≤◌, true, false, Bool, cond, ◌&&◌, ◌==◌, List, [], ◌∷◌, length, set, map, drop, get_or, Option, Some, None, refl, sym, ◌∙◌, ap, subst, arith, rules, ext_get_or, length-set}
+use Rattle.std.specs.Prelude.{Result, Ok, Err, OnOk, IsSome, slice_get, sum_by, sum, count_by, is_some}
 use Rattle.std.specs.List.{range_with_len}
-use Rattle.std.specs.Int.{w64}
-use Rattle.std.proofs.lemmas.Int.{to_z-of_z}
-use Rattle.std.proofs.lemmas.Bool.{cases_Bool, cases_eq, cases_lt, cond-true, cond-false, ne_eqb}
+use Rattle.std.proofs.lemmas.Bool.{cases_Bool, cases_eq, cases_lt, cond-true, cond-false, ne_eqb, eq-eqb, and_from, and_right, true≢false}
 use Rattle.std.proofs.lemmas.List.{length-map, get_or-map, get_or-set_same, get_or-set_other}
 use Rattle.std.proofs.lemmas.List.Sums.{sum_by-cons, sum-map, get_or-le-sum_by}
-use Rattle.std.proofs.lemmas.List.FromFn.{length-map-range_with_len, get_or-map-range_with_len}
+use Rattle.std.proofs.lemmas.List.FromFn.{length-map-range_with_len, get_or-map-range_with_len, get_or-range_with_len}
+use Rattle.std.proofs.lemmas.Option.{same_Some}
 use Rattle.rss_base.specs.DiskRule.{IsTold}
 use Rattle.rss_base.specs.PageMap.{page_count}
-use Rattle.rss_base.specs.Paged.{Mapped, Held, Backing, IsUnmappedAt, AreAmong, page_key, mapped_in, mapped_pages}
+use Rattle.rss_base.specs.Paged.{Mapped, Held, Backing, IsUnmappedAt, AreAmong, page_key, mapped_in, mapped_of, mapped_pages}
 use Rattle.rss_base.specs.Steps.{PagesView, AreCounted, Keys, no_page, pages_in, PassesOn, PagesStep, PagesCall}
 use Rattle.rss_base.specs.declared.fault.PageFault.{PageFault}
 use Rattle.rss_base.specs.declared.tid.Tid.{Tid}
@@ -26,13 +25,13 @@ use Rattle.rss_tuple.specs.Directory.{Entries, Bodies, contents_in, contents, ho
 use Rattle.rss_tuple.specs.Finding.{IsFetched}
 use Rattle.rss_tuple.specs.TupleSteps.{TuplesCall, tuples_in, only_tuple, pages_for}
 use Rattle.rss_tuple.specs.Placing.{IsFree, TakesOnly, MayTake, home, overflow}
-use Rattle.rss_tuple.specs.Calls.{IsNoLonger, PutsTuple}
+use Rattle.rss_tuple.specs.Calls.{IsSegment, IsNoLonger, PutsTuple}
+use Rattle.rss_tuple.specs.Checked.{pages_of}
 use Rattle.rss_tuple.proofs.Seen.{high_empty}
 use Rattle.rss_tuple.proofs.Changes.{empty_absent, live_some, fits_unmapped}
 use Rattle.rss_tuple.proofs.Placed.{empty_there}
 use Rattle.rss_model.specs.Costs.{IsPageFor}
-use Rattle.rss_rsi.specs.Bodies.{int_body}
-use Rattle.rss_rsi.specs.Tuples.{size_of_body, bytes_at, heap_keys, ChangesTuple}
+use Rattle.rss_rsi.specs.Tuples.{body_at, size_of_body, bytes_at, ChangesTuple, FindsBody}
 
 -- ---- sums over a range of numbers
 
@@ -75,19 +74,23 @@ all_or_one test a (suc n) = elim (cases_Bool (test a)) [
 
 -- ---- a page that isn't mapped
 
--- where fewer pages are mapped than there are slots, some home page isn't
-pub some_unmapped : (slots : ℕ) (mapped : Mapped) → mapped_pages slots mapped < slots → (number : ℕ) × IsUnmappedAt slots mapped 1 Home number
+-- where fewer pages are mapped than there are slots, some home page of each segment isn't
+pub some_unmapped : (slots : ℕ) (mapped : Mapped) (segment : ℕ) → IsSegment segment → mapped_pages slots mapped < slots → (number : ℕ) × IsUnmappedAt slots mapped segment Home number
 unfolding mapped_pages
-some_unmapped slots mapped few = elim (all_or_one (λ number. mapped (page_key 1 Home number)) 0 slots) [
+some_unmapped slots mapped segment within few = elim (all_or_one (λ number. mapped (page_key segment Home number)) 0 slots) [
   | inl one ↦ (one.0, record { within = omega (arith, one.1); free = one.2 })
-  | inr all ↦ absurd (omega (arith, few, all, get_or-le-sum_by (mapped_in mapped Home slots) (range_with_len 1 8) 0 0 (omega arith)))
+  | inr all ↦
+      let place : get_or (range_with_len 1 8) (segment - 1) 0 ≡ segment = omega (arith, within.low, within.high, get_or-range_with_len 1 8 (segment - 1) 0 (omega (arith, within.low, within.high))) in
+      let part : mapped_in mapped Home slots segment ≤ mapped_of mapped Home slots =
+      omega (arith, ap (mapped_in mapped Home slots) place, get_or-le-sum_by (mapped_in mapped Home slots) (range_with_len 1 8) (segment - 1) 0 (omega (arith, within.high))) in
+      absurd (omega (arith, few, all, part))
 ]
 
 -- its identifiers are free
-pub free_there : (view : PagesView) (number : ℕ) → is_some (view.held (page_key 1 Home number)) ≡ view.mapped (page_key 1 Home number) → IsUnmappedAt view.slots view.mapped 1 Home number → IsFree (tuples_in view) 1 [] (tid_at number 0)
-free_there view number holds unmapped = record {
+pub free_there : (view : PagesView) (segment number : ℕ) → is_some (view.held (page_key segment Home number)) ≡ view.mapped (page_key segment Home number) → IsUnmappedAt view.slots view.mapped segment Home number → IsFree (tuples_in view) segment [] (tid_at number 0)
+free_there view segment number holds unmapped = record {
   named = record { within = unmapped.within; low = omega arith; allowed = λ has. absurd (omega (arith, has.1)) };
-  absent = empty_absent (overflows view.held 1) (homes view.held 1 number 0) (empty_there view (page_key 1 Home number) 0 holds unmapped.free);
+  absent = empty_absent (overflows view.held segment) (homes view.held segment number 0) (empty_there view (page_key segment Home number) 0 holds unmapped.free);
 }
 
 -- as many pages are spare where as many are mapped
@@ -135,9 +138,9 @@ other_tid tid slot other = cond-right (tid.page == tid.page) (ne_eqb slot tid.sl
 more_than : (a b c d : ℕ) → 3056 < a + d → a ≡ b → b + d ≤ c → 3056 < c
 more_than a b c d over same less = omega arith
 
-module _ (held : Held) (tid : Tid) (body : List ℕ) where
+module _ (held : Held) (segment : ℕ) (tid : Tid) (body : List ℕ) where
   abbrev all : List Content
-  all = contents held (page_key 1 Home tid.page)
+  all = contents held (page_key segment Home tid.page)
 
   abbrev beside : List Content
   beside = set all tid.slot Empty
@@ -146,18 +149,25 @@ module _ (held : Held) (tid : Tid) (body : List ℕ) where
   was slot = body_length (held_at beside slot)
 
   abbrev now : ℕ → ℕ
-  now slot = size_of_body (with_body (bodies_of held) 1 tid (Some body) 1 (tid_at tid.page slot))
+  now slot = size_of_body (with_body (bodies_of held) segment tid (Some body) segment (tid_at tid.page slot))
+
+  abbrev is_here : ℕ → Bool
+  is_here slot = (segment == segment) && is_same_tid (tid_at tid.page slot) tid
 
   here : tid.slot < 128 → length all ≡ 128 → was tid.slot + length body ≤ now tid.slot
-  here low long = omega (arith, ap body_length (get_or-set_same all tid.slot Empty Empty (omega (arith, low, long))), ap size_of_body (cond-true (is_same_tid (tid_at tid.page tid.slot) tid) (Some body) (bodies_of held 1 (tid_at tid.page tid.slot)) (same_tid tid)))
+  here low long =
+      let same : is_here tid.slot ≡ true = and_from (segment == segment) (is_same_tid (tid_at tid.page tid.slot) tid) (eq-eqb segment segment refl) (same_tid tid) in
+      omega (arith, ap body_length (get_or-set_same all tid.slot Empty Empty (omega (arith, low, long))), ap size_of_body (cond-true (is_here tid.slot) (Some body) (bodies_of held segment (tid_at tid.page tid.slot)) same))
 
   there : (slot : ℕ) → slot ≢ tid.slot → was slot ≤ now slot
-  there slot other = omega (arith, ap body_length (get_or-set_other all tid.slot slot Empty Empty other), entry_less (overflows held 1) (homes held 1 tid.page slot), ap size_of_body (cond-false (is_same_tid (tid_at tid.page slot) tid) (Some body) (bodies_of held 1 (tid_at tid.page slot)) (other_tid tid slot other)))
+  there slot other =
+      let apart : is_here slot ≡ false = and_right (segment == segment) (is_same_tid (tid_at tid.page slot) tid) (other_tid tid slot other) in
+      omega (arith, ap body_length (get_or-set_other all tid.slot slot Empty Empty other), entry_less (overflows held segment) (homes held segment tid.page slot), ap size_of_body (cond-false (is_here slot) (Some body) (bodies_of held segment (tid_at tid.page slot)) apart))
 
   -- where a body has no room beside the others of its home page, all tuples with identifiers of that page have more bytes than it has room for
-  overfilled : tid.slot < 128 → length body ≤ 2400 → (HasRoom all tid.slot (length body) → ⊥) → bodies_room < bytes_at (with_body (bodies_of held) 1 tid (Some body)) tid.page
-  overfilled low few full = elim (contents_long (held (page_key 1 Home tid.page))) [
-    | inr none ↦ absurd (full (fits_unmapped held (page_key 1 Home tid.page) tid.slot (length body) none few))
+  overfilled : tid.slot < 128 → length body ≤ 2400 → (HasRoom all tid.slot (length body) → ⊥) → bodies_room < bytes_at (with_body (bodies_of held) segment tid (Some body)) segment tid.page
+  overfilled low few full = elim (contents_long (held (page_key segment Home tid.page))) [
+    | inr none ↦ absurd (full (fits_unmapped held (page_key segment Home tid.page) tid.slot (length body) none few))
     | inl long ↦ elim (cases_lt 3056 (bytes_in beside + length body)) [
       | inr room ↦ absurd (full room)
       | inl over ↦
@@ -172,58 +182,59 @@ module _ (held : Held) (tid : Tid) (body : List ℕ) where
 taken : {keys : Keys} {old new : PagesView} → TakesOnly keys old new → (key : PageKey) → new.mapped key ≡ true → old.mapped key ≡ false → keys key
 taken takes key is not = ⊎_elim (λ was. absurd (let never : true ≡ false = sym was ∙ not in cc)) (λ may. may) (takes.each key is)
 
-page_for : (tid : Tid) (key : PageKey) → pages_for 1 tid key → IsPageFor tid key
-page_for tid key (inl home_page) = inl (ap (λ (k : PageKey). k.space) home_page, ap (λ (k : PageKey). k.number) home_page)
-page_for tid key (inr over) = inr (ap (λ (k : PageKey). k.space) over)
+page_for : (segment : ℕ) (tid : Tid) (key : PageKey) → pages_for segment tid key → IsPageFor tid key
+page_for segment tid key (inl home_page) = inl (ap (λ (k : PageKey). k.space) home_page, ap (λ (k : PageKey). k.number) home_page)
+page_for segment tid key (inr over) = inr (ap (λ (k : PageKey). k.space) over)
 
-pub heap_key : (tid : Tid) (key : PageKey) → pages_for 1 tid key → heap_keys key
-heap_key tid key (inl home_page) = (ap (λ (k : PageKey). k.segment) home_page, inl (ap (λ (k : PageKey). k.space) home_page))
-heap_key tid key (inr over) = (ap (λ (k : PageKey). k.segment) over, inr (ap (λ (k : PageKey). k.space) over))
+-- a page of one tuple is one of its segment
+pub heap_key : (segment : ℕ) (tid : Tid) (key : PageKey) → pages_for segment tid key → pages_of segment key
+heap_key segment tid key (inl home_page) = (ap (λ (k : PageKey). k.segment) home_page, inl (ap (λ (k : PageKey). k.space) home_page))
+heap_key segment tid key (inr over) = (ap (λ (k : PageKey). k.segment) over, inr (ap (λ (k : PageKey). k.space) over))
 
-pub home_key : (key : PageKey) → pages_in 1 Home key → heap_keys key
-home_key key is = (ap (λ (k : PageKey). k.segment) is, inl (ap (λ (k : PageKey). k.space) is))
+pub home_key : (segment : ℕ) (key : PageKey) → pages_in segment Home key → pages_of segment key
+home_key segment key is = (ap (λ (k : PageKey). k.segment) is, inl (ap (λ (k : PageKey). k.space) is))
 
 -- more pages may be touched by a call
 pub widens_keys : {T : Type 0} {touched more : Keys} {asks writes : ℕ} {old new : PagesView} {result : Result T PageFault} → ((key : PageKey) → touched key → more key) → PagesCall touched asks writes old new result → PagesCall more asks writes old new result
 widens_keys is call = record { step = among is call.step; failed = call.failed; sound = call.sound }
 
-changed_for : {asks writes : ℕ} (tid : Tid) {old new : PagesView} → PagesStep (pages_for 1 tid) asks writes old new → (key : PageKey) → new.changed key ≡ true → (old.changed key ≡ true) ⊎ IsPageFor tid key
-changed_for tid step key is = ⊎_elim (λ before. inl before) (λ touched. inr (page_for tid key touched)) (step.changed_off key is)
+changed_for : {asks writes : ℕ} (segment : ℕ) (tid : Tid) {old new : PagesView} → PagesStep (pages_for segment tid) asks writes old new → (key : PageKey) → new.changed key ≡ true → (old.changed key ≡ true) ⊎ IsPageFor tid key
+changed_for segment tid step key is = ⊎_elim (λ before. inl before) (λ touched. inr (page_for segment tid key touched)) (step.changed_off key is)
 
-overfills : (old : PagesView) (tid : Tid) (body : List ℕ) (key : PageKey) → tid.slot < 128 → length body ≤ 2400 → key.space ≡ Overflow → MayTake old 1 tid body key → bodies_room < bytes_at (with_body (bodies_of old.held) 1 tid (Some body)) tid.page
-overfills old tid body key low few space (home at none) = absurd (let both : Overflow ≡ Home = sym space ∙ ap (λ (k : PageKey). k.space) at in cc)
-overfills old tid body key low few space (overflow at full away none) = overfilled old.held tid body low few full
+overfills : (old : PagesView) (segment : ℕ) (tid : Tid) (body : List ℕ) (key : PageKey) → tid.slot < 128 → length body ≤ 2400 → key.space ≡ Overflow → MayTake old segment tid body key → bodies_room < bytes_at (with_body (bodies_of old.held) segment tid (Some body)) segment tid.page
+overfills old segment tid body key low few space (home at none) = absurd (let both : Overflow ≡ Home = sym space ∙ ap (λ (k : PageKey). k.space) at in cc)
+overfills old segment tid body key low few space (overflow at full away none) = overfilled old.held segment tid body low few full
 
 -- an overflow page is taken only where the body is longer than the one before
-abbrev pub OnlyLonger : PagesView → PagesView → Tid → List ℕ → Type 0
-OnlyLonger old new tid body =
-    IsTold old.disk → (key : PageKey) → key.space ≡ Overflow → new.mapped key ≡ true → old.mapped key ≡ false → size_of_body (bodies_of old.held 1 tid) < length body
+abbrev pub OnlyLonger : PagesView → PagesView → ℕ → Tid → List ℕ → Type 0
+OnlyLonger old new segment tid body =
+    IsTold old.disk → (key : PageKey) → key.space ≡ Overflow → new.mapped key ≡ true → old.mapped key ≡ false → size_of_body (bodies_of old.held segment tid) < length body
 
-pub changes_put : {T : Type 0} {cost : ℕ} {tid : Tid} {body : List ℕ} {old new : PagesView} (result : Result T PageFault) → (IsTold old.disk → tid.slot < 128) → length body ≤ 2400 → OnOk result (OnlyLonger old new tid body) → PutsTuple 1 tid body cost (tuples_in old) (tuples_in new) result → OnOk result (ChangesTuple tid (Some body) old new)
+pub changes_put : {T : Type 0} {cost segment : ℕ} {tid : Tid} {body : List ℕ} {old new : PagesView} (result : Result T PageFault) → (IsTold old.disk → tid.slot < 128) → length body ≤ 2400 → OnOk result (OnlyLonger old new segment tid body) → PutsTuple segment tid body cost (tuples_in old) (tuples_in new) result → OnOk result (ChangesTuple segment tid (Some body) old new)
 changes_put (Err e) low few longer puts = tt
-changes_put {tid = tid} {body = body} {old = old} (Ok value) low few longer puts = record {
+changes_put {segment = segment} {tid = tid} {body = body} {old = old} (Ok value) low few longer puts = record {
   one = λ key other is not there none. taken puts.takes.one key is not ∙ sym (taken puts.takes.one other there none);
-  changed = changed_for tid puts.did.below.step;
+  changed = changed_for segment tid puts.did.below.step;
   sets = λ told. record {
     bodies = puts.put told;
     heaps = puts.did.heaps told;
     over = λ key space is not.
-        subst (λ (b : Bodies). bodies_room < bytes_at b tid.page) (sym (puts.put told))
-        (overfills old tid body key (low told) few space (taken (puts.takes.may told) key is not));
+        subst (λ (b : Bodies). bodies_room < bytes_at b segment tid.page) (sym (puts.put told))
+        (overfills old segment tid body key (low told) few space (taken (puts.takes.may told) key is not));
     grows = longer told;
   };
 }
 
 -- no tuple stood there
-pub longer_new : (old new : PagesView) (tid : Tid) (body : List ℕ) → 1 ≤ length body → (IsTold old.disk → bodies_of old.held 1 tid ≡ None) → OnlyLonger old new tid body
-longer_new old new tid body some absent told key space is not = omega (arith, some, ap size_of_body (absent told))
+pub longer_new : (old new : PagesView) (segment : ℕ) (tid : Tid) (body : List ℕ) → 1 ≤ length body → (IsTold old.disk → bodies_of old.held segment tid ≡ None) → OnlyLonger old new segment tid body
+longer_new old new segment tid body some absent told key space is not = omega (arith, some, ap size_of_body (absent told))
 
 -- one stood there, and no page is taken where the body isn't longer
-pub longer_put : {T : Type 0} (old new : PagesView) (tid : Tid) (body : List ℕ) (result : Result T PageFault) → (IsTold old.disk → IsSome (bodies_of old.held 1 tid)) → OnOk result (IsTold old.disk → IsNoLonger (tuples_in old) 1 tid (length body) → TakesOnly no_page old new) → OnOk result (OnlyLonger old new tid body)
-longer_put old new tid body (Err e) live takes = tt
-longer_put old new tid body (Ok value) live takes = λ told key space is not. by told key is not (bodies_of old.held 1 tid) refl (live told)
+pub longer_put : {T : Type 0} (old new : PagesView) (segment : ℕ) (tid : Tid) (body : List ℕ) (result : Result T PageFault) → (IsTold old.disk → IsSome (bodies_of old.held segment tid)) → OnOk result (IsTold old.disk → IsNoLonger (tuples_in old) segment tid (length body) → TakesOnly no_page old new) → OnOk result (OnlyLonger old new segment tid body)
+longer_put old new segment tid body (Err e) live takes = tt
+longer_put old new segment tid body (Ok value) live takes = λ told key space is not. by told key is not (bodies_of old.held segment tid) refl (live told)
   where
-    by : IsTold old.disk → (key : PageKey) → new.mapped key ≡ true → old.mapped key ≡ false → (was : Option (List ℕ)) → bodies_of old.held 1 tid ≡ was → IsSome was → size_of_body was < length body
+    by : IsTold old.disk → (key : PageKey) → new.mapped key ≡ true → old.mapped key ≡ false → (was : Option (List ℕ)) → bodies_of old.held segment tid ≡ was → IsSome was → size_of_body was < length body
     by told key is not None at some = absurd (cc)
     by told key is not (Some bytes) at some = elim (cases_lt (length bytes) (length body)) [
       | inl longer ↦ longer
@@ -231,11 +242,11 @@ longer_put old new tid body (Ok value) live takes = λ told key space is not. by
     ]
 
 -- a tuple was taken away
-pub changes_removed : {T : Type 0} {cost : ℕ} {tid : Tid} {old new : PagesView} (result : Result T PageFault) → OnOk result (IsTold old.disk → bodies_of new.held ≡ with_body (bodies_of old.held) 1 tid None) → OnOk result (TakesOnly no_page old new) → TuplesCall (pages_for 1 tid) (only_tuple 1 tid) cost (tuples_in old) (tuples_in new) result → OnOk result (ChangesTuple tid None old new)
+pub changes_removed : {T : Type 0} {cost segment : ℕ} {tid : Tid} {old new : PagesView} (result : Result T PageFault) → OnOk result (IsTold old.disk → bodies_of new.held ≡ with_body (bodies_of old.held) segment tid None) → OnOk result (TakesOnly no_page old new) → TuplesCall (pages_for segment tid) (only_tuple segment tid) cost (tuples_in old) (tuples_in new) result → OnOk result (ChangesTuple segment tid None old new)
 changes_removed (Err e) gone takes did = tt
-changes_removed {tid = tid} (Ok value) gone takes did = record {
+changes_removed {segment = segment} {tid = tid} (Ok value) gone takes did = record {
   one = λ key other is not there none. absurd (taken takes key is not);
-  changed = changed_for tid did.below.step;
+  changed = changed_for segment tid did.below.step;
   sets = λ told. record {
     bodies = gone told;
     heaps = did.heaps told;
@@ -245,17 +256,17 @@ changes_removed {tid = tid} (Ok value) gone takes did = record {
 }
 
 -- a look before it changed nothing
-pub changes_after : {tid : Tid} {now : Option (List ℕ)} {old mid new : PagesView} → (IsTold old.disk → IsTold mid.disk) → mid.mapped ≡ old.mapped → (IsTold old.disk → mid.held ≡ old.held) → AreAmong mid.changed old.changed → ChangesTuple tid now mid new → ChangesTuple tid now old new
-changes_after {tid = tid} {now = now} {old = old} {mid = mid} {new = new} told_mid mapped held among changes = record {
+pub changes_after : {segment : ℕ} {tid : Tid} {now : Option (List ℕ)} {old mid new : PagesView} → (IsTold old.disk → IsTold mid.disk) → mid.mapped ≡ old.mapped → (IsTold old.disk → mid.held ≡ old.held) → AreAmong mid.changed old.changed → ChangesTuple segment tid now mid new → ChangesTuple segment tid now old new
+changes_after {segment = segment} {tid = tid} {now = now} {old = old} {mid = mid} {new = new} told_mid mapped held among changes = record {
   one = λ key other is not there none. changes.one key other is (at key not) there (at other none);
   changed = λ key is. ⊎_elim (λ before. inl (among key before)) (λ may. inr may) (changes.changed key is);
   sets = λ told.
       let sets = changes.sets (told_mid told) in
       record {
-        bodies = sets.bodies ∙ ap (λ (h : Held). with_body (bodies_of h) 1 tid now) (held told);
+        bodies = sets.bodies ∙ ap (λ (h : Held). with_body (bodies_of h) segment tid now) (held told);
         heaps = sets.heaps;
         over = λ key space is not. sets.over key space is (at key not);
-        grows = λ key space is not. subst (λ (h : Held). size_of_body (bodies_of h 1 tid) < size_of_body now) (held told) (sets.grows key space is (at key not));
+        grows = λ key space is not. subst (λ (h : Held). size_of_body (bodies_of h segment tid) < size_of_body now) (held told) (sets.grows key space is (at key not));
       };
 }
   where
@@ -263,22 +274,32 @@ changes_after {tid = tid} {now = now} {old = old} {mid = mid} {new = new} told_m
     at key not = ap (λ (m : Mapped). m key) mapped ∙ not
 
 -- a tuple stands at an identifier of one of the slots of a page
-pub live_low : (view : PagesView) (tid : Tid) → IsSome (bodies_of view.held 1 tid) → tid.slot < 128
-live_low view tid live = elim (cases_lt tid.slot 128) [
+pub live_low : (view : PagesView) (segment : ℕ) (tid : Tid) → IsSome (bodies_of view.held segment tid) → tid.slot < 128
+live_low view segment tid live = elim (cases_lt tid.slot 128) [
   | inl low ↦ low
-  | inr high ↦ absurd (live_some (overflows view.held 1) (homes view.held 1 tid.page tid.slot) live (high_empty view.held (page_key 1 Home tid.page) tid.slot high))
+  | inr high ↦ absurd (live_some (overflows view.held segment) (homes view.held segment tid.page tid.slot) live (high_empty view.held (page_key segment Home tid.page) tid.slot high))
 ]
 
--- ---- a body that is given or was found
-
--- the body of a number that was passed
-pub body_is : (bytes : List ℕ) (z : ℤ) → SFits w64 z → bytes ≡ int_body (to_z w64 (of_z w64 z)) → bytes ≡ int_body z
-body_is bytes z fits is = is ∙ ap int_body (to_z-of_z w64 z fits)
-
-pub body_long : (bytes : List ℕ) (z : ℤ) → bytes ≡ int_body z → length bytes ≡ 9
-body_long bytes z is = ap (λ (l : List ℕ). length l) is
+-- ---- a body that was found
 
 -- the body that was read is that of the tuple
 pub fetched_body : (body : Option (List ℕ)) (live : Bool) (read : List ℕ) → IsFetched body live read → live ≡ true → body ≡ Some read
 fetched_body None live read is there = absurd (let never : false ≡ true = sym is ∙ there in cc)
 fetched_body (Some bytes) live read is there = ap Some (sym is.1)
+
+-- What a look at an identifier found, by the first byte of the body that it read.
+pub finds_body : {segment number : ℕ} {tid : Tid} {pages : PagesView} (live : Bool) (read : List ℕ) (is_there : Bool) → IsFetched (body_at pages segment tid) live read → (is_there ≡ true → (live ≡ true) × (slice_get read 0 ≡ Some number)) → (live ≡ true → slice_get read 0 ≡ Some number → is_there ≡ true) → FindsBody segment number tid pages is_there read
+finds_body {segment = segment} {number = number} {tid = tid} {pages = pages} live read is_there fetched holds so = record {
+  rest = drop 1 read;
+  some = λ is. let found = holds is in (headed read found.1, fetched_body _ live read fetched found.0);
+  none = λ not values stands. no values not stands;
+}
+  where
+    headed : (read : List ℕ) → slice_get read 0 ≡ Some number → read ≡ number ∷ drop 1 read
+    headed [] is = absurd (cc)
+    headed (first ∷ rest) is = ap (λ (n : ℕ). n ∷ rest) (same_Some _ _ is)
+
+    no : (values : List ℕ) → is_there ≡ false → body_at pages segment tid ≡ Some (number ∷ values) → ⊥
+    no values not stands =
+        let is : IsFetched (Some (number ∷ values)) live read = subst (λ (b : Option (List ℕ)). IsFetched b live read) stands fetched in
+        true≢false (sym (so is.0 (ap (λ (l : List ℕ). slice_get l 0) is.1)) ∙ not)

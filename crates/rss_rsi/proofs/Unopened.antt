@@ -3,6 +3,7 @@ use Rattle.std.proofs.Common.{◌≡◌, refl, ◌∙◌, subst}
 use Rattle.std.specs.Prelude.{Result, Err}
 use Rattle.rss_base.specs.Answers.{open_error}
 use Rattle.rss_base.specs.DiskRule.{Told}
+use Rattle.rss_base.specs.Steps.{PagesView}
 use Rattle.rss_base.specs.Devices.{DeviceView, OnlyReads, ReadsStore}
 use Rattle.rss_base.specs.Layout.{IsLayoutFault}
 use Rattle.rss_base.specs.declared.fault.OpenFault.{OpenFault}
@@ -12,7 +13,7 @@ use Rattle.rss_base.specs.declared.fault.PageFault.TheVariants.{Device as PageDe
 use Rattle.rss_base.specs.declared.place.Place.{Place}
 use Rattle.rss_base.proofs.Moments.{reads_then, rises_since}
 use Rattle.rss_model.specs.Calls.{EngineView}
-use Rattle.rss_rsi.specs.Opening.{IsRefused, IsUnopened, IsHandedBack, IsOpened, OpensOver}
+use Rattle.rss_rsi.specs.Opening.{IsRefused, IsUnopened, IsHandedBack, IsOpened, OpensOver, NotesRooms}
 
 -- a fault of the layout is none of the size
 pub unopened_layout : {device : DeviceView} (fault : OpenFault) → IsLayoutFault fault → Told device.disk (λ pages. IsRefused pages fault) → IsUnopened device fault
@@ -61,6 +62,10 @@ handed_before reads is = record {
   cause = λ failed. rises_since reads.later (is.cause failed);
   reads = reads_then reads is.reads;
 }
+
+-- the notes are those of the pages
+pub notes_before : {old mid : DeviceView} (pages : PagesView) → OnlyReads old mid → NotesRooms mid pages → NotesRooms old pages
+notes_before pages reads is told = is (record { pages = told.pages; is = reads.contents ∙ told.is })
 
 -- a call of an opening, after others: another answer, which is no fault unless the first is
 pub opens_then : {T U : Type 0} {old mid new : DeviceView} {first : Result T OpenFault} {second : Result U OpenFault} → OnlyReads old mid → ReadsStore mid new first → ((fault : OpenFault) → second ≡ Err fault → first ≡ Err fault) → ReadsStore old new second

@@ -1,29 +1,26 @@
--- The bodies of the relation's tuples, which have one INT each.
-use Rattle.std.specs.Prelude.{◌≡◌, ℕ, ℤ, List, ◌∷◌, drop, Bool, FitsSigned}
-use Rattle.std.specs.Int.{w64, cast_signed, from_be_bytes}
-use Rattle.std.specs.Ordering.{nat_cmp, eq_by_cmp}
-use Rattle.std.specs.Cmp.Lexicographic.{slice_cmp}
-use Rattle.rss_base.specs.TupleTypes.{int_bytes}
-use Rattle.rss_model.specs.Store.{relation_number}
+-- The bodies of tuples: the number of the relation, and the bytes of the values.
+use Rattle.std.specs.Prelude.{◌≡◌, ℕ, Bool, false, ◌&&◌, ◌==◌, List, [], ◌∷◌, Option, Some, None}
+use Rattle.rss_base.specs.TupleTypes.{kinds, Spells}
+use Rattle.rss_value.specs.Spelled.{is_spelled}
+use Rattle.rss_base.specs.Listings.{Listing, relation_at}
+use Rattle.rss_base.specs.declared.relation.RelationEntry.{RelationEntry}
+use Rattle.rss_base.specs.declared.value.FieldKind.{FieldKind}
+use Rattle.rss_base.specs.declared.value.Value.{Value}
 
--- how many bytes a body has
-abbrev pub int_body_length : ℕ
-int_body_length = 9
+-- the body is that of a tuple with these values, of the relation of this number and these fields
+pub record IsBodyOf (number : ℕ) (fields : List FieldKind) (values : List Value) (body : List ℕ) : Type 0 where
+  pub rest : List ℕ
+  pub is : body ≡ number ∷ rest
+  pub spelled : Spells fields rest values
 
--- the relation's number, and the number in two's complement
-abbrev pub int_body : ℤ → List ℕ
-int_body z = relation_number ∷ int_bytes z
+-- ---- whether a body may stand in a segment
 
--- the bytes are those of a number of 64 signed bits
-pub record IsIntBody (bytes : List ℕ) : Type 0 where
-  pub value : ℤ
-  pub fits : FitsSigned w64 value
-  pub is : bytes ≡ int_body value
+-- the bytes are those of a tuple of this relation, which is one of the segment
+abbrev pub is_values_of : Option RelationEntry → ℕ → List ℕ → Bool
+is_values_of None segment bytes = false
+is_values_of (Some relation) segment bytes =
+    (relation.segment == segment) && is_spelled (kinds relation.fields) bytes
 
--- the number that a body has, if it is one
-abbrev pub value_in : List ℕ → ℤ
-value_in body = cast_signed w64 (from_be_bytes w64 (drop 1 body))
-
--- whether the bytes are such a body
-abbrev pub is_int_body : List ℕ → Bool
-is_int_body bytes = eq_by_cmp (slice_cmp nat_cmp) bytes (int_body (value_in bytes))
+abbrev pub is_body : Listing → ℕ → List ℕ → Bool
+is_body listing segment [] = false
+is_body listing segment (number ∷ bytes) = is_values_of (relation_at listing number) segment bytes

@@ -1,24 +1,25 @@
 -- What a look at a tuple passes on, before the call that it is for goes on or ends.
-use Rattle.std.specs.Prelude.{◌≡◌, ℤ, ◌+◌, ◌≤◌, [], ◌∷◌, Option, Some, None, MatchOption, Result, Ok, Err}
+use Rattle.std.specs.Prelude.{◌≡◌, ◌+◌, ◌≤◌, Bool, List, Option, Some, None, MatchOption, Result, Ok, Err}
 use Rattle.rss_base.specs.DiskRule.{IsTold, Continues, Passes}
 use Rattle.rss_base.specs.Faults.{Rises}
 use Rattle.rss_base.specs.Paged.{AreAmong}
 use Rattle.rss_base.specs.declared.tid.Tid.{Tid}
-use Rattle.rss_base.specs.declared.value.Value.TheVariants.{Int}
+use Rattle.rss_base.specs.declared.value.Value.{Value}
+use Rattle.rss_base.specs.declared.name.Name.{Name}
 use Rattle.rss_base.specs.declared.item.Item.TheVariants.{Tuple as TupleItem}
 use Rattle.rss_base.specs.declared.answer.CallError.{CallError}
 use Rattle.rss_base.specs.declared.answer.CallError.TheVariants.{Refused, Damaged, Device, NoMemory, Down}
 use Rattle.rss_model.specs.Items.{Values}
 use Rattle.rss_model.specs.Tables.{content}
 use Rattle.rss_model.specs.Machine.{State, now}
-use Rattle.rss_model.specs.Store.{OpensTo, relation_r}
+use Rattle.rss_model.specs.Store.{OpensTo}
 use Rattle.rss_model.specs.Calls.{EngineView}
 
--- the tuple of the relation has this value, or there is none
-abbrev pub HasFound : State → Tid → Option ℤ → Type 0
-HasFound state tid found =
-    MatchOption found (content (now state).contents (TupleItem relation_r tid) ≡ None)
-    (λ value. content (now state).contents (TupleItem relation_r tid) ≡ Some (Values (Int value ∷ [])))
+-- the tuple of the relation has these values, or there is none
+abbrev pub HasFound : State → Name → Tid → Option (List Value) → Type 0
+HasFound state relation tid found =
+    MatchOption found (content (now state).contents (TupleItem relation tid) ≡ None)
+    (λ values. content (now state).contents (TupleItem relation tid) ≡ Some (Values values))
 
 -- Whatever came of it: the states that the store may be in are the same, and a stop leaves their committed tables.
 pub record LooksOn (old new : EngineView) : Type 0 where
@@ -37,15 +38,15 @@ pub record LooksOn (old new : EngineView) : Type 0 where
   pub shows : IsTold old.disk → (state : State) → old.shows state → new.shows state
 
 -- how it ended
-abbrev pub LookEnds : EngineView → EngineView → Tid → Result (Option ℤ) CallError → Type 0
-LookEnds old new tid (Ok found) = new.is_up × (IsTold old.disk → (state : State) → old.shows state → HasFound state tid found)
-LookEnds old new tid (Err Device) = (new.is_up → ⊥) × Rises old.faults new.faults
-LookEnds old new tid (Err (Damaged place)) = (new.is_up → ⊥) × (IsTold old.disk → ⊥)
-LookEnds old new tid (Err NoMemory) = new.is_up
-LookEnds old new tid (Err (Refused why)) = ⊥
-LookEnds old new tid (Err Down) = ⊥
+abbrev pub LookEnds : EngineView → EngineView → Result Bool CallError → Type 0
+LookEnds old new (Ok there) = new.is_up
+LookEnds old new (Err Device) = (new.is_up → ⊥) × Rises old.faults new.faults
+LookEnds old new (Err (Damaged place)) = (new.is_up → ⊥) × (IsTold old.disk → ⊥)
+LookEnds old new (Err NoMemory) = new.is_up
+LookEnds old new (Err (Refused why)) = ⊥
+LookEnds old new (Err Down) = ⊥
 
--- A look, by its result: the tuple as it is in each of these states, or a fault with its cause.
-pub record IsLookOf (old new : EngineView) (tid : Tid) (result : Result (Option ℤ) CallError) : Type 0 where
+-- A look, by its result: whether the tuple is there, or a fault with its cause.
+pub record IsLookOf (old new : EngineView) (result : Result Bool CallError) : Type 0 where
   pub on : LooksOn old new
-  pub ends : LookEnds old new tid result
+  pub ends : LookEnds old new result

@@ -1,38 +1,29 @@
 -- What an opening finds on a device.
-use Rattle.std.specs.Prelude.{◌≡◌, ◌⊎◌, ℕ, ◌*◌, ◌<◌, ◌≤◌, true, List, length, Option, Some}
+use Rattle.std.specs.Prelude.{◌≡◌, ◌⊎◌, ℕ, ◌*◌, ◌≤◌, true, List, length, Option, is_some}
 use Rattle.rss_base.specs.declared.fault.OpenFault.{OpenFault}
 use Rattle.rss_base.specs.declared.fault.OpenFault.TheVariants.{Device as DeviceFailed, NotAStore, Damaged, WrongSize, NoMemory as LacksMemory}
 use Rattle.rss_base.specs.declared.root.Root.{Root}
-use Rattle.rss_base.specs.declared.key.Space.TheVariants.{System}
 use Rattle.rss_base.specs.declared.key.PageKey.{PageKey}
 use Rattle.rss_base.specs.declared.place.Place.{Place}
 use Rattle.rss_base.specs.declared.place.Place.TheVariants.{Room}
 use Rattle.rss_base.specs.DiskRule.{Pages, Told, IsTold}
 use Rattle.rss_base.specs.Devices.{DeviceView, OnlyReads}
 use Rattle.rss_base.specs.Faults.{Rises}
-use Rattle.rss_base.specs.Sizes.{zero_page, system_pages}
 use Rattle.rss_base.specs.Layout.{map_at, IsWellFormed, HasRoot}
-use Rattle.rss_base.specs.PageMap.{owner_of, page_count, IsTable, IsMap}
-use Rattle.rss_base.specs.Paged.{Mapped, Held, page_key}
+use Rattle.rss_base.specs.PageMap.{page_count, IsTable, IsMap}
+use Rattle.rss_base.specs.Paged.{Held}
 use Rattle.rss_base.specs.Steps.{PagesView}
+use Rattle.rss_base.specs.Listings.{Listing, HoldsListing, segment_at}
 use Rattle.rss_tuple.specs.Heaps.{AreHeaps}
-use Rattle.rss_model.specs.Tables.{Tables, tuple_count}
+use Rattle.rss_tuple.specs.Checked.{AreNoted}
+use Rattle.rss_catalog.specs.Catalogs.{CatalogView, Loads}
+use Rattle.rss_model.specs.Tables.{Tables}
 use Rattle.rss_model.specs.Calls.{EngineView}
 use Rattle.rss_model.specs.Machine.{State}
-use Rattle.rss_model.specs.Fits.{Fits, tuple_limit}
-use Rattle.rss_model.specs.Store.{relation_r, IsStorePage, SpellsTables, HasFirstLog, stored, IsStore, OpensTo, OpensIn, Opens, IsBrokenAt, IsOverfull, IsNoStore}
+use Rattle.rss_model.specs.Fits.{Fits}
+use Rattle.rss_model.specs.Store.{IsStorePage, SpellsTables, HasFirstLog, stored, IsStore, OpensTo, OpensIn, Opens, IsBrokenAt, IsOverfull, IsNoStore}
 
 -- ---- the layout
-
--- each page of the map is one that a store may have
-abbrev pub AreStoreKeys : List (Option PageKey) → Type 0
-AreStoreKeys owners = (slot : ℕ) (key : PageKey) → owner_of owners slot ≡ Some key → IsStorePage key
-
--- a page of the map is one that no store has
-pub record IsForeign (owners : List (Option PageKey)) (key : PageKey) : Type 0 where
-  pub slot : ℕ
-  pub owned : owner_of owners slot ≡ Some key
-  pub foreign : IsStorePage key → ⊥
 
 -- The root of this number and its map are such as a store has.
 pub record IsLayout (root : Root) (number : ℕ) (owners : List (Option PageKey)) : Type 0 where
@@ -43,7 +34,6 @@ pub record IsLayout (root : Root) (number : ℕ) (owners : List (Option PageKey)
   pub table : IsTable owners
   pub slots : length owners ≡ root.slots
   pub half : 2 * page_count owners ≤ length owners
-  pub keys : AreStoreKeys owners
 
 -- the pages have this root and this map
 pub record HasLayout (pages : Pages) (root : Root) (number : ℕ) (owners : List (Option PageKey)) : Type 0 where
@@ -53,50 +43,36 @@ pub record HasLayout (pages : Pages) (root : Root) (number : ℕ) (owners : List
 -- the map with its root is that of no store
 abbrev pub LacksStore : Pages → Root → List (Option PageKey) → Type 0
 LacksStore pages root owners =
-    (number : ℕ) (tables : Tables) → IsStore pages (stored number root owners tables) → ⊥
+    (number : ℕ) (listing : Listing) (tables : Tables)
+    → IsStore pages (stored number root owners listing tables) → ⊥
 
 -- ---- what the pages hold
 
--- the pages that are mapped are such as a store may have
-abbrev pub AreStorePages : Mapped → Type 0
-AreStorePages mapped = (key : PageKey) → mapped key ≡ true → IsStorePage key
-
--- the pages of the system space are zeros
-abbrev pub HoldsSystem : Held → Type 0
-HoldsSystem held = (number : ℕ) → number < system_pages → held (page_key 0 System number) ≡ Some zero_page
-
--- the one of this number is mapped, and zeros
-pub record HasZeros (number : ℕ) (pages : PagesView) : Type 0 where
-  pub mapped : pages.mapped (page_key 0 System number) ≡ true
-  pub zeros : IsTold pages.disk → pages.held (page_key 0 System number) ≡ Some zero_page
-
--- each of them is mapped, and zeros
-pub record HasSystem (pages : PagesView) : Type 0 where
-  pub mapped : (number : ℕ) → number < system_pages → pages.mapped (page_key 0 System number) ≡ true
-  pub zeros : IsTold pages.disk → HoldsSystem pages.held
-
--- one of them isn't, which shows at this place
-pub record LacksSystem (pages : PagesView) (place : Place) : Type 0 where
-  pub lacks : IsTold pages.disk → HoldsSystem pages.held → ⊥
-  pub elsewhere : place ≡ Room → ⊥
-
--- the pages spell tables that fit, with so many tuples
-pub record HoldsTables (held : Held) (slots count : ℕ) : Type 0 where
+-- the pages spell tables that fit, whose definitions are listed so
+pub record HoldsTables (held : Held) (slots : ℕ) (listing : Listing) : Type 0 where
   pub tables : Tables
-  pub spells : SpellsTables held tables
+  pub system : HoldsListing held listing
+  pub spells : SpellsTables held listing tables
   pub fit : Fits slots tables
-  pub counted : tuple_count tables.contents relation_r ≡ count
 
 -- they spell no tables that fit
 abbrev pub HoldsNone : Held → ℕ → Type 0
-HoldsNone held slots = (tables : Tables) → SpellsTables held tables → Fits slots tables → ⊥
+HoldsNone held slots =
+    (listing : Listing) (tables : Tables) → HoldsListing held listing
+    → SpellsTables held listing tables → Fits slots tables → ⊥
 
--- The pages were looked through, and spell tables with so many tuples.
-pub record FindsTables (old new : PagesView) (count : ℕ) : Type 0 where
-  pub few : count ≤ tuple_limit
-  pub system : HasSystem old
-  pub holds : IsTold old.disk → HoldsTables old.held old.slots count
+-- the pages of each segment that is listed are those of a tuple store, and the note on each is its room
+abbrev pub AreAllNoted : Listing → PagesView → Type 0
+AreAllNoted listing view =
+    (segment : ℕ) → is_some (segment_at listing segment) ≡ true → AreNoted segment view
+
+-- The pages were looked through, and spell tables with these definitions.
+pub record FindsTables (old new : PagesView) (catalog : CatalogView) : Type 0 where
+  pub loaded : Loads old catalog
+  pub only : (key : PageKey) → old.mapped key ≡ true → IsStorePage catalog.listing key
+  pub holds : IsTold old.disk → HoldsTables old.held old.slots catalog.listing
   pub heaps : IsTold old.disk → AreHeaps new
+  pub noted : IsTold old.disk → AreAllNoted catalog.listing new
 
 -- They spell none, which shows at this place.
 pub record FindsNone (pages : PagesView) (place : Place) : Type 0 where
@@ -149,3 +125,9 @@ pub record IsOpened (old : DeviceView) (new : EngineView) : Type 0 where
 pub record OpensOver (old below : DeviceView) (new : EngineView) : Type 0 where
   pub opened : IsOpened old new
   pub reads : OnlyReads old below
+
+-- What was seen of each page's room is noted on it, where the device tells its contents.
+abbrev pub NotesRooms : DeviceView → PagesView → Type 0
+NotesRooms device pages =
+    IsTold device.disk → (listing : Listing) → HoldsListing pages.held listing
+    → AreAllNoted listing pages

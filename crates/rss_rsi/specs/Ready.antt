@@ -1,20 +1,28 @@
 -- What holds of a store between two calls.
-use Rattle.std.specs.Prelude.{◌≡◌, ◌⊎◌, ℕ, ◌+◌, ◌-◌, ◌*◌, ◌<◌, ◌≤◌, true, false, List, Option}
-use Rattle.rss_base.specs.DiskRule.{Pages, IsTold}
+use Rattle.std.specs.Prelude.{◌≡◌, ◌⊎◌, ℕ, ◌+◌, ◌-◌, ◌*◌, ◌<◌, ◌≤◌, Bool, true, false, ◌==◌, ◌&&◌, ◌||◌, ◌↔◌, List, length, slice_index_or, Some, Option, Result, Err, IsErrOf}
+use Rattle.rss_base.specs.DiskRule.{Pages, IsTold, Continues}
+use Rattle.rss_base.specs.Faults.{Rises}
+use Rattle.rss_base.specs.declared.place.Place.{Place}
+use Rattle.rss_base.specs.declared.fault.PageFault.{PageFault}
+use Rattle.rss_base.specs.declared.fault.PageFault.TheVariants.{Device as DeviceFailed, Damaged}
 use Rattle.rss_base.specs.Sizes.{system_pages}
 use Rattle.rss_base.specs.Layout.{IsWellFormed}
 use Rattle.rss_base.specs.PageMap.{page_count}
-use Rattle.rss_base.specs.Paged.{HasFixed, page_key, mapped_pages, mapped_of}
+use Rattle.rss_base.specs.Paged.{Mapped, Held, HasFixed, page_key, mapped_pages, mapped_of}
+use Rattle.rss_base.specs.Listings.{Listing, catalog_page, relation_pages}
 use Rattle.rss_base.specs.Steps.{PagesView}
 use Rattle.rss_base.specs.declared.root.Root.{Root}
 use Rattle.rss_base.specs.declared.key.PageKey.{PageKey}
-use Rattle.rss_base.specs.declared.key.Space.TheVariants.{System, Home, Overflow}
+use Rattle.rss_base.specs.declared.key.Space.{Space}
+use Rattle.rss_base.specs.declared.key.Space.TheVariants.{System, Home, Overflow, Image}
+use Rattle.rss_page.specs.Slotted.{IsHeapKey}
 use Rattle.rss_tuple.specs.Heaps.{AreHeaps}
+use Rattle.rss_catalog.specs.Catalogs.{CatalogView, IsPending, HasSystemPages, none_pending}
 use Rattle.rss_model.specs.Tables.{Tables}
 use Rattle.rss_model.specs.Fits.{Fits}
 use Rattle.rss_model.specs.Kept.{Kept}
 use Rattle.rss_model.specs.Machine.{State, now}
-use Rattle.rss_model.specs.Store.{IsStorePage, SpellsTables, HasFirstLog, stored, size_of, IsStore}
+use Rattle.rss_model.specs.Store.{SpellsTables, HasFirstLog, stored, size_of, IsStore}
 use Rattle.rss_model.specs.Calls.{EngineView}
 use Rattle.rss_rsi.specs.Sessions.{Counts}
 use Rattle.rss_rsi.specs.declared.session.Session.{Session}
@@ -28,7 +36,40 @@ pub record AreSaved (pages : PagesView) : Type 0 where
   pub shadow : page_count pages.backing.shadow ≡ mapped_pages pages.slots pages.mapped
   pub counted : mapped_pages pages.slots pages.mapped ≡ heap_now pages + system_pages
 
--- The root of this number is selected, and its map has as many pages as the session counted at the last checkpoint. Each change since then has taken one page at most, and there is room for its way back.
+-- a home or overflow page, or one of the system space
+abbrev pub IsSystemOrHeap : PageKey → Type 0
+IsSystemOrHeap key = (key.space ≡ System) ⊎ IsHeapKey key
+
+-- ---- pages of the catalog
+
+-- the page of this number and this space is one of the system space that isn't as the catalog spells it
+abbrev pub is_pending_in : List Bool → Space → ℕ → Bool
+is_pending_in pending Home number = false
+is_pending_in pending Overflow number = false
+is_pending_in pending Image number = false
+is_pending_in pending System number = slice_index_or pending number false
+
+abbrev pub is_pending : CatalogView → PageKey → Bool
+is_pending catalog key =
+    (key.segment == 0) && is_pending_in catalog.pending key.space key.number
+
+-- which pages were changed since the last commit, with those of the catalog that are to be written
+abbrev pub changed_with : PagesView → CatalogView → Mapped
+changed_with pages catalog key = pages.changed key || is_pending catalog key
+
+-- each page of the system space that isn't to be written is as the catalog spells it
+abbrev pub AreWritten : Held → CatalogView → Type 0
+AreWritten held catalog =
+    (page : ℕ) → page < system_pages → (IsPending catalog page → ⊥)
+    → held (page_key 0 System page) ≡ Some (catalog_page catalog.listing page)
+
+-- a page of the catalog that has relations, and so the counts of their tuples
+abbrev pub HasCounts : ℕ → Type 0
+HasCounts page = (1 ≤ page) × (page ≤ relation_pages)
+
+-- ---- between two calls
+
+-- The root of this number is selected, and its map has as many pages as the session counted at the last checkpoint. Each change since then has taken one page at most, and there is room for its way back. Only counts in the catalog have changed.
 pub record IsReady (pages : PagesView) (number : ℕ) (root : Root) (session : Session) : Type 0 where
   pub number_low : 0 < number
   pub number_high : number < 3
@@ -39,21 +80,26 @@ pub record IsReady (pages : PagesView) (number : ℕ) (root : Root) (session : S
   pub area : pages.backing.area ≡ root.area
   pub saved_are : page_count pages.backing.shadow ≡ session.heap + system_pages
   pub few : mapped_pages pages.slots pages.mapped ≤ session.heap + session.since + system_pages
-  pub system : (number : ℕ) → number < system_pages → pages.mapped (page_key 0 System number) ≡ true
-  pub only : (key : PageKey) → pages.mapped key ≡ true → IsStorePage key
+  pub system : HasSystemPages pages.mapped
+  pub only : (key : PageKey) → pages.mapped key ≡ true → IsSystemOrHeap key
   pub none_changed : session.since ≡ 0 → (key : PageKey) → pages.changed key ≡ false
+  pub none_pending_yet : session.since ≡ 0 → session.catalog.pending ≡ none_pending
+  pub pending_places : length session.catalog.pending ≡ system_pages
+  pub pending_counts : (page : ℕ) → IsPending session.catalog page → HasCounts page
   pub settled_now : pages.settled ≡ true
   pub heaps : IsTold pages.disk → AreHeaps pages
 
--- The store is in this state of the machine: its pages spell the tables now, and whatever is done with them, a stop leaves a store of the committed tables.
+-- The store is in this state of the machine: its pages spell the tables now, with those of the system space once they are written, and whatever is done with them, a stop leaves a store of the committed tables.
 pub record IsIn (pages : PagesView) (number : ℕ) (root : Root) (session : Session) (state : State) : Type 0 where
   pub size : state.size ≡ size_of root
   pub counts : Counts session state
   pub kept : Kept state
   pub over : state.meter.over ≡ mapped_of pages.mapped Overflow pages.slots
-  pub spells : SpellsTables pages.held (now state)
+  pub spells : SpellsTables pages.held session.catalog.listing (now state)
+  pub written : AreWritten pages.held session.catalog
+  pub saved : Listing
   pub fixes : (image : Pages) → HasFixed pages.fixed image
-      → IsStore image (stored number root pages.backing.shadow state.base)
+      → IsStore image (stored number root pages.backing.shadow saved state.base)
 
 -- what there is to see of an engine over these pages
 abbrev pub engine_view : PagesView → ℕ → Root → Session → Type 0 → EngineView
@@ -62,35 +108,56 @@ engine_view pages number root session is_up = record {
   shows = IsIn pages number root session;
   is_up = is_up;
   slots = session.slots;
-  changed = pages.changed;
+  changed = changed_with pages session.catalog;
   since = session.since;
   asks = pages.asks;
   writes = pages.writes;
   faults = pages.faults;
 }
 
--- Such pages as they are saved: a stop leaves the store of the tables before, and they spell those after.
-pub record CanCommit (pages : PagesView) (number : ℕ) (root : Root) (before after : Tables) : Type 0 where
+-- Such pages and such a catalog as they are saved: a stop leaves the store of the tables before, and they spell those after.
+pub record CanCommit (pages : PagesView) (catalog : CatalogView) (number : ℕ) (root : Root) (saved : Listing) (before after : Tables) : Type 0 where
   pub log : HasFirstLog root
   pub size : pages.slots ≡ root.slots
   pub log_pages : pages.backing.log_pages ≡ root.log_pages
   pub room : 2 * mapped_pages pages.slots pages.mapped ≤ root.slots
   pub settled_now : pages.settled ≡ true
-  pub spells : SpellsTables pages.held after
+  pub written : AreWritten pages.held catalog
+  pub spells : SpellsTables pages.held catalog.listing after
   pub fit : Fits root.slots after
   pub fixes : (image : Pages) → HasFixed pages.fixed image
-      → IsStore image (stored number root pages.backing.shadow before)
+      → IsStore image (stored number root pages.backing.shadow saved before)
 
--- A stop leaves the store of before, or that of the tables after under the other root, with these owners.
-abbrev pub IsEither : ℕ → Root → PagesView → Tables → (Pages → Type 0) → Pages → Type 0
-IsEither number root pages before IsAfter image =
-    IsStore image (stored number root pages.backing.shadow before) ⊎ IsAfter image
+-- the pages are the store of these tables under this root, with some map
+pub record IsStoreUnder (number : ℕ) (root : Root) (listing : Listing) (tables : Tables) (image : Pages) : Type 0 where
+  pub owners : List (Option PageKey)
+  pub store : IsStore image (stored number root owners listing tables)
 
--- This map was saved under this root, and is fixed.
-pub record HasSaved (root : Root) (map : List (Option PageKey)) (pages : PagesView) : Type 0 where
-  pub shadow : pages.backing.shadow ≡ map
-  pub area : pages.backing.area ≡ root.area
-  pub settled : pages.settled ≡ true
+-- All pages are saved in the map that is now selected, and fixed; they hold what they held, but that those of the catalog spell it.
+pub record SavesAll (catalog : CatalogView) (root : Root) (old new : PagesView) : Type 0 where
+  pub mapped : new.mapped ≡ old.mapped
+  pub shadow : page_count new.backing.shadow ≡ mapped_pages new.slots new.mapped
+  pub area : new.backing.area ≡ root.area
+  pub log_pages : new.backing.log_pages ≡ old.backing.log_pages
+  pub slots : new.slots ≡ old.slots
+  pub settled : new.settled ≡ true
+  pub unchanged : (key : PageKey) → new.changed key ≡ false
+  pub held : IsTold old.disk → (key : PageKey) → (key.space ≡ System → ⊥) → new.held key ≡ old.held key
+  pub system : IsTold old.disk → (page : ℕ) → IsPending catalog page
+      → new.held (page_key 0 System page) ≡ Some (catalog_page catalog.listing page)
+  pub system_off : IsTold old.disk → (page : ℕ) → (IsPending catalog page → ⊥)
+      → new.held (page_key 0 System page) ≡ old.held (page_key 0 System page)
+  pub heaps : IsTold old.disk → AreHeaps old → AreHeaps new
+
+-- What a checkpoint passes on, by its result: it asks for no page, and each fault has its cause.
+pub record CommitsPages {T : Type 0} (old new : PagesView) (result : Result T PageFault) : Type 0 where
+  pub asks : new.asks ≡ old.asks
+  pub slots : new.slots ≡ old.slots
+  pub told : IsTold old.disk ↔ IsTold new.disk
+  pub history : IsTold old.disk → Continues old.disk new.disk
+  pub later : old.faults ≤ new.faults
+  pub failed : IsErrOf result DeviceFailed → Rises old.faults new.faults
+  pub sound : (place : Place) → result ≡ Err (Damaged place) → IsTold old.disk → ⊥
 
 -- the same root, with the other map area
 abbrev pub other_area : Root → Root

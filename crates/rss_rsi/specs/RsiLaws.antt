@@ -14,7 +14,7 @@ use Rattle.rss_rsi.specs.declared.session.Session.{Session}
 pub opens_shown : {pages : PagesView} {number : ℕ} {root : Root} {session : Session} {state : State} → IsIn pages number root session state → IsReady pages number root session → IsTold pages.disk
     → (pages.settled ≡ true → (image : Pages) → Leaves pages.disk image → HasFixed pages.fixed image) → Opens pages.disk state.size state.base
 opens_shown {pages = pages} {number = number} {root = root} {state = state} shown ready told stays image left = record {
-  stored = stored number root pages.backing.shadow state.base;
+  stored = stored number root pages.backing.shadow shown.saved state.base;
   store = shown.fixes image (stays ready.settled_now image left);
   same_size = shown.size;
   holds = refl;

@@ -1,17 +1,23 @@
 -- The machine's states that a session counts, and how the machine answers there.
-use Rattle.std.specs.Prelude.{◌≡◌, ℕ, ◌+◌, ◌*◌, ◌≤◌, List, [], length, count_by, Option, Some, None, Result, Ok, Err}
+use Rattle.std.specs.Prelude.{◌≡◌, ◌≢◌, ℕ, ◌+◌, ◌-◌, ◌*◌, ◌<◌, ◌≤◌, List, [], length, replicate, count_by, slice_set, slice_index_or, Option, Some, None, Result, Ok, Err}
 use Rattle.std.specs.Ordering.{nat_cmp}
 use Rattle.std.specs.FinMap as map
 use Rattle.std.specs.FinMap.{FinMap}
-use Rattle.rss_base.specs.Sizes.{system_pages}
+use Rattle.rss_base.specs.Sizes.{relations_most, system_pages}
+use Rattle.rss_base.specs.Listings.{Listing, ListingFits, catalog_page, IsUnlisted, IsLeastUnused, segment_at, relation_at, with_segment, with_relation, with_count}
+use Rattle.rss_base.specs.declared.name.Name.{Name}
+use Rattle.rss_base.specs.declared.field.FieldDef.{FieldDef}
+use Rattle.rss_base.specs.declared.relation.RelationEntry.{RelationEntry}
 use Rattle.rss_base.specs.declared.call.Call.{Call}
+use Rattle.rss_base.specs.declared.call.Call.TheVariants.{MakeSegment, MakeRelation, DropSegment, DropRelation}
+use Rattle.rss_base.specs.declared.refusal.Kind.TheVariants.{Segment as SegmentKind, Relation as RelationKind}
 use Rattle.rss_base.specs.declared.refusal.Refusal.{Refusal}
-use Rattle.rss_model.specs.Tables.{tuple_count}
-use Rattle.rss_model.specs.Changes.{is_delete_of}
+use Rattle.rss_catalog.specs.Catalogs.{HasRelationIn, Lists, page_of}
+use Rattle.rss_model.specs.Changes.{Change, is_delete_of}
 use Rattle.rss_model.specs.Machine.{State, now}
-use Rattle.rss_model.specs.Steps.{Answer, Step}
+use Rattle.rss_model.specs.Steps.{Answer, Step, refusal}
 use Rattle.rss_model.specs.ReplyText.{IsShort}
-use Rattle.rss_model.specs.Store.{relation_r, definitions}
+use Rattle.rss_model.specs.Store.{Defines, AreCounts}
 use Rattle.rss_rsi.specs.declared.session.Session.{Session}
 
 -- this transaction is open, if any, and has no save points
@@ -19,16 +25,32 @@ abbrev pub marks_of : Option ℕ → FinMap nat_cmp (List ℕ)
 marks_of None = map.empty
 marks_of (Some transaction) = map.insert map.empty transaction []
 
--- The session has the counts of this state.
+-- how many tuples of the relation of this number the open transaction deleted
+abbrev pub deleted_at : Session → ℕ → ℕ
+deleted_at session number = slice_index_or session.deleted (number - 1) 0
+
+-- none were deleted
+abbrev pub none_deleted : List ℕ
+none_deleted = replicate relations_most 0
+
+-- of each relation that is listed, so many tuples as are counted
+abbrev pub AreDeleted : Session → List Change → Type 0
+AreDeleted session changes =
+    (number : ℕ) (relation : RelationEntry)
+    → relation_at session.catalog.listing number ≡ Some relation
+    → count_by (is_delete_of relation.name) changes ≡ deleted_at session number
+
+-- The session has the definitions and the counts of this state.
 pub record Counts (session : Session) (state : State) : Type 0 where
   pub slots : state.size.slots ≡ session.slots
-  pub defined : state.base.definitions ≡ definitions
+  pub listed : ListingFits session.catalog.listing
+  pub defines : Defines session.catalog.listing state.base.definitions
   pub marks : state.marks ≡ marks_of session.transaction
   pub heap : state.meter.heap ≡ session.heap
   pub since : state.meter.since ≡ session.since
   pub changes : length state.changes ≡ session.since
-  pub live : tuple_count (now state).contents relation_r ≡ session.live
-  pub deleted : count_by (is_delete_of relation_r) state.changes ≡ session.deleted
+  pub live : AreCounts session.catalog.listing (now state).contents
+  pub deleted : AreDeleted session state.changes
 
 -- In each such state a test is passed where the result is a value, and refuses so where it is a refusal.
 abbrev pub Tests : {T : Type 0} → Session → (State → Option Refusal) → Result T Refusal → Type 0
@@ -51,20 +73,78 @@ needed session = 2 * (session.heap + 4 * (session.since + 1) + system_pages)
 abbrev pub HasRoom : Session → Type 0
 HasRoom session = needed session ≤ session.slots
 
--- one change more, after which there are so many tuples, and so many were deleted
-pub record Counted (old new : Session) (live deleted : ℕ) : Type 0 where
+-- one change more of the open transaction
+pub record ChangesOnce (old new : Session) : Type 0 where
   pub slots : new.slots ≡ old.slots
   pub heap : new.heap ≡ old.heap
   pub since : new.since ≡ old.since + 1
-  pub live_now : new.live ≡ live
-  pub deleted_now : new.deleted ≡ deleted
   pub transaction : new.transaction ≡ old.transaction
+
+-- no tuple more and none less
+pub record SameTuples (old new : Session) : Type 0 where
+  pub catalog : new.catalog ≡ old.catalog
+  pub deleted : new.deleted ≡ old.deleted
+
+-- the relation of this number has so many tuples now, and so many of it were deleted
+pub record CountsTuples (number : ℕ) (relation : RelationEntry) (live deleted : ℕ) (old new : Session) : Type 0 where
+  pub lists : Lists (with_relation old.catalog.listing number (Some (with_count live relation)))
+      (page_of RelationKind number) old.catalog new.catalog
+  pub deleted_now : new.deleted ≡ slice_set old.deleted (number - 1) deleted
+  pub fits : ListingFits old.catalog.listing → ListingFits new.catalog.listing
 
 -- No transaction is open, and all changes are committed; the pages that hold tuples are so many.
 pub record Ends (heap : ℕ) (old new : Session) : Type 0 where
   pub slots : new.slots ≡ old.slots
   pub heap_now : new.heap ≡ heap
   pub since : new.since ≡ 0
-  pub live : new.live ≡ old.live
-  pub deleted : new.deleted ≡ 0
+  pub deleted : new.deleted ≡ none_deleted
   pub transaction : new.transaction ≡ None
+  pub catalog : new.catalog ≡ old.catalog
+
+-- ---- definitions
+
+-- the relation as it is defined, without tuples
+abbrev pub entry_of : Name → ℕ → List FieldDef → RelationEntry
+entry_of name segment fields =
+    record { name = name; segment = segment; fields = fields; live = 0 }
+
+-- What a call that defines makes of a listing. A new definition takes the least number that is not in use.
+pub data Relists (old : Listing) : Call → Listing → Type 0 where
+  segment : (name : Name) (number : ℕ) → IsUnlisted SegmentKind old name
+      → IsLeastUnused SegmentKind old number
+      → Relists old (MakeSegment name) (with_segment old number (Some name))
+  relation : (name in_segment : Name) (fields : List FieldDef) (segment number : ℕ)
+      → segment_at old segment ≡ Some in_segment → IsUnlisted RelationKind old name
+      → IsLeastUnused RelationKind old number
+      → Relists old (MakeRelation name in_segment fields)
+      (with_relation old number (Some (entry_of name segment fields)))
+  drop_segment : (name : Name) (number : ℕ) → segment_at old number ≡ Some name
+      → (HasRelationIn old number → ⊥)
+      → Relists old (DropSegment name) (with_segment old number None)
+  drop_relation : (number : ℕ) (relation : RelationEntry) → relation_at old number ≡ Some relation
+      → relation.live ≡ 0
+      → Relists old (DropRelation relation.name) (with_relation old number None)
+
+-- The session lists what the call defines, by which one page of the system space alone has changed; all else is as it was.
+pub record Redefines (call : Call) (old new : Session) : Type 0 where
+  pub page : ℕ
+  pub low : page < system_pages
+  pub relists : Relists old.catalog.listing call new.catalog.listing
+  pub lists : Lists new.catalog.listing page old.catalog new.catalog
+  pub others : (k : ℕ) → k ≢ page → catalog_page new.catalog.listing k ≡ catalog_page old.catalog.listing k
+  pub fits : ListingFits old.catalog.listing → ListingFits new.catalog.listing
+  pub none_open : old.transaction ≡ None
+  pub slots : new.slots ≡ old.slots
+  pub heap : new.heap ≡ old.heap
+  pub since : new.since ≡ old.since
+  pub deleted : new.deleted ≡ old.deleted
+  pub transaction : new.transaction ≡ old.transaction
+
+-- A call that defines, by its result: it is refused in each state that the session counts, or the session lists what it defines.
+abbrev pub Defining : Session → Session → Call → Result (Unit {0}) Refusal → Type 0
+Defining old new call (Ok done) =
+    Redefines call old new
+    × ((state : State) → Counts old state → refusal state call ≡ None)
+Defining old new call (Err why) =
+    (new ≡ old) × ((state : State) → Counts old state → refusal state call ≡ Some why)
+    × IsShort (Err why)

@@ -1,33 +1,44 @@
-// The bodies of the relation's tuples.
-ghost use Rattle.std.specs.Prelude.{◌≡◌, is_some, IfSome, IfNone};
-ghost use Rattle.rss_rsi.specs.Bodies.{int_body, is_int_body, IsIntBody};
+// The bodies of tuples.
+ghost use Rattle.std.specs.Prelude.{◌≡◌, ◌≤◌, [], Some, None, All, IfOk, IfSome, List};
+ghost use Rattle.rss_base.specs.TupleTypes.{kinds, misfit, width, most_width, IsStorable};
+ghost use Rattle.rss_base.specs.declared.value.Value.{Value as FieldValue};
+ghost use Rattle.rss_model.specs.Store.{body_of};
+ghost use Rattle.rss_rsi.specs.Bodies.{IsBodyOf};
 
-/// The number of the relation, with which each body begins.
-pub(crate) const RELATION: u8 = 1;
+use rss_base::{Body, FieldDef, Tuple};
+use rss_value::{decode, encode};
+use std::alloc::{AllocError, Global};
 
-/// How many bytes a body has.
-pub(crate) const INT_BODY_BYTES: usize = 9;
-
-/// The body of a tuple with this value.
-pub(crate) fn body_of(value: i64) -> [u8; INT_BODY_BYTES]
-    ensures { result ≡ int_body value }
+/// The body of a tuple of the relation of this number, which has these fields.
+pub(crate) fn body_of(number: u8, fields: &[FieldDef], tuple: &Tuple) -> Body
+    requires fit { misfit (kinds fields.now) tuple.now ≡ None }
+    requires narrow { width (kinds fields.now) ≤ most_width }
+    ensures is { result ≡ body_of number tuple.now }
+    ensures storable { All IsStorable tuple.now }
 {
-    let mut body = [RELATION; INT_BODY_BYTES];
-    body[1..].copy_from_slice(&value.to_be_bytes());
+    let mut body = Body::new();
+    body.push(number);
+    encode(fields, tuple, &mut body);
     body
 }
 
-/// The value that a body has, if it is one.
-pub(crate) fn value_of(body: &[u8]) -> Option<i64>
-    ensures some { IfSome result (λ value. body.now ≡ int_body value) }
-    ensures none { IfNone result (IsIntBody body.now → ⊥) }
-    ensures is { is_some result ≡ is_int_body body.now }
+/// The tuple that a body is of, where its relation has this number and these fields.
+pub(crate) fn tuple_of(
+    alloc: Global,
+    number: u8,
+    fields: &[FieldDef],
+    body: &[u8],
+) -> Result<Option<Tuple>, AllocError>
+    ensures some { IfOk result (λ tuple. IfSome tuple
+        (λ values. IsBodyOf number (kinds fields.now) values body.now)) }
+    ensures exact { IfOk result (λ tuple. (values : List FieldValue)
+        → IsBodyOf number (kinds fields.now) values body.now → tuple ≡ Some values) }
 {
-    let [RELATION, value @ ..] = body else {
-        return None;
+    let Some((first, values)) = body.split_first() else {
+        return Ok(None);
     };
-    let Ok(value) = <[u8; 8]>::try_from(value) else {
-        return None;
-    };
-    Some(i64::from_be_bytes(value))
+    if *first != number {
+        return Ok(None);
+    }
+    decode(alloc, fields, values)
 }

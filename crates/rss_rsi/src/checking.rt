@@ -1,28 +1,28 @@
 // What the pages of a store hold, as an opening finds it.
-ghost use Rattle.std.specs.Prelude.{◌≡◌, ◌↔◌, ◌+◌, ◌-◌, ◌*◌, ◌^◌, ◌<◌, ◌≤◌, length, min, true, IsTrue, IfSome, IfNone, IfOk, OnOk, Err};
-ghost use Rattle.rss_base.specs.DiskRule.{IsTold};
+ghost use Rattle.std.specs.Prelude.{◌≡◌, ◌≢◌, ◌+◌, ◌*◌, ◌≤◌, length, true, is_some, IfSome, IfNone, IfOk, OnOk, Err, IsErrOf};
+ghost use Rattle.rss_base.specs.Looking.{ChecksPages};
 ghost use Rattle.rss_base.specs.PageMap.{IsTable, page_count};
-ghost use Rattle.rss_base.specs.Sizes.{zero_page, system_pages};
-ghost use Rattle.rss_base.specs.Steps.{no_page};
-ghost use Rattle.rss_base.specs.declared.fault.PageFault.TheVariants.{Damaged as PageDamaged, Device as PageDevice};
+ghost use Rattle.rss_base.specs.Sizes.{system_pages, relations_most, segments as segments_most};
+ghost use Rattle.rss_base.specs.Listings.{ListingFits, segment_at};
+ghost use Rattle.rss_base.specs.declared.fault.PageFault.TheVariants.{Damaged as PageDamaged};
 ghost use Rattle.rss_base.specs.declared.place.Place.{Place as AnyPlace};
-ghost use Rattle.rss_base.specs.declared.place.Place.TheVariants.{Catalog, Room};
-ghost use Rattle.rss_tuple.specs.Checked.{ChecksPages};
+ghost use Rattle.rss_base.specs.declared.key.PageKey.{PageKey as Key};
+ghost use Rattle.rss_base.specs.declared.key.Space.TheVariants.{System};
+ghost use Rattle.rss_page.specs.Slotted.{IsHeapKey};
+ghost use Rattle.rss_tuple.specs.Checked.{pages_of};
 ghost use Rattle.rss_model.specs.Store.{IsStorePage};
-ghost use Rattle.rss_rsi.specs.Bodies.{is_int_body};
-ghost use Rattle.rss_rsi.specs.Tuples.{heap_keys};
-ghost use Rattle.rss_rsi.specs.Opening.{AreStoreKeys, IsForeign, AreStorePages, HasZeros, HasSystem, LacksSystem};
+ghost use Rattle.rss_rsi.specs.Bodies.{is_body};
+ghost use Rattle.rss_rsi.specs.Checks.{AreSeen, ChecksSegment, MissesSegment, IsCountOf, MissesCount};
+ghost use Rattle.rss_rsi.specs.Checks.{ChecksSegments, MissesOne};
 ghost use Rattle.rss_rsi.specs.Opening.{FindsTables, FindsNone};
 
-use crate::bodies::{RELATION, value_of};
-use crate::session::TUPLES_MOST;
-use crate::tuples::SEGMENT;
-use rss_base::{PAGE_BYTES, Page, PageFault, PageKey, Pages, Place, SYSTEM_PAGES, Space, Tid};
+use crate::session::{RELATIONS, TUPLES_MOST};
+use rss_base::{Kind, PageFault, PageKey, Pages, Place, RELATIONS_MOST, SEGMENTS, Space, Tid};
+use rss_catalog::Catalog;
 use rss_pagemap::SlotTable;
 use rss_tuple::{Visitor, check};
+use rss_value::spells;
 use std::alloc::Global;
-
-// ---- the map
 
 /// How many pages a map has.
 pub(crate) fn pages_in(table: &SlotTable) -> u32
@@ -36,132 +36,179 @@ pub(crate) fn pages_in(table: &SlotTable) -> u32
         .count() as u32
 }
 
-/// Whether a store may have this page.
-fn is_store_page(key: PageKey) -> bool
-    ensures { IsTrue result ↔ IsStorePage key }
+/// The catalog of the pages, which are looked through. What is found of the room on each page is
+/// noted there.
+pub(crate) fn look_through<P: Pages>(alloc: Global, pages: &mut P) -> Result<Catalog, PageFault>
+    ensures finds { IfOk result (FindsTables (P.view pages.old) (P.view pages.new)) }
+    ensures none { (place : AnyPlace) → result ≡ Err (PageDamaged place)
+        → FindsNone (P.view pages.old) place }
+    ensures did { ChecksPages IsHeapKey (1040 * (P.view pages.old).slots + system_pages)
+        (P.view pages.old) (P.view pages.new) result }
 {
-    match key.space {
-        Space::System => true,
-        Space::Home | Space::Overflow => key.segment == SEGMENT,
-        Space::Image => false,
+    let catalog = Catalog::load(alloc, pages)?;
+    if let Some(key) = first_foreign(pages, &catalog) {
+        return Err(PageFault::Damaged(Place::Page(key)));
     }
+    look_at_segments(alloc, pages, &catalog)?;
+    Ok(catalog)
 }
 
-/// The first page of a map that no store has.
-pub(crate) fn first_foreign(table: &SlotTable) -> Option<PageKey>
-    ensures some { IfSome result (IsForeign table.now) }
-    ensures none { IfNone result (AreStoreKeys table.now) }
+/// A page that no store with these definitions has: one of a segment that isn't defined, or of the
+/// image space.
+fn first_foreign<P: Pages>(pages: &P, catalog: &Catalog) -> Option<PageKey>
+    ensures some { IfSome result (λ key. (P.view pages.now).mapped key ≡ true
+        × (IsStorePage catalog.now.listing key → ⊥)) }
+    ensures none { IfNone result ((key : Key) → (P.view pages.now).mapped key ≡ true
+        → IsStorePage catalog.now.listing key) }
 {
-    for owner in table.as_slice() {
-        match owner {
-            Some(key) if !is_store_page(*key) => return Some(*key),
-            _ => {}
+    for segment in 1..=SEGMENTS {
+        if let Some(key) = foreign_in(pages, catalog, segment) {
+            return Some(key);
         }
     }
     None
 }
 
-// ---- the pages
-
-/// Whether each byte is 0.
-fn is_zeros(page: &Page) -> bool
-    ensures { IsTrue result ↔ (page.now ≡ zero_page) }
+/// Such a page with the number of this segment.
+fn foreign_in<P: Pages>(pages: &P, catalog: &Catalog, segment: u8) -> Option<PageKey>
+    requires low { 1 ≤ segment }
+    requires high { segment ≤ segments_most }
+    ensures some { IfSome result (λ key. (P.view pages.now).mapped key ≡ true
+        × (IsStorePage catalog.now.listing key → ⊥)) }
+    ensures none { IfNone result ((key : Key) → key.segment ≡ segment
+        → (P.view pages.now).mapped key ≡ true → IsStorePage catalog.now.listing key) }
 {
-    *page == [0; PAGE_BYTES]
+    if let Some(key) = first_of(pages, segment, Space::Image) {
+        return Some(key);
+    }
+    if catalog.used(Kind::Segment, segment) {
+        return None;
+    }
+    if let Some(key) = first_of(pages, segment, Space::Home) {
+        return Some(key);
+    }
+    first_of(pages, segment, Space::Overflow)
 }
 
-/// The pages of the system space are there, and zeros.
-fn check_system<P: Pages>(pages: &mut P) -> Result<(), PageFault>
-    ensures has { OnOk result (HasSystem (P.view pages.old)) }
-    ensures lacks { (place : AnyPlace) → result ≡ Err (PageDamaged place)
-        → LacksSystem (P.view pages.old) place }
-    ensures did { ChecksPages no_page system_pages (P.view pages.old) (P.view pages.new) result }
+/// The first page of a segment and a space.
+fn first_of<P: Pages>(pages: &P, segment: u8, space: Space) -> Option<PageKey>
+    requires low { 1 ≤ segment }
+    requires high { segment ≤ segments_most }
+    requires space { space ≢ System }
+    ensures some { IfSome result (λ key. (P.view pages.now).mapped key ≡ true
+        × (key.segment ≡ segment) × (key.space ≡ space)) }
+    ensures none { IfNone result ((key : Key) → key.segment ≡ segment → key.space ≡ space
+        → (P.view pages.now).mapped key ≡ true → ⊥) }
 {
-    for number in 0..SYSTEM_PAGES {
-        check_zeros(pages, number)?;
-    }
-    Ok(())
+    let number = pages.first_mapped(segment, space, 0)?;
+    Some(PageKey {
+        segment,
+        space,
+        number,
+    })
 }
 
-/// Counts the tuples that it sees, up to 2^32 - 1.
-#[derive(Drop)]
-struct Census {
-    live: u32,
-}
-
-impl Visitor for Census {
-    ghost is_good = { λ census. is_int_body };
-
-    ghost saw = { λ census rows. census.live ≡ min (length rows) (2 ^ 32 - 1) };
-
-    fn see(&mut self, _tid: Tid, body: &[u8]) -> bool {
-        self.live = self.live.saturating_add(1);
-        value_of(body).is_some()
-    }
-}
-
-/// Looks through the pages, and answers how many tuples they have. What it finds of the room on each
-/// page it notes there.
-pub(crate) fn look_through<P: Pages>(alloc: Global, pages: &mut P) -> Result<u32, PageFault>
-    requires keys { AreStorePages (P.view pages.old).mapped }
-    ensures finds { IfOk result (FindsTables (P.view pages.old) (P.view pages.new)) }
-    ensures none { (place : AnyPlace) → result ≡ Err (PageDamaged place)
-        → FindsNone (P.view pages.old) place }
-    ensures did { ChecksPages heap_keys (130 * (P.view pages.old).slots + system_pages)
+/// Looks through the pages of each segment that is defined.
+fn look_at_segments<P: Pages>(
+    alloc: Global,
+    pages: &mut P,
+    catalog: &Catalog,
+) -> Result<(), PageFault>
+    requires { ListingFits catalog.now.listing }
+    ensures checks { OnOk result
+        (ChecksSegments catalog.now.listing (P.view pages.old) (P.view pages.new)) }
+    ensures misses { (place : AnyPlace) → result ≡ Err (PageDamaged place)
+        → MissesOne catalog.now.listing (P.view pages.old) place }
+    ensures did { ChecksPages IsHeapKey (1040 * (P.view pages.old).slots)
         (P.view pages.old) (P.view pages.new) result }
 {
-    check_system(pages)?;
-    let mut census = Census { live: 0 };
-    check(alloc, pages, SEGMENT, &mut census)?;
-    if census.live > TUPLES_MOST {
-        return Err(PageFault::Damaged(Place::Count(RELATION)));
-    }
-    Ok(census.live)
-}
-
-/// The page of this number of the system space is there, and zeros.
-fn check_zeros<P: Pages>(pages: &mut P, number: u32) -> Result<(), PageFault>
-    requires { number < system_pages }
-    ensures has { OnOk result (HasZeros number (P.view pages.old)) }
-    ensures lacks { (place : AnyPlace) → result ≡ Err (PageDamaged place)
-        → LacksSystem (P.view pages.old) place }
-    ensures did { ChecksPages no_page 1 (P.view pages.old) (P.view pages.new) result }
-{
-    let key = PageKey {
-        segment: 0,
-        space: Space::System,
-        number,
-    };
-    if !pages.has(key) {
-        return Err(damaged(number));
-    }
-    if let Err(fault) = pages.load(key) {
-        return Err(fault_of(number, fault));
-    }
-    if !is_zeros(pages.loaded(key)) {
-        return Err(damaged(number));
+    for segment in 1..=SEGMENTS {
+        if catalog.used(Kind::Segment, segment) {
+            look_at_segment(alloc, pages, catalog, segment)?;
+        }
     }
     Ok(())
 }
 
-/// Why a page of the system space can't be read, where damage is that of this page.
-fn fault_of(number: u32, fault: PageFault) -> PageFault
-    requires { number < system_pages }
-    ensures failed { result ≡ PageDevice → fault ≡ PageDevice }
-    ensures damaged { (place : AnyPlace) → result ≡ PageDamaged place
-        → ((other : AnyPlace) → fault ≡ PageDamaged other → ⊥) → ⊥ }
-    ensures elsewhere { result ≡ PageDamaged Room → ⊥ }
-{
-    match fault {
-        PageFault::Damaged(_) => damaged(number),
-        PageFault::Device | PageFault::NoMemory => fault,
+/// Counts the tuples of a segment that it sees by their relations, each up to 2^32 - 1.
+#[derive(Drop)]
+struct Census<'a> {
+    catalog: &'a Catalog,
+    segment: u8,
+    live: [u32; RELATIONS],
+    ghost places: { length catalog.now.listing.relations ≡ relations_most },
+}
+
+impl<'a> Visitor for Census<'a> {
+    ghost is_good = { λ census. is_body census.catalog.now.listing census.segment };
+
+    ghost saw = { λ census. AreSeen census.live };
+
+    fn see(&mut self, _tid: Tid, body: &[u8]) -> bool {
+        let Some((number, values)) = body.split_first() else {
+            return false;
+        };
+        if *number == 0 || *number > RELATIONS_MOST {
+            return false;
+        }
+        let place = usize::from(*number) - 1;
+        self.live[place] = self.live[place].saturating_add(1);
+        if !self.catalog.used(Kind::Relation, *number) {
+            return false;
+        }
+        let relation = self.catalog.relation(*number);
+        relation.segment == self.segment && spells(relation.fields.as_slice(), values)
     }
 }
 
-/// That a page of the system space isn't as it should be.
-fn damaged(number: u32) -> PageFault
-    requires { number < system_pages }
-    ensures { result ≡ PageDamaged (Catalog number) }
+/// Looks through the pages of a segment: its tuples are those of its relations, as many as the
+/// catalog counts.
+fn look_at_segment<P: Pages>(
+    alloc: Global,
+    pages: &mut P,
+    catalog: &Catalog,
+    segment: u8,
+) -> Result<(), PageFault>
+    requires listed { is_some (segment_at catalog.now.listing segment) ≡ true }
+    requires fits { ListingFits catalog.now.listing }
+    ensures checks { OnOk result
+        (ChecksSegment catalog.now.listing segment (P.view pages.old) (P.view pages.new)) }
+    ensures misses { (place : AnyPlace) → result ≡ Err (PageDamaged place)
+        → MissesSegment catalog.now.listing segment (P.view pages.old) place }
+    ensures did { ChecksPages (pages_of segment) (130 * (P.view pages.old).slots)
+        (P.view pages.old) (P.view pages.new) result }
 {
-    PageFault::Damaged(Place::Catalog(number as u8))
+    let mut census = Census {
+        catalog,
+        segment,
+        live: [0; RELATIONS],
+    };
+    check(alloc, pages, segment, &mut census)?;
+    for number in 1..=RELATIONS_MOST {
+        check_count(
+            catalog,
+            segment,
+            number,
+            census.live[usize::from(number) - 1],
+        )?;
+    }
+    Ok(())
+}
+
+/// The relation of this number, if it is one of the segment, has as many tuples as were seen, and no
+/// more than a relation may have.
+fn check_count(catalog: &Catalog, segment: u8, number: u8, seen: u32) -> Result<(), PageFault>
+    ensures is { OnOk result (IsCountOf catalog.now.listing segment number seen) }
+    ensures misses { (place : AnyPlace) → result ≡ Err (PageDamaged place)
+        → MissesCount catalog.now.listing segment number seen place }
+    ensures no_device { IsErrOf result PageFault.Device → ⊥ }
+{
+    if !catalog.used(Kind::Relation, number) {
+        return Ok(());
+    }
+    let relation = catalog.relation(number);
+    if relation.segment == segment && (relation.live != seen || seen > TUPLES_MOST) {
+        return Err(PageFault::Damaged(Place::Count(number)));
+    }
+    Ok(())
 }

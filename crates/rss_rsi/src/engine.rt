@@ -1,25 +1,31 @@
 // A store that is open.
 ghost use Rattle.std.proofs.Props.{props};
 ghost use Rattle.rss_tuple.proofs.Props.{AreHeaps-prop};
-ghost use Rattle.rss_model.proofs.Props.{store_page-prop};
-ghost use Rattle.std.specs.Prelude.{◌≡◌, false, IfOk, ⊤};
+ghost use Rattle.rss_model.proofs.Props.{system_or_heap-prop};
+ghost use Rattle.std.specs.Prelude.{◌≡◌, false, true, All, IfOk, ⊤};
 ghost use Rattle.rss_base.specs.DiskRule.{IsTold};
+ghost use Rattle.rss_base.specs.Names.{IsName};
+ghost use Rattle.rss_base.specs.TupleTypes.{field_names};
 ghost use Rattle.rss_base.specs.declared.call.Call.TheVariants.{End, Insert, Fetch, Update, Delete};
+ghost use Rattle.rss_base.specs.declared.call.Call.TheVariants.{MakeSegment, MakeRelation, DropSegment, DropRelation};
+ghost use Rattle.rss_base.specs.declared.answer.CallError.TheVariants.{Refused};
+ghost use Rattle.rss_base.specs.declared.refusal.Refusal.TheVariants.{NoTuple};
 ghost use Rattle.rss_model.specs.Calls.{ShowsState};
+ghost use Rattle.rss_model.specs.ReplyText.{IsShort};
 ghost use Rattle.rss_rsi.specs.Ready.{IsReady, engine_view};
 
-use crate::bodies::RELATION;
+use crate::bodies::{body_of, tuple_of};
 use crate::checkpoint::checkpoint;
 use crate::session::Session;
-use crate::tuples::{delete, fetch, insert, update};
+use crate::tuples::{delete, find, insert, update};
 use rss_base::{
-    Call, CallError, Name, PageFault, Pages, Place, Refusal, Reply, Root, SYSTEM_PAGES, Tid, Tuple,
-    Value,
+    Body, Call, CallError, Fields, Name, PageFault, Pages, Place, Refusal, Reply, Root,
+    SYSTEM_PAGES, Tid, Tuple,
 };
 use rss_buffer::Saving;
 use rss_model::Engine;
 use rss_tuple::Store;
-use std::alloc::Global;
+use std::alloc::{AllocError, Global};
 
 /// A store that is open: its tuples, and the transaction that is open.
 ///
@@ -34,7 +40,7 @@ pub struct Rss<S: Saving> {
     down: bool,
     alloc: Global,
     ghost ready: { down ≡ false
-        → IsReady (S.view tuples.pages) number root session } by { Prim.hlevel (props, store_page-prop, AreHeaps-prop) },
+        → IsReady (S.view tuples.pages) number root session } by { Prim.hlevel (props, system_or_heap-prop, AreHeaps-prop) },
     ghost size: { session.slots ≡ root.slots },
     ghost shown: { down ≡ false → IsTold (S.view tuples.pages).disk
         → ∥ ShowsState (engine_view (S.view tuples.pages) number root session (down ≡ false)) ∥₁ },
@@ -46,9 +52,12 @@ impl<S: Saving> Rss<S> {
     ghost use Rattle.rss_model.specs.Machine.{State};
     ghost use Rattle.rss_model.specs.Meter.{room_number};
     ghost use Rattle.rss_rsi.specs.Lookups.{IsLookOf};
-    ghost use Rattle.rss_rsi.specs.Parts.{pages_below, view};
+    ghost use Rattle.rss_rsi.specs.Parts.{pages_below, view, parts, counted_heap, counted_room};
+    ghost use Rattle.rss_rsi.specs.Saves.{CanSave, SavesStore, IsDefining, IsRedefining, view_before};
+    ghost use Rattle.rss_rsi.specs.declared.session.Session.{Session as AnySession};
+    ghost use Rattle.rss_base.specs.declared.call.Call.{Call as AnyCall};
     ghost use Rattle.rss_rsi.specs.Ready.{AreSaved, heap_now};
-    ghost use Rattle.rss_rsi.specs.Tuples.{Finds};
+    ghost use Rattle.rss_rsi.specs.Tuples.{FindsBody};
 
     /// The store of these tuples, all committed.
     pub(crate) fn new(
@@ -78,16 +87,25 @@ impl<S: Saving> Rss<S> {
         }
     }
 
-    /// The value of the tuple with this identifier, where there is one.
-    fn look(&mut self, tid: Tid) -> Result<Option<i64>, CallError>
+    // ---- tuples
+
+    /// Whether the tuple of a segment with this identifier is one of the relation of this number. If
+    /// so, its body is put into `into`.
+    fn look(
+        &mut self,
+        segment: u8,
+        number: u8,
+        tid: Tid,
+        into: &mut Body,
+    ) -> Result<bool, CallError>
         requires { self.old.down ≡ false }
-        ensures looks { IsLookOf (view self.old) (view self.new) tid result }
-        ensures finds { IfOk result (λ found. IsTold (S.view self.new.tuples.pages).disk
-            → Finds (S.view self.new.tuples.pages) tid found) }
+        ensures looks { IsLookOf (view self.old) (view self.new) result }
+        ensures finds { IfOk result (λ there. IsTold (S.view self.new.tuples.pages).disk
+            → FindsBody segment number tid (S.view self.new.tuples.pages) there into.new) }
         ensures session { self.new.session ≡ self.old.session }
     {
-        match fetch(&mut self.tuples, tid) {
-            Ok(found) => Ok(found),
+        match find(&mut self.tuples, segment, number, tid, into) {
+            Ok(there) => Ok(there),
             Err(fault) => {
                 self.down = !matches!(fault, PageFault::NoMemory);
                 Err(CallError::from(fault))
@@ -106,12 +124,15 @@ impl<S: Saving> Rss<S> {
         ensures { IsCallOf (view self.old) (view self.new)
             (Insert transaction relation.now tuple.now) result }
     {
-        let value = self.session.admit_value(transaction, relation, tuple)?;
-        self.session.test_limit()?;
+        let number = self.session.admit_tuple(transaction, relation, tuple)?;
+        self.session.test_limit(number)?;
         self.session.test_room()?;
+        let entry = self.session.catalog.relation(number);
+        let body = body_of(number, entry.fields.as_slice(), tuple);
+        let segment = entry.segment;
         self.down = true;
-        let tid = insert(&mut self.tuples, value)?;
-        self.session.inserted();
+        let tid = insert(&mut self.tuples, segment, body.as_slice())?;
+        self.session.inserted(number);
         self.down = false;
         Ok(Reply::Tid(tid))
     }
@@ -122,12 +143,20 @@ impl<S: Saving> Rss<S> {
         ensures { IsCallOf (view self.old) (view self.new)
             (Fetch transaction relation.now tid) result }
     {
-        self.session.admit(transaction, relation)?;
-        let Some(value) = self.look(tid)? else {
-            return Err(CallError::Refused(Refusal::NoTuple(*relation, tid)));
-        };
-        match Tuple::single(self.alloc, Value::Int(value)) {
-            Ok(tuple) => Ok(Reply::Tuple(tuple)),
+        let number = self.session.admit(transaction, relation)?;
+        let segment = self.session.catalog.relation(number).segment;
+        let mut body = Body::new();
+        if !self.look(segment, number, tid, &mut body)? {
+            return Err(no_tuple(relation, tid));
+        }
+        let entry = self.session.catalog.relation(number);
+        match tuple_of(self.alloc, number, entry.fields.as_slice(), body.as_slice()) {
+            Ok(Some(tuple)) => Ok(Reply::Tuple(tuple)),
+            // Only a device that doesn't tell its contents gives a body that is none.
+            Ok(None) => {
+                self.down = true;
+                Err(CallError::Damaged(Place::Tuple(segment, tid)))
+            }
             Err(_) => Err(CallError::NoMemory),
         }
     }
@@ -144,13 +173,17 @@ impl<S: Saving> Rss<S> {
         ensures { IsCallOf (view self.old) (view self.new)
             (Update transaction relation.now tid tuple.now) result }
     {
-        let value = self.session.admit_value(transaction, relation, tuple)?;
-        if self.look(tid)?.is_none() {
-            return Err(CallError::Refused(Refusal::NoTuple(*relation, tid)));
+        let number = self.session.admit_tuple(transaction, relation, tuple)?;
+        let entry = self.session.catalog.relation(number);
+        let body = body_of(number, entry.fields.as_slice(), tuple);
+        let segment = entry.segment;
+        let mut old_body = Body::new();
+        if !self.look(segment, number, tid, &mut old_body)? {
+            return Err(no_tuple(relation, tid));
         }
         self.session.test_room()?;
         self.down = true;
-        update(&mut self.tuples, tid, value)?;
+        update(&mut self.tuples, segment, tid, body.as_slice())?;
         self.session.updated();
         self.down = false;
         Ok(Reply::Ok)
@@ -162,21 +195,26 @@ impl<S: Saving> Rss<S> {
         ensures { IsCallOf (view self.old) (view self.new)
             (Delete transaction relation.now tid) result }
     {
-        self.session.admit(transaction, relation)?;
-        if self.look(tid)?.is_none() {
-            return Err(CallError::Refused(Refusal::NoTuple(*relation, tid)));
+        let number = self.session.admit(transaction, relation)?;
+        let segment = self.session.catalog.relation(number).segment;
+        let mut body = Body::new();
+        if !self.look(segment, number, tid, &mut body)? {
+            return Err(no_tuple(relation, tid));
         }
         self.session.test_room()?;
+        let live = self.session.catalog.relation(number).live;
         self.down = true;
         // Only over a device that doesn't tell its contents is there a tuple where none is counted.
-        if self.session.live == 0 {
-            return Err(CallError::Damaged(Place::Count(RELATION)));
+        if live == 0 {
+            return Err(CallError::Damaged(Place::Count(number)));
         }
-        delete(&mut self.tuples, tid)?;
-        self.session.deleted();
+        delete(&mut self.tuples, segment, tid)?;
+        self.session.deleted(number);
         self.down = false;
         Ok(Reply::Ok)
     }
+
+    // ---- commits
 
     /// Ends a transaction. Where it changed nothing, nothing is written.
     fn end(&mut self, transaction: u32) -> Result<Reply, CallError>
@@ -191,11 +229,91 @@ impl<S: Saving> Rss<S> {
             return Ok(Reply::Ok);
         }
         self.down = true;
-        self.number = checkpoint(&mut self.tuples.pages, self.number, &mut self.root)?;
-        let heap = self.saved_heap();
-        self.session.end(heap);
+        self.save()?;
         self.down = false;
         Ok(Reply::Ok)
+    }
+
+    /// Defines a segment.
+    fn make_segment(&mut self, name: &Name) -> Result<Reply, CallError>
+        requires up { self.old.down ≡ false }
+        requires name { IsName name.now }
+        ensures { IsCallOf (view self.old) (view self.new) (MakeSegment name.now) result }
+    {
+        self.down = true;
+        let made = self.session.make_segment(name);
+        self.redefine(made)
+    }
+
+    /// Defines a relation.
+    fn make_relation(
+        &mut self,
+        name: &Name,
+        segment: &Name,
+        fields: &Fields,
+    ) -> Result<Reply, CallError>
+        requires up { self.old.down ≡ false }
+        requires name { IsName name.now }
+        requires fields { All IsName (field_names fields.now) }
+        ensures { IsCallOf (view self.old) (view self.new)
+            (MakeRelation name.now segment.now fields.now) result }
+    {
+        let Ok(fields) = copy_of(self.alloc, fields) else {
+            return Err(CallError::NoMemory);
+        };
+        self.down = true;
+        let made = self.session.make_relation(name, segment, fields);
+        self.redefine(made)
+    }
+
+    /// Takes a segment away.
+    fn drop_segment(&mut self, name: &Name) -> Result<Reply, CallError>
+        requires { self.old.down ≡ false }
+        ensures { IsCallOf (view self.old) (view self.new) (DropSegment name.now) result }
+    {
+        self.down = true;
+        let made = self.session.drop_segment(name);
+        self.redefine(made)
+    }
+
+    /// Takes a relation away.
+    fn drop_relation(&mut self, name: &Name) -> Result<Reply, CallError>
+        requires { self.old.down ≡ false }
+        ensures { IsCallOf (view self.old) (view self.new) (DropRelation name.now) result }
+    {
+        self.down = true;
+        let made = self.session.drop_relation(name);
+        self.redefine(made)
+    }
+
+    /// Commits what the session has defined, or answers why it has not.
+    fn redefine(&mut self, made: Result<(), Refusal>) -> Result<Reply, CallError>
+        requires down { self.old.down ≡ true }
+        requires some { IsRedefining (parts self.old) made }
+        ensures { (before : AnySession) (call : AnyCall) → IsDefining (parts self.old) before call made
+            → IsCallOf (view_before (parts self.old) before) (view self.new) call result }
+    {
+        if let Err(why) = made {
+            self.down = false;
+            return Err(CallError::Refused(why));
+        }
+        self.save()?;
+        self.down = false;
+        Ok(Reply::Ok)
+    }
+
+    /// Saves all pages with the catalog, and counts anew.
+    fn save(&mut self) -> Result<(), CallError>
+        requires down { self.old.down ≡ true }
+        requires may { CanSave (parts self.old) }
+        ensures down { self.new.down ≡ true }
+        ensures saves { SavesStore (parts self.old) (parts self.new) result }
+    {
+        let Session { catalog, .. } = &mut self.session;
+        self.number = checkpoint(&mut self.tuples.pages, catalog, self.number, &mut self.root)?;
+        let heap = self.saved_heap();
+        self.session.end(heap);
+        Ok(())
     }
 
     /// How many home and overflow pages there are, where all pages are saved: each page has one slot
@@ -225,7 +343,9 @@ impl<S: Saving> Rss<S> {
 
     /// How many home and overflow pages there were at the last checkpoint.
     pub fn heap(&self) -> u32
-        ensures { (state : State) → (view self.now).shows state → state.meter.heap ≡ result }
+        ensures is { result ≡ counted_heap self.now }
+        ensures state { (state : State) → (view self.now).shows state
+            → state.meter.heap ≡ result }
     {
         self.session.heap
     }
@@ -233,7 +353,8 @@ impl<S: Saving> Rss<S> {
     /// How many slots the changes that were made may need, by the rule of room. A change is refused
     /// where one more might need more than there are.
     pub fn room(&self) -> u32
-        ensures { (state : State) → (view self.now).shows state
+        ensures is { result ≡ counted_room self.now }
+        ensures state { (state : State) → (view self.now).shows state
             → room_number state.meter ≡ result }
     {
         2 * (self.session.heap + 4 * self.session.since + SYSTEM_PAGES)
@@ -253,6 +374,27 @@ impl<S: Saving> Rss<S> {
         } = self;
         pages
     }
+}
+
+/// No tuple of the relation has this identifier.
+fn no_tuple(relation: &Name, tid: Tid) -> CallError
+    ensures is { result ≡ Refused (NoTuple relation.now tid) }
+    ensures short { IsShort (Err (NoTuple relation.now tid)) }
+{
+    let Name { bytes } = *relation;
+    CallError::Refused(Refusal::NoTuple(Name { bytes }, tid))
+}
+
+/// A copy of these fields, in one allocation.
+fn copy_of(alloc: Global, fields: &Fields) -> Result<Fields, AllocError>
+    ensures { IfOk result (λ copy. copy ≡ fields.now) }
+{
+    let fields = fields.as_slice();
+    let mut copy = Fields::with_capacity(alloc, fields.len())?;
+    for field in fields {
+        copy.push(*field)?;
+    }
+    Ok(copy)
 }
 
 impl<S: Saving> Engine for Rss<S> {
@@ -281,6 +423,10 @@ impl<S: Saving> Engine for Rss<S> {
                 self.update(*transaction, relation, *tid, tuple)
             }
             Call::Delete(transaction, relation, tid) => self.delete(*transaction, relation, *tid),
+            Call::MakeSegment(name) => self.make_segment(name),
+            Call::MakeRelation(name, segment, fields) => self.make_relation(name, segment, fields),
+            Call::DropSegment(name) => self.drop_segment(name),
+            Call::DropRelation(name) => self.drop_relation(name),
         }
     }
 }

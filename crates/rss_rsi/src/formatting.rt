@@ -8,7 +8,7 @@ ghost use Rattle.rss_base.specs.Sizes.{slots_least, slots_most};
 ghost use Rattle.rss_base.specs.declared.place.Place.{Place};
 ghost use Rattle.rss_base.specs.declared.fault.OpenFault.TheVariants.{NotAStore, Damaged};
 ghost use Rattle.rss_base.specs.declared.fault.OpenFault.TheVariants.{WrongSize};
-ghost use Rattle.rss_model.specs.Store.{no_tuples, OpensTo};
+ghost use Rattle.rss_model.specs.Store.{no_tables, OpensTo};
 ghost use Rattle.rss_rsi.specs.Formatted.{AreSizes, first_root, first_owners, HoldsZeros};
 ghost use Rattle.rss_rsi.specs.Formatted.{HoldsFormatted};
 
@@ -36,7 +36,7 @@ pub fn format<D: Device>(
 ) -> Result<(), OpenFault>
     ensures made { OnOk result (HoldsFormatted slots log_pages (D.view device.new).disk) }
     ensures opens { OnOk result (Told (D.view device.new).disk (λ pages.
-        OpensTo pages (record { slots = slots; log_pages = log_pages }) no_tuples)) }
+        OpensTo pages (record { slots = slots; log_pages = log_pages }) no_tables)) }
 
     // The sizes are tested before anything is done.
     ensures sizes { OnOk result (AreSizes slots log_pages) }

@@ -1,5 +1,5 @@
-//! A store of one relation, whose tuples stand in the pages of a device: how it is made, opened and
-//! called.
+//! A store of segments and relations, whose tuples stand in the pages of a device: how it is made,
+//! opened and called.
 #![tactic(auto)]
 
 mod bodies;

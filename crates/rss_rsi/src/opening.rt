@@ -8,11 +8,11 @@ ghost use Rattle.rss_base.specs.declared.place.Place.TheVariants.{Room as NoRoom
 ghost use Rattle.rss_model.specs.Store.{HasFirstLog};
 ghost use Rattle.rss_buffer.specs.Devices.{device_of};
 ghost use Rattle.rss_rsi.specs.Parts.{pages_below};
-ghost use Rattle.rss_rsi.specs.Opening.{LacksStore, IsUnopened, IsLayout, HasLayout, AreStoreKeys};
-ghost use Rattle.rss_rsi.specs.Opening.{IsHandedBack, OpensOver};
+ghost use Rattle.rss_rsi.specs.Opening.{LacksStore, IsUnopened, IsLayout, HasLayout};
+ghost use Rattle.rss_rsi.specs.Opening.{IsHandedBack, OpensOver, NotesRooms};
 
 use crate::Rss;
-use crate::checking::{first_foreign, look_through, pages_in};
+use crate::checking::{look_through, pages_in};
 use crate::session::Session;
 use rss_base::{Device, OpenFault, Pages, Place, Root, SYSTEM_PAGES, Unopened};
 use rss_buffer::Buffer;
@@ -23,7 +23,7 @@ use rss_tuple::Store;
 use std::alloc::Global;
 
 /// How many pages are kept in memory.
-const FRAMES: u32 = 1024;
+const FRAMES: u32 = 256;
 
 /// The selected root with its number, and the map that it names.
 #[derive(Drop)]
@@ -33,14 +33,13 @@ struct Layout {
     table: SlotTable,
 }
 
-/// Where a root with its map is that of no store: the map has too many pages, or one that no store
-/// has, or the log isn't as it is made.
+/// Where a root with its map is that of no store: the map has too many pages, or the log isn't as it
+/// is made.
 fn damage_of(root: &Root, table: &SlotTable) -> Option<Place>
     requires slots { length table.now ≡ root.now.slots }
     requires table { IsTable table.now }
     ensures half { IfNone result (2 * page_count table.now ≤ length table.now) }
     ensures log { IfNone result (HasFirstLog root.now) }
-    ensures keys { IfNone result (AreStoreKeys table.now) }
     ensures some { IfSome result (λ place. (pages : DevicePages)
         → LacksStore pages root.now table.now) }
     ensures room { root.now.slots < 2 * page_count table.now → result ≡ Some NoRoom }
@@ -48,9 +47,6 @@ fn damage_of(root: &Root, table: &SlotTable) -> Option<Place>
 {
     if 2 * pages_in(table) > root.slots {
         return Some(Place::Room);
-    }
-    if let Some(key) = first_foreign(table) {
-        return Some(Place::Page(key));
     }
     if !has_first_log(root) {
         return Some(Place::Log(root.head));
@@ -104,6 +100,8 @@ fn store_of<D: Device>(
     requires synced { Told (D.view device).disk (LeavesOnly (D.view device).disk) }
     ensures opened { IfOk result (λ store. OpensOver (D.view device)
         (D.view (device_of (pages_below store))) (⟦<Rss<Buffer<D>> as Engine>⟧.view store)) }
+    ensures noted { IfOk result (λ store.
+        NotesRooms (D.view device) (⟦<Buffer<D> as Pages>⟧.view (pages_below store))) }
     ensures refused { IfErr result (λ e. IsHandedBack (D.view device) (D.view e.device) e.fault) }
 {
     let Layout {
@@ -113,8 +111,8 @@ fn store_of<D: Device>(
     } = layout;
     let heap = pages_in(&table).saturating_sub(SYSTEM_PAGES);
     let mut pages = Buffer::new(alloc, device, &root, table, FRAMES)?;
-    let live = match look_through(alloc, &mut pages) {
-        Ok(live) => live,
+    let catalog = match look_through(alloc, &mut pages) {
+        Ok(catalog) => catalog,
         Err(fault) => {
             return Err(Unopened {
                 device: pages.into_device(),
@@ -122,21 +120,23 @@ fn store_of<D: Device>(
             });
         }
     };
-    let session = Session::new(root.slots, heap, live);
+    let session = Session::new(root.slots, heap, catalog);
     Ok(Rss::new(alloc, Store { pages }, root, number, session))
 }
 
-/// Opens the store that a device holds, with 1,024 of its pages in memory.
+/// Opens the store that a device holds, with 256 of its pages in memory.
 ///
 /// It syncs the device, reads the whole store, and writes nothing. The device is handed back where
 /// it holds none: `NotAStore` names the first place at which the layout of the device, of its root
 /// or of its map is out of form. Where the layout is sound it is `Damaged`: at `Room` where the map
-/// has too many pages; at `Catalog` where a page of the system space isn't zeros; at a page, a tuple
-/// or the log that is none of a store; or at `Count` where there are more tuples than a relation may
-/// have.
+/// has too many pages; at `Log` where the log isn't as it is made; at `Catalog` where a page of the
+/// system space isn't in form; at a page or a tuple that is none of a store; or at `Count` where a
+/// relation hasn't as many tuples as the catalog says, or has more than it may have.
 pub fn open<D: Device>(alloc: Global, device: D) -> Result<Rss<Buffer<D>>, Unopened<D>>
     ensures opened { IfOk result (λ store. OpensOver (D.view device)
         (D.view (device_of (pages_below store))) (⟦<Rss<Buffer<D>> as Engine>⟧.view store)) }
+    ensures noted { IfOk result (λ store.
+        NotesRooms (D.view device) (⟦<Buffer<D> as Pages>⟧.view (pages_below store))) }
     ensures refused { IfErr result (λ e. IsHandedBack (D.view device) (D.view e.device) e.fault) }
 {
     let mut device = device;

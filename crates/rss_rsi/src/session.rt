@@ -1,21 +1,39 @@
-// The transaction that is open, and the counts by which a call is refused.
-ghost use Rattle.std.specs.Prelude.{◌≡◌, ◌+◌, ◌*◌, ◌-◌, ◌<◌, ◌≤◌, [], ◌∷◌, None, Some, Ok, IfOk, OnOk, IfErr, OnErr};
-ghost use Rattle.rss_base.specs.Sizes.{slots_most, system_pages};
-ghost use Rattle.rss_base.specs.declared.call.Call.TheVariants.{Begin, End};
-ghost use Rattle.rss_base.specs.declared.value.Value.TheVariants.{Int};
-ghost use Rattle.rss_base.specs.declared.value.FieldKind.TheVariants.{Int as IntField};
+// The transaction that is open, what is defined, and the counts by which a call is refused.
+ghost use Rattle.std.specs.List.{list_any};
+ghost use Rattle.std.specs.Ordering.{eq_by_cmp};
+ghost use Rattle.std.specs.Prelude.{ℕ, ◌≡◌, ◌+◌, ◌*◌, ◌-◌, ◌<◌, ◌≤◌, true, is_some, length, slice_index_or, Some, None, Ok, IfOk, OnOk, IfErr, Err, All};
+ghost use Rattle.rss_base.specs.Names.{IsName};
+ghost use Rattle.rss_base.specs.Sizes.{slots_most, system_pages, relations_most};
+ghost use Rattle.rss_base.specs.TupleTypes.{kinds, misfit, field_names, width, most_width, are_kinds, is_kind};
+ghost use Rattle.rss_base.specs.Listings.{relation_at, IsNumberOf};
+ghost use Rattle.rss_base.specs.declared.call.Call.TheVariants.{Begin, End, MakeSegment, MakeRelation, DropSegment, DropRelation};
+ghost use Rattle.rss_base.specs.declared.refusal.Kind.TheVariants.{Relation as RelationKind};
+ghost use Rattle.rss_base.specs.declared.relation.RelationEntry.{RelationEntry as Entry};
 ghost use Rattle.rss_base.specs.declared.answer.Reply.TheVariants.{Ok as Done};
+ghost use Rattle.rss_model.specs.Items.{name_cmp};
 ghost use Rattle.rss_model.specs.Fits.{tuple_limit};
-ghost use Rattle.rss_model.specs.Steps.{begun, ended, misfit_of, admission, value_admission, if_used_up, if_full};
+ghost use Rattle.rss_model.specs.Defining.{has_twice, if_any_open};
+ghost use Rattle.rss_model.specs.Steps.{begun, ended, first_of, admission, value_admission, if_used_up, if_full};
 ghost use Rattle.rss_model.specs.ReplyText.{IsShort};
-ghost use Rattle.rss_model.specs.Store.{relation_r};
+ghost use Rattle.rss_rsi.specs.FieldTests.{fields_tests};
 
-use rss_base::{Kind, LimitKind, Name, RELATION_R, Refusal, Reply, SYSTEM_PAGES, Tuple, Value};
+use rss_base::{
+    FieldDef, FieldKind, Fields, Kind, LimitKind, MOST_FIELDS, Name, RELATIONS_MOST, Refusal,
+    RelationEntry, Reply, SYSTEM_PAGES, Tuple,
+};
+use rss_catalog::Catalog;
+use rss_value::{fits, width};
 
 /// How many tuples a relation has at most.
 pub(crate) const TUPLES_MOST: u32 = 1 << 20;
 
-/// The transaction that is open, and what is counted of the store.
+/// How many bytes the values of a relation's tuple have at most.
+const WIDTH_MOST: usize = 2048;
+
+/// How many places there are for the numbers of relations.
+pub(crate) const RELATIONS: usize = RELATIONS_MOST as usize;
+
+/// The transaction that is open, what is defined, and what is counted of the store.
 #[derive(Drop)]
 pub(crate) struct Session {
     /// How many slots the store has.
@@ -24,42 +42,46 @@ pub(crate) struct Session {
     pub(crate) heap: u32,
     /// How many changes were made since then.
     pub(crate) since: u32,
-    /// How many tuples there are.
-    pub(crate) live: u32,
-    /// How many tuples the open transaction deleted.
-    pub(crate) deleted: u32,
     pub(crate) transaction: Option<u32>,
+    /// How many tuples of each relation the open transaction deleted, by the relations' numbers.
+    pub(crate) deleted: [u32; RELATIONS],
+    /// What is defined, and how many tuples each relation has.
+    pub(crate) catalog: Catalog,
     ghost few: { slots ≤ slots_most },
-    ghost few_tuples: { live + deleted ≤ tuple_limit },
+    ghost relation_places: { length catalog.listing.relations ≡ relations_most },
+    ghost deleted_places: { length deleted ≡ relations_most },
+    ghost few_deleted: { (k : ℕ) → slice_index_or deleted k 0 ≤ since },
     ghost rest: { transaction ≡ None → since ≡ 0 },
-    ghost none_deleted: { transaction ≡ None → deleted ≡ 0 },
     ghost room: { 2 * (heap + 4 * since + system_pages) ≤ slots },
 }
 
 impl Session {
-    ghost use Rattle.rss_rsi.specs.Sessions.{Tests, Answers, Counted, Ends, needed, HasRoom};
+    ghost use Rattle.rss_rsi.specs.Sessions.{Tests, Answers, ChangesOnce, SameTuples, CountsTuples, Ends};
+    ghost use Rattle.rss_rsi.specs.Sessions.{Defining, deleted_at, none_deleted, needed, HasRoom};
 
-    /// A store of so many pages and tuples, with no transaction.
-    pub(crate) fn new(slots: u32, heap: u32, live: u32) -> Self
+    /// A store of so many slots, pages and definitions, with no transaction.
+    pub(crate) fn new(slots: u32, heap: u32, catalog: Catalog) -> Self
         requires few { slots ≤ slots_most }
-        requires few_tuples { live ≤ tuple_limit }
         requires room { 2 * (heap + system_pages) ≤ slots }
+        requires relation_places { length catalog.listing.relations ≡ relations_most }
         ensures slots { result.slots ≡ slots }
         ensures heap { result.heap ≡ heap }
         ensures since { result.since ≡ 0 }
-        ensures live { result.live ≡ live }
-        ensures deleted { result.deleted ≡ 0 }
+        ensures deleted { result.deleted ≡ none_deleted }
         ensures transaction { result.transaction ≡ None }
+        ensures catalog { result.catalog ≡ catalog }
     {
         Session {
             slots,
             heap,
             since: 0,
-            live,
-            deleted: 0,
             transaction: None,
+            deleted: [0; RELATIONS],
+            catalog,
         }
     }
+
+    // ---- transactions
 
     /// Opens a transaction.
     pub(crate) fn begin(&mut self, transaction: u32) -> Result<Reply, Refusal>
@@ -70,6 +92,7 @@ impl Session {
         ensures same_slots { self.new.slots ≡ self.old.slots }
         ensures same_heap { self.new.heap ≡ self.old.heap }
         ensures same_since { self.new.since ≡ self.old.since }
+        ensures same_catalog { self.new.catalog ≡ self.old.catalog }
     {
         match self.transaction {
             Some(open) if open == transaction => Err(Refusal::AlreadyOpen),
@@ -81,44 +104,83 @@ impl Session {
         }
     }
 
-    /// The transaction is open, and the relation is there.
-    pub(crate) fn admit(&self, transaction: u32, relation: &Name) -> Result<(), Refusal>
+    /// Closes the transaction once its changes are committed, with so many pages. Without one, it
+    /// counts anew what a definition has committed.
+    pub(crate) fn end(&mut self, heap: u32)
+        requires { 2 * (heap + system_pages) ≤ self.old.slots }
+        ensures { Ends heap self.old self.new }
+    {
+        self.heap = heap;
+        self.since = 0;
+        self.deleted = [0; RELATIONS];
+        self.transaction = None;
+    }
+
+    /// Closes a transaction that has changed nothing.
+    pub(crate) fn close(&mut self, transaction: u32)
+        requires open { self.old.transaction ≡ Some transaction }
+        requires unchanged { self.old.since ≡ 0 }
+        ensures answers { Answers self.old self.new (End transaction) (Ok Done)
+            (λ state. ended transaction state.meter state) }
+        ensures ends { Ends self.old.heap self.old self.new }
+    {
+        self.deleted = [0; RELATIONS];
+        self.transaction = None;
+    }
+
+    // ---- tuples
+
+    /// The transaction is open, and the relation is there. Answers its number.
+    pub(crate) fn admit(&self, transaction: u32, relation: &Name) -> Result<u8, Refusal>
         ensures open { OnOk result (self.now.transaction ≡ Some transaction) }
-        ensures known { OnOk result (relation.now ≡ relation_r) }
+        ensures known { IfOk result
+            (IsNumberOf RelationKind self.now.catalog.listing relation.now) }
         ensures tests { Tests self.now (λ state. admission state transaction relation.now) result }
     {
         if self.transaction != Some(transaction) {
             return Err(Refusal::NoTransaction);
         }
-        if *relation != RELATION_R {
-            return Err(Refusal::NoSuch(Kind::Relation));
+        match self.catalog.find(Kind::Relation, relation) {
+            Some(number) => Ok(number),
+            None => Err(Refusal::NoSuch(Kind::Relation)),
         }
-        Ok(())
     }
 
-    /// The same, and the value that a tuple of the relation is given.
-    pub(crate) fn admit_value(
+    /// The same, and a tuple that it is given fits the relation.
+    pub(crate) fn admit_tuple(
         &self,
         transaction: u32,
         relation: &Name,
         tuple: &Tuple,
-    ) -> Result<i64, Refusal>
+    ) -> Result<u8, Refusal>
         ensures open { OnOk result (self.now.transaction ≡ Some transaction) }
-        ensures known { OnOk result (relation.now ≡ relation_r) }
-        ensures one { IfOk result (λ value. tuple.now ≡ Int value ∷ []) }
+        ensures known { IfOk result
+            (IsNumberOf RelationKind self.now.catalog.listing relation.now) }
+        ensures fit { IfOk result (λ number. (entry : Entry)
+            → relation_at self.now.catalog.listing number ≡ Some entry
+            → misfit (kinds entry.fields) tuple.now ≡ None) }
         ensures tests { Tests self.now
             (λ state. value_admission state transaction relation.now tuple.now) result }
     {
-        self.admit(transaction, relation)?;
-        only_int(tuple)
+        let number = self.admit(transaction, relation)?;
+        match fits(self.catalog.relation(number).fields.as_slice(), tuple) {
+            Ok(()) => Ok(number),
+            Err(field) => Err(Refusal::BadTuple(field)),
+        }
     }
 
-    /// One tuple more may be inserted.
-    pub(crate) fn test_limit(&self) -> Result<(), Refusal>
-        ensures few { OnOk result (self.now.live + self.now.deleted < tuple_limit) }
-        ensures tests { Tests self.now (λ state. if_used_up state relation_r) result }
+    /// One tuple more of the relation of this number may be inserted.
+    pub(crate) fn test_limit(&self, number: u8) -> Result<(), Refusal>
+        requires { is_some (relation_at self.now.catalog.listing number) ≡ true }
+        ensures few { OnOk result ((entry : Entry)
+            → relation_at self.now.catalog.listing number ≡ Some entry
+            → entry.live + deleted_at self.now number < tuple_limit) }
+        ensures tests { (entry : Entry) → relation_at self.now.catalog.listing number ≡ Some entry
+            → Tests self.now (λ state. if_used_up state entry.name) result }
     {
-        if self.live + self.deleted >= TUPLES_MOST {
+        let live = u64::from(self.catalog.relation(number).live);
+        let deleted = u64::from(self.deleted[usize::from(number) - 1]);
+        if live + deleted >= u64::from(TUPLES_MOST) {
             return Err(Refusal::Limit(LimitKind::Tuples));
         }
         Ok(())
@@ -147,71 +209,194 @@ impl Session {
         2 * (u64::from(self.heap) + 4 * changes + SYSTEM_PAGES as u64)
     }
 
-    /// Counts a tuple that was inserted.
-    pub(crate) fn inserted(&mut self)
+    /// Counts a tuple that was inserted into the relation of this number.
+    pub(crate) fn inserted(&mut self, number: u8)
         requires open { self.old.transaction ≡ None → ⊥ }
-        requires few { self.old.live + self.old.deleted < tuple_limit }
+        requires listed { is_some (relation_at self.old.catalog.listing number) ≡ true }
+        requires few { (entry : Entry) → relation_at self.old.catalog.listing number ≡ Some entry
+            → entry.live + deleted_at self.old number < tuple_limit }
         requires room { HasRoom self.old }
-        ensures { Counted self.old self.new (self.old.live + 1) self.old.deleted }
+        ensures once { ChangesOnce self.old self.new }
+        ensures counts { (entry : Entry) → relation_at self.old.catalog.listing number ≡ Some entry
+            → CountsTuples number entry (entry.live + 1) (deleted_at self.old number)
+            self.old self.new }
     {
         self.since += 1;
-        self.live += 1;
+        let live = self.catalog.relation(number).live;
+        self.catalog.set_count(number, live + 1);
     }
 
     /// Counts a change of a tuple.
     pub(crate) fn updated(&mut self)
         requires open { self.old.transaction ≡ None → ⊥ }
         requires room { HasRoom self.old }
-        ensures { Counted self.old self.new self.old.live self.old.deleted }
+        ensures once { ChangesOnce self.old self.new }
+        ensures same { SameTuples self.old self.new }
     {
         self.since += 1;
     }
 
-    /// Counts a tuple that was deleted.
-    pub(crate) fn deleted(&mut self)
+    /// Counts a tuple of the relation of this number that was deleted.
+    pub(crate) fn deleted(&mut self, number: u8)
         requires open { self.old.transaction ≡ None → ⊥ }
-        requires some { 0 < self.old.live }
+        requires listed { is_some (relation_at self.old.catalog.listing number) ≡ true }
+        requires some { (entry : Entry) → relation_at self.old.catalog.listing number ≡ Some entry
+            → 0 < entry.live }
         requires room { HasRoom self.old }
-        ensures { Counted self.old self.new (self.old.live - 1) (self.old.deleted + 1) }
+        ensures once { ChangesOnce self.old self.new }
+        ensures counts { (entry : Entry) → relation_at self.old.catalog.listing number ≡ Some entry
+            → CountsTuples number entry (entry.live - 1) (deleted_at self.old number + 1)
+            self.old self.new }
     {
         self.since += 1;
-        self.live -= 1;
-        self.deleted += 1;
+        self.deleted[usize::from(number) - 1] += 1;
+        let live = self.catalog.relation(number).live;
+        self.catalog.set_count(number, live - 1);
     }
 
-    /// Closes the transaction once its changes are committed, with so many pages.
-    pub(crate) fn end(&mut self, heap: u32)
-        requires { 2 * (heap + system_pages) ≤ self.old.slots }
-        ensures { Ends heap self.old self.new }
+    // ---- definitions
+
+    /// No transaction is open.
+    fn test_rest(&self) -> Result<(), Refusal>
+        ensures closed { OnOk result (self.now.transaction ≡ None) }
+        ensures tests { Tests self.now if_any_open result }
     {
-        self.heap = heap;
-        self.since = 0;
-        self.deleted = 0;
-        self.transaction = None;
+        let transaction = self.transaction;
+        match transaction {
+            Some(open) => Err(Refusal::TransactionsOpen(open)),
+            None => Ok(()),
+        }
     }
 
-    /// Closes a transaction that has changed nothing.
-    pub(crate) fn close(&mut self, transaction: u32)
-        requires open { self.old.transaction ≡ Some transaction }
-        requires unchanged { self.old.since ≡ 0 }
-        ensures answers { Answers self.old self.new (End transaction) (Ok Done)
-            (λ state. ended transaction state.meter state) }
-        ensures ends { Ends self.old.heap self.old self.new }
+    /// Defines a segment.
+    pub(crate) fn make_segment(&mut self, name: &Name) -> Result<(), Refusal>
+        requires { IsName name.now }
+        ensures { Defining self.old self.new (MakeSegment name.now) result }
     {
-        self.deleted = 0;
-        self.transaction = None;
+        self.test_rest()?;
+        if self.catalog.find(Kind::Segment, name).is_some() {
+            return Err(Refusal::NameTaken);
+        }
+        if self.catalog.is_full(Kind::Segment) {
+            return Err(Refusal::Limit(LimitKind::Segments));
+        }
+        self.catalog.add_segment(*name);
+        Ok(())
+    }
+
+    /// Defines a relation without tuples.
+    pub(crate) fn make_relation(
+        &mut self,
+        name: &Name,
+        segment: &Name,
+        fields: Fields,
+    ) -> Result<(), Refusal>
+        requires name { IsName name.now }
+        requires fields { All IsName (field_names fields) }
+        ensures { Defining self.old self.new (MakeRelation name.now segment.now fields) result }
+    {
+        self.test_rest()?;
+        let Some(segment) = self.catalog.find(Kind::Segment, segment) else {
+            return Err(Refusal::NoSuch(Kind::Segment));
+        };
+        if self.catalog.find(Kind::Relation, name).is_some() || has_twice(fields.as_slice()) {
+            return Err(Refusal::NameTaken);
+        }
+        if self.catalog.is_full(Kind::Relation) {
+            return Err(Refusal::Limit(LimitKind::Relations));
+        }
+        test_fields(fields.as_slice())?;
+        self.catalog.add_relation(RelationEntry {
+            name: *name,
+            segment,
+            fields,
+            live: 0,
+        });
+        Ok(())
+    }
+
+    /// Takes a segment away that has no relation.
+    pub(crate) fn drop_segment(&mut self, name: &Name) -> Result<(), Refusal>
+        ensures { Defining self.old self.new (DropSegment name.now) result }
+    {
+        self.test_rest()?;
+        let Some(number) = self.catalog.find(Kind::Segment, name) else {
+            return Err(Refusal::NoSuch(Kind::Segment));
+        };
+        if self.catalog.has_relation_in(number) {
+            return Err(Refusal::NotEmpty);
+        }
+        self.catalog.remove(Kind::Segment, number);
+        Ok(())
+    }
+
+    /// Takes a relation away that has no tuple.
+    pub(crate) fn drop_relation(&mut self, name: &Name) -> Result<(), Refusal>
+        ensures { Defining self.old self.new (DropRelation name.now) result }
+    {
+        self.test_rest()?;
+        let Some(number) = self.catalog.find(Kind::Relation, name) else {
+            return Err(Refusal::NoSuch(Kind::Relation));
+        };
+        if self.catalog.relation(number).live > 0 {
+            return Err(Refusal::NotEmpty);
+        }
+        self.catalog.remove(Kind::Relation, number);
+        Ok(())
     }
 }
 
-/// The value of a tuple of one INT.
-fn only_int(tuple: &Tuple) -> Result<i64, Refusal>
-    ensures ok { IfOk result (λ value. tuple.now ≡ Int value ∷ []) }
-    ensures refused { IfErr result (λ why. misfit_of (Some (IntField ∷ [])) tuple.now ≡ Some why) }
+/// Whether two fields have one name.
+fn has_twice(fields: &[FieldDef]) -> bool
+    ensures { result ≡ has_twice (field_names fields.now) }
+{
+    for (place, field) in fields.iter().enumerate() {
+        if has_name(&fields[place + 1..], &field.name) {
+            return true;
+        }
+    }
+    false
+}
+
+/// Whether one of these fields has this name.
+fn has_name(fields: &[FieldDef], name: &Name) -> bool
+    ensures { result ≡ list_any (eq_by_cmp name_cmp name.now) (field_names fields.now) }
+{
+    fields.iter().any(|field| field.name == *name)
+}
+
+/// A relation may have these fields: so many of them, of these kinds, and no wider than they may be.
+fn test_fields(fields: &[FieldDef]) -> Result<(), Refusal>
+    ensures formed { OnOk result (are_kinds (kinds fields.now) ≡ true) }
+    ensures narrow { OnOk result (width (kinds fields.now) ≤ most_width) }
+    ensures refused { IfErr result (λ why. first_of (fields_tests fields.now) ≡ Some why) }
     ensures short { IfErr result (λ why. IsShort (Err why)) }
 {
-    match tuple.as_slice() {
-        [Value::Int(value)] => Ok(*value),
-        [Value::Int(_), ..] => Err(Refusal::BadTuple(2)),
-        _ => Err(Refusal::BadTuple(1)),
+    if !are_kinds(fields) {
+        return Err(Refusal::Limit(LimitKind::Fields));
+    }
+    if width(fields) > WIDTH_MOST {
+        return Err(Refusal::Limit(LimitKind::Width));
+    }
+    Ok(())
+}
+
+/// Whether a relation may have so many fields, of these kinds.
+fn are_kinds(fields: &[FieldDef]) -> bool
+    ensures { result ≡ are_kinds (kinds fields.now) }
+{
+    match fields.len() {
+        1..=MOST_FIELDS => fields.iter().all(|field| is_kind(field.kind)),
+        _ => false,
+    }
+}
+
+/// Whether a field may be of this kind: a TEXT has one byte at least.
+fn is_kind(kind: FieldKind) -> bool
+    ensures { result ≡ is_kind kind }
+{
+    match kind {
+        FieldKind::Int => true,
+        FieldKind::Text(most) => most >= 1,
     }
 }

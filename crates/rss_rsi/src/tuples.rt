@@ -1,94 +1,105 @@
-// The relation's tuples in their pages.
-ghost use Rattle.std.specs.Prelude.{◌≡◌, ◌+◌, ◌*◌, None, Some, IsSome, IfOk, OnOk};
+// Tuples in their pages.
+ghost use Rattle.std.specs.Prelude.{◌≡◌, ◌+◌, ◌*◌, ◌≤◌, length, None, Some, IsSome, IfOk, OnOk};
 ghost use Rattle.rss_base.specs.DiskRule.{IsTold};
 ghost use Rattle.rss_base.specs.Paged.{page_key};
 ghost use Rattle.rss_base.specs.Steps.{PagesCall, no_page};
 ghost use Rattle.rss_base.specs.declared.fault.PageFault.TheVariants.{Damaged};
 ghost use Rattle.rss_base.specs.declared.key.Space.TheVariants.{Home};
 ghost use Rattle.rss_base.specs.declared.place.Place.TheVariants.{Page as PagePlace};
-ghost use Rattle.rss_model.specs.Store.{segment_number};
+ghost use Rattle.rss_tuple.specs.Calls.{IsSegment, MayPut};
+ghost use Rattle.rss_tuple.specs.Checked.{pages_of};
 ghost use Rattle.rss_tuple.specs.Heaps.{AreHeaps};
-ghost use Rattle.rss_rsi.specs.Bodies.{int_body};
-ghost use Rattle.rss_rsi.specs.Tuples.{body_at, heap_keys, AreBodies, CanChange, ChangesTuple};
-ghost use Rattle.rss_rsi.specs.Tuples.{Inserts, Finds};
+ghost use Rattle.rss_rsi.specs.Tuples.{body_at, CanChange, ChangesTuple, Inserts, FindsBody};
 
-use crate::bodies::{INT_BODY_BYTES, body_of, value_of};
 use rss_base::{Body, PageFault, PageKey, Pages, Place, Space, Tid};
 use rss_tuple::{Store, Tuples};
 
-/// The segment whose pages hold the tuples.
-pub(crate) const SEGMENT: u8 = 1;
-
 /// Where a device that doesn't tell its contents gave pages that no store has.
-fn damaged(number: u32) -> PageFault
-    ensures { result ≡ Damaged (PagePlace (page_key segment_number Home number)) }
+fn damaged(segment: u8) -> PageFault
+    ensures { result ≡ Damaged (PagePlace (page_key segment Home 0)) }
 {
     PageFault::Damaged(Place::Page(PageKey {
-        segment: SEGMENT,
+        segment,
         space: Space::Home,
-        number,
+        number: 0,
     }))
 }
 
-/// Puts a tuple with this value, and answers the identifier that it got.
-pub(crate) fn insert<P: Pages>(tuples: &mut Store<P>, value: i64) -> Result<Tid, PageFault>
-    requires { CanChange (P.view tuples.old.pages) }
+/// Puts a tuple with this body into a segment, and answers the identifier that it got.
+pub(crate) fn insert<P: Pages>(
+    tuples: &mut Store<P>,
+    segment: u8,
+    body: &[u8],
+) -> Result<Tid, PageFault>
+    requires may { CanChange (P.view tuples.old.pages) }
+    requires put { MayPut segment (length body.now) }
     ensures inserts { IfOk result
-        (Inserts value (P.view tuples.old.pages) (P.view tuples.new.pages)) }
-    ensures did { PagesCall heap_keys (3 * (P.view tuples.old.pages).slots + 4)
+        (Inserts segment body.now (P.view tuples.old.pages) (P.view tuples.new.pages)) }
+    ensures did { PagesCall (pages_of segment) (3 * (P.view tuples.old.pages).slots + 4)
         (3 * (P.view tuples.old.pages).slots + 4)
         (P.view tuples.old.pages) (P.view tuples.new.pages) result }
 {
-    let Some(tid) = tuples.choose(SEGMENT, INT_BODY_BYTES as u16, &[])? else {
-        return Err(damaged(0));
+    let Some(tid) = tuples.choose(segment, body.len() as u16, &[])? else {
+        return Err(damaged(segment));
     };
-    tuples.insert_at(SEGMENT, tid, &body_of(value))?;
+    tuples.insert_at(segment, tid, body)?;
     Ok(tid)
 }
 
-/// The value of the tuple with this identifier, where there is one.
-pub(crate) fn fetch<P: Pages>(tuples: &mut Store<P>, tid: Tid) -> Result<Option<i64>, PageFault>
-    requires heaps { IsTold (P.view tuples.old.pages).disk → AreHeaps (P.view tuples.old.pages) }
-    requires bodies { IsTold (P.view tuples.old.pages).disk → AreBodies (P.view tuples.old.pages) }
-    ensures finds { IfOk result (λ found. IsTold (P.view tuples.old.pages).disk
-        → Finds (P.view tuples.old.pages) tid found) }
+/// Whether the tuple of a segment with this identifier is one of the relation of this number. If so,
+/// its body is put into `into`.
+pub(crate) fn find<P: Pages>(
+    tuples: &mut Store<P>,
+    segment: u8,
+    number: u8,
+    tid: Tid,
+    into: &mut Body,
+) -> Result<bool, PageFault>
+    requires { IsTold (P.view tuples.old.pages).disk → AreHeaps (P.view tuples.old.pages) }
+    ensures finds { IfOk result (λ there. IsTold (P.view tuples.old.pages).disk
+        → FindsBody segment number tid (P.view tuples.old.pages) there into.new) }
     ensures heaps { OnOk result (IsTold (P.view tuples.old.pages).disk
         → AreHeaps (P.view tuples.new.pages)) }
     ensures did { PagesCall no_page 2 2 (P.view tuples.old.pages) (P.view tuples.new.pages) result }
 {
-    let mut body = Body::new();
-    if !tuples.fetch(SEGMENT, tid, &mut body)? {
-        return Ok(None);
-    }
-    match value_of(body.as_slice()) {
-        Some(value) => Ok(Some(value)),
-        None => Err(damaged(tid.page)),
-    }
+    let live = tuples.fetch(segment, tid, into)?;
+    Ok(live && into.as_slice().first() == Some(&number))
 }
 
-/// Gives a tuple another value.
-pub(crate) fn update<P: Pages>(tuples: &mut Store<P>, tid: Tid, value: i64) -> Result<(), PageFault>
+/// Gives a tuple another body.
+pub(crate) fn update<P: Pages>(
+    tuples: &mut Store<P>,
+    segment: u8,
+    tid: Tid,
+    body: &[u8],
+) -> Result<(), PageFault>
     requires may { CanChange (P.view tuples.old.pages) }
+    requires put { MayPut segment (length body.now) }
     requires live { IsTold (P.view tuples.old.pages).disk
-        → IsSome (body_at (P.view tuples.old.pages) tid) }
-    ensures changes { OnOk result (ChangesTuple tid (Some (int_body value))
+        → IsSome (body_at (P.view tuples.old.pages) segment tid) }
+    ensures changes { OnOk result (ChangesTuple segment tid (Some body.now)
         (P.view tuples.old.pages) (P.view tuples.new.pages)) }
-    ensures did { PagesCall heap_keys (3 * (P.view tuples.old.pages).slots + 7)
+    ensures did { PagesCall (pages_of segment) (3 * (P.view tuples.old.pages).slots + 7)
         (3 * (P.view tuples.old.pages).slots + 7)
         (P.view tuples.old.pages) (P.view tuples.new.pages) result }
 {
-    tuples.replace(SEGMENT, tid, &body_of(value))
+    tuples.replace(segment, tid, body)
 }
 
 /// Takes a tuple away.
-pub(crate) fn delete<P: Pages>(tuples: &mut Store<P>, tid: Tid) -> Result<(), PageFault>
+pub(crate) fn delete<P: Pages>(
+    tuples: &mut Store<P>,
+    segment: u8,
+    tid: Tid,
+) -> Result<(), PageFault>
     requires may { CanChange (P.view tuples.old.pages) }
+    requires segment { IsSegment segment }
     requires live { IsTold (P.view tuples.old.pages).disk
-        → IsSome (body_at (P.view tuples.old.pages) tid) }
-    ensures changes { OnOk result (ChangesTuple tid None
+        → IsSome (body_at (P.view tuples.old.pages) segment tid) }
+    ensures changes { OnOk result (ChangesTuple segment tid None
         (P.view tuples.old.pages) (P.view tuples.new.pages)) }
-    ensures did { PagesCall heap_keys 4 4
+    ensures did { PagesCall (pages_of segment) 4 4
         (P.view tuples.old.pages) (P.view tuples.new.pages) result }
 {
-    tuples.remove(SEGMENT, tid)
+    tuples.remove(segment, tid)
 }

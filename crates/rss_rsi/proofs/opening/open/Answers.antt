@@ -1,10 +1,15 @@
 use Rattle.std.proofs.Common.{Err, ap}
 use Rattle.std.proofs.lemmas.Result.{IfOk-weaker, IfErr-weaker}
-use Rattle.rss_rsi.proofs.Unopened.{opens_before, handed_before}
+use Rattle.rss_buffer.specs.Devices.{buffer_view}
+use Rattle.rss_buffer.specs.Views.{pages_view}
+use Rattle.rss_rsi.proofs.Unopened.{opens_before, notes_before, handed_before}
 use Rattle.rss_rsi.proofs.opening.open.Goals as goal
 
 pub returns-in-Ok-clause-opened : goal.returns-in-Ok-clause-opened
 returns-in-Ok-clause-opened g c = IfOk-weaker c.store_of.result _ _ (λ store is. opens_before c.read_layout.ensures.did.reads is) c.store_of.ensures.opened
+
+pub returns-in-Ok-clause-noted : goal.returns-in-Ok-clause-noted
+returns-in-Ok-clause-noted g c = IfOk-weaker c.store_of.result _ _ (λ store is. notes_before (pages_view (buffer_view store.tuples.pages)) c.read_layout.ensures.did.reads is) c.store_of.ensures.noted
 
 pub returns-in-Ok-clause-refused : goal.returns-in-Ok-clause-refused
 returns-in-Ok-clause-refused g c = IfErr-weaker c.store_of.result _ _ (λ e is. handed_before c.read_layout.ensures.did.reads is) c.store_of.ensures.refused

@@ -7,15 +7,12 @@ use Rattle.rss_buffer.specs.Devices.{device_of, buffer_view}
 use Rattle.rss_buffer.specs.Views.{pages_view}
 use Rattle.rss_buffer.proofs.SavingSteps.{fresh_unchanged}
 use Rattle.rss_model.specs.Calls.{EngineView}
-use Rattle.rss_rsi.specs.Opening.{IsHandedBack, IsOpened}
+use Rattle.rss_rsi.specs.Opening.{IsHandedBack, IsOpened, NotesRooms}
 use Rattle.rss_rsi.specs.Ready.{engine_view}
-use Rattle.rss_rsi.proofs.Opened.{fresh_keys, lacks_tables, opened_ready, opened_shown, opened}
+use Rattle.rss_rsi.proofs.Opened.{lacks_tables, opened_ready, opened_shown, opened, notes_rooms}
 use Rattle.rss_rsi.proofs.Refused.{refused_look}
 use Rattle.rss_rsi.proofs.Unopened.{unopened_look, look_device}
 use Rattle.rss_rsi.proofs.opening.store_of.Goals as goal
-
-pub look_through-requires : goal.look_through-requires
-look_through-requires g c = record { keys = fresh_keys c.requires.layout (saveable_by c.in_ok-pages.pages.holds) c.in_ok-pages.ensures.fresh }
 
 -- ---- they spell no tables
 
@@ -50,9 +47,9 @@ new-requires-2-clause-ready g c =
       slots = c.new-session.ensures.slots;
       heap = omega (arith, c.new-session.ensures.heap, c.saturating_sub-heap.ensures, c.pages_in.ensures.pages);
       since = c.new-session.ensures.since;
-      live = c.new-session.ensures.live;
       deleted = c.new-session.ensures.deleted;
       transaction = c.new-session.ensures.transaction;
+      catalog_is = c.new-session.ensures.catalog;
     })
 
 pub new-requires-2-clause-shown : goal.new-requires-2-clause-shown
@@ -64,9 +61,9 @@ new-requires-2-clause-shown g c =
       slots = c.new-session.ensures.slots;
       heap = omega (arith, c.new-session.ensures.heap, c.saturating_sub-heap.ensures, c.pages_in.ensures.pages);
       since = c.new-session.ensures.since;
-      live = c.new-session.ensures.live;
       deleted = c.new-session.ensures.deleted;
       transaction = c.new-session.ensures.transaction;
+      catalog_is = c.new-session.ensures.catalog;
     })
 
 pub returns-clause-opened : goal.returns-clause-opened
@@ -82,12 +79,19 @@ returns-clause-opened g c =
             slots = c.new-session.ensures.slots;
             heap = omega (arith, c.new-session.ensures.heap, c.saturating_sub-heap.ensures, c.pages_in.ensures.pages);
             since = c.new-session.ensures.since;
-            live = c.new-session.ensures.live;
             deleted = c.new-session.ensures.deleted;
             transaction = c.new-session.ensures.transaction;
+            catalog_is = c.new-session.ensures.catalog;
           })
           (λ settled told. stays_by c.look_through.new.pages.holds settled told) back c.new-2.ensures.up);
       reads = subst (λ (d : _). OnlyReads (g.D.Device.view d) (g.D.Device.view (device_of c.new-2.result.tuples.pages))) c.in_ok-pages.ensures.device
           (subst (λ (pages : _). OnlyReads (g.D.Device.view (device_of c.in_ok-pages.pages)) (g.D.Device.view (device_of pages))) (sym c.new-2.ensures.pages)
           (record { contents = reads.contents; moments = reads.moments; same_writes = reads.same_writes; later = reads.later }));
     }
+
+pub returns-clause-noted : goal.returns-clause-noted
+returns-clause-noted g c =
+    let back = ap (λ (d : _). (g.D.Device.view d).disk.contents) (sym c.in_ok-pages.ensures.device) in
+    subst (λ (b : _). NotesRooms (g.D.Device.view c.args.device) (pages_view (buffer_view b))) (sym c.new-2.ensures.pages)
+    (notes_rooms c.requires.layout (saveable_by c.in_ok-pages.pages.holds) c.in_ok-pages.ensures.fresh (λ read key. holds_by (buffer_view c.in_ok-pages.pages) key)
+    (λ p read. c.requires.holds p (back ∙ read)) (λ p read. c.in_ok-pages.ensures.held p (back ∙ read)) c.in-Ok.ensures.did c.in-Ok.ensures.finds (g.D.Device.view c.args.device) back)

@@ -7,4 +7,4 @@ pub returns-clause-changes : goal.returns-clause-changes
 returns-clause-changes g c = changes_removed c.remove.result c.remove.ensures.gone c.remove.ensures.takes c.remove.ensures.did
 
 pub returns-clause-did : goal.returns-clause-did
-returns-clause-did g c = widens (heap_key c.args.tid) (omega arith) (omega arith) c.remove.ensures.did.below
+returns-clause-did g c = widens (heap_key c.args.segment c.args.tid) (omega arith) (omega arith) c.remove.ensures.did.below

@@ -1,75 +1,124 @@
-use Rattle.std.proofs.Common.{rules, ◌≡◌, ◌≤◌, ◌∙◌, ◌∷◌, [], ℤ, List, length, inl, sym, ap, subst, arith}
-use Rattle.std.specs.Prelude.{Ok, Err, FitsSigned}
-use Rattle.std.specs.Int.{w64}
-use Rattle.std.proofs.lemmas.Int.{to_z-of_z}
+use Rattle.std.proofs.Common.{◌≡◌, ◌∙◌, ℕ, true, List, inl, sym, ap, subst, arith}
+use Rattle.std.specs.Prelude.{Some, None, Err, is_some}
+use Rattle.std.proofs.Math.Logic.{∥∥₁_elim}
+use Rattle.std.proofs.lemmas.Option.{none-some, same_Some}
 use Rattle.std.proofs.lemmas.Result.{err_from_is_err_and}
 use Rattle.rss_base.proofs.Moments.{widened}
+use Rattle.rss_base.specs.Listings.{relation_at}
+use Rattle.rss_base.specs.TupleTypes.{kinds}
 use Rattle.rss_base.specs.declared.call.Call.TheVariants.{Fetch}
-use Rattle.rss_base.specs.declared.answer.Reply.TheVariants.{Tuple as TupleReply}
-use Rattle.rss_base.specs.declared.value.Value.{Value}
-use Rattle.rss_base.specs.declared.value.Value.TheVariants.{Int}
-use Rattle.rss_model.specs.ReplyText.{answer_line}
-use Rattle.rss_model.specs.Script.{line_limit}
-use Rattle.rss_model.specs.Steps.{Step}
+use Rattle.rss_base.specs.declared.field.FieldDef.{FieldDef}
+use Rattle.rss_base.specs.declared.name.Name.{Name}
+use Rattle.rss_base.specs.declared.relation.RelationEntry.{RelationEntry}
 use Rattle.rss_model.proofs.Endings.{comes_to}
-use Rattle.rss_model.proofs.Lengths.{no_tuple_line, tuple_line}
+use Rattle.rss_model.proofs.Lengths.{tuple_line}
 use Rattle.rss_model.proofs.Totals.{stops as stops_by}
+use Rattle.rss_rsi.specs.Bodies.{IsBodyOf}
 use Rattle.rss_rsi.specs.Lookups.{HasFound}
+use Rattle.rss_rsi.specs.Tuples.{FindsBody}
+use Rattle.rss_rsi.specs.declared.session.Session.{Session}
 use Rattle.rss_rsi.proofs.Following.{fetch_misses, fetches_step}
-use Rattle.rss_rsi.proofs.Joining.{goes_looked, look_failed}
-use Rattle.rss_rsi.proofs.Answering.{refused_test, refused_looked, unanswered_looked}
+use Rattle.rss_rsi.proofs.Joining.{looks_as, goes_looked, look_failed}
+use Rattle.rss_rsi.proofs.Answering.{refused_test, refused_so, unanswered_looked}
+use Rattle.rss_rsi.proofs.Numbered.{entry_at, name_of}
+use Rattle.rss_rsi.proofs.Spelling.{found_values, found_tuple, found_none}
 use Rattle.rss_rsi.proofs.Tested.{fetch_unfit}
 use Rattle.rss_rsi.proofs.engine.Rss.fetch.Goals as goal
 
-pub returns-in_err-admit : goal.returns-in_err-admit
-returns-in_err-admit g c =
-    let tests = c.in_err-admit.ensures.tests in
+pub returns-in_err-number : goal.returns-in_err-number
+returns-in_err-number g c =
+    let tests = c.in_err-number.ensures.tests in
     refused_test _ c.from_residual.ensures.1 c.requires tests.1 (λ state shown. fetch_unfit state c.args.transaction c.args.relation.now c.args.tid (tests.0 state shown.counts))
 
-pub returns-in_err-value : goal.returns-in_err-value
-returns-in_err-value g c =
+pub relation-requires : goal.relation-requires
+relation-requires g c =
+    let store = c.args.self.now in
+    let has = entry_at store.session.catalog.listing c.args.relation.now c.in_ok-number.number c.in_ok-number.ensures.known in
+    ap is_some has.at
+
+pub returns-in_err-look : goal.returns-in_err-look
+returns-in_err-look g c =
     let call = Fetch c.args.transaction c.args.relation.now c.args.tid in
-    let looks = c.in_err-value.ensures.looks in
-    let why = err_from_is_err_and c.from_residual-in_err-value.result c.from_residual-in_err-value.ensures.1 in
-    look_failed c.args.tid _ _ (why.1 ∙ ap Err why.2) c.requires looks.on (goes_looked call looks.on (omega arith) (λ pages. omega arith)) looks.ends
+    let looks = c.in_err-look.ensures.looks in
+    let why = err_from_is_err_and c.from_residual-in_err-look.result c.from_residual-in_err-look.ensures.1 in
+    look_failed _ _ (why.1 ∙ ap Err why.2) c.requires looks.on (goes_looked call looks.on (omega arith) (λ pages. omega arith)) looks.ends
     (λ told state shown. stops_by shown.kept call tt (looks.on.moments told state shown))
 
-pub returns-in_default : goal.returns-in_default
-returns-in_default g c =
+pub returns-then-not-branch : goal.returns-then-not-branch
+returns-then-not-branch g c =
     let call = Fetch c.args.transaction c.args.relation.now c.args.tid in
-    let looks = c.in_ok-value.ensures.looks in
-    let admitted = c.in_ok-admit.ensures in
-    refused_looked c.requires looks.ends.0 looks.on (goes_looked call looks.on (omega arith) (λ pages. omega arith)) (no_tuple_line c.args.relation.now c.args.tid admitted.known (omega arith) (omega arith)) (λ told state shown.
-    fetch_misses state c.args.transaction c.args.relation.now admitted.known c.args.tid (admitted.tests state shown.counts) (subst (HasFound state c.args.tid) c.in_default.is (looks.ends.1 told state shown)))
+    let store = c.args.self.now in
+    let mid = c.look.new.self in
+    let look = c.in_ok-look.ensures in
+    let looks = look.looks in
+    let admitted = c.in_ok-number.ensures in
+    let number = c.in_ok-number.number in
+    let entry = c.relation.result.now in
+    let at : relation_at mid.session.catalog.listing number ≡ Some entry = ap (λ (s : Session). relation_at s.catalog.listing number) look.session ∙ c.relation.ensures.is in
+    let named = name_of store.session.catalog.listing c.args.relation.now number entry admitted.known c.relation.ensures.is in
+    refused_so _ c.no_tuple.ensures.is c.requires looks.ends looks.on (goes_looked call looks.on (omega arith) (λ pages. omega arith)) c.no_tuple.ensures.short (λ told state shown.
+    let finds = rw c.if-not-branch.true at (look.finds (looks.on.told told)) in
+    let none = found_none (looks.on.shows told state shown) number entry at c.args.tid c.look.new.into finds in
+    fetch_misses state c.args.transaction c.args.relation.now c.args.tid (admitted.tests state shown.counts) (subst (λ (name : Name). HasFound state name c.args.tid None) named none))
 
-pub returns-in-Ok : goal.returns-in-Ok
-returns-in-Ok g c =
+pub returns-in-Ok-Some : goal.returns-in-Ok-Some
+returns-in-Ok-Some g c =
     let call = Fetch c.args.transaction c.args.relation.now c.args.tid in
-    let looks = c.in_ok-value.ensures.looks in
-    let admitted = c.in_ok-admit.ensures in
-    let z = c.in-Some.value in
-    let fits : FitsSigned w64 z = search rules in
-    let tuple : Int z ∷ [] ≡ c.in-Ok.tuple = sym (c.in-Ok.ensures ∙ ap (λ (y : ℤ). Int y ∷ []) (to_z-of_z w64 z fits)) in
+    let store = c.args.self.now in
+    let mid = c.look.new.self in
+    let look = c.in_ok-look.ensures in
+    let looks = look.looks in
+    let admitted = c.in_ok-number.ensures in
+    let number = c.in_ok-number.number in
+    let entry = c.relation-entry.result.now in
+    let at : relation_at store.session.catalog.listing number ≡ Some entry = ap (λ (s : Session). relation_at s.catalog.listing number) (sym look.session) ∙ c.relation-entry.ensures.is in
+    let one : c.relation.result.now ≡ entry = same_Some _ _ (sym c.relation.ensures.is ∙ at) in
+    let named = name_of store.session.catalog.listing c.args.relation.now number entry admitted.known at in
+    let some = rw c.in-Ok-Some.field-0-is at c.in-Ok-Some.ensures.some in
+    let body : IsBodyOf number (kinds entry.fields) c.in-Ok-Some.tuple c.look.new.into = subst (λ (bytes : List ℕ). IsBodyOf number (kinds entry.fields) c.in-Ok-Some.tuple bytes) c.as_slice-2.ensures.bytes
+    (subst (λ (fields : List FieldDef). IsBodyOf number (kinds fields) c.in-Ok-Some.tuple c.as_slice-2.result.now) c.as_slice.ensures some) in
     comes_to c.requires (goes_looked call looks.on (omega arith) (λ pages. omega arith)) (record {
       answered = λ told state shown.
-          let some = subst (HasFound state c.args.tid) c.in-Some.is (looks.ends.1 told state shown) in
-          let step = fetches_step state c.args.transaction c.args.relation.now admitted.known c.args.tid z (admitted.tests state shown.counts) some in
+          let finds = rw c.if-not-branch.false at (look.finds (looks.on.told told)) in
+          let in_it = subst (λ (r : RelationEntry). FindsBody r.segment number c.args.tid (g.S.Pages.view mid.tuples.pages) true c.look.new.into) one finds in
+          let has = found_tuple (looks.on.shows told state shown) number entry c.relation-entry.ensures.is c.args.tid c.look.new.into in_it c.in-Ok-Some.tuple body in
           record {
             next = state;
             shows = looks.on.shows told state shown;
             answered = record {
-              step = subst (λ (l : List Value). Step state call (Ok (TupleReply l)) state) tuple step;
+              step = fetches_step state c.args.transaction c.args.relation.now c.args.tid c.in-Ok-Some.tuple (admitted.tests state shown.counts) (subst (λ (name : Name). HasFound state name c.args.tid (Some c.in-Ok-Some.tuple)) named has);
               moments = widened (looks.on.moments told state shown) (λ image opens. inl opens);
             };
           };
-      up = looks.ends.0;
-      short = subst (λ (l : List Value). length (answer_line (Ok (TupleReply l))) ≤ line_limit) tuple (tuple_line z fits);
+      up = looks.ends;
+      short = tuple_line (kinds entry.fields) c.in-Ok-Some.tuple body.spelled.fit c.relation-entry.ensures.safe.narrow body.spelled.storable;
       changed = λ key is. inl (looks.on.changed key is, tt);
       since = looks.on.since;
+    })
+
+pub returns-in-Ok-None : goal.returns-in-Ok-None
+returns-in-Ok-None g c =
+    let call = Fetch c.args.transaction c.args.relation.now c.args.tid in
+    let store = c.args.self.now in
+    let mid = c.look.new.self in
+    let look = c.in_ok-look.ensures in
+    let looks = look.looks in
+    let number = c.in_ok-number.number in
+    let entry = c.relation-entry.result.now in
+    let at : relation_at store.session.catalog.listing number ≡ Some entry = ap (λ (s : Session). relation_at s.catalog.listing number) (sym look.session) ∙ c.relation-entry.ensures.is in
+    let one : c.relation.result.now ≡ entry = same_Some _ _ (sym c.relation.ensures.is ∙ at) in
+    comes_to c.requires (goes_looked call (looks_as looks.on) (omega arith) (λ pages. omega arith)) (record {
+      sound = λ told. ∥∥₁_elim (mid.shown looks.ends (looks.on.told told)) (λ x y. absurd x) (λ shown_in.
+          let finds = rw c.if-not-branch.false at (look.finds (looks.on.told told)) in
+          let in_it = subst (λ (r : RelationEntry). FindsBody r.segment number c.args.tid (g.S.Pages.view mid.tuples.pages) true c.look.new.into) one finds in
+          let has = found_values shown_in.shows number entry c.relation-entry.ensures.is c.args.tid c.look.new.into in_it in
+          let body = subst (λ (fields : List FieldDef). IsBodyOf number (kinds fields) has.values c.as_slice-2.result.now) (sym c.as_slice.ensures) (subst (λ (bytes : List ℕ). IsBodyOf number (kinds entry.fields) has.values bytes) (sym c.as_slice-2.ensures.bytes) has.body) in
+          absurd (none-some _ (sym c.in-Ok-None.field-0-is ∙ c.in-Ok-None.ensures.exact has.values body)));
+      down = λ up. absurd (cc);
     })
 
 pub returns-in-Err : goal.returns-in-Err
 returns-in-Err g c =
     let call = Fetch c.args.transaction c.args.relation.now c.args.tid in
-    let looks = c.in_ok-value.ensures.looks in
-    unanswered_looked call c.requires looks.ends.0 looks.on (goes_looked call looks.on (omega arith) (λ pages. omega arith))
+    let looks = c.in_ok-look.ensures.looks in
+    unanswered_looked call c.requires looks.ends looks.on (goes_looked call looks.on (omega arith) (λ pages. omega arith))

@@ -1,68 +1,122 @@
-use Rattle.std.proofs.Common.{rules, ℤ, ◌∙◌, refl, subst, arith}
-use Rattle.std.specs.Prelude.{FitsSigned}
-use Rattle.std.specs.Int.{w64}
-use Rattle.std.proofs.lemmas.Int.{to_z-of_z}
-use Rattle.rss_rsi.specs.Tuples.{Inserts}
+use Rattle.std.proofs.Common.{◌≡◌, ◌∙◌, ℕ, List, length, refl, sym, ap, subst, arith}
+use Rattle.std.specs.Prelude.{None, is_some}
+use Rattle.std.proofs.lemmas.Option.{none-some}
+use Rattle.rss_base.specs.TupleTypes.{kinds, misfit, width}
+use Rattle.rss_base.specs.declared.field.FieldDef.{FieldDef}
+use Rattle.rss_tuple.specs.Calls.{MayPut}
+use Rattle.rss_model.specs.Steps.{unless_free, if_used_up}
 use Rattle.rss_model.proofs.Endings.{comes_to}
 use Rattle.rss_model.proofs.Lengths.{identifier_line}
+use Rattle.rss_rsi.specs.Tuples.{Inserts}
 use Rattle.rss_rsi.proofs.Engines.{goes, fixes_still}
-use Rattle.rss_rsi.proofs.Following.{inserts_step, some_free}
-use Rattle.rss_rsi.proofs.Answering.{refused_test}
+use Rattle.rss_rsi.proofs.Following.{unless_free_passes, inserts_step}
+use Rattle.rss_rsi.proofs.Answering.{refused_test, refused_told}
+use Rattle.rss_rsi.proofs.Numbered.{entry_at, name_of}
+use Rattle.rss_rsi.proofs.Readied.{stays_counted, ready_changed, changed_counted}
+use Rattle.rss_rsi.proofs.Spelling.{can_change, may_put_safe}
 use Rattle.rss_rsi.proofs.Tested.{insert_unfit, insert_used_up, insert_full}
-use Rattle.rss_rsi.proofs.Changing.{few_mapped, ready_changed, answers_change, shows_change, fails_change}
+use Rattle.rss_rsi.proofs.Changing.{answers_change, shows_change, fails_change}
 use Rattle.rss_rsi.proofs.engine.Rss.insert.Goals as goal
 
-pub returns-in_err-value : goal.returns-in_err-value
-returns-in_err-value g c =
-    let tests = c.in_err-value.ensures.tests in
+pub returns-in_err-number : goal.returns-in_err-number
+returns-in_err-number g c =
+    let tests = c.in_err-number.ensures.tests in
     refused_test _ c.from_residual.ensures.1 c.requires tests.1 (λ state shown. insert_unfit state c.args.transaction c.args.relation.now c.args.tuple.now (tests.0 state shown.counts))
+
+pub test_limit-requires : goal.test_limit-requires
+test_limit-requires g c =
+    let store = c.args.self.now in
+    let has = entry_at store.session.catalog.listing c.args.relation.now c.in_ok-number.number c.in_ok-number.ensures.known in
+    ap is_some has.at
 
 pub returns-in_err-test_limit : goal.returns-in_err-test_limit
 returns-in_err-test_limit g c =
-    let admitted = c.in_ok-value.ensures in
-    let tests = c.in_err-test_limit.ensures.tests in
-    refused_test _ c.from_residual-in_err-test_limit.ensures.1 c.requires tests.1 (λ state shown. insert_used_up state c.args.transaction c.args.relation.now c.args.tuple.now admitted.known (admitted.tests state shown.counts) (tests.0 state shown.counts))
+    let store = c.args.self.now in
+    let admitted = c.in_ok-number.ensures in
+    let has = entry_at store.session.catalog.listing c.args.relation.now c.in_ok-number.number admitted.known in
+    let tests = c.in_err-test_limit.ensures.tests has.entry has.at in
+    refused_test _ c.from_residual-in_err-test_limit.ensures.1 c.requires tests.1 (λ state shown.
+    insert_used_up state c.args.transaction c.args.relation.now c.args.tuple.now (admitted.tests state shown.counts) (ap (if_used_up state) (sym has.named) ∙ tests.0 state shown.counts))
 
 pub returns-in_err-test_room : goal.returns-in_err-test_room
 returns-in_err-test_room g c =
-    let admitted = c.in_ok-value.ensures in
+    let store = c.args.self.now in
+    let admitted = c.in_ok-number.ensures in
+    let has = entry_at store.session.catalog.listing c.args.relation.now c.in_ok-number.number admitted.known in
     let tests = c.in_err-test_room.ensures.tests in
-    refused_test _ c.from_residual-in_err-test_room.ensures.1 c.requires tests.1 (λ state shown. insert_full state c.args.transaction c.args.relation.now c.args.tuple.now admitted.known (admitted.tests state shown.counts) (c.in_ok-test_limit.ensures.tests state shown.counts) (tests.0 state shown.counts))
+    refused_told _ c.from_residual-in_err-test_room.ensures.1 c.requires tests.1 (λ told state shown.
+    let few = ap (if_used_up state) (sym has.named) ∙ c.in_ok-test_limit.ensures.tests has.entry has.at state shown.counts in
+    let free = unless_free_passes shown (store.ready c.requires) c.args.transaction admitted.«open» c.in_ok-number.number has.entry has.at (g.met.S.Pages.are_counted store.tuples.pages) (g.met.S.Pages.holds store.tuples.pages told) in
+    insert_full state c.args.transaction c.args.relation.now c.args.tuple.now (admitted.tests state shown.counts) few (ap (unless_free state c.args.transaction) (sym has.named) ∙ free) (tests.0 state shown.counts))
+
+pub body_of-body-requires : goal.body_of-body-requires
+body_of-body-requires g c = record {
+  fit = subst (λ (fields : List FieldDef). misfit (kinds fields) c.args.tuple.now ≡ None) (sym c.as_slice.ensures) (c.in_ok-number.ensures.fit c.relation-entry.result.now c.relation-entry.ensures.is);
+  narrow = omega (arith, ap (λ (fields : List FieldDef). width (kinds fields)) c.as_slice.ensures, c.relation-entry.ensures.safe.narrow);
+}
+
+pub insert-requires : goal.insert-requires
+insert-requires g c =
+    let store = c.args.self.now in
+    let entry = c.relation-entry.result.now in
+    let fit = c.in_ok-number.ensures.fit entry c.relation-entry.ensures.is in
+    record {
+      may = can_change (store.ready c.requires) (g.met.S.Pages.are_counted store.tuples.pages) store.size c.in_ok-test_room.ensures.room;
+      put = subst (λ (bytes : List ℕ). MayPut entry.segment (length bytes)) (sym (c.as_slice-2.ensures.bytes ∙ c.body_of-body.ensures.is)) (may_put_safe c.in_ok-number.number entry c.relation-entry.ensures.safe c.args.tuple.now fit);
+    }
+
+pub inserted-requires : goal.inserted-requires
+inserted-requires g c = record {
+  «open» = λ none. none-some _ (sym none ∙ c.in_ok-number.ensures.«open»);
+  listed = ap is_some c.relation-entry.ensures.is;
+  few = c.in_ok-test_limit.ensures.few;
+  room = c.in_ok-test_room.ensures.room;
+}
 
 pub returns-in_err-tid : goal.returns-in_err-tid
 returns-in_err-tid g c =
     let store = c.args.self.now in
     let ready = store.ready c.requires in
-    let admitted = c.in_ok-value.ensures in
     let did = c.in_err-tid.ensures.did in
-    fails_change ready _ c.from_residual-in_err-tid.ensures.1 c.requires (λ up. absurd (cc)) (λ looks. looks) did (goes ready.settled_now did.step refl tt (λ pages. tt))
-    (λ told state shown none. some_free shown ready.size (g.met.S.Pages.holds store.tuples.pages told) (few_mapped ready store.size c.in_ok-test_room.ensures.room) c.args.transaction admitted.«open» c.args.relation.now admitted.known)
+    fails_change ready _ c.from_residual-in_err-tid.ensures.1 c.requires (λ up. absurd (cc)) (λ looks. looks) tt did (goes ready.settled_now did.step refl tt (λ pages. tt))
 
 pub invariant_of-self-2 : goal.invariant_of-self-2
 invariant_of-self-2 g c =
     let store = c.args.self.now in
     let ready = store.ready c.requires in
-    let admitted = c.in_ok-value.ensures in
+    let admitted = c.in_ok-number.ensures in
+    let number = c.in_ok-number.number in
+    let entry = c.relation-entry.result.now in
+    let at = c.relation-entry.ensures.is in
+    let named = name_of store.session.catalog.listing c.args.relation.now number entry admitted.known at in
     let put = c.in_ok-tid.ensures in
-    let fits : FitsSigned w64 c.in_ok-value.value = search rules in
-    let inserts = subst (λ (z : ℤ). Inserts z (g.S.Pages.view store.tuples.pages) (g.S.Pages.view c.insert.new.tuples.pages) c.in_ok-tid.tid) (to_z-of_z w64 c.in_ok-value.value fits) put.inserts in
+    let inserts = subst (λ (bytes : List ℕ). Inserts entry.segment bytes (g.S.Pages.view store.tuples.pages) (g.S.Pages.view c.insert.new.tuples.pages) c.in_ok-tid.tid) (c.as_slice-2.ensures.bytes ∙ c.body_of-body.ensures.is) put.inserts in
+    let counted = c.inserted.ensures in
+    let counts = counted.counts entry at in
     record {
-      ready = λ up. ready_changed ready put.did.step put.inserts.changes c.inserted.ensures;
-      size = c.inserted.ensures.slots ∙ store.size;
-      shown = λ up. shows_change ready put.did.step put.inserts.changes (store.shown c.requires) (λ told state shown.
-          inserts_step shown (fixes_still ready told shown put.did.step) c.args.transaction c.args.relation.now admitted.known told put.did.step ready.size admitted.«open» c.in_ok-tid.tid c.args.tuple.now c.in_ok-value.value admitted.one fits
-          (admitted.tests state shown.counts) (c.in_ok-test_limit.ensures.tests state shown.counts) (c.in_ok-test_room.ensures.tests state shown.counts) inserts c.inserted.ensures);
+      ready = λ up. ready_changed ready put.did.step inserts.changes counted.once (stays_counted ready at counts);
+      size = counted.once.slots ∙ store.size;
+      shown = λ up. shows_change ready put.did.step (store.shown c.requires) (λ told state shown.
+          inserts_step shown ready (fixes_still ready told shown put.did.step) at c.args.transaction c.in_ok-tid.tid told put.did.step counted.once c.args.relation.now named c.args.tuple.now c.body_of-body.ensures.storable admitted.«open»
+          (g.met.S.Pages.are_counted store.tuples.pages) (g.met.S.Pages.holds store.tuples.pages told) (admitted.tests state shown.counts)
+          (ap (if_used_up state) (sym named) ∙ c.in_ok-test_limit.ensures.tests entry at state shown.counts) (c.in_ok-test_room.ensures.tests state shown.counts) inserts counts);
     }
 
 pub returns : goal.returns
 returns g c =
     let store = c.args.self.now in
     let ready = store.ready c.requires in
-    let admitted = c.in_ok-value.ensures in
+    let admitted = c.in_ok-number.ensures in
+    let number = c.in_ok-number.number in
+    let entry = c.relation-entry.result.now in
+    let at = c.relation-entry.ensures.is in
+    let named = name_of store.session.catalog.listing c.args.relation.now number entry admitted.known at in
     let put = c.in_ok-tid.ensures in
-    let fits : FitsSigned w64 c.in_ok-value.value = search rules in
-    let inserts = subst (λ (z : ℤ). Inserts z (g.S.Pages.view store.tuples.pages) (g.S.Pages.view c.insert.new.tuples.pages) c.in_ok-tid.tid) (to_z-of_z w64 c.in_ok-value.value fits) put.inserts in
-    comes_to c.requires (goes ready.settled_now put.did.step c.inserted.ensures.slots tt (λ pages. tt)) (answers_change ready put.did.step put.inserts.changes c.inserted.ensures (λ told state shown.
-    inserts_step shown (fixes_still ready told shown put.did.step) c.args.transaction c.args.relation.now admitted.known told put.did.step ready.size admitted.«open» c.in_ok-tid.tid c.args.tuple.now c.in_ok-value.value admitted.one fits
-    (admitted.tests state shown.counts) (c.in_ok-test_limit.ensures.tests state shown.counts) (c.in_ok-test_room.ensures.tests state shown.counts) inserts c.inserted.ensures)
-    refl (identifier_line c.in_ok-tid.tid (omega arith) (omega arith)) tt (λ key for. for) refl)
+    let inserts = subst (λ (bytes : List ℕ). Inserts entry.segment bytes (g.S.Pages.view store.tuples.pages) (g.S.Pages.view c.insert.new.tuples.pages) c.in_ok-tid.tid) (c.as_slice-2.ensures.bytes ∙ c.body_of-body.ensures.is) put.inserts in
+    let counted = c.inserted.ensures in
+    let counts = counted.counts entry at in
+    comes_to c.requires (goes ready.settled_now put.did.step counted.once.slots tt (λ pages. tt)) (answers_change ready put.did.step counted.once (λ told state shown.
+    inserts_step shown ready (fixes_still ready told shown put.did.step) at c.args.transaction c.in_ok-tid.tid told put.did.step counted.once c.args.relation.now named c.args.tuple.now c.body_of-body.ensures.storable admitted.«open»
+    (g.met.S.Pages.are_counted store.tuples.pages) (g.met.S.Pages.holds store.tuples.pages told) (admitted.tests state shown.counts)
+    (ap (if_used_up state) (sym named) ∙ c.in_ok-test_limit.ensures.tests entry at state shown.counts) (c.in_ok-test_room.ensures.tests state shown.counts) inserts counts)
+    refl (identifier_line c.in_ok-tid.tid (omega arith) (omega arith)) tt (changed_counted inserts.changes counts) refl)

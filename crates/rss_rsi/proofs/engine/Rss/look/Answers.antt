@@ -1,10 +1,10 @@
-use Rattle.std.proofs.Common.{rules, Bool, true, false, not, ◌≡◌, ◌∙◌, sym, ap}
-use Rattle.rss_base.proofs.Steps.{cause_of}
+use Rattle.std.proofs.Common.{Bool, true, false, not, ◌≡◌, ◌∙◌, sym, ap}
 use Rattle.std.specs.Prelude.{Err}
+use Rattle.rss_base.proofs.Steps.{cause_of}
 use Rattle.rss_rsi.specs.Parts.{view}
 use Rattle.rss_rsi.specs.Ready.{engine_view}
 use Rattle.rss_rsi.proofs.Engines.{ready_read, shows_read, looks_on}
-use Rattle.rss_rsi.proofs.Looking.{are_bodies, found_shown, finds_read}
+use Rattle.rss_rsi.proofs.Looking.{finds_read}
 use Rattle.rss_rsi.proofs.Joining.{look_ends}
 use Rattle.rss_rsi.proofs.engine.Rss.look.Goals as goal
 use Rattle.rss_rsi.proofs.engine.Rss.look.Goals.{in-NoMemory, in_default}
@@ -12,13 +12,8 @@ use Rattle.rss_rsi.proofs.engine.Rss.look.Goals.{in-NoMemory, in_default}
 not_up : (b : Bool) → b ≡ false → not b ≡ false → ⊥
 not_up b is up = let both : true ≡ false = ap not (sym is) ∙ up in absurd (cc)
 
-pub fetch-requires : goal.fetch-requires
-fetch-requires g c =
-    let store = c.args.self.now in
-    record {
-      heaps = (store.ready c.requires).heaps;
-      bodies = λ told. are_bodies (store.shown c.requires told);
-    }
+pub find-requires : goal.find-requires
+find-requires g c = (c.args.self.now.ready c.requires).heaps
 
 pub invariant_of-self : goal.invariant_of-self
 invariant_of-self g c =
@@ -44,16 +39,13 @@ pub returns-in-Ok-clause-looks : goal.returns-in-Ok-clause-looks
 returns-in-Ok-clause-looks g c =
     let store = c.args.self.now in
     let read = c.in-Ok.ensures in
-    record {
-      on = looks_on (store.ready c.requires) read.did.step;
-      ends = (c.requires, λ told state shown. found_shown shown c.args.tid c.in-Ok.found (search rules) (read.finds told));
-    }
+    record { on = looks_on (store.ready c.requires) read.did.step; ends = c.requires }
 
 pub returns-in-Ok-clause-finds : goal.returns-in-Ok-clause-finds
 returns-in-Ok-clause-finds g c = λ told.
     let read = c.in-Ok.ensures in
     let before = read.did.step.passes.leaves.told.1 told in
-    finds_read read.did.step before c.args.tid c.in-Ok.found (read.finds before)
+    finds_read read.did.step before (read.finds before)
 
 pub returns-after-matches-clause-looks : goal.returns-after-matches-clause-looks
 returns-after-matches-clause-looks g c =
@@ -61,7 +53,7 @@ returns-after-matches-clause-looks g c =
     let read = c.in-Err.ensures in
     record {
       on = looks_on (store.ready c.requires) read.did.step;
-      ends = look_ends (view store) (engine_view (g.S.Pages.view c.fetch.new.tuples.pages) store.number store.root store.session (not c.match-matches.matches ≡ false)) c.args.tid (Err c.from.result) c.from.ensures (cause_of read.did) (λ other up. elim c.match-matches.branch [
+      ends = look_ends (view store) (engine_view (g.S.Pages.view c.find.new.tuples.pages) store.number store.root store.session (not c.match-matches.matches ≡ false)) (Err c.from.result) c.from.ensures (cause_of read.did) (λ other up. elim c.match-matches.branch [
         | in-NoMemory w ↦ absurd (other w.in-NoMemory.is)
         | in_default w ↦ not_up _ w.matches-is up
       ]) (λ fault. elim c.match-matches.branch [

@@ -1,118 +1,168 @@
-use Rattle.std.proofs.Common.{rules, ℕ, ℤ, ◌∙◌, refl, List, sym, ap, subst, arith}
-use Rattle.std.specs.Prelude.{Option, Some, Err, IfSome, is_some, FitsSigned}
-use Rattle.std.specs.Int.{w64}
-use Rattle.std.proofs.lemmas.Int.{to_z-of_z}
+use Rattle.std.proofs.Common.{rules, ◌≡◌, ◌∙◌, ℕ, List, length, refl, sym, ap, subst, arith}
+use Rattle.std.specs.Prelude.{Option, Some, None, Err, is_some, IsSome}
+use Rattle.std.proofs.lemmas.Option.{none-some}
 use Rattle.std.proofs.lemmas.Result.{err_from_is_err_and}
+use Rattle.rss_base.specs.Listings.{relation_at}
+use Rattle.rss_base.specs.TupleTypes.{kinds, misfit, width}
 use Rattle.rss_base.specs.declared.call.Call.TheVariants.{Update}
+use Rattle.rss_base.specs.declared.field.FieldDef.{FieldDef}
+use Rattle.rss_base.specs.declared.name.Name.{Name}
+use Rattle.rss_tuple.specs.Calls.{MayPut}
 use Rattle.rss_model.proofs.Endings.{comes_to}
-use Rattle.rss_model.proofs.Lengths.{no_tuple_line}
-use Rattle.rss_model.proofs.Putting.{some_of}
 use Rattle.rss_model.proofs.Totals.{stops as stops_by}
-use Rattle.rss_rsi.specs.Bodies.{int_body}
 use Rattle.rss_rsi.specs.Lookups.{HasFound}
 use Rattle.rss_rsi.specs.Sessions.{Counts}
-use Rattle.rss_rsi.specs.Tuples.{Finds, ChangesTuple}
+use Rattle.rss_rsi.specs.Tuples.{ChangesTuple}
 use Rattle.rss_rsi.specs.declared.session.Session.{Session}
 use Rattle.rss_rsi.proofs.Engines.{goes, fixes_still}
 use Rattle.rss_rsi.proofs.Following.{live_passes, update_misses, updates_step}
 use Rattle.rss_rsi.proofs.Joining.{goes_looked, goes_after, joined, look_failed}
-use Rattle.rss_rsi.proofs.Looking.{found_shown}
-use Rattle.rss_rsi.proofs.Answering.{refused_test, refused_looked, refused_later, none_found}
+use Rattle.rss_rsi.proofs.Answering.{refused_test, refused_so, refused_later}
+use Rattle.rss_rsi.proofs.Numbered.{entry_at, name_of}
+use Rattle.rss_rsi.proofs.Readied.{stays_same, ready_changed, changed_same}
+use Rattle.rss_rsi.proofs.Spelling.{found_values, found_none, can_change, may_put_safe}
 use Rattle.rss_rsi.proofs.Tested.{update_unfit, update_full}
-use Rattle.rss_rsi.proofs.Changing.{can_change, ready_changed, answers_change, shows_change, fails_change}
+use Rattle.rss_rsi.proofs.Changing.{answers_change, shows_change, fails_change}
 use Rattle.rss_rsi.proofs.engine.Rss.update.Goals as goal
 
-pub returns-in_err-value : goal.returns-in_err-value
-returns-in_err-value g c =
-    let tests = c.in_err-value.ensures.tests in
+pub returns-in_err-number : goal.returns-in_err-number
+returns-in_err-number g c =
+    let tests = c.in_err-number.ensures.tests in
     refused_test _ c.from_residual.ensures.1 c.requires tests.1 (λ state shown. update_unfit state c.args.transaction c.args.relation.now c.args.tid c.args.tuple.now (tests.0 state shown.counts))
+
+pub relation-entry-requires : goal.relation-entry-requires
+relation-entry-requires g c =
+    let store = c.args.self.now in
+    let has = entry_at store.session.catalog.listing c.args.relation.now c.in_ok-number.number c.in_ok-number.ensures.known in
+    ap is_some has.at
+
+pub body_of-body-requires : goal.body_of-body-requires
+body_of-body-requires g c = record {
+  fit = subst (λ (fields : List FieldDef). misfit (kinds fields) c.args.tuple.now ≡ None) (sym c.as_slice.ensures) (c.in_ok-number.ensures.fit c.relation-entry.result.now c.relation-entry.ensures.is);
+  narrow = omega (arith, ap (λ (fields : List FieldDef). width (kinds fields)) c.as_slice.ensures, c.relation-entry.ensures.safe.narrow);
+}
 
 pub returns-in_err-look : goal.returns-in_err-look
 returns-in_err-look g c =
     let call = Update c.args.transaction c.args.relation.now c.args.tid c.args.tuple.now in
     let looks = c.in_err-look.ensures.looks in
     let why = err_from_is_err_and c.from_residual-in_err-look.result c.from_residual-in_err-look.ensures.1 in
-    look_failed c.args.tid _ _ (why.1 ∙ ap Err why.2) c.requires looks.on (goes_looked call looks.on tt (λ pages. tt)) looks.ends
+    look_failed _ _ (why.1 ∙ ap Err why.2) c.requires looks.on (goes_looked call looks.on tt (λ pages. tt)) looks.ends
     (λ told state shown. stops_by shown.kept call tt (looks.on.moments told state shown))
 
-pub returns-then-is_none : goal.returns-then-is_none
-returns-then-is_none g c =
+pub returns-then-not-branch : goal.returns-then-not-branch
+returns-then-not-branch g c =
     let call = Update c.args.transaction c.args.relation.now c.args.tid c.args.tuple.now in
-    let looks = c.in_ok-look.ensures.looks in
-    let admitted = c.in_ok-value.ensures in
-    let none = none_found c.in_ok-look.field-0 c.if-is_none.ensures in
-    refused_looked c.requires looks.ends.0 looks.on (goes_looked call looks.on tt (λ pages. tt)) (no_tuple_line c.args.relation.now c.args.tid admitted.known (omega arith) (omega arith)) (λ told state shown.
-    update_misses state c.args.transaction c.args.relation.now admitted.known c.args.tid c.args.tuple.now (admitted.tests state shown.counts) (subst (HasFound state c.args.tid) none (looks.ends.1 told state shown)))
+    let store = c.args.self.now in
+    let mid = c.look.new.self in
+    let look = c.in_ok-look.ensures in
+    let looks = look.looks in
+    let admitted = c.in_ok-number.ensures in
+    let number = c.in_ok-number.number in
+    let entry = c.relation-entry.result.now in
+    let at : relation_at mid.session.catalog.listing number ≡ Some entry = ap (λ (s : Session). relation_at s.catalog.listing number) look.session ∙ c.relation-entry.ensures.is in
+    let named = name_of store.session.catalog.listing c.args.relation.now number entry admitted.known c.relation-entry.ensures.is in
+    refused_so _ c.no_tuple.ensures.is c.requires looks.ends looks.on (goes_looked call looks.on tt (λ pages. tt)) c.no_tuple.ensures.short (λ told state shown.
+    let finds = rw c.if-not-branch.true at (look.finds (looks.on.told told)) in
+    let none = found_none (looks.on.shows told state shown) number entry at c.args.tid c.look.new.into finds in
+    update_misses state c.args.transaction c.args.relation.now c.args.tid c.args.tuple.now (admitted.tests state shown.counts) (subst (λ (name : Name). HasFound state name c.args.tid None) named none))
 
 pub returns-in_err-test_room : goal.returns-in_err-test_room
 returns-in_err-test_room g c =
     let call = Update c.args.transaction c.args.relation.now c.args.tid c.args.tuple.now in
+    let store = c.args.self.now in
+    let mid = c.look.new.self in
     let look = c.in_ok-look.ensures in
     let looks = look.looks in
-    let admitted = c.in_ok-value.ensures in
-    let some = some_of c.in_ok-look.field-0 c.if-is_none.ensures in
+    let admitted = c.in_ok-number.ensures in
+    let number = c.in_ok-number.number in
+    let entry = c.relation-entry.result.now in
+    let at : relation_at mid.session.catalog.listing number ≡ Some entry = ap (λ (s : Session). relation_at s.catalog.listing number) look.session ∙ c.relation-entry.ensures.is in
+    let named = name_of store.session.catalog.listing c.args.relation.now number entry admitted.known c.relation-entry.ensures.is in
     let tests = c.in_err-test_room.ensures.tests in
-    refused_later _ c.from_residual-in_err-test_room.ensures.1 c.requires looks.ends.0 looks.on (goes_looked call looks.on tt (λ pages. tt)) tests.1 (λ told state shown.
-    update_full state c.args.transaction c.args.relation.now c.args.tid c.args.tuple.now (admitted.tests state shown.counts) (live_passes state c.args.transaction c.args.relation.now admitted.known c.args.tid some.0 (subst (HasFound state c.args.tid) some.1 (looks.ends.1 told state shown)))
+    refused_later _ c.from_residual-in_err-test_room.ensures.1 c.requires looks.ends looks.on (goes_looked call looks.on tt (λ pages. tt)) tests.1 (λ told state shown.
+    let finds = rw c.if-not-branch.false at (look.finds (looks.on.told told)) in
+    let has = found_values (looks.on.shows told state shown) number entry at c.args.tid c.look.new.into finds in
+    let live = live_passes state c.args.relation.now c.args.tid has.values (subst (λ (name : Name). HasFound state name c.args.tid (Some has.values)) named has.holds) in
+    update_full state c.args.transaction c.args.relation.now c.args.tid c.args.tuple.now (admitted.tests state shown.counts) live
     (tests.0 state (subst (λ (s : Session). Counts s state) (sym look.session) shown.counts)))
 
 pub update-requires : goal.update-requires
 update-requires g c =
     let mid = c.look.new.self in
     let look = c.in_ok-look.ensures in
-    let some = some_of c.in_ok-look.field-0 c.if-is_none.ensures in
+    let entry = c.relation-entry.result.now in
+    let fit = c.in_ok-number.ensures.fit entry c.relation-entry.ensures.is in
     record {
-      may = can_change (mid.ready look.looks.ends.0) mid.size c.in_ok-test_room.ensures.room (g.met.S.Pages.are_counted mid.tuples.pages);
-      live = λ told. ap (λ (o : Option (List ℕ)). is_some o) (subst (Finds (g.S.Pages.view mid.tuples.pages) c.args.tid) some.1 (look.finds told));
+      may = can_change (mid.ready look.looks.ends) (g.met.S.Pages.are_counted mid.tuples.pages) mid.size c.in_ok-test_room.ensures.room;
+      put = subst (λ (bytes : List ℕ). MayPut entry.segment (length bytes)) (sym (c.as_slice-2.ensures.bytes ∙ c.body_of-body.ensures.is)) (may_put_safe c.in_ok-number.number entry c.relation-entry.ensures.safe c.args.tuple.now fit);
+      live = λ told.
+          let finds = rw c.if-not-branch.false at (look.finds told) in
+          subst (λ (o : Option (List ℕ)). IsSome o) (sym (finds.some refl).1) refl;
     }
+
+pub updated-requires : goal.updated-requires
+updated-requires g c = record {
+  «open» = λ none. none-some _ (sym none ∙ ap (λ (s : Session). s.transaction) c.in_ok-look.ensures.session ∙ c.in_ok-number.ensures.«open»);
+  room = c.in_ok-test_room.ensures.room;
+}
 
 pub returns-in_err-update : goal.returns-in_err-update
 returns-in_err-update g c =
     let call = Update c.args.transaction c.args.relation.now c.args.tid c.args.tuple.now in
     let mid = c.look.new.self in
     let looks = c.in_ok-look.ensures.looks in
-    let ready = mid.ready looks.ends.0 in
+    let ready = mid.ready looks.ends in
     let did = c.in_err-update.ensures.did in
     let cost = goes {call = call} ready.settled_now did.step refl tt (λ pages. tt) in
-    joined _ looks.on c.requires looks.ends.0 (goes_after call refl (λ slots pages since. refl) looks.on cost)
-    (fails_change ready _ c.from_residual-in_err-update.ensures.1 looks.ends.0 (λ up. absurd (cc)) (λ looks. looks) did cost (λ told state shown. tt))
+    joined _ looks.on c.requires looks.ends (goes_after call refl (λ slots pages since. refl) looks.on cost)
+    (fails_change ready _ c.from_residual-in_err-update.ensures.1 looks.ends (λ up. absurd (cc)) (λ looks. looks) tt did cost)
 
 pub invariant_of-self-2 : goal.invariant_of-self-2
 invariant_of-self-2 g c =
+    let store = c.args.self.now in
     let mid = c.look.new.self in
     let look = c.in_ok-look.ensures in
-    let ready = mid.ready look.looks.ends.0 in
-    let admitted = c.in_ok-value.ensures in
+    let looks = look.looks in
+    let ready = mid.ready looks.ends in
+    let admitted = c.in_ok-number.ensures in
+    let number = c.in_ok-number.number in
+    let entry = c.relation-entry.result.now in
+    let at : relation_at mid.session.catalog.listing number ≡ Some entry = ap (λ (s : Session). relation_at s.catalog.listing number) look.session ∙ c.relation-entry.ensures.is in
+    let named = name_of store.session.catalog.listing c.args.relation.now number entry admitted.known c.relation-entry.ensures.is in
     let put = c.in_ok-update.ensures in
-    let some = some_of c.in_ok-look.field-0 c.if-is_none.ensures in
-    let found_fits : IfSome c.in_ok-look.field-0 (FitsSigned w64) = search rules in
-    let fits : FitsSigned w64 c.in_ok-value.value = search rules in
-    let changes = subst (λ (z : ℤ). ChangesTuple c.args.tid (Some (int_body z)) (g.S.Pages.view mid.tuples.pages) (g.S.Pages.view c.update.new.tuples.pages)) (to_z-of_z w64 c.in_ok-value.value fits) put.changes in
+    let changes = subst (λ (bytes : List ℕ). ChangesTuple entry.segment c.args.tid (Some bytes) (g.S.Pages.view mid.tuples.pages) (g.S.Pages.view c.update.new.tuples.pages)) (c.as_slice-2.ensures.bytes ∙ c.body_of-body.ensures.is) put.changes in
+    let counted = c.updated.ensures in
     record {
-      ready = λ up. ready_changed ready put.did.step changes c.updated.ensures;
-      size = c.updated.ensures.slots ∙ mid.size;
-      shown = λ up. shows_change ready put.did.step changes (mid.shown look.looks.ends.0) (λ told state shown.
-          updates_step shown (fixes_still ready told shown put.did.step) c.args.transaction c.args.relation.now admitted.known told put.did.step c.args.tid some.0 c.in_ok-value.value c.args.tuple.now admitted.one fits
-          (admitted.tests state (subst (λ (s : Session). Counts s state) look.session shown.counts)) (subst (HasFound state c.args.tid) some.1 (found_shown shown c.args.tid c.in_ok-look.field-0 found_fits (look.finds told)))
-          (c.in_ok-test_room.ensures.tests state shown.counts) changes c.updated.ensures);
+      ready = λ up. ready_changed ready put.did.step changes counted.once (stays_same ready counted.same);
+      size = counted.once.slots ∙ mid.size;
+      shown = λ up. shows_change ready put.did.step (mid.shown looks.ends) (λ told state shown.
+          let finds = rw c.if-not-branch.false at (look.finds told) in
+          let has = found_values shown number entry at c.args.tid c.look.new.into finds in
+          updates_step shown ready (fixes_still ready told shown put.did.step) at c.args.transaction c.args.tid told put.did.step counted.once c.args.relation.now named has.values c.args.tuple.now c.body_of-body.ensures.storable
+          (admitted.tests state (subst (λ (s : Session). Counts s state) look.session shown.counts)) (c.in_ok-test_room.ensures.tests state shown.counts) (subst (λ (name : Name). HasFound state name c.args.tid (Some has.values)) named has.holds) changes counted.same);
     }
 
 pub returns : goal.returns
 returns g c =
     let call = Update c.args.transaction c.args.relation.now c.args.tid c.args.tuple.now in
+    let store = c.args.self.now in
     let mid = c.look.new.self in
     let look = c.in_ok-look.ensures in
     let looks = look.looks in
-    let ready = mid.ready looks.ends.0 in
-    let admitted = c.in_ok-value.ensures in
+    let ready = mid.ready looks.ends in
+    let admitted = c.in_ok-number.ensures in
+    let number = c.in_ok-number.number in
+    let entry = c.relation-entry.result.now in
+    let at : relation_at mid.session.catalog.listing number ≡ Some entry = ap (λ (s : Session). relation_at s.catalog.listing number) look.session ∙ c.relation-entry.ensures.is in
+    let named = name_of store.session.catalog.listing c.args.relation.now number entry admitted.known c.relation-entry.ensures.is in
     let put = c.in_ok-update.ensures in
-    let some = some_of c.in_ok-look.field-0 c.if-is_none.ensures in
-    let found_fits : IfSome c.in_ok-look.field-0 (FitsSigned w64) = search rules in
-    let fits : FitsSigned w64 c.in_ok-value.value = search rules in
-    let changes = subst (λ (z : ℤ). ChangesTuple c.args.tid (Some (int_body z)) (g.S.Pages.view mid.tuples.pages) (g.S.Pages.view c.update.new.tuples.pages)) (to_z-of_z w64 c.in_ok-value.value fits) put.changes in
-    let cost = goes {call = call} ready.settled_now put.did.step c.updated.ensures.slots tt (λ pages. tt) in
-    joined _ looks.on c.requires looks.ends.0 (goes_after call refl (λ slots pages since. refl) looks.on cost) (comes_to looks.ends.0 cost (answers_change ready put.did.step changes c.updated.ensures (λ told state shown.
-    updates_step shown (fixes_still ready told shown put.did.step) c.args.transaction c.args.relation.now admitted.known told put.did.step c.args.tid some.0 c.in_ok-value.value c.args.tuple.now admitted.one fits
-    (admitted.tests state (subst (λ (s : Session). Counts s state) look.session shown.counts)) (subst (HasFound state c.args.tid) some.1 (found_shown shown c.args.tid c.in_ok-look.field-0 found_fits (look.finds told)))
-    (c.in_ok-test_room.ensures.tests state shown.counts) changes c.updated.ensures)
-    refl (search rules) tt (λ key for. for) refl))
+    let changes = subst (λ (bytes : List ℕ). ChangesTuple entry.segment c.args.tid (Some bytes) (g.S.Pages.view mid.tuples.pages) (g.S.Pages.view c.update.new.tuples.pages)) (c.as_slice-2.ensures.bytes ∙ c.body_of-body.ensures.is) put.changes in
+    let counted = c.updated.ensures in
+    let cost = goes {call = call} ready.settled_now put.did.step counted.once.slots tt (λ pages. tt) in
+    joined _ looks.on c.requires looks.ends (goes_after call refl (λ slots pages since. refl) looks.on cost) (comes_to looks.ends cost (answers_change ready put.did.step counted.once (λ told state shown.
+    let finds = rw c.if-not-branch.false at (look.finds told) in
+    let has = found_values shown number entry at c.args.tid c.look.new.into finds in
+    updates_step shown ready (fixes_still ready told shown put.did.step) at c.args.transaction c.args.tid told put.did.step counted.once c.args.relation.now named has.values c.args.tuple.now c.body_of-body.ensures.storable
+    (admitted.tests state (subst (λ (s : Session). Counts s state) look.session shown.counts)) (c.in_ok-test_room.ensures.tests state shown.counts) (subst (λ (name : Name). HasFound state name c.args.tid (Some has.values)) named has.holds) changes counted.same)
+    refl (search rules) tt (changed_same changes counted.same) refl))

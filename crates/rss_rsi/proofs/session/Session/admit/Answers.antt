@@ -1,5 +1,4 @@
 use Rattle.std.proofs.Common.{rules, ◌≡◌, ◌≢◌, Some}
-use Rattle.rss_model.specs.Store.{relation_r}
 use Rattle.rss_rsi.proofs.Refusals.{closed, unknown, admits}
 use Rattle.rss_rsi.proofs.session.Session.admit.Goals as goal
 
@@ -8,14 +7,12 @@ returns-then-ne-clause-tests c =
     let other : c.args.self.now.transaction ≢ Some c.args.transaction = search rules in
     (λ state counts. closed counts c.args.transaction c.args.relation.now other, search rules)
 
-pub returns-then-ne-2-clause-tests : goal.returns-then-ne-2-clause-tests
-returns-then-ne-2-clause-tests c =
+pub returns-in-None-clause-tests : goal.returns-in-None-clause-tests
+returns-in-None-clause-tests c =
     let is : c.args.self.now.transaction ≡ Some c.args.transaction = search rules in
-    let other : c.args.relation.now ≢ relation_r = search rules in
-    (λ state counts. unknown counts c.args.transaction c.args.relation.now is other, search rules)
+    (λ state counts. unknown counts c.args.transaction c.args.relation.now is c.in-None.ensures.none, search rules)
 
-pub returns-clause-tests : goal.returns-clause-tests
-returns-clause-tests c =
+pub returns-in-Some-clause-tests : goal.returns-in-Some-clause-tests
+returns-in-Some-clause-tests c =
     let is : c.args.self.now.transaction ≡ Some c.args.transaction = search rules in
-    let same : c.args.relation.now ≡ relation_r = search rules in
-    λ state counts. admits counts c.args.transaction c.args.relation.now is same
+    λ state counts. admits counts c.args.transaction c.args.relation.now c.in-Some.number c.in-Some.ensures.some is

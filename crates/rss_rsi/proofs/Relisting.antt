@@ -1,0 +1,100 @@
+-- What a call that defines makes of the pages, of the machine's state and of the session.
+use Rattle.std.proofs.Common.{◌≡◌, ℕ, ◌-◌, List, [], length, get_or, refl, sym, ◌∙◌, ap, subst}
+use Rattle.std.specs.Prelude.{Some, None, Ok, count_by}
+use Rattle.rss_base.specs.Paged.{Held}
+use Rattle.rss_base.specs.Listings.{Listing, ListingFits, relation_at}
+use Rattle.rss_base.specs.declared.call.Call.{Call}
+use Rattle.rss_base.specs.declared.answer.Reply.TheVariants.{Ok as Done}
+use Rattle.rss_model.specs.Tables.{Definitions, Tables, tuple_count}
+use Rattle.rss_model.specs.Changes.{Change, is_delete_of}
+use Rattle.rss_model.specs.Machine.{State, with_changes, now}
+use Rattle.rss_model.specs.Meter.{Meter, IsCheckpointed}
+use Rattle.rss_model.specs.Fits.{Fits}
+use Rattle.rss_model.specs.Kept.{Kept}
+use Rattle.rss_model.specs.Defining.{defined, with_definitions, DefinesNames}
+use Rattle.rss_model.specs.Steps.{Step, refusal, redefined}
+use Rattle.rss_model.specs.Steps.Step.{defines}
+use Rattle.rss_model.specs.Store.{Defines, SpellsTables}
+use Rattle.rss_model.proofs.ByNumber.{relation_unnamed}
+use Rattle.rss_model.proofs.Keeping.{committed_fit, steps_keep}
+use Rattle.rss_model.proofs.Redefined.{defined_fits}
+use Rattle.rss_model.proofs.Relisted.{segment_made_spells, segment_gone_spells, relation_made_spells, relation_gone_spells}
+use Rattle.rss_model.proofs.Tests.{may_define}
+use Rattle.rss_rsi.specs.Sessions.{marks_of, entry_of, Counts, Relists, Redefines}
+use Rattle.rss_rsi.specs.Sessions.Relists.{segment, relation, drop_segment, drop_relation}
+use Rattle.rss_rsi.specs.declared.session.Session.{Session}
+use Rattle.rss_rsi.proofs.Counted.{HasEnded}
+use Rattle.rss_rsi.proofs.Refusals.{none_at, nothing}
+
+-- ---- the pages
+
+-- The call defines so, and the pages spell its tables, whose definitions are listed anew.
+pub record IsRelisted (held : Held) (call : Call) (listing : Listing) (tables : Tables) : Type 0 where
+  pub definitions : Definitions
+  pub so : defined call tables.definitions ≡ Some definitions
+  pub spells : SpellsTables held listing (with_definitions definitions tables)
+
+pub relisted : {held : Held} {tables : Tables} {slots : ℕ} {old new : Listing} {call : Call} → SpellsTables held old tables → Fits slots tables → Relists old call new → ListingFits new → IsRelisted held call new tables
+relisted spells fit (segment name number fresh least) fits = record { definitions = _; so = refl; spells = segment_made_spells spells number name least fits }
+relisted spells fit (relation name in_segment fields at number within fresh least) fits = record {
+  definitions = _;
+  so = refl;
+  spells = relation_made_spells spells fit number (entry_of name at fields) in_segment least fits within refl (relation_unnamed spells.listed spells.defines name fresh);
+}
+relisted spells fit (drop_segment name number at none) fits = record {
+  definitions = _;
+  so = refl;
+  spells = segment_gone_spells spells number name at (λ k r is within. none (record { number = k; relation = r; at = is; within = within })) fits;
+}
+relisted spells fit (drop_relation number entry at empty) fits = record { definitions = _; so = refl; spells = relation_gone_spells spells number entry at (spells.counts number entry at ∙ empty) fits }
+
+-- ---- the state
+
+-- where nothing is open, no change waits
+pub none_waits : {session : Session} {state : State} → Counts session state → session.transaction ≡ None → state.changes ≡ []
+none_waits {session = session} {state = state} counts closed = nothing state.changes (counts.changes ∙ session.rest closed)
+
+module _ {call : Call} {old new : Session} {state : State} (kept : Kept state) (counts : Counts old state) (redefines : Redefines call old new) where
+  none : state.changes ≡ []
+  none = none_waits counts redefines.none_open
+
+  -- the committed tables are those now
+  pub now_committed : now state ≡ state.base
+  now_committed = ap (with_changes state.base) none
+
+  -- the pages spell the committed tables with what the call defines, by the new listing
+  pub now_relisted : {held : Held} → SpellsTables held old.catalog.listing (now state) → IsRelisted held call new.catalog.listing state.base
+  now_relisted {held = held} spells = relisted (subst (SpellsTables held old.catalog.listing) now_committed spells) (committed_fit kept) redefines.relists (redefines.fits counts.listed)
+
+  module _ {held : Held} (is : IsRelisted held call new.catalog.listing state.base) (passed : refusal state call ≡ None) (names : DefinesNames call) where
+    -- they fit
+    pub redefined_fits : Fits state.size.slots (with_definitions is.definitions state.base)
+    redefined_fits = defined_fits (committed_fit kept) call is.definitions names (may_define state call passed) is.so
+
+    -- and are the tables now of the state that follows
+    pub redefined_now : (meter : Meter) → now (redefined is.definitions meter state) ≡ with_definitions is.definitions state.base
+    redefined_now meter = ap (with_changes (with_definitions is.definitions state.base)) none
+
+    pub redefined_step : (meter : Meter) → IsCheckpointed state.size.slots (with_definitions is.definitions state.base) state.meter.over meter → Step state call (Ok Done) (redefined is.definitions meter state)
+    redefined_step meter checkpoint = defines call is.definitions meter passed names is.so checkpoint
+
+    pub redefined_kept : (meter : Meter) → IsCheckpointed state.size.slots (with_definitions is.definitions state.base) state.meter.over meter → Kept (redefined is.definitions meter state)
+    redefined_kept meter checkpoint = steps_keep state (redefined is.definitions meter state) call (Ok Done) (redefined_step meter checkpoint) kept
+
+    -- once the session counts anew, it has the counts of this state
+    pub redefined_counts : {heap : ℕ} {later : Session} (meter : Meter) → meter.heap ≡ heap → meter.since ≡ 0 → HasEnded heap new later → Counts later (redefined is.definitions meter state)
+    redefined_counts meter heap since ends = record {
+      slots = counts.slots ∙ sym redefines.slots ∙ sym ends.slots;
+      listed = subst ListingFits (sym ends.listing) is.spells.listed;
+      defines = subst (λ (l : Listing). Defines l is.definitions) (sym ends.listing) is.spells.defines;
+      marks = counts.marks ∙ ap marks_of (redefines.none_open ∙ sym ends.transaction);
+      heap = heap ∙ sym ends.heap_now;
+      since = since ∙ sym ends.since;
+      changes = ap (λ (l : List Change). length l) none ∙ sym ends.since;
+      live = λ k r listed.
+          ap (λ (tables : Tables). tuple_count tables.contents r.name) now_committed
+          ∙ is.spells.counts k r (ap (λ (l : Listing). relation_at l k) (sym ends.listing) ∙ listed);
+      deleted = λ k r listed.
+          ap (count_by (is_delete_of r.name)) none
+          ∙ sym (ap (λ (d : List ℕ). get_or d (k - 1) 0) ends.deleted ∙ none_at (k - 1));
+    }

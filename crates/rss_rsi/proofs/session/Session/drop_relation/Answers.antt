@@ -1,0 +1,40 @@
+use Rattle.std.proofs.Common.{◌≡◌, rules, ap, refl, subst, arith}
+use Rattle.std.specs.Prelude.{None, is_some}
+use Rattle.rss_base.specs.Listings.{with_relation}
+use Rattle.rss_base.specs.declared.name.Name.{Name}
+use Rattle.rss_base.specs.declared.call.Call.TheVariants.{DropRelation}
+use Rattle.rss_model.proofs.Relisted.{number_within_list}
+use Rattle.rss_model.proofs.Tests.{refuses_at}
+use Rattle.rss_rsi.specs.Sessions.{Relists}
+use Rattle.rss_rsi.specs.Sessions.Relists.{drop_relation}
+use Rattle.rss_rsi.proofs.Numbered.{entry_at, name_of}
+use Rattle.rss_rsi.proofs.Recounting.{page_same}
+use Rattle.rss_rsi.proofs.Definitions.{refused, relation_lacks, relation_full, relation_drops, redefines, relation_page}
+use Rattle.rss_rsi.proofs.session.Session.drop_relation.Goals as goal
+
+pub returns-in_err-test_rest : goal.returns-in_err-test_rest
+returns-in_err-test_rest c = refused c.args.self.now (DropRelation c.args.name.now) c.from_residual.result c.from_residual.ensures.1 (λ state counts. refuses_at _ (c.in_err-test_rest.ensures.tests.0 state counts)) c.in_err-test_rest.ensures.tests.1
+
+pub returns-in_default : goal.returns-in_default
+returns-in_default c = (refl, λ state counts. relation_lacks counts c.in_ok-test_rest.ensures.closed c.args.name.now c.in_default.ensures.none, search rules)
+
+pub relation-requires : goal.relation-requires
+relation-requires c = ap is_some (entry_at c.args.self.now.catalog.listing c.args.name.now c.in-Some.number c.in-Some.ensures.some).at
+
+pub returns-then-relation-gt0 : goal.returns-then-relation-gt0
+returns-then-relation-gt0 c =
+    let entry = c.relation.result.now in
+    let named = name_of c.args.self.now.catalog.listing c.args.name.now c.in-Some.number entry c.in-Some.ensures.some c.relation.ensures.is in
+    (refl, λ state counts. relation_full counts c.in_ok-test_rest.ensures.closed c.args.name.now c.in-Some.number c.in-Some.ensures.some entry c.relation.ensures.is named c.if-relation-gt0.true, search rules)
+
+pub returns : goal.returns
+returns c =
+    let old = c.args.self.now in
+    let entry = c.relation.result.now in
+    let number = c.in-Some.number in
+    let named = name_of old.catalog.listing c.args.name.now number entry c.in-Some.ensures.some c.relation.ensures.is in
+    let within = number_within_list old.catalog.listing.relations number entry c.relation.ensures.is in
+    let empty : entry.live ≡ 0 = omega (arith, c.if-relation-gt0.false) in (
+      redefines _ (relation_page number (omega (arith, within.1, old.relation_places))) (subst (λ (n : Name). Relists old.catalog.listing (DropRelation n) (with_relation old.catalog.listing number None)) named (drop_relation number entry c.relation.ensures.is empty)) c.remove.ensures.lists (page_same old.catalog.listing number None) (c.remove.ensures.fits (λ e. absurd (cc))) c.in_ok-test_rest.ensures.closed (record { slots = refl; heap = refl; since = refl; deleted = refl; transaction = refl }),
+      λ state counts. relation_drops counts c.in_ok-test_rest.ensures.closed c.args.name.now number c.in-Some.ensures.some entry c.relation.ensures.is named empty,
+    )

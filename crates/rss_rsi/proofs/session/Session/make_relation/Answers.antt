@@ -1,0 +1,78 @@
+use Rattle.std.proofs.Common.{◌≤◌, ◌∙◌, List, ap, subst, sym, rules, refl, arith}
+use Rattle.std.specs.Prelude.{is_some, option_map}
+use Rattle.std.proofs.lemmas.Bool.{true≢false}
+use Rattle.std.proofs.lemmas.List.{length-map}
+use Rattle.rss_base.specs.TupleTypes.{field_names, kinds, width, most_width, are_kinds}
+use Rattle.rss_base.specs.declared.field.FieldDef.{FieldDef}
+use Rattle.rss_base.specs.declared.relation.RelationEntry.{RelationEntry}
+use Rattle.rss_base.specs.declared.call.Call.TheVariants.{MakeRelation}
+use Rattle.rss_model.specs.Defining.{has_twice}
+use Rattle.rss_model.specs.Steps.{first_of}
+use Rattle.rss_model.proofs.Named.{apart_once}
+use Rattle.rss_model.proofs.Tests.{refuses_at}
+use Rattle.rss_rsi.specs.FieldTests.{fields_tests}
+use Rattle.rss_rsi.specs.Sessions.Relists.{relation}
+use Rattle.rss_rsi.proofs.Recounting.{page_same}
+use Rattle.rss_rsi.proofs.Definitions.{found, not_found, refused, relation_known, fields_taken, relation_many, relation_by_fields, relation_may, redefines, relation_page}
+use Rattle.rss_rsi.proofs.session.Session.make_relation.Goals as goal
+use Rattle.rss_rsi.proofs.session.Session.make_relation.Goals.{then-is_some-via-then-is_some, then-is_some-via-else-is_some+then-has_twice}
+
+pub returns-in_err-test_rest : goal.returns-in_err-test_rest
+returns-in_err-test_rest c = refused c.args.self.now (MakeRelation c.args.name.now c.args.segment.now c.args.fields) c.from_residual.result c.from_residual.ensures.1 (λ state counts. refuses_at _ (c.in_err-test_rest.ensures.tests.0 state counts)) c.in_err-test_rest.ensures.tests.1
+
+pub returns-then-is_some : goal.returns-then-is_some
+returns-then-is_some c = (
+  refl,
+  λ state counts. elim c.then-is_some.branch [
+    | then-is_some-via-then-is_some w ↦
+        let some = found c.find-2.result c.find-2.ensures.some (sym c.is_some.ensures ∙ w.if-is_some.true) in
+        relation_known counts c.in_ok-test_rest.ensures.closed c.args.name.now c.args.segment.now c.args.fields c.in-Some.segment c.in-Some.ensures.some some.0 some.1
+    | then-is_some-via-else-is_some+then-has_twice w ↦
+        let fresh = not_found c.find-2.result c.find-2.ensures.none (sym c.is_some.ensures ∙ w.if-is_some.false) in
+        let twice = ap (λ (f : List FieldDef). has_twice (field_names f)) (sym w.as_slice.ensures) ∙ sym w.has_twice.ensures ∙ w.if-has_twice.true in
+        fields_taken counts c.in_ok-test_rest.ensures.closed c.args.name.now c.args.segment.now c.args.fields c.in-Some.segment c.in-Some.ensures.some fresh twice
+  ],
+  search rules,
+)
+
+pub returns-then-is_full : goal.returns-then-is_full
+returns-then-is_full c =
+    let fresh = not_found c.find-2.result c.find-2.ensures.none (sym c.is_some.ensures ∙ c.if-is_some.false) in
+    let once = ap (λ (f : List FieldDef). has_twice (field_names f)) (sym c.as_slice.ensures) ∙ sym c.has_twice.ensures ∙ c.if-has_twice.false in
+    (refl, λ state counts. relation_many counts c.in_ok-test_rest.ensures.closed c.args.name.now c.args.segment.now c.args.fields c.in-Some.segment c.in-Some.ensures.some fresh once (c.is_full.ensures.0 c.if-is_full.true), search rules)
+
+pub returns-in_err-test_fields : goal.returns-in_err-test_fields
+returns-in_err-test_fields c =
+    let fresh = not_found c.find-2.result c.find-2.ensures.none (sym c.is_some.ensures ∙ c.if-is_some.false) in
+    let once = ap (λ (f : List FieldDef). has_twice (field_names f)) (sym c.as_slice.ensures) ∙ sym c.has_twice.ensures ∙ c.if-has_twice.false in
+    refused c.args.self.now (MakeRelation c.args.name.now c.args.segment.now c.args.fields) c.from_residual-in_err-test_fields.result c.from_residual-in_err-test_fields.ensures.1 (λ state counts.
+    relation_by_fields counts c.in_ok-test_rest.ensures.closed c.args.name.now c.args.segment.now c.args.fields c.in-Some.segment c.in-Some.ensures.some fresh once (λ all. true≢false (sym (c.is_full.ensures.1 all) ∙ c.if-is_full.false))
+    ∙ ap (λ (f : List FieldDef). first_of (fields_tests f)) (sym c.as_slice-2.ensures) ∙ c.in_err-test_fields.ensures.refused) c.in_err-test_fields.ensures.short
+
+pub add_relation-requires-clause-entry : goal.add_relation-requires-clause-entry
+add_relation-requires-clause-entry c =
+    let once = ap (λ (f : List FieldDef). has_twice (field_names f)) (sym c.as_slice.ensures) ∙ sym c.has_twice.ensures ∙ c.if-has_twice.false in
+    record {
+      name = c.requires.name;
+      segment = ap is_some c.in-Some.ensures.some;
+      fields = record {
+        formed = ap (λ (f : List FieldDef). are_kinds (kinds f)) (sym c.as_slice-2.ensures) ∙ c.in_ok-test_fields.ensures.formed;
+        narrow = subst (λ (f : List FieldDef). width (kinds f) ≤ most_width) c.as_slice-2.ensures c.in_ok-test_fields.ensures.narrow;
+        names = c.requires.fields;
+        apart = apart_once (field_names c.args.fields) once;
+      };
+      live = omega arith;
+    }
+
+pub returns : goal.returns
+returns c =
+    let old = c.args.self.now in
+    let fresh = not_found c.find-2.result c.find-2.ensures.none (sym c.is_some.ensures ∙ c.if-is_some.false) in
+    let once = ap (λ (f : List FieldDef). has_twice (field_names f)) (sym c.as_slice.ensures) ∙ sym c.has_twice.ensures ∙ c.if-has_twice.false in
+    let formed = ap (λ (f : List FieldDef). are_kinds (kinds f)) (sym c.as_slice-2.ensures) ∙ c.in_ok-test_fields.ensures.formed in
+    let narrow = subst (λ (f : List FieldDef). width (kinds f) ≤ most_width) c.as_slice-2.ensures c.in_ok-test_fields.ensures.narrow in
+    let least = c.add_relation.ensures.least in
+    let high = relation_page c.add_relation.result (omega (arith, least.high, length-map old.catalog.listing.relations (option_map (λ (r : RelationEntry). r.name)), old.relation_places)) in (
+      redefines _ high (relation c.args.name.now c.args.segment.now c.args.fields c.in-Some.segment c.add_relation.result c.in-Some.ensures.some fresh least) c.add_relation.ensures.lists (page_same old.catalog.listing c.add_relation.result _) c.add_relation.ensures.fits c.in_ok-test_rest.ensures.closed (record { slots = refl; heap = refl; since = refl; deleted = refl; transaction = refl }),
+      λ state counts. relation_may counts c.in_ok-test_rest.ensures.closed c.args.name.now c.args.segment.now c.args.fields c.in-Some.segment c.in-Some.ensures.some fresh once (λ all. true≢false (sym (c.is_full.ensures.1 all) ∙ c.if-is_full.false)) formed narrow,
+    )

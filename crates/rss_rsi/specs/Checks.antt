@@ -1,0 +1,75 @@
+-- What an opening finds in the pages of one segment.
+use Rattle.std.specs.Prelude.{◌≡◌, ◌==◌, ℕ, ◌^◌, ◌-◌, ◌≤◌, Bool, true, false, Some, is_some, min, List, [], ◌∷◌, length, count_by, slice_index_or}
+use Rattle.rss_base.specs.DiskRule.{IsTold}
+use Rattle.rss_base.specs.Sizes.{relations_most}
+use Rattle.rss_base.specs.Steps.{PagesView}
+use Rattle.rss_base.specs.Paged.{Held}
+use Rattle.rss_base.specs.Listings.{Listing, segment_at, relation_at}
+use Rattle.rss_base.specs.declared.relation.RelationEntry.{RelationEntry}
+use Rattle.rss_base.specs.declared.place.Place.{Place}
+use Rattle.rss_base.specs.declared.place.Place.TheVariants.{Room}
+use Rattle.rss_tuple.specs.Checked.{Row, Rows, tuples_of, IsSound, AreNoted}
+use Rattle.rss_model.specs.Fits.{tuple_limit}
+use Rattle.rss_rsi.specs.Bodies.{is_body}
+
+-- the body is that of a tuple of the relation of this number
+abbrev pub begins_with : ℕ → List ℕ → Bool
+begins_with number [] = false
+begins_with number (first ∷ rest) = first == number
+
+-- how many of the tuples are those of a relation
+abbrev pub count_of : ℕ → Rows → ℕ
+count_of number rows = count_by (λ (row : Row). begins_with number row.1) rows
+
+-- how many of them a visitor counts: up to 2^32 - 1
+abbrev pub seen_of : ℕ → Rows → ℕ
+seen_of number rows = min (count_of number rows) (2 ^ 32 - 1)
+
+-- There is a count for each number of a relation, and it is that of the tuples.
+pub record AreSeen (counts : List ℕ) (rows : Rows) : Type 0 where
+  pub places : length counts ≡ relations_most
+  pub right : (number : ℕ) → 1 ≤ number → number ≤ relations_most
+      → slice_index_or counts (number - 1) 0 ≡ seen_of number rows
+
+-- each relation of the segment has as many tuples as it counts, and no more than it may have
+abbrev pub AreSegmentCounts : Listing → ℕ → Held → ℕ → Type 0
+AreSegmentCounts listing segment held slots =
+    (number : ℕ) (relation : RelationEntry) → relation_at listing number ≡ Some relation
+    → relation.segment ≡ segment
+    → (count_of number (tuples_of held segment slots) ≡ relation.live) × (relation.live ≤ tuple_limit)
+
+-- The pages of a segment that is listed are in form, its tuples are those of its relations, and their counts are right.
+pub record IsSegmentOf (held : Held) (slots : ℕ) (listing : Listing) (segment : ℕ) : Type 0 where
+  pub sound : IsSound held segment (is_body listing segment)
+  pub counts : AreSegmentCounts listing segment held slots
+
+pub record ChecksSegment (listing : Listing) (segment : ℕ) (old new : PagesView) : Type 0 where
+  pub is : IsTold old.disk → IsSegmentOf old.held old.slots listing segment
+  pub noted : IsTold old.disk → AreNoted segment new
+
+-- They aren't, which shows at this place.
+pub record MissesSegment (listing : Listing) (segment : ℕ) (old : PagesView) (place : Place) : Type 0 where
+  pub is_not : IsTold old.disk → IsSegmentOf old.held old.slots listing segment → ⊥
+  pub elsewhere : place ≡ Room → ⊥
+
+-- The relation of this number, if it is one of the segment, has as many tuples as were seen, and no more than it may have.
+abbrev pub IsCountOf : Listing → ℕ → ℕ → ℕ → Type 0
+IsCountOf listing segment number seen =
+    (relation : RelationEntry) → relation_at listing number ≡ Some relation
+    → relation.segment ≡ segment → (relation.live ≡ seen) × (relation.live ≤ tuple_limit)
+
+-- It hasn't, which shows at this place.
+pub record MissesCount (listing : Listing) (segment number seen : ℕ) (place : Place) : Type 0 where
+  pub is_not : IsCountOf listing segment number seen → ⊥
+  pub elsewhere : place ≡ Room → ⊥
+
+-- The segments that are listed are in form.
+abbrev pub ChecksSegments : Listing → PagesView → PagesView → Type 0
+ChecksSegments listing old new =
+    (segment : ℕ) → is_some (segment_at listing segment) ≡ true → ChecksSegment listing segment old new
+
+-- One of them isn't, which shows at this place.
+pub record MissesOne (listing : Listing) (old : PagesView) (place : Place) : Type 0 where
+  pub segment : ℕ
+  pub listed : is_some (segment_at listing segment) ≡ true
+  pub misses : MissesSegment listing segment old place
