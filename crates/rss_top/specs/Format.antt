@@ -5,7 +5,7 @@ use Rattle.rss_base.specs.Faults.{Rises}
 use Rattle.rss_base.specs.Streams.{Takes, TakesFront}
 use Rattle.rss_base.specs.declared.answer.Reply.TheVariants.{Ok as Done}
 use Rattle.rss_model.specs.ReplyText.{answer_line}
-use Rattle.rss_model.specs.Store.{no_tuples, OpensTo}
+use Rattle.rss_model.specs.Store.{no_tables, OpensTo}
 use Rattle.rss_rsi.specs.Formatted.{AreSizes, IsFormatted}
 use Rattle.rss_top.specs.Run.{World}
 use Rattle.rss_top.specs.declared.status.Status.{Status}
@@ -14,7 +14,7 @@ use Rattle.rss_top.specs.declared.status.Status.TheVariants.{Ok as Made, WriteFa
 -- the pages are an empty store of these sizes, and a stop leaves no others
 pub record IsMade (disk : Disk) (slots log_pages : ℕ) (pages : Pages) : Type 0 where
   pub formatted : IsFormatted slots log_pages pages
-  pub opens : OpensTo pages (record { slots = slots; log_pages = log_pages }) no_tuples
+  pub opens : OpensTo pages (record { slots = slots; log_pages = log_pages }) no_tables
   pub only : LeavesOnly disk pages
 
 -- How a format ends, by its status. A device that was made a store is so after a fault of the sink

@@ -1,5 +1,6 @@
 // One line of a script.
 ghost use Rattle.std.specs.Prelude.{◌≡◌, ◌≤◌, [], vec_capacity};
+ghost use Rattle.rss_model.specs.Defining.{DefinesNames};
 ghost use Rattle.rss_model.specs.Script.{line_limit};
 ghost use Rattle.rss_top.specs.Lines.{stream, seen, IsAsked, RunsCall, RunsLine};
 
@@ -12,7 +13,8 @@ use std::alloc::Global;
 
 /// Makes a call. Its answer is a reply or a refusal.
 fn ask<E: Engine>(engine: &mut E, call: &Call) -> Result<Result<Reply, Refusal>, Status>
-    requires { (E.view engine.old).is_up }
+    requires up { (E.view engine.old).is_up }
+    requires names { DefinesNames call.now }
     ensures { IsAsked (E.view engine.old) (E.view engine.new) call.now result }
 {
     match engine.call(call) {
@@ -33,6 +35,7 @@ fn make_call<E: Engine, K: Sink>(
     sink: &mut K,
 ) -> Result<(), Status>
     requires up { (E.view engine.old).is_up }
+    requires names { DefinesNames call.now }
     requires empty { reply.old.items ≡ [] }
     requires room { line_limit ≤ vec_capacity reply.old }
     ensures { RunsCall
