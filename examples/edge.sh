@@ -51,9 +51,12 @@ printf 'begin 1\ninsert 1 r 7\nend 1\n' >commit
 committed=$'ok\nok 0.0\nok'
 printf 'begin 1\nfetch 1 r 0.0\nfetch 1 r 0.1\n' >probe
 
-# Files: an empty store, the store after one commit and after a second one, that after one commit formatted
-# again, whose free slots hold what they held, and files that are no store.
-"$rss" format empty 64 8 >replies
+# Files: a new store, the same with a relation and no tuple, after one commit of a tuple and after a
+# second one, that after one commit formatted again, whose free slots hold what they held, and files
+# that are no store.
+printf 'segment s\nrelation r s a:int\n' >definitions
+"$rss" format new 64 8 >replies
+cp new empty && "$rss" run empty <definitions >replies
 cp empty one && "$rss" run one <commit >replies
 cp one two && "$rss" run two <commit >replies
 cp one again && "$rss" format again 64 8 >replies
@@ -73,10 +76,11 @@ check empty '"$rss" run a <&- >&- 2>&-' 2 "" empty
 check none '"$rss" run a <commit >&-' 4 "" none
 check none '"$rss" run a <&-' 4 "" none
 check none '"$rss" run a <&- >&- 2>&-' 4 "" none
-check none '"$rss" format a 64 8 >&-' 3 "" empty
-check none '"$rss" format a 64 8 <&-' 0 ok empty
-check none '"$rss" format a 64 8 2>&-' 0 ok empty
-check none '"$rss" format a 64 8 <&- >&- 2>&-' 3 "" empty
+check none '"$rss" format a 64 8 >&-' 3 "" new
+check none '"$rss" format a 64 8 <&-' 0 ok new
+check none '"$rss" format a 64 8 2>&-' 0 ok new
+check none '"$rss" format a 64 8 <&- >&- 2>&-' 3 "" new
+check new '"$rss" run a <definitions' 0 $'ok\nok' empty
 check one '"$rss" format a 64 8 >&-' 3 "" again
 check one '"$rss" format a 64 8 <&- >&- 2>&-' 3 "" again
 check one '"$rss" format a 1 8 >&- 2>&-' 8 "" one
@@ -86,7 +90,7 @@ check one '"$rss" run a a <&- >&- 2>&-' 1 "" one
 # Standard streams that fail.
 check empty '"$rss" run a <commit >/dev/full' 3 "" empty
 check empty '"$rss" run a <.' 2 "" empty
-check none '"$rss" format a 64 8 >/dev/full' 3 "" empty
+check none '"$rss" format a 64 8 >/dev/full' 3 "" new
 
 # Files that are no store.
 check nothing '"$rss" run a <commit' 5 "not a store size" nothing
@@ -179,8 +183,8 @@ if [ -n "$(command -v strace)" ]; then
     for call in "${!after[@]}"; do found+=" $((after[call] - before[call]))"; done
     names="pread64, read, lseek, write, pwrite64 of 4,096 bytes, fsync, fdatasync"
     faults=""
-    if [ "$found" != " 0 0 0 0 4 0 2" ]; then faults="$found;"; fi
-    report "a commit over 64 slots, by its $names: 0 0 0 0 4 0 2" "$faults"
+    if [ "$found" != " 0 0 0 0 5 0 2" ]; then faults="$found;"; fi
+    report "a commit over 64 slots, by its $names: 0 0 0 0 5 0 2" "$faults"
 
     rm -f a
     strace -f -y -o calls "$rss" format a 64 8 >replies 2>errors

@@ -25,6 +25,19 @@ commits=200
 
 # Scripts.
 
+# What is defined in each store: a relation of one INT, and one of two and a TEXT.
+definitions() {
+    printf 'segment s\nrelation r s a:int\nrelation t s a:int b:int c:text20\n'
+}
+
+# So many inserts of three values in one transaction. The text has 20 bytes.
+threes() {
+    awk -v count="$1" 'BEGIN {
+        print "begin 1"
+        for (k = 0; k < count; k++) printf "insert 1 t %d %d \"%020d\"\n", k, -k, k
+    }'
+}
+
 # So many inserts in one transaction.
 inserts() {
     awk -v count="$1" 'BEGIN { print "begin 1"; for (k = 0; k < count; k++) print "insert 1 r " k }'
@@ -79,7 +92,8 @@ changes() {
 to_sql() {
     awk 'BEGIN { print "PRAGMA synchronous=FULL;\nSELECT count(*) FROM sqlite_master;" }
         /^begin/ { print "BEGIN;" }
-        /^insert/ { print "INSERT INTO r VALUES(" $4 ");" }
+        /^insert 1 r/ { print "INSERT INTO r VALUES(" $4 ");" }
+        /^insert 1 t/ { print "INSERT INTO t VALUES(" $4 ", " $5 ", \047" substr($6, 2, length($6) - 2) "\047);" }
         /^update/ { split($4, tid, "."); print "UPDATE r SET v=" $5 " WHERE rowid=" tid[1] * 128 + tid[2] + 1 ";" }
         /^delete/ { split($4, tid, "."); print "DELETE FROM r WHERE rowid=" tid[1] * 128 + tid[2] + 1 ";" }
         /^fetch/ { split($4, tid, "."); print "SELECT v FROM r WHERE rowid=" tid[1] * 128 + tid[2] + 1 ";" }
@@ -94,13 +108,14 @@ must_be_granted() {
 
 make_store() {
     "$rss" format "store.$1.$2" "$1" 8 >replies
-    filling "$1" "$2" >filling.script
+    { definitions && filling "$1" "$2"; } >filling.script
     "$rss" run "store.$1.$2" <filling.script >replies
     must_be_granted
 }
 
 make_database() {
     sqlite3 "$1.$2" "PRAGMA journal_mode=$1; CREATE TABLE r(v INTEGER);
+        CREATE TABLE t(a INTEGER, b INTEGER, c TEXT);
         INSERT INTO r SELECT value FROM generate_series(0, $2 - 1);" >replies
     grep -qx "$1" replies
 }
@@ -119,10 +134,11 @@ run_sqlite() { sqlite3 work <"$1.sql"; }
 write_lines() { dd if=/dev/zero of=lines bs=5 count="$1" 2>errors; }
 
 # What so many commits at so many slots have at least to write, to pages that are there: in one write
-# the page that was changed, the map and the root, then the selector, and each of the two synced.
+# the page that was changed, that of its count, the map and the root, then the selector, and each of
+# the two synced.
 write_pages() {
     local pages
-    for pages in $((($2 + 511) / 512 + 2)) 1; do
+    for pages in $((($2 + 511) / 512 + 3)) 1; do
         dd if=/dev/zero of=pages bs=$((4096 * pages)) count="$1" oflag=dsync conv=notrunc 2>errors
     done
 }
@@ -176,7 +192,7 @@ measure_on() {
     wait_for_quiet
     for script in "$@"; do
         measure "$script $name" "$command" "$script"
-        case "$script" in commits | ended) copy "$file" ;; esac
+        case "$script" in commits | ended | threes) copy "$file" ;; esac
     done
 }
 
@@ -187,7 +203,7 @@ measure_all() {
         slots="${store% *}" tuples="${store#* }"
         scripts=(nothing commits)
         case "$store" in
-            "65536 0") scripts+=(open ended) ;;
+            "65536 0") scripts+=(open ended threes) ;;
             "65536 1000000") scripts+=(one less near far inserted updated deleted each) ;;
         esac
         measure_on "store.$slots.$tuples" "$slots.$tuples" run_store "${scripts[@]}"
@@ -259,7 +275,7 @@ calls() {
 }
 
 store_calls() {
-    local pages=$((($1 + 511) / 512 + 3)) input=commits.script
+    local pages=$((($1 + 511) / 512 + 4)) input=commits.script
     if [ -n "$(command -v strace)" ]; then
         calls "store.$1.0" "$rss" run work
     else
@@ -291,6 +307,7 @@ echo "preparing the files" >&2
 : >nothing.script
 inserts 8000 >open.script
 { inserts 8000 && echo "end 1"; } >ended.script
+{ threes 8000 && echo "end 1"; } >threes.script
 transactions "$commits" >commits.script
 fetches 1000000 1 >one.script
 fetches 100000 1 >less.script
@@ -300,12 +317,12 @@ changes insert 6000 1000000 >inserted.script
 changes update 6000 1000000 >updated.script
 changes delete 6000 1000000 >deleted.script
 changes each 6000 1000000 >each.script
-for script in nothing open ended commits one less near far inserted updated deleted each; do to_sql "$script"; done
+for script in nothing open ended threes commits one less near far inserted updated deleted each; do to_sql "$script"; done
 for store in "${stores[@]}"; do make_store ${store/ / }; done
 for mode in "${modes[@]}"; do
     for tuples in "${databases[@]}"; do make_database "$mode" "$tuples"; done
 done
-dd if=/dev/zero of=pages bs=4096 count=$((130 * commits)) 2>errors
+dd if=/dev/zero of=pages bs=4096 count=$((131 * commits)) 2>errors
 sync
 
 # Both give the same values.
@@ -330,6 +347,7 @@ row --- ---: ---: ---: ---: ---: ---:
 lines="$(rate 1000000 lines lines)"
 rates "inserts, 8,000 in one transaction, not ended" 8000 open 65536 0 "$lines"
 rates "the same with its end" 8000 ended 65536 0 ""
+rates "the same of two INTs and a TEXT of 20 bytes, with its end" 8000 threes 65536 0 ""
 for store in "${stores[@]}"; do
     slots="${store% *}" tuples="${store#* }"
     rates "commits of one insert" "$commits" commits "$slots" "$tuples" "$(rate "$commits" commits "pages.$slots.$tuples")"

@@ -1,21 +1,35 @@
-//! A program that builds on the store: it makes a device one, inserts two tuples in a transaction,
-//! and fetches them again after the store was opened anew.
+//! A program that builds on the store: it makes a device one, defines a relation, inserts two tuples
+//! in a transaction, and fetches them again after the store was opened anew.
 #![tactic(auto)]
 
 ghost use Rattle.std.specs.Prelude.{[], ◌∷◌, IfOk};
 ghost use Rattle.rss_base.specs.declared.value.Value.TheVariants.{Int};
 ghost use Rattle.rss_base.specs.declared.call.Call.TheVariants.{Insert, Fetch};
 ghost use Rattle.rss_base.specs.declared.answer.Reply.TheVariants.{Tid as Identifier, Tuple as Found};
-ghost use Rattle.rss_model.specs.Store.{relation_r};
 ghost use Rattle.rss_embed.specs.Made.{Made};
 
-use rss_base::{Call, CallError, OpenFault, RELATION_R, Reply, Tid, Tuple, Value};
+use rss_base::{
+    Call, CallError, FieldDef, FieldKind, Fields, Name, OpenFault, Reply, Tid, Tuple, Value,
+};
 use rss_device::MemDevice;
 use rss_model::Engine;
 use rss_rsi::{format, open};
 use std::alloc::{AllocError, Global};
 use std::io;
 use thiserror::Error;
+
+/// What is defined: a segment, and in it a relation of one INT.
+const SEGMENT: Name = Name {
+    bytes: *b"s\0\0\0\0\0\0\0\0\0\0\0\0\0\0\0",
+};
+
+const RELATION: Name = Name {
+    bytes: *b"r\0\0\0\0\0\0\0\0\0\0\0\0\0\0\0",
+};
+
+const FIELD: Name = Name {
+    bytes: *b"a\0\0\0\0\0\0\0\0\0\0\0\0\0\0\0",
+};
 
 #[derive(Debug, Drop, Error)]
 enum Failure {
@@ -37,20 +51,33 @@ impl From<CallError> for Failure {
     }
 }
 
+/// Defines the segment and its relation, each a commit of its own.
+fn define<E: Engine>(engine: &mut E, alloc: Global) -> Result<(), Failure> {
+    let mut fields = Fields::new(alloc);
+    fields.push(FieldDef {
+        name: FIELD,
+        kind: FieldKind::Int,
+    })?;
+    engine.call(&Call::MakeSegment(SEGMENT))?;
+    engine.call(&Call::MakeRelation(RELATION, SEGMENT, fields))?;
+    Ok(())
+}
+
 /// Inserts a tuple of one INT in transaction 1.
 fn insert<E: Engine>(engine: &mut E, alloc: Global, value: i64) -> Result<Tid, Failure>
     ensures { IfOk result (λ tid. Made (E.view engine.old) (E.view engine.new)
-        (Insert 1 relation_r (Int value ∷ [])) (Identifier tid)) }
+        (Insert 1 RELATION (Int value ∷ [])) (Identifier tid)) }
 {
     let tuple = Tuple::single(alloc, Value::Int(value))?;
-    match engine.call(&Call::Insert(1, RELATION_R, tuple))? {
+    match engine.call(&Call::Insert(1, RELATION, tuple))? {
         Reply::Tid(tid) => Ok(tid),
         other => Err(Failure::Reply(other)),
     }
 }
 
-/// Inserts two tuples, and commits them together. Answers their identifiers.
+/// Defines the relation, inserts two tuples, and commits them together. Answers their identifiers.
 fn insert_both<E: Engine>(engine: &mut E, alloc: Global) -> Result<[Tid; 2], Failure> {
+    define(engine, alloc)?;
     engine.call(&Call::Begin(1))?;
     let first = insert(engine, alloc, 7)?;
     let second = insert(engine, alloc, -7)?;
@@ -61,9 +88,9 @@ fn insert_both<E: Engine>(engine: &mut E, alloc: Global) -> Result<[Tid; 2], Fai
 /// Fetches a tuple in transaction 1.
 fn fetch<E: Engine>(engine: &mut E, tid: Tid) -> Result<Tuple, Failure>
     ensures { IfOk result (λ tuple. Made (E.view engine.old) (E.view engine.new)
-        (Fetch 1 relation_r tid) (Found tuple)) }
+        (Fetch 1 RELATION tid) (Found tuple)) }
 {
-    match engine.call(&Call::Fetch(1, RELATION_R, tid))? {
+    match engine.call(&Call::Fetch(1, RELATION, tid))? {
         Reply::Tuple(tuple) => Ok(tuple),
         other => Err(Failure::Reply(other)),
     }

@@ -4,7 +4,7 @@
 #![tactic(auto)]
 
 use anyhow::{Result, bail, ensure};
-use rss_base::{Call, RELATION_R, Reply, Tid, Tuple, Value};
+use rss_base::{Call, FieldDef, FieldKind, Fields, Name, Reply, Tid, Tuple, Value};
 use rss_device::FileDevice;
 use rss_model::Engine;
 use rss_rsi::{format, open};
@@ -18,6 +18,19 @@ const SLOTS: u32 = 65_536;
 
 const LOG_PAGES: u32 = 8;
 
+/// What is defined: a segment, and in it a relation of one INT.
+const SEGMENT: Name = Name {
+    bytes: *b"s\0\0\0\0\0\0\0\0\0\0\0\0\0\0\0",
+};
+
+const RELATION: Name = Name {
+    bytes: *b"r\0\0\0\0\0\0\0\0\0\0\0\0\0\0\0",
+};
+
+const FIELD: Name = Name {
+    bytes: *b"a\0\0\0\0\0\0\0\0\0\0\0\0\0\0\0",
+};
+
 /// How many fetches are made.
 const FETCHES: u32 = 1_000_000;
 
@@ -28,6 +41,22 @@ struct Work {
     commits: u32,
     tuples: u32,
     batch: u32,
+}
+
+/// Defines the segment and its relation.
+fn define<E: Engine>(engine: &mut E, alloc: Global) -> Result<()> {
+    let mut fields = Fields::new(alloc);
+    fields.push(FieldDef {
+        name: FIELD,
+        kind: FieldKind::Int,
+    })?;
+    if let Err(error) = engine.call(&Call::MakeSegment(SEGMENT)) {
+        bail!("a segment was answered {error:?}");
+    }
+    if let Err(error) = engine.call(&Call::MakeRelation(RELATION, SEGMENT, fields)) {
+        bail!("a relation was answered {error:?}");
+    }
+    Ok(())
 }
 
 fn begin<E: Engine>(engine: &mut E) -> Result<()> {
@@ -46,14 +75,14 @@ fn end<E: Engine>(engine: &mut E) -> Result<()> {
 
 fn insert<E: Engine>(engine: &mut E, alloc: Global, value: u32) -> Result<Tid> {
     let tuple = Tuple::single(alloc, Value::Int(i64::from(value)))?;
-    match engine.call(&Call::Insert(1, RELATION_R, tuple)) {
+    match engine.call(&Call::Insert(1, RELATION, tuple)) {
         Ok(Reply::Tid(tid)) => Ok(tid),
         other => bail!("an insert was answered {other:?}"),
     }
 }
 
 fn fetch<E: Engine>(engine: &mut E, tid: Tid) -> Result<i64> {
-    match engine.call(&Call::Fetch(1, RELATION_R, tid)) {
+    match engine.call(&Call::Fetch(1, RELATION, tid)) {
         Ok(Reply::Tuple(tuple)) => match tuple.as_slice() {
             [Value::Int(value)] => Ok(*value),
             _ => bail!("a tuple of other fields"),
@@ -117,6 +146,7 @@ fn rate(count: u32, time: Duration) -> u128 {
 /// Does the work over an engine, and prints how many commits, inserts and fetches a second it makes.
 fn measure<E: Engine>(rt: &HostRuntime, engine: &mut E, work: Work) -> Result<()> {
     let alloc = rt.alloc();
+    define(engine, alloc)?;
     let mut tids = Vec::new(alloc);
     let start = Instant::now(rt)?;
     commit_each(engine, alloc, work, &mut tids)?;

@@ -1,11 +1,16 @@
 // The tables that a store opens to.
 use crate::pages::SLOTS;
 use anyhow::{Result, bail};
-use rss_base::{Call, CallError, Page, RELATION_R, Refusal, Reply, Tid, Tuple, Value};
+use rss_base::{Call, CallError, Kind, Name, Page, Refusal, Reply, Tid, Tuple, Value};
 use rss_device::MemDevice;
 use rss_model::Engine;
 use rss_rsi::open;
 use std::alloc::Global;
+
+/// The relation whose tuples are shown.
+const RELATION: Name = Name {
+    bytes: *b"r\0\0\0\0\0\0\0\0\0\0\0\0\0\0\0",
+};
 
 /// How many tuples a page holds.
 const PAGE_TUPLES: u32 = 128;
@@ -18,11 +23,13 @@ fn int_of(tuple: &Tuple) -> Result<i64> {
     }
 }
 
-/// The tuple with an identifier, or none where there is no such tuple.
+/// The tuple with an identifier, or none where there is no such tuple or no such relation.
 fn fetch<E: Engine>(engine: &mut E, tid: Tid) -> Result<Option<i64>> {
-    match engine.call(&Call::Fetch(1, RELATION_R, tid)) {
+    match engine.call(&Call::Fetch(1, RELATION, tid)) {
         Ok(Reply::Tuple(tuple)) => Ok(Some(int_of(&tuple)?)),
-        Err(CallError::Refused(Refusal::NoTuple(_, _))) => Ok(None),
+        Err(CallError::Refused(Refusal::NoTuple(_, _) | Refusal::NoSuch(Kind::Relation))) => {
+            Ok(None)
+        }
         other => bail!("a fetch was answered {other:?}"),
     }
 }
