@@ -1,12 +1,10 @@
 // Commits that insert, update and delete tuples on several pages, and what is left of them.
-use crate::harness::{Row, WHOLE, assert_script, empty_store};
+use crate::harness::{Row, WHOLE, assert_script, store_with_r};
 use crate::lines::{write_inserted, write_inserts, write_lines};
-use crate::stops::{Commit, MANY_CALLS, Probe, assert_commit};
-use rss_asserts::assert_same;
+use crate::stops::{Commit, Probe, assert_commit, assert_failures};
 use rss_device::MemDevice;
-use rss_images::{UNSYNCED, copy_of_pages, failing_at};
-use rss_scripts::{run_script, without_moments};
-use rss_top::Status;
+use rss_images::UNSYNCED;
+use rss_scripts::without_moments;
 use std::alloc::Global;
 use std::test::Fail;
 
@@ -79,8 +77,8 @@ ok 501
 ok 503
 ",
     },
-    // Two pages with tuples, the map's three, the root and the selector.
-    writes: 7,
+    // Two pages with tuples, that of their count, the map's three, the root and the selector.
+    writes: 8,
     root: 1,
 };
 
@@ -133,8 +131,8 @@ ok 0.127
 ok 1.0
 ",
     },
-    // One page is left.
-    writes: 6,
+    // One page with tuples is left.
+    writes: 7,
     root: 2,
 };
 
@@ -152,31 +150,9 @@ fn store_with_tuples(alloc: Global) -> Result<MemDevice, Fail> {
         script: script.as_bytes(),
         replies: replies.as_bytes(),
     };
-    let device = empty_store(alloc, SLOTS)?;
+    let device = store_with_r(alloc, SLOTS)?;
     let device = assert_script(alloc, device, &row, WHOLE, "129 inserts")?;
     Ok(without_moments(alloc, &device)?)
-}
-
-/// What a run that met a failure leaves opens to the tables before or after, with no stop and after
-/// one.
-fn assert_left(alloc: Global, device: &MemDevice, call: u64) -> Result<(), Fail> {
-    let found = CHANGED.probe.finds(alloc, copy_of_pages(alloc, device)?)?;
-    assert_same(&found.is_some(), &true, ("call", call, "with no stop"))?;
-    for unsynced in &UNSYNCED {
-        let found = CHANGED
-            .probe
-            .finds_after(alloc, device, device.moment(), *unsynced)?;
-        assert_same(&found.is_some(), &true, ("call", call, *unsynced))?;
-    }
-    Ok(())
-}
-
-/// Runs the changes over a store of which this call fails. Answers how the run ended.
-fn fail_call(alloc: Global, store: &MemDevice, call: u64) -> Result<Status, Fail> {
-    let device = failing_at(alloc, without_moments(alloc, store)?, call)?;
-    let (status, _, after) = run_script(alloc, device, CHANGED.row.script, WHOLE)?;
-    assert_left(alloc, &after, call)?;
-    Ok(status)
 }
 
 #[test]
@@ -195,12 +171,5 @@ fn changes_with_a_device_call_that_fails_leave_the_tables_before_or_after(
     rt: HostRuntime,
 ) -> Result<(), Fail> {
     let store = store_with_tuples(rt.alloc())?;
-    for call in 0..MANY_CALLS {
-        let status = fail_call(rt.alloc(), &store, call)?;
-        if status == Status::Ok {
-            return Ok(());
-        }
-        assert_same(&status, &Status::DeviceFault, ("call", call))?;
-    }
-    Err("the run has too many calls".into())
+    assert_failures(rt.alloc(), &store, &CHANGED)
 }

@@ -1,5 +1,5 @@
 // Devices that are made stores.
-use crate::harness::{ABSENT, assert_probe, assert_untouched, has_writes, store_with_tuple};
+use crate::harness::{UNDEFINED, assert_probe, assert_untouched, has_writes, store_with_tuple};
 use rss_asserts::{assert_same, assert_same_slices};
 use rss_device::{MemDevice, MemSink, MemSource};
 use rss_images::failing_at;
@@ -37,7 +37,7 @@ fn assert_format(
     assert_same(&status, &Status::Ok, slots)?;
     assert_same_slices(line.as_slice(), b"ok\n", slots)?;
     assert_same(&device.pages().len(), &pages, slots)?;
-    assert_probe(alloc, device, ABSENT, slots)
+    assert_probe(alloc, device, UNDEFINED, slots)
 }
 
 /// A device with a store that has a tuple.
@@ -103,5 +103,5 @@ fn a_format_that_fails_says_nothing(rt: HostRuntime) -> Result<(), Fail> {
 #[test]
 fn a_format_whose_line_fails_has_made_the_store(rt: HostRuntime) -> Result<(), Fail> {
     let device = format_unanswered(rt.alloc())?;
-    assert_probe(rt.alloc(), device, ABSENT, "formatted")
+    assert_probe(rt.alloc(), device, UNDEFINED, "formatted")
 }

@@ -18,12 +18,18 @@ pub(crate) const WHOLE: usize = 65_536;
 /// No call has this number.
 pub(crate) const NEVER: u64 = u64::MAX;
 
+/// A script that defines a relation of one INT.
+const DEFINITIONS: &[u8] = b"segment s\nrelation r s a:int\n";
+
 /// A script with one commit, and one that tells whether it was made.
 const COMMIT: &[u8] = b"begin 1\ninsert 1 r 8\nend 1\n";
 
 pub(crate) const PROBE: &[u8] = b"begin 1\nfetch 1 r 0.0\n";
 
-/// What the probe gets where no commit was made, and where one was.
+/// What the probe gets where nothing is defined, where no commit of a tuple was made, and where one
+/// was.
+pub(crate) const UNDEFINED: &[u8] = b"ok\nrefused 5 no such relation\n";
+
 pub(crate) const ABSENT: &[u8] = b"ok\nrefused 9 no tuple r 0.0\n";
 
 pub(crate) const PRESENT: &[u8] = b"ok\nok 8\n";
@@ -98,18 +104,28 @@ pub(crate) fn empty_store(alloc: Global, slots: u32) -> Result<MemDevice, Fail> 
     Ok(without_moments(alloc, &device)?)
 }
 
-/// A small store on which the commit was made.
-fn committed(alloc: Global) -> Result<MemDevice, Fail> {
-    let (status, _, device) = run_script(alloc, empty_store(alloc, SMALL)?, COMMIT, 100)?;
-    if status != Status::Ok {
-        return Err("the commit wasn't made".into());
-    }
-    Ok(device)
+/// A store after a script of which no line is refused, all synced, with no moments yet.
+pub(crate) fn store_after(
+    alloc: Global,
+    device: MemDevice,
+    script: &[u8],
+) -> Result<MemDevice, Fail> {
+    let (status, replies, after) = run_script(alloc, device, script, WHOLE)?;
+    assert_same(&status, &Status::Ok, script)?;
+    // An `ok` has no such byte.
+    let is_refused = replies.iter().any(|byte| *byte == b'f');
+    assert_same(&is_refused, &false, script)?;
+    Ok(without_moments(alloc, &after)?)
 }
 
-/// The pages of a small store with one tuple, whose value is 8.
+/// A store of so many slots in which a segment `s` and a relation `r` of one INT are defined.
+pub(crate) fn store_with_r(alloc: Global, slots: u32) -> Result<MemDevice, Fail> {
+    store_after(alloc, empty_store(alloc, slots)?, DEFINITIONS)
+}
+
+/// The pages of a small store with one tuple in `r`, whose value is 8.
 pub(crate) fn store_with_tuple(alloc: Global) -> Result<Vec<Page>, Fail> {
-    let device = committed(alloc)?;
+    let device = store_after(alloc, store_with_r(alloc, SMALL)?, COMMIT)?;
     Ok(copy_of_pages(alloc, &device)?)
 }
 

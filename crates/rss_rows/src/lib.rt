@@ -6,6 +6,12 @@ mod adapters;
 #[cfg(test)]
 mod changes;
 #[cfg(test)]
+mod defining;
+#[cfg(test)]
+mod definitions;
+#[cfg(test)]
+mod engines;
+#[cfg(test)]
 mod file_faults;
 #[cfg(test)]
 mod formats;
@@ -18,6 +24,8 @@ mod many;
 #[cfg(test)]
 mod refusals;
 #[cfg(test)]
+mod relations;
+#[cfg(test)]
 mod scripts;
 #[cfg(test)]
 mod statuses;
@@ -25,3 +33,5 @@ mod statuses;
 mod stops;
 #[cfg(test)]
 mod texts;
+#[cfg(test)]
+mod wide;

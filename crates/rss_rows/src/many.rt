@@ -1,5 +1,5 @@
 // Many transactions over a larger store, stopped at each of their moments.
-use crate::harness::{Row, empty_store};
+use crate::harness::{Row, store_with_r};
 use crate::lines::{
     write_absent, write_fetched, write_fetches, write_inserted, write_inserts, write_lines,
 };
@@ -96,15 +96,16 @@ fn assert_transaction(
             before: made.before.as_bytes(),
             after: made.after.as_bytes(),
         },
-        writes: home_pages(first, end) as usize + MAP_PAGES + 2,
+        // The count of the tuples has a page, and so have the root and the selector.
+        writes: home_pages(first, end) as usize + MAP_PAGES + 3,
         root: if number % 2 == 0 { 2 } else { 1 },
     };
     assert_commit(alloc, device, &commit, &[unsynced])
 }
 
-/// Makes all transactions over an empty store, and stops each.
+/// Makes all transactions over a store without tuples, and stops each.
 fn assert_transactions(alloc: Global, unsynced: Unsynced) -> Result<(), Fail> {
-    let mut device = empty_store(alloc, 4096)?;
+    let mut device = store_with_r(alloc, 4096)?;
     for number in 0..TRANSACTIONS {
         device = assert_transaction(alloc, device, number, INSERTS * number, unsynced)?;
     }

@@ -1,5 +1,7 @@
 // Devices that hold no store, and the places that are named.
-use crate::harness::{ABSENT, PRESENT, PROBE, SMALL, empty_store, has_writes, store_with_tuple};
+use crate::harness::{
+    ABSENT, PRESENT, PROBE, SMALL, UNDEFINED, empty_store, has_writes, store_with_tuple,
+};
 use rss_asserts::assert_same;
 use rss_base::{Page, PageKey, Place, Source, Space, Tid};
 use rss_device::{MemDevice, MemSink, MemSource};
@@ -40,7 +42,9 @@ const NOT_ROOT_2: Ending = Ending::NotAStore(Place::Root(2), b"not a store root 
 
 const NOT_SLOT_0: Ending = Ending::NotAStore(Place::Slot(0), b"not a store slot 0\n");
 
-const NOT_SLOT_1: Ending = Ending::NotAStore(Place::Slot(1), b"not a store slot 1\n");
+const NOT_SLOT_2: Ending = Ending::NotAStore(Place::Slot(2), b"not a store slot 2\n");
+
+const NOT_SLOT_3: Ending = Ending::NotAStore(Place::Slot(3), b"not a store slot 3\n");
 
 const NOT_SLOT_64: Ending = Ending::NotAStore(Place::Slot(64), b"not a store slot 64\n");
 
@@ -53,6 +57,14 @@ const NO_ROOM: Ending = Ending::Damaged(Place::Room, b"damaged room\n");
 const NOT_THE_FIRST_LOG: Ending = Ending::Damaged(Place::Log(0), b"damaged log 0\n");
 
 const NOT_CATALOG_0: Ending = Ending::Damaged(Place::Catalog(0), b"damaged catalog 0\n");
+
+const NOT_CATALOG_1: Ending = Ending::Damaged(Place::Catalog(1), b"damaged catalog 1\n");
+
+const NOT_CATALOG_2: Ending = Ending::Damaged(Place::Catalog(2), b"damaged catalog 2\n");
+
+const NOT_CATALOG_6: Ending = Ending::Damaged(Place::Catalog(6), b"damaged catalog 6\n");
+
+const NOT_CATALOG_7: Ending = Ending::Damaged(Place::Catalog(7), b"damaged catalog 7\n");
 
 const NOT_CATALOG_9: Ending = Ending::Damaged(Place::Catalog(9), b"damaged catalog 9\n");
 
@@ -106,11 +118,14 @@ const NOT_TUPLE: Ending = Ending::Damaged(
     b"damaged tuple 1 0.0\n",
 );
 
+const NOT_COUNT_1: Ending = Ending::Damaged(Place::Count(1), b"damaged count 1\n");
+
 /// How many pages the device of a store of 64 slots has.
 const PAGES: usize = 77;
 
-/// The pages of the selector and the roots, the two maps, the first log page, the first and the last
-/// slot of the system space, that of the tuple, and one that is free.
+/// The pages of the selector and the roots, the two maps, and the first log page; and behind them the
+/// slots, as three commits left them. The segment moved its page of the catalog from slot 0 to 10, the
+/// relation moved its own from 1 to 0, and the tuple that one to 11, beside the home page in 1.
 const SELECTOR: usize = 0;
 
 const ROOT_1: usize = 1;
@@ -123,17 +138,26 @@ const MAP_1: usize = 4;
 
 const LOG: usize = 5;
 
-const FIRST_SYSTEM: usize = 13;
+const FREE: usize = 13;
 
-const LAST_SYSTEM: usize = 22;
+const TUPLES: usize = 14;
 
-const TUPLES: usize = 23;
+/// The pages 2, 6, 7 and 9 of the catalog are where the format put them.
+const CATALOG_2: usize = 15;
 
-const FREE: usize = 24;
+const CATALOG_6: usize = 19;
+
+const CATALOG_7: usize = 20;
+
+const CATALOG_9: usize = 22;
+
+const CATALOG_0: usize = 23;
+
+const CATALOG_1: usize = 24;
 
 /// Bytes of a store of 64 slots with one tuple of value 8, in root 2 and map 1: page, offset, the
 /// bits that are turned, and how the probe ends then.
-static TURNED: [(usize, usize, u8, Ending); 47] = [
+static TURNED: [(usize, usize, u8, Ending); 79] = [
     // The mark, the version, and the zeros behind them.
     (ROOT_2, 0, 1, NOT_ROOT_2),
     (ROOT_2, 3, 128, NOT_ROOT_2),
@@ -144,7 +168,7 @@ static TURNED: [(usize, usize, u8, Ending); 47] = [
     (ROOT_2, 15, 1, NOT_THE_SIZE),
     (ROOT_2, 8, 1, NOT_ROOT_2),
     (ROOT_2, 12, 1, NOT_ROOT_2),
-    // The area: the other one still has the map of the empty store.
+    // The area: the other one still has the map of the store without tuples.
     (ROOT_2, 16, 1, OPENS_EMPTY),
     (ROOT_2, 16, 2, NOT_ROOT_2),
     (ROOT_2, 17, 1, NOT_ROOT_2),
@@ -156,17 +180,55 @@ static TURNED: [(usize, usize, u8, Ending); 47] = [
     (ROOT_2, 96, 1, NOT_THE_FIRST_LOG),
     (ROOT_2, 98, 1, NOT_ROOT_2),
     (ROOT_2, 4095, 1, NOT_ROOT_2),
-    // The entries of the map, and the bytes behind the last one.
+    // The entries of the map, of which the first is free, and the bytes behind the last one.
     (MAP_1, 0, 1, NOT_SLOT_0),
-    (MAP_1, 7, 1, NOT_SLOT_1),
-    (MAP_1, 87, 1, NOT_HOME_1),
-    (MAP_1, 81, 3, NOT_SEGMENT_2),
-    (MAP_1, 80, 2, NOT_IMAGE_0),
-    (MAP_1, 80, 3, NOT_OVERFLOW_0),
+    (MAP_1, 16, 1, NOT_SLOT_2),
+    (MAP_1, 23, 1, NOT_SLOT_3),
+    (MAP_1, 15, 1, NOT_HOME_1),
+    (MAP_1, 9, 3, NOT_SEGMENT_2),
+    (MAP_1, 8, 2, NOT_IMAGE_0),
+    (MAP_1, 8, 3, NOT_OVERFLOW_0),
     (MAP_1, 512, 1, NOT_SLOT_64),
-    // The pages of the system space.
-    (FIRST_SYSTEM, 0, 1, NOT_CATALOG_0),
-    (LAST_SYSTEM, 4095, 1, NOT_CATALOG_9),
+    // The segments: the name of the first, which may be another one, or none; a second one, which may
+    // not have a name that isn't spelled so, nor that of the first; and zeros behind the last one.
+    (CATALOG_0, 0, 1, OPENS),
+    (CATALOG_0, 0, 128, NOT_CATALOG_0),
+    (CATALOG_0, 1, 1, NOT_CATALOG_0),
+    (CATALOG_0, 16, b't', OPENS),
+    (CATALOG_0, 16, 1, NOT_CATALOG_0),
+    (CATALOG_0, 16, b's', NOT_CATALOG_0),
+    (CATALOG_0, 127, 1, NOT_CATALOG_0),
+    (CATALOG_0, 128, 1, NOT_CATALOG_0),
+    (CATALOG_0, 4095, 1, NOT_CATALOG_0),
+    // The relation: its name, its segment, how many fields it has, and zeros.
+    (CATALOG_1, 0, 1, Ending::Opens(UNDEFINED)),
+    (CATALOG_1, 0, 128, NOT_CATALOG_1),
+    (CATALOG_1, 16, 1, NOT_CATALOG_1),
+    (CATALOG_1, 16, 3, NOT_CATALOG_1),
+    (CATALOG_1, 17, 1, NOT_CATALOG_1),
+    (CATALOG_1, 17, 3, NOT_CATALOG_1),
+    (CATALOG_1, 18, 1, NOT_CATALOG_1),
+    (CATALOG_1, 19, 1, NOT_CATALOG_1),
+    // The count of its tuples, and zeros.
+    (CATALOG_1, 20, 128, NOT_COUNT_1),
+    (CATALOG_1, 23, 1, NOT_COUNT_1),
+    (CATALOG_1, 23, 2, NOT_COUNT_1),
+    (CATALOG_1, 24, 1, NOT_CATALOG_1),
+    (CATALOG_1, 31, 1, NOT_CATALOG_1),
+    // Its field: the name, which may be another one, or none; the kind, and what belongs to a text.
+    (CATALOG_1, 32, 3, OPENS),
+    (CATALOG_1, 32, 1, NOT_CATALOG_1),
+    (CATALOG_1, 48, 3, NOT_CATALOG_1),
+    (CATALOG_1, 49, 1, NOT_CATALOG_1),
+    // Zeros behind it; a second relation, without a name that is one; and the end of the page.
+    (CATALOG_1, 50, 1, NOT_CATALOG_1),
+    (CATALOG_1, 512, 128, NOT_CATALOG_1),
+    (CATALOG_1, 4095, 1, NOT_CATALOG_1),
+    // The other pages of relations, and those that are zeros.
+    (CATALOG_2, 0, 1, NOT_CATALOG_2),
+    (CATALOG_6, 4095, 1, NOT_CATALOG_6),
+    (CATALOG_7, 0, 1, NOT_CATALOG_7),
+    (CATALOG_9, 4095, 1, NOT_CATALOG_9),
     // The page of the tuple: its space, its segment, zeros, its number, and more zeros.
     (TUPLES, 0, 1, NOT_HOME_0),
     (TUPLES, 1, 3, NOT_HOME_0),
@@ -192,7 +254,7 @@ static TURNED: [(usize, usize, u8, Ending); 47] = [
     (SELECTOR, 0, 254, OPENS),
     (LOG, 0, 255, OPENS),
     (FREE, 0, 255, OPENS),
-    // That bit selects the other root, which is that of the empty store.
+    // That bit selects the other root, which is that of the store without tuples.
     (SELECTOR, 0, 1, OPENS_EMPTY),
 ];
 
@@ -216,7 +278,8 @@ const TO_1_0: EntryBytes = [2, 0, 0, 0, 0, 0, 0, 1];
 const TO_0_128: EntryBytes = [2, 128, 0, 0, 0, 0, 0, 0];
 
 /// The first two entries of home page 0 and of overflow page 0 of a store, and how the probe ends
-/// then. The others are empty, and the body that stands first in both pages is that of 8.
+/// then. The others are empty, the body that stands first in both pages is that of 8, and the catalog
+/// counts the entries of the home page that aren't empty.
 static MOVED: [([EntryBytes; 2], [EntryBytes; 2], Ending); 11] = [
     ([TO_0_0, EMPTY], [HERE, EMPTY], OPENS),
     ([TO_0_1, HERE], [EMPTY, HERE], OPENS),
@@ -235,10 +298,20 @@ static MOVED: [([EntryBytes; 2], [EntryBytes; 2], Ending); 11] = [
     ([TO_0_0, EMPTY], [SHORT, EMPTY], NOT_TUPLE),
 ];
 
+/// How many of these entries aren't empty.
+fn tuples_of(entries: &[EntryBytes; 2]) -> u8 {
+    u8::from(entries[0] != EMPTY) + u8::from(entries[1] != EMPTY)
+}
+
 /// Gives a page these first entries.
 fn set_entries(page: &mut Page, entries: &[EntryBytes; 2]) {
     page[16..24].copy_from_slice(&entries[0]);
     page[24..32].copy_from_slice(&entries[1]);
+}
+
+/// The page at a place.
+fn page_at(pages: &mut [Page], at: usize) -> Result<&mut Page, Fail> {
+    Ok(pages.get_mut(at).ok_or("a page that isn't there")?)
 }
 
 /// The pages of a store with one tuple and an overflow page, whose first entries are these.
@@ -248,27 +321,15 @@ fn moved(
     overflow: &[EntryBytes; 2],
 ) -> Result<Vec<Page>, Fail> {
     let mut pages = store_with_tuple(alloc)?;
-    let mut page = *pages
-        .as_slice()
-        .get(TUPLES)
-        .ok_or("a page that isn't there")?;
+    let mut page = *page_at(pages.as_mut_slice(), TUPLES)?;
     set_entries(&mut page, home);
-    *pages
-        .as_mut_slice()
-        .get_mut(TUPLES)
-        .ok_or("a page that isn't there")? = page;
+    *page_at(pages.as_mut_slice(), TUPLES)? = page;
     page[0] = 2;
     set_entries(&mut page, overflow);
-    *pages
-        .as_mut_slice()
-        .get_mut(FREE)
-        .ok_or("a page that isn't there")? = page;
-    // The entry of the map behind that of the home page.
-    let map = pages
-        .as_mut_slice()
-        .get_mut(MAP_1)
-        .ok_or("a page that isn't there")?;
-    map[88..90].copy_from_slice(&[2, 1]);
+    *page_at(pages.as_mut_slice(), FREE)? = page;
+    // The entry of the map for that slot.
+    page_at(pages.as_mut_slice(), MAP_1)?[..2].copy_from_slice(&[2, 1]);
+    page_at(pages.as_mut_slice(), CATALOG_1)?[23] = tuples_of(home);
     Ok(pages)
 }
 
@@ -279,9 +340,39 @@ fn turned(alloc: Global, at: usize, offset: usize, bits: u8) -> Result<Vec<Page>
     Ok(pages)
 }
 
+/// Slots of a store with one tuple that the map leaves free: those of four pages of the catalog, and that
+/// of the tuple; and how the probe ends then.
+static UNMAPPED: [(u8, Ending); 5] = [
+    (10, NOT_CATALOG_0),
+    (11, NOT_CATALOG_1),
+    (2, NOT_CATALOG_2),
+    (9, NOT_CATALOG_9),
+    (1, NOT_COUNT_1),
+];
+
+/// The pages of a store with one tuple whose map leaves a slot free.
+fn unmapped(alloc: Global, slot: u8) -> Result<Vec<Page>, Fail> {
+    let mut pages = store_with_tuple(alloc)?;
+    let at = 8 * usize::from(slot);
+    page_at(pages.as_mut_slice(), MAP_1)?[at..at + 8].copy_from_slice(&[0; 8]);
+    Ok(pages)
+}
+
+/// The pages of a store with one tuple whose relation stands on another page of the catalog too, where
+/// bits of its name are turned.
+fn twice(alloc: Global, bits: u8) -> Result<Vec<Page>, Fail> {
+    let mut pages = store_with_tuple(alloc)?;
+    let mut page = *page_at(pages.as_mut_slice(), CATALOG_1)?;
+    page[0] ^= bits;
+    // It has no tuple.
+    page[23] = 0;
+    *page_at(pages.as_mut_slice(), CATALOG_2)? = page;
+    Ok(pages)
+}
+
 /// Maps so many home pages behind the ten pages of the system space.
 fn map_homes(pages: &mut [Page], homes: u8) -> Result<(), Fail> {
-    let map = pages.get_mut(MAP_0).ok_or("a page that isn't there")?;
+    let map = page_at(pages, MAP_0)?;
     for number in 0..homes {
         let at = 8 * (10 + usize::from(number));
         map[at..at + 8].copy_from_slice(&[1, 1, 0, 0, 0, 0, 0, number]);
@@ -380,6 +471,24 @@ fn a_body_stands_where_one_forward_leads(rt: HostRuntime) -> Result<(), Fail> {
             ending,
             ("home, overflow", *home, *overflow),
         )?;
+    }
+    Ok(())
+}
+
+#[test]
+fn a_page_that_is_missing_is_named(rt: HostRuntime) -> Result<(), Fail> {
+    for (slot, ending) in &UNMAPPED {
+        let pages = unmapped(rt.alloc(), *slot)?;
+        assert_ending(rt.alloc(), pages, ending, ("slot", *slot))?;
+    }
+    Ok(())
+}
+
+#[test]
+fn no_two_relations_have_one_name(rt: HostRuntime) -> Result<(), Fail> {
+    for (bits, ending) in [(0, NOT_CATALOG_1), (1, OPENS)] {
+        let pages = twice(rt.alloc(), bits)?;
+        assert_ending(rt.alloc(), pages, &ending, ("bits", bits))?;
     }
     Ok(())
 }

@@ -1,6 +1,6 @@
 // Lines that are no call, and scripts that write. Scripts with their replies are those of
 // `rss_examples`.
-use crate::harness::{Row, SMALL, WHOLE, assert_script, empty_store, has_writes};
+use crate::harness::{Row, SMALL, WHOLE, assert_script, has_writes, store_with_r};
 use rss_asserts::assert_same;
 use rss_device::MemDevice;
 use rss_scripts::{run_script, without_moments};
@@ -8,16 +8,27 @@ use rss_top::Status;
 use std::alloc::Global;
 use std::test::Fail;
 
-/// Scripts, and how many writes of the device they make.
-static WRITES: [(&[u8], usize); 6] = [
+/// Scripts, and how many writes of the device they make: of what is named, of the map, of the root
+/// and of the selector.
+static WRITES: [(&[u8], usize); 14] = [
     (b"", 0),
     (b"begin 1\nend 1\n", 0),
     (b"begin 1\ninsert 1 r 1\n", 0),
-    // The home page, the map, the root and the selector.
-    (b"begin 1\ninsert 1 r 1\ninsert 1 r 2\nend 1\n", 4),
+    // The home page, and that of the count.
+    (b"begin 1\ninsert 1 r 1\ninsert 1 r 2\nend 1\n", 5),
+    // An update leaves the count as it is.
+    (b"begin 1\nupdate 1 r 0.0 3\nend 1\n", 4),
     (b"begin 1\nupdate 1 r 0.0 3\ndelete 1 r 0.1\n", 0),
     // With no tuple left there is no home page.
-    (b"begin 1\ndelete 1 r 0.0\ndelete 1 r 0.1\nend 1\n", 3),
+    (b"begin 1\ndelete 1 r 0.0\ndelete 1 r 0.1\nend 1\n", 4),
+    (b"begin 1\nfetch 1 r 0.0\nend 1\n", 0),
+    // A page of the catalog.
+    (b"segment t\n", 4),
+    (b"relation q t a:int\n", 4),
+    (b"segment t\nrelation q t a:int\ndrop segment t\n", 0),
+    (b"drop relation q\n", 4),
+    (b"drop segment t\n", 4),
+    (b"begin 1\nsegment t\n", 0),
 ];
 
 /// Lines that are words.
@@ -177,7 +188,7 @@ fn assert_count(alloc: Global, count: usize, replies: &[u8]) -> Result<(), Fail>
         script: script.as_slice(),
         replies,
     };
-    let device = empty_store(alloc, SMALL)?;
+    let device = store_with_r(alloc, SMALL)?;
     assert_script(alloc, device, &row, 100, count)?;
     Ok(())
 }
@@ -198,13 +209,13 @@ fn assert_writes(
 
 #[test]
 fn a_line_that_is_no_call_is_words(rt: HostRuntime) -> Result<(), Fail> {
-    let device = assert_lines(rt.alloc(), empty_store(rt.alloc(), SMALL)?)?;
+    let device = assert_lines(rt.alloc(), store_with_r(rt.alloc(), SMALL)?)?;
     assert_long_lines(rt.alloc(), device)
 }
 
 #[test]
 fn a_line_of_spaces_is_blank_where_it_is_short(rt: HostRuntime) -> Result<(), Fail> {
-    assert_spaces(rt.alloc(), empty_store(rt.alloc(), SMALL)?)
+    assert_spaces(rt.alloc(), store_with_r(rt.alloc(), SMALL)?)
 }
 
 #[test]
@@ -217,7 +228,7 @@ fn an_insert_may_have_any_number_of_values(rt: HostRuntime) -> Result<(), Fail> 
 
 #[test]
 fn only_a_commit_writes(rt: HostRuntime) -> Result<(), Fail> {
-    let mut device = empty_store(rt.alloc(), SMALL)?;
+    let mut device = store_with_r(rt.alloc(), SMALL)?;
     for (script, writes) in &WRITES {
         device = assert_writes(rt.alloc(), device, script, *writes)?;
     }

@@ -1,5 +1,5 @@
 // How a run ends, and what it leaves.
-use crate::harness::{ABSENT, NEVER, PRESENT, SMALL, assert_probe, assert_untouched, empty_store};
+use crate::harness::{ABSENT, NEVER, PRESENT, SMALL, assert_probe, assert_untouched, store_with_r};
 use rss_asserts::{assert_same, assert_same_slices};
 use rss_device::{MemDevice, MemSink, MemSource};
 use rss_scripts::run_words;
@@ -101,13 +101,13 @@ static WORDS: [&[&str]; 16] = [
     &["format", "FILE", "64", "18446744073709551616"],
 ];
 
-/// Runs the commit's script over an empty store with a fault. Answers the device that this left.
+/// Runs the commit's script over a store without tuples, with a fault. Answers the device that this left.
 fn run_with(alloc: Global, fault: &Fault) -> Result<MemDevice, Fail> {
     let mut source = MemSource::new(COMMIT)
         .in_pieces(fault.piece)
         .failing_at(fault.read);
     let mut sink = MemSink::new(alloc).failing_at(fault.write);
-    let device = empty_store(alloc, SMALL)?;
+    let device = store_with_r(alloc, SMALL)?;
     let (status, device) = run_words(alloc, &["run", "FILE"], &mut source, &mut sink, device)?;
     assert_same(&status, &fault.status, fault.name)?;
     assert_same_slices(sink.bytes(), fault.replies, fault.name)?;

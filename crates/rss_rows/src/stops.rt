@@ -1,5 +1,5 @@
 // Stops in the middle of a run, and the tables that an opening finds after them.
-use crate::harness::{Row, SMALL, WHOLE, assert_script, empty_store, has_writes};
+use crate::harness::{Row, SMALL, WHOLE, assert_script, has_writes, store_with_r};
 use rss_asserts::{assert_same, assert_same_slices};
 use rss_base::Page;
 use rss_device::{MemDevice, Unsynced};
@@ -65,8 +65,8 @@ pub(crate) struct Commit<'a> {
     pub(crate) number: u32,
     pub(crate) row: Row<'a>,
     pub(crate) probe: Probe<'a>,
-    /// How many writes there are: of pages with tuples, of the map, of the root, and of the selector, which
-    /// is the last.
+    /// How many writes there are: of pages with tuples and of the catalog, of the map, of the root, and of
+    /// the selector, which is the last.
     pub(crate) writes: usize,
     /// The root that the selector names then. It named the other one before.
     pub(crate) root: u8,
@@ -99,7 +99,7 @@ impl Commit<'_> {
     }
 }
 
-/// A commit over an empty store.
+/// A commit over a store without tuples.
 static FIRST: Commit<'static> = Commit {
     number: 0,
     row: Row {
@@ -133,7 +133,8 @@ ok 7
 ok
 ",
     },
-    writes: 4,
+    // The home page, that of the count, the map, the root and the selector.
+    writes: 5,
     root: 2,
 };
 
@@ -172,7 +173,8 @@ ok 8
 ok
 ",
     },
-    writes: 4,
+    // The home page, that of the count, the map, the root and the selector.
+    writes: 5,
     root: 1,
 };
 
@@ -203,9 +205,13 @@ const UNSELECTED: Failure = Failure {
 };
 
 /// The last calls of the device in the run of the first commit, in their order.
-static FAILURES: [Failure; 6] = [
+static FAILURES: [Failure; 7] = [
     Failure {
         call: "the write of the home page",
+        ..UNSELECTED
+    },
+    Failure {
+        call: "the write of the count's page",
         ..UNSELECTED
     },
     Failure {
@@ -240,7 +246,7 @@ static FAILURES: [Failure; 6] = [
 ];
 
 /// No run has as many calls of the device.
-pub(crate) const MANY_CALLS: u64 = 1000;
+const MANY_CALLS: u64 = 1000;
 
 /// Runs a commit.
 fn run_commit(alloc: Global, device: MemDevice, commit: &Commit) -> Result<MemDevice, Fail> {
@@ -314,12 +320,12 @@ pub(crate) fn assert_commit(
     Ok(without_moments(alloc, &after)?)
 }
 
-/// An empty store of which this call fails.
+/// A store without tuples of which this call fails.
 fn failing_store(alloc: Global, call: u64) -> Result<MemDevice, Fail> {
-    Ok(failing_at(alloc, empty_store(alloc, SMALL)?, call)?)
+    Ok(failing_at(alloc, store_with_r(alloc, SMALL)?, call)?)
 }
 
-/// Runs the first commit over an empty store of which this call fails.
+/// Runs the first commit over a store of which this call fails.
 fn run_failing(alloc: Global, call: u64) -> Result<(Status, Vec<u8>, MemDevice), Fail> {
     Ok(run_script(alloc, failing_store(alloc, call)?, FIRST.row.script, WHOLE)?)
 }
@@ -363,11 +369,52 @@ fn assert_failure(alloc: Global, call: u64, failure: &Failure) -> Result<(), Fai
     assert_left(alloc, &device, failure)
 }
 
+/// What a run of a commit that met a failure leaves opens to the tables before or after, with no stop
+/// and after one.
+fn assert_whole(alloc: Global, device: &MemDevice, commit: &Commit, call: u64) -> Result<(), Fail> {
+    let case = ("commit", commit.number, "call", call);
+    let found = commit.probe.finds(alloc, copy_of_pages(alloc, device)?)?;
+    assert_same(&found.is_some(), &true, (case, "with no stop"))?;
+    for unsynced in &UNSYNCED {
+        let found = commit
+            .probe
+            .finds_after(alloc, device, device.moment(), *unsynced)?;
+        assert_same(&found.is_some(), &true, (case, *unsynced))?;
+    }
+    Ok(())
+}
+
+/// Runs a commit over a store of which this call fails. Answers how the run ended.
+fn fail_call(alloc: Global, store: &MemDevice, commit: &Commit, call: u64) -> Result<Status, Fail> {
+    let device = failing_at(alloc, without_moments(alloc, store)?, call)?;
+    let (status, _, after) = run_script(alloc, device, commit.row.script, WHOLE)?;
+    assert_whole(alloc, &after, commit, call)?;
+    Ok(status)
+}
+
+/// Fails each device call of a commit over a store. The run ends with status 4, and leaves the tables
+/// before or after.
+pub(crate) fn assert_failures(
+    alloc: Global,
+    store: &MemDevice,
+    commit: &Commit,
+) -> Result<(), Fail> {
+    for call in 0..MANY_CALLS {
+        let status = fail_call(alloc, store, commit, call)?;
+        if status == Status::Ok {
+            return Ok(());
+        }
+        let case = ("commit", commit.number, "call", call);
+        assert_same(&status, &Status::DeviceFault, case)?;
+    }
+    Err("the run has too many calls".into())
+}
+
 #[test]
 fn a_commit_stopped_at_each_moment_opens_to_the_tables_before_or_after(
     rt: HostRuntime,
 ) -> Result<(), Fail> {
-    let mut device = empty_store(rt.alloc(), SMALL)?;
+    let mut device = store_with_r(rt.alloc(), SMALL)?;
     for commit in [&FIRST, &SECOND] {
         device = assert_commit(rt.alloc(), device, commit, &UNSYNCED)?;
     }
@@ -377,7 +424,7 @@ fn a_commit_stopped_at_each_moment_opens_to_the_tables_before_or_after(
 #[test]
 fn a_device_call_that_fails_ends_the_run_with_status_4(rt: HostRuntime) -> Result<(), Fail> {
     let calls = calls_of_first(rt.alloc())?;
-    let opening = calls.checked_sub(6).ok_or("the run has too few calls")?;
+    let opening = calls.checked_sub(7).ok_or("the run has too few calls")?;
     for call in 0..opening {
         assert_failure(rt.alloc(), call, &OPENING)?;
     }

@@ -4,8 +4,7 @@ ghost use Rattle.rss_base.specs.TupleTypes.{kinds, Spells};
 ghost use Rattle.rss_value.specs.Numbers.{IsNumberOf};
 
 use rss_base::{
-    BODY_BYTES, Body, FieldDef, FieldKind, KEY_BYTES, Key, MOST_FIELDS, RELATION_R, Text, Tuple,
-    Value,
+    BODY_BYTES, Body, FieldDef, FieldKind, KEY_BYTES, Key, MOST_FIELDS, Name, Text, Tuple, Value,
 };
 use rss_value::{encode, fits, key, key_width, width};
 use std::alloc::{AllocError, Global};
@@ -17,12 +16,13 @@ pub(crate) enum Written {
     Text(&'static [u8]),
 }
 
+const FIELD: Name = Name {
+    bytes: *b"a\0\0\0\0\0\0\0\0\0\0\0\0\0\0\0",
+};
+
 /// A field of this kind; its name plays no part.
 pub(crate) fn field(kind: FieldKind) -> FieldDef {
-    FieldDef {
-        name: RELATION_R,
-        kind,
-    }
+    FieldDef { name: FIELD, kind }
 }
 
 pub(crate) fn tuple_of(alloc: Global, values: &[Written]) -> Result<Tuple, AllocError> {
