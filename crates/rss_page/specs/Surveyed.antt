@@ -1,5 +1,5 @@
 -- What one walk over the directory of a page finds.
-use Rattle.std.specs.Prelude.{◌≡◌, ◌↔◌, ℕ, ◌+◌, ◌<◌, ◌≤◌, List, take, slice_index_or, IsTrue, MatchOption}
+use Rattle.std.specs.Prelude.{◌≡◌, ◌↔◌, ℕ, ◌+◌, ◌<◌, ◌≤◌, max, Bool, true, false, ◌&&◌, if◌then◌else◌, List, take, slice_index_or, Some, unwrap_or, IsTrue, MatchOption}
 use Rattle.rss_base.specs.Sizes.{page_entries, page_bytes}
 use Rattle.rss_page.specs.declared.entry_form.Entry.{Entry}
 use Rattle.rss_page.specs.declared.entry_form.Entry.TheVariants.{Empty as EmptyEntry, Here as HereEntry, Forward as ForwardEntry}
@@ -63,6 +63,19 @@ pub record IsSurveyOf (page : List ℕ) (count : ℕ) (survey : Survey) : Type 0
   pub least : (end : ℕ) → bodies_at ≤ end → FirstEndBy page count end → survey.end ≤ end
   pub empty : MatchOption survey.first_empty (AllTaken (entries page) count) (IsFirstEmpty (entries page))
   pub vacant : IsTrue survey.is_vacant ↔ ((slot : ℕ) → slot < count → held_at (entries page) slot ≡ Empty)
+
+-- the entry holds nothing
+abbrev pub is_empty : Entry → Bool
+is_empty EmptyEntry = true
+is_empty (HereEntry place length) = false
+is_empty (ForwardEntry page slot) = false
+
+-- The walk goes on with the entry of the next slot: its body is no longer free, and if it is empty, it is the least one where there was none.
+pub record GoesOnWith (slot : ℕ) (entry : Entry) (old new : Survey) : Type 0 where
+  pub free : new.free + length_of entry ≡ old.free
+  pub end : new.end ≡ max old.end (place_of entry + length_of entry)
+  pub first : new.first_empty ≡ (if is_empty entry then Some (unwrap_or old.first_empty slot) else old.first_empty)
+  pub vacant : new.is_vacant ≡ is_empty entry && old.is_vacant
 
 -- The same of any bytes, so long as bodies stand in the order of their slots. What is free of the 3,056 bytes is at least what stands behind the last body.
 pub record IsOrderedSurveyOf (page : List ℕ) (count : ℕ) (found : Survey) : Type 0 where

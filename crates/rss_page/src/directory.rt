@@ -12,6 +12,7 @@ use rss_base::{Page, put_bytes};
 pub const HEADER_BYTES: usize = 16;
 
 /// The bytes of an entry.
+#[inline(always)]
 pub fn entry_bytes_at(page: &Page, slot: u8) -> [u8; ENTRY_BYTES]
     requires { slot < page_entries }
     ensures { result ≡ entry_at page.now slot }
@@ -23,6 +24,7 @@ pub fn entry_bytes_at(page: &Page, slot: u8) -> [u8; ENTRY_BYTES]
 }
 
 /// An entry of a well-formed page.
+#[inline(always)]
 pub fn entry(page: &Page, slot: u8) -> Entry
     requires { slot < page_entries }
     ensures spelled { result ≡ entry_of page.now slot }

@@ -56,6 +56,7 @@ impl Entry {
     }
 
     /// The entry that the bytes spell, where they spell one.
+    #[inline(always)]
     pub(crate) fn decode(bytes: &[u8; ENTRY_BYTES]) -> Self
         ensures { result ≡ entry_from bytes.now }
     {
@@ -74,18 +75,19 @@ impl Entry {
     }
 
     /// The entry that the bytes are, where they are those of one.
+    #[inline(always)]
     pub(crate) fn spelled(bytes: &[u8; ENTRY_BYTES]) -> Option<Self>
         ensures some { IfSome result (λ entry. entry ≡ entry_from bytes.now) }
         ensures exact { IsSome result ↔ (bytes.now ≡ entry_bytes (entry_from bytes.now)) }
     {
-        if u64::from_be_bytes(*bytes) == 0 {
+        let word = u64::from_be_bytes(*bytes);
+        if word == 0 {
             return Some(Entry::Empty);
         }
         let [kind, slot, a, b, c, d, e, f] = *bytes;
         let place = u16::from_be_bytes([a, b]);
         let length = u16::from_be_bytes([c, d]);
-        let last = u16::from_be_bytes([e, f]);
-        if u16::from_be_bytes([kind, slot]) == HERE && last == 0 {
+        if u16::from_be_bytes([kind, slot]) == HERE && word % 0x1_0000 == 0 {
             return Some(Entry::Here { place, length });
         }
         if kind == FORWARD && place == 0 {
@@ -106,6 +108,7 @@ impl Entry {
     }
 
     /// Whether the body, if there is one, begins at this place or behind it.
+    #[inline(always)]
     pub(crate) fn stands_from(self, from: u16) -> bool
         ensures { IsTrue result ↔ StandsFrom from self }
     {
@@ -116,6 +119,7 @@ impl Entry {
     }
 
     /// Whether the entry may stand in a page of the space with this code.
+    #[inline(always)]
     pub(crate) fn is_allowed(self, space: u8) -> bool
         ensures { IsTrue result ↔ IsAllowed space self }
     {

@@ -1,9 +1,10 @@
 // What one walk over the directory of a page finds.
-ghost use Rattle.std.specs.Prelude.{◌≡◌, ◌↔◌, ◌+◌, ◌-◌, ◌<◌, ◌≤◌, ℕ, List, max, replicate, slice_index_or, slice_set, IsTrue, IsSome, IfSome, Option, Some, None, unwrap_or};
+ghost use Rattle.std.specs.Prelude.{◌≡◌, ◌↔◌, ◌+◌, ◌<◌, ◌≤◌, ℕ, List, replicate, IsTrue, IsSome, IfSome, Option, Some, None, unwrap_or};
 ghost use Rattle.rss_base.specs.Sizes.{page_entries};
 ghost use Rattle.rss_page.specs.Content.{Content, Empty};
-ghost use Rattle.rss_page.specs.Slotted.{entries, entry_of, length_of, HasRoom, IsAllowed, IsSlotted};
-ghost use Rattle.rss_page.specs.Surveyed.{IsOrdered, IsSurvey, IsSurveyOf};
+ghost use Rattle.rss_page.specs.Marks.{IsWithin};
+ghost use Rattle.rss_page.specs.Slotted.{entries, length_of, HasRoom, IsSlotted};
+ghost use Rattle.rss_page.specs.Surveyed.{GoesOnWith, IsOrdered, IsSurvey};
 
 use crate::checked::formed_entry;
 use crate::directory::entry;
@@ -39,7 +40,7 @@ impl Survey {
     {
         let mut found = NOTHING;
         for slot in 0..ENTRIES {
-            found = found.with(page, slot);
+            found = found.with(slot, entry(page, slot));
         }
         found
     }
@@ -67,7 +68,7 @@ impl Survey {
             if !entry.stands_from(found.end) {
                 return None;
             }
-            found = found.with(page, slot);
+            found = found.with(slot, entry);
         }
         Some(found)
     }
@@ -83,15 +84,14 @@ impl Survey {
         length <= self.free + entry(page, slot).body_length()
     }
 
-    /// Goes on with the next slot.
-    fn with(self, page: &Page, slot: u8) -> Self
-        requires slot { slot < page_entries }
-        requires allowed { IsAllowed (slice_index_or page.now 0 0) (entry_of page.now slot) }
-        requires room { length_of (entry_of page.now slot) ≤ self.free }
-        requires before { IsSurveyOf page.now slot self }
-        ensures { IsSurveyOf page.now (slot + 1) result }
+    /// Goes on with the entry of the next slot.
+    #[inline(always)]
+    fn with(self, slot: u8, entry: Entry) -> Self
+        requires within { IsWithin entry }
+        requires room { length_of entry ≤ self.free }
+        ensures { GoesOnWith slot entry self result }
     {
-        match entry(page, slot) {
+        match entry {
             Entry::Empty => Survey {
                 first_empty: Some(self.first_empty.unwrap_or(slot)),
                 ..self

@@ -2,7 +2,7 @@ use Rattle.std.proofs.Common.{◌≡◌, ℕ, refl, sym, subst, arith}
 use Rattle.std.proofs.lemmas.Bool.{false≢true}
 use Rattle.rss_page.specs.Slotted.{entry_of}
 use Rattle.rss_page.specs.Surveyed.{StandsFrom, IsOrderedSurveyOf}
-use Rattle.rss_page.proofs.Walks.{walk_all}
+use Rattle.rss_page.proofs.Walks.{walk_more, walk_all}
 use Rattle.rss_page.proofs.Ordered.{ordered_more, ordered_all, ordered_no_more}
 use Rattle.rss_page.proofs.surveying.Survey.of_ordered.Goals as goal
 
@@ -14,7 +14,7 @@ returns-then-not-stands_from-clause-ordered c =
 pub loop-slot-preserved : goal.loop-slot-preserved
 loop-slot-preserved c =
     let stands = subst (StandsFrom c.loop-slot.found.end) c.in_ok-entry.ensures.some (c.if-not-stands_from.ensures.0 refl) in
-    ordered_more c.args.page.now c.loop-slot.slot c.loop-slot.found c.with-found.result c.told-page c.loop-slot-test.true (c.in_ok-entry.ensures.exact.0 refl) stands c.loop-slot.invariant c.with-found.ensures
+    ordered_more c.args.page.now c.loop-slot.slot c.loop-slot.found c.with-found.result c.told-page c.loop-slot-test.true (c.in_ok-entry.ensures.exact.0 refl) stands c.loop-slot.invariant (walk_more c.args.page.now c.loop-slot.slot c.in_ok-entry.entry c.loop-slot.found c.with-found.result c.told-page (c.in_ok-entry.ensures.exact.0 refl).allowed c.loop-slot-test.true c.in_ok-entry.ensures.some c.loop-slot.invariant.survey c.with-found.ensures)
 
 -- the walk came to the end
 done : (c : goal.After-loop-slot) → IsOrderedSurveyOf c.args.page.now 128 c.loop-slot.found
