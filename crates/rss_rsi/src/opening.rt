@@ -15,15 +15,12 @@ use crate::Rss;
 use crate::checking::{look_through, pages_in};
 use crate::session::Session;
 use rss_base::{Device, OpenFault, Pages, Place, Root, SYSTEM_PAGES, Unopened};
-use rss_buffer::Buffer;
+use rss_buffer::{Buffer, MOST_FRAMES};
 use rss_model::Engine;
 use rss_pagemap::{SlotTable, read_table};
 use rss_root::load;
 use rss_tuple::Store;
 use std::alloc::Global;
-
-/// How many pages are kept in memory.
-const FRAMES: u32 = 256;
 
 /// The selected root with its number, and the map that it names.
 #[derive(Drop)]
@@ -110,7 +107,7 @@ fn store_of<D: Device>(
         table,
     } = layout;
     let heap = pages_in(&table).saturating_sub(SYSTEM_PAGES);
-    let mut pages = Buffer::new(alloc, device, &root, table, FRAMES)?;
+    let mut pages = Buffer::new(alloc, device, &root, table, MOST_FRAMES)?;
     let catalog = match look_through(alloc, &mut pages) {
         Ok(catalog) => catalog,
         Err(fault) => {
