@@ -164,23 +164,26 @@ wait_for_quiet() {
     done
 }
 
-# measure NAME COMMAND..: how long the command takes, in microseconds, for each run.
-declare -A times
+# measure NAME COMMAND..: how long the command takes, in microseconds, for each run, and how much of the
+# processors' time, in milliseconds.
+declare -A times works
 all_times=0
 all_waits=0
+TIMEFORMAT='%3U %3S'
 measure() {
     local name="$1" start took before
     shift
     look_for_waits
     before="$waits"
     start="${EPOCHREALTIME/[.,]/}"
-    "$@" >replies
+    { time "$@" >replies; } 2>work_time
     took=$((${EPOCHREALTIME/[.,]/} - start))
     look_for_waits
     all_times=$((all_times + took))
     all_waits=$((all_waits + waits - before))
     must_be_granted
     times[$name]+="$took "
+    works[$name]+="$(awk 'END { print ($1 + $2) * 1000 }' work_time) "
 }
 
 # measure_on FILE SLOTS.TUPLES COMMAND SCRIPT..: each script, run on the file; one that ends a
@@ -226,12 +229,15 @@ commas() {
     }'
 }
 
-# time_of WHICH NAME: the least of the times, or the median one.
-time_of() {
-    local sorted
-    mapfile -t sorted < <(tr ' ' '\n' <<<"${times[$2]% }" | sort -n)
-    case "$1" in least) echo "${sorted[0]}" ;; median) echo "${sorted[${#sorted[@]} / 2]}" ;; esac
+# one_of WHICH NUMBER..: the least of the numbers, or the median one.
+one_of() {
+    local which="$1" sorted
+    shift
+    mapfile -t sorted < <(printf '%s\n' "$@" | sort -n)
+    case "$which" in least) echo "${sorted[0]}" ;; median) echo "${sorted[${#sorted[@]} / 2]}" ;; esac
 }
+
+time_of() { one_of "$1" ${times[$2]}; }
 
 # rate_of WHICH COUNT SCRIPT FILE: how many a second, to three digits. The time of a run with nothing
 # to do is left out.
@@ -248,6 +254,15 @@ rate_of() {
 
 rate() { echo "$(rate_of least "$@") ($(rate_of median "$@"))"; }
 
+# work_of WHICH COUNT SCRIPT FILE: the processor time of one line, in microseconds. That of a run with
+# nothing to do is left out.
+work_of() {
+    awk -v n="$2" -v all="$(one_of "$1" ${works["$3 $4"]})" -v none="$(one_of "$1" ${works["nothing $4"]})" \
+        'BEGIN { printf "%.2f", (all - none) * 1000 / n }'
+}
+
+work() { echo "$(work_of least "$@") ($(work_of median "$@"))"; }
+
 milliseconds() { awk -v t="$(time_of least "nothing $1")" 'BEGIN { printf "%.1f", t / 1000 }'; }
 
 row() {
@@ -260,6 +275,12 @@ row() {
 rates() {
     row "$1" "$(commas "$4")" "$(commas "$5")" "$(rate "$2" "$3" "store.$4.$5")" \
         "$(rate "$2" "$3" "delete.$4.$5")" "$(rate "$2" "$3" "wal.$4.$5")" "$6"
+}
+
+# work_row WHAT COUNT SCRIPT SLOTS TUPLES
+work_row() {
+    row "$1" "$(commas "$4")" "$(commas "$5")" "$(work "$2" "$3" "store.$4.$5")" \
+        "$(work "$2" "$3" "delete.$4.$5")" "$(work "$2" "$3" "wal.$4.$5")"
 }
 
 # calls FILE COMMAND..: the writes to a file, its journal and its log, their bytes, and all syncs, of
@@ -360,6 +381,15 @@ rates "fetches of one tuple, 100,000" 100000 less 65536 1000000 "$lines"
 rates "fetches of one tuple, 1,000,000" 1000000 one 65536 1000000 "$lines"
 rates "fetches among 20,000 tuples" 200000 near 65536 1000000 "$lines"
 rates "fetches among 1,000,000 tuples" 200000 far 65536 1000000 "$lines"
+echo
+row "Microseconds of processor time a line" slots tuples rss "sqlite, DELETE" "sqlite, WAL"
+row --- ---: ---: ---: ---: ---:
+work_row "inserts, 8,000 in one transaction with its end" 8000 ended 65536 0
+work_row "the same of two INTs and a TEXT of 20 bytes" 8000 threes 65536 0
+work_row "inserts, 6,000 in one transaction, not ended" 6000 inserted 65536 1000000
+work_row "updates, the same" 6000 updated 65536 1000000
+work_row "deletes, the same" 6000 deleted 65536 1000000
+work_row "fetches among 1,000,000 tuples" 200000 far 65536 1000000
 echo
 row "Milliseconds" slots tuples rss "sqlite, DELETE" "sqlite, WAL"
 row --- ---: ---: ---: ---: ---:
