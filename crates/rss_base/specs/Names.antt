@@ -1,5 +1,5 @@
 -- Names: which bytes they have.
-use Rattle.std.specs.Prelude.{◌≡◌, ◌⊎◌, ℕ, ◌-◌, ◌<◌, ◌≤◌, List, ◌∷◌, ◌++◌, length, replicate, All, slice_index_or}
+use Rattle.std.specs.Prelude.{◌≡◌, ◌⊎◌, ℕ, ◌-◌, ◌<◌, ◌≤◌, List, [], ◌∷◌, ◌++◌, length, replicate, All, slice_index_or}
 use Rattle.rss_base.specs.declared.name.Name.{Name}
 
 abbrev pub IsLetter : ℕ → Type 0
@@ -18,6 +18,11 @@ IsNameByte b = IsLetter b ⊎ IsDigit b ⊎ (b ≡ underscore)
 -- how many bytes a name has
 abbrev pub name_bytes : ℕ
 name_bytes = 16
+
+-- the bytes of a name, without the zeros behind them
+abbrev pub IsNameText : List ℕ → Type 0
+IsNameText [] = ⊥
+IsNameText (first ∷ rest) = IsLetter first × All IsNameByte rest × (length rest < name_bytes)
 
 -- sixteen bytes: a letter, bytes of a name, and zeros
 pub record IsName (name : Name) : Type 0 where

@@ -15,6 +15,9 @@ pub struct FieldDef {
 /// The most fields that a relation has.
 pub const MOST_FIELDS: usize = 16;
 
+/// The most bytes that the values of a relation's tuple have.
+pub const MOST_WIDTH: usize = 2048;
+
 /// The fields of a relation, in their order.
 #[derive(Debug, Drop)]
 pub struct Fields {

@@ -1,4 +1,7 @@
 // Values and the kinds of fields that hold them.
+ghost use Rattle.std.specs.Prelude.{◌≡◌};
+ghost use Rattle.rss_base.specs.TupleTypes.{is_kind};
+
 use crate::Text;
 
 /// What a field of a tuple holds.
@@ -14,4 +17,16 @@ pub enum Value {
 pub enum FieldKind {
     Int,
     Text(u8),
+}
+
+impl FieldKind {
+    /// Whether a field may be of this kind: a TEXT has one byte at least.
+    pub fn is_allowed(self) -> bool
+        ensures { result ≡ is_kind self }
+    {
+        match self {
+            FieldKind::Int => true,
+            FieldKind::Text(most) => most >= 1,
+        }
+    }
 }

@@ -5,7 +5,7 @@ use Rattle.std.proofs.lemmas.Bool.{cases_eq, cases_lt, and_parts, leb-true, le-l
 use Rattle.std.proofs.lemmas.Option.{none-some, same_Some}
 use Rattle.std.proofs.lemmas.List.{length-map, length-take, length-replicate, take-append-drop, take_at, drop_at, get_or-map, get_or-take, get_or_default, get_or_append_left, get_or-append-add, get_or-replicate, get_or_past, take_more, take_more_set}
 use Rattle.std.proofs.lemmas.List.Elements.{All-head, All-tail, All-cons, All-weaker, All-replicate, All-map}
-use Rattle.rss_base.specs.Names.{IsName, IsLetter, IsNameByte, AreApart}
+use Rattle.rss_base.specs.Names.{IsName, IsLetter, IsNameByte, IsNameText, AreApart}
 use Rattle.std.specs.List.{list_all}
 use Rattle.rss_base.specs.TupleTypes.{AreFields, field_names, kinds, is_kind, width, most_fields, most_width}
 use Rattle.rss_base.specs.declared.value.FieldKind.TheVariants.{Int}
@@ -14,7 +14,7 @@ use Rattle.rss_base.specs.Listings.{numbered, ListingFits}
 use Rattle.rss_base.specs.declared.relation.RelationEntry.{RelationEntry}
 use Rattle.rss_base.specs.declared.name.Name.{Name}
 use Rattle.rss_base.specs.declared.field.FieldDef.{FieldDef}
-use Rattle.rss_catalog.specs.Checking.{AreNames, AreOnce, IsTaken, IsNameText, FitsIn, MayStand, listing_of, relation_names}
+use Rattle.rss_catalog.specs.Checking.{AreNames, AreOnce, IsTaken, FitsIn, MayStand, listing_of, relation_names}
 use Rattle.rss_catalog.proofs.Numbered.{numbered_at, numbered_within}
 
 -- ---- one name

@@ -1,6 +1,6 @@
 -- What is asked of a listing, by parts.
-use Rattle.std.specs.Prelude.{◌≡◌, ℕ, ◌<◌, List, [], ◌∷◌, length, All, Contains, map, option_map, Option, Some}
-use Rattle.rss_base.specs.Names.{IsName, IsLetter, IsNameByte}
+use Rattle.std.specs.Prelude.{◌≡◌, ℕ, List, [], Contains, map, option_map, Option, Some}
+use Rattle.rss_base.specs.Names.{IsName}
 use Rattle.rss_base.specs.Listings.{Listing, numbered, EntryFits}
 use Rattle.rss_base.specs.declared.name.Name.{Name}
 use Rattle.rss_base.specs.declared.relation.RelationEntry.{RelationEntry}
@@ -31,8 +31,3 @@ FitsIn names entry = EntryFits (record { segments = names; relations = [] }) ent
 -- so does the relation at a place, if there is one
 abbrev pub MayStand : List (Option Name) → Option RelationEntry → Type 0
 MayStand names relation = (entry : RelationEntry) → relation ≡ Some entry → FitsIn names entry
-
--- a letter, and then bytes of a name
-abbrev pub IsNameText : List ℕ → Type 0
-IsNameText [] = ⊥
-IsNameText (first ∷ rest) = IsLetter first × All IsNameByte rest × (length rest < 16)

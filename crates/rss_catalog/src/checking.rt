@@ -1,23 +1,21 @@
 // Whether a listing may stand in a store.
 ghost use Rattle.std.specs.Prelude.{◌≡◌, ◌≢◌, ◌↔◌, ◌<◌, ◌≤◌, ℕ, true, length, slice_index, All, Contains, Some, option_map, IsTrue};
 ghost use Rattle.std.specs.Prelude.{IfSome, IfNone};
-ghost use Rattle.rss_base.specs.Names.{IsName, IsNameByte, AreApart};
+ghost use Rattle.rss_base.specs.Names.{IsName, AreApart};
 ghost use Rattle.rss_base.specs.Sizes.{segments, relations_most, system_pages};
 ghost use Rattle.rss_base.specs.TupleTypes.{AreFields, field_names, is_kind, most_fields};
 ghost use Rattle.rss_base.specs.Listings.{ListingFits};
 ghost use Rattle.rss_catalog.specs.Reading.{HasFewFields};
-ghost use Rattle.rss_catalog.specs.Checking.{listing_of, relation_names, AreNames, AreOnce, IsTaken, FitsIn, MayStand, IsNameText};
+ghost use Rattle.rss_catalog.specs.Checking.{listing_of, relation_names, AreNames, AreOnce, IsTaken, FitsIn, MayStand};
 
 use crate::catalog::{at, page_of};
-use crate::encoding::NAME_BYTES;
-use rss_base::{FieldDef, FieldKind, MOST_FIELDS, Name, RELATIONS_MOST, RelationEntry};
+use rss_base::{
+    FieldDef, MOST_FIELDS, MOST_WIDTH, Name, RELATIONS_MOST, RelationEntry, is_name_text,
+};
 use rss_value::width;
 
 /// How many relations there may be.
 const RELATIONS: usize = RELATIONS_MOST as usize;
-
-/// The values of a tuple have at most so many bytes.
-const MOST_WIDTH: usize = 2048;
 
 /// A page that makes a listing one that may not stand in a store.
 pub(crate) fn flaw(
@@ -119,18 +117,7 @@ fn is_name(name: &Name) -> bool
 {
     let bytes = name.bytes.as_slice();
     let long = text_bytes(bytes);
-    is_text(&bytes[..long]) && are_zeros(&bytes[long..])
-}
-
-fn is_text(bytes: &[u8]) -> bool
-    ensures { IsTrue result ↔ IsNameText bytes.now }
-{
-    match bytes {
-        [first, rest @ ..] => {
-            first.is_ascii_lowercase() && rest.len() < NAME_BYTES && are_name_bytes(rest)
-        }
-        [] => false,
-    }
+    is_name_text(&bytes[..long]) && are_zeros(&bytes[long..])
 }
 
 /// How many bytes stand before the first zero.
@@ -145,18 +132,6 @@ fn text_bytes(bytes: &[u8]) -> usize
         }
     }
     bytes.len()
-}
-
-fn are_name_bytes(bytes: &[u8]) -> bool
-    ensures { IsTrue result ↔ All IsNameByte bytes.now }
-{
-    bytes.iter().all(|byte| is_name_byte(*byte))
-}
-
-fn is_name_byte(byte: u8) -> bool
-    ensures { IsTrue result ↔ IsNameByte byte }
-{
-    matches!(byte, b'a'..=b'z' | b'0'..=b'9' | b'_')
 }
 
 fn are_zeros(bytes: &[u8]) -> bool
@@ -216,16 +191,7 @@ fn are_fields(fields: &[FieldDef]) -> bool
 fn are_kinds(fields: &[FieldDef]) -> bool
     ensures { IsTrue result ↔ All (λ field. is_kind field.kind ≡ true) fields.now }
 {
-    fields.iter().all(|field| is_kind(field.kind))
-}
-
-fn is_kind(kind: FieldKind) -> bool
-    ensures { result ≡ is_kind kind }
-{
-    match kind {
-        FieldKind::Int => true,
-        FieldKind::Text(most) => most >= 1,
-    }
+    fields.iter().all(|field| field.kind.is_allowed())
 }
 
 fn are_field_names(fields: &[FieldDef]) -> bool

@@ -7,8 +7,10 @@ ghost use Rattle.rss_base.specs.Listings.{field_bytes, relation_bytes, relations
 ghost use Rattle.rss_catalog.specs.Reading.{pieces, segment_of, kind_of, field_of, fields_of};
 ghost use Rattle.rss_catalog.specs.Reading.{relation_of, HasFewFields};
 
-use crate::encoding::{FIELD_BYTES, NAME_BYTES, RELATION_BYTES, RELATIONS_OF_PAGE};
-use rss_base::{FieldDef, FieldKind, Fields, MOST_FIELDS, Name, Page, RelationEntry, SEGMENTS};
+use crate::encoding::{FIELD_BYTES, RELATION_BYTES, RELATIONS_OF_PAGE};
+use rss_base::{
+    FieldDef, FieldKind, Fields, MOST_FIELDS, NAME_BYTES, Name, Page, RelationEntry, SEGMENTS,
+};
 use std::alloc::{AllocError, Global};
 
 /// The segments of their page.

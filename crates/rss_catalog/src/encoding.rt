@@ -9,12 +9,10 @@ ghost use Rattle.rss_base.specs.Sizes.{segments};
 ghost use Rattle.rss_catalog.specs.Reading.{definition_bytes, definition_spelled, HasFewFields};
 
 use rss_base::{
-    BoundedBytes, FieldDef, FieldKind, Name, PAGE_BYTES, Page, RelationEntry, put_bytes,
+    BoundedBytes, FieldDef, FieldKind, NAME_BYTES, Name, PAGE_BYTES, Page, RelationEntry, put_bytes,
 };
 
-/// How many bytes a name, a field and a relation have.
-pub(crate) const NAME_BYTES: usize = 16;
-
+/// How many bytes a field and a relation have.
 pub(crate) const FIELD_BYTES: usize = 18;
 
 pub(crate) const RELATION_BYTES: usize = 512;

@@ -1,9 +1,8 @@
 -- A name is read from its bytes.
 use Rattle.std.proofs.Common.{◌≡◌, ◌∙◌, ℕ, ◌-◌, List, [], ◌∷◌, ◌++◌, length, replicate, ap, sym, subst, arith, refl}
 use Rattle.rss_base.specs.declared.name.Name.{Name}
-use Rattle.rss_base.specs.Names.{IsName}
+use Rattle.rss_base.specs.Names.{IsName, IsNameText}
 use Rattle.rss_model.specs.Script.{IsNameWord}
-use Rattle.rss_line.specs.Reads.{IsNameText}
 use Rattle.rss_line.proofs.Plain.{name_is}
 
 -- the bytes, and then zeros

@@ -5,7 +5,6 @@ use Rattle.std.specs.Str.{IsAscii}
 use Rattle.rss_base.specs.declared.value.Value.TheVariants.{Int}
 use Rattle.rss_base.specs.declared.call.Call.{Call}
 use Rattle.std.specs.Borrow.{Bor}
-use Rattle.rss_base.specs.Names.{IsLetter, IsNameByte}
 use Rattle.rss_base.specs.TupleTypes.{is_kind}
 use Rattle.rss_base.specs.declared.value.FieldKind.{FieldKind}
 use Rattle.rss_model.specs.Spellings.{space, quote, doubled, field_kind_text}
@@ -62,11 +61,6 @@ pub record ReadsAs {T : Type 0} (Is : T → Type 0) (result : Option T) : Type 0
 
 abbrev pub IsInt : List ℕ → ℤ → Type 0
 IsInt word z = IsValue word (Int z)
-
--- the bytes of a name, without zeros behind them
-abbrev pub IsNameText : List ℕ → Type 0
-IsNameText [] = ⊥
-IsNameText (first ∷ rest) = IsLetter first × All IsNameByte rest × (length rest < 16)
 
 -- a number without leading zeros, below a limit
 abbrev pub IsBelow : ℕ → List ℕ → ℕ → Type 0

@@ -4,7 +4,7 @@ ghost use Rattle.std.specs.Ordering.{eq_by_cmp};
 ghost use Rattle.std.specs.Prelude.{ℕ, ◌≡◌, ◌+◌, ◌*◌, ◌-◌, ◌<◌, ◌≤◌, true, is_some, length, slice_index_or, Some, None, Ok, IfOk, OnOk, IfErr, Err, All};
 ghost use Rattle.rss_base.specs.Names.{IsName};
 ghost use Rattle.rss_base.specs.Sizes.{slots_most, system_pages, relations_most};
-ghost use Rattle.rss_base.specs.TupleTypes.{kinds, misfit, field_names, width, most_width, are_kinds, is_kind};
+ghost use Rattle.rss_base.specs.TupleTypes.{kinds, misfit, field_names, width, most_width, are_kinds};
 ghost use Rattle.rss_base.specs.Listings.{relation_at, IsNumberOf};
 ghost use Rattle.rss_base.specs.declared.call.Call.TheVariants.{Begin, End, MakeSegment, MakeRelation, DropSegment, DropRelation};
 ghost use Rattle.rss_base.specs.declared.refusal.Kind.TheVariants.{Relation as RelationKind};
@@ -18,7 +18,7 @@ ghost use Rattle.rss_model.specs.ReplyText.{IsShort};
 ghost use Rattle.rss_rsi.specs.FieldTests.{fields_tests};
 
 use rss_base::{
-    FieldDef, FieldKind, Fields, Kind, LimitKind, MOST_FIELDS, Name, RELATIONS_MOST, Refusal,
+    FieldDef, Fields, Kind, LimitKind, MOST_FIELDS, MOST_WIDTH, Name, RELATIONS_MOST, Refusal,
     RelationEntry, Reply, SYSTEM_PAGES, Tuple,
 };
 use rss_catalog::Catalog;
@@ -26,9 +26,6 @@ use rss_value::{fits, width};
 
 /// How many tuples a relation has at most.
 pub(crate) const TUPLES_MOST: u32 = 1 << 20;
-
-/// How many bytes the values of a relation's tuple have at most.
-const WIDTH_MOST: usize = 2048;
 
 /// How many places there are for the numbers of relations.
 pub(crate) const RELATIONS: usize = RELATIONS_MOST as usize;
@@ -375,7 +372,7 @@ fn test_fields(fields: &[FieldDef]) -> Result<(), Refusal>
     if !are_kinds(fields) {
         return Err(Refusal::Limit(LimitKind::Fields));
     }
-    if width(fields) > WIDTH_MOST {
+    if width(fields) > MOST_WIDTH {
         return Err(Refusal::Limit(LimitKind::Width));
     }
     Ok(())
@@ -386,17 +383,7 @@ fn are_kinds(fields: &[FieldDef]) -> bool
     ensures { result ≡ are_kinds (kinds fields.now) }
 {
     match fields.len() {
-        1..=MOST_FIELDS => fields.iter().all(|field| is_kind(field.kind)),
+        1..=MOST_FIELDS => fields.iter().all(|field| field.kind.is_allowed()),
         _ => false,
-    }
-}
-
-/// Whether a field may be of this kind: a TEXT has one byte at least.
-fn is_kind(kind: FieldKind) -> bool
-    ensures { result ≡ is_kind kind }
-{
-    match kind {
-        FieldKind::Int => true,
-        FieldKind::Text(most) => most >= 1,
     }
 }

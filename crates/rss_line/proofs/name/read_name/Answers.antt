@@ -1,21 +1,21 @@
 use Rattle.std.proofs.Common.{◌∙◌, ap, sym, subst, Some}
 use Rattle.std.proofs.lemmas.Bool.{false≢true}
-use Rattle.rss_line.specs.Reads.{IsNameText}
+use Rattle.rss_base.specs.Names.{IsNameText}
 use Rattle.rss_line.proofs.Names.{padded, name_from, name_text_of, same_name}
 use Rattle.rss_line.proofs.name.read_name.Goals as goal
 
-pub returns-then-is_name : goal.returns-then-is_name
-returns-then-is_name c =
+pub returns-then-is_name_text : goal.returns-then-is_name_text
+returns-then-is_name_text c =
     let word = c.args.word.now in
     let bytes = c.padded.ensures ∙ ap padded c.as_bytes-bytes.ensures.value in
     record {
-      some = name_from word c.padded.result (subst IsNameText c.as_bytes-bytes.ensures.value (c.is_name.ensures.0 c.if-is_name.true)) bytes;
+      some = name_from word c.padded.result (subst IsNameText c.as_bytes-bytes.ensures.value (c.is_name_text.ensures.0 c.if-is_name_text.true)) bytes;
       all = λ name is. ap Some (same_name c.padded.result name (bytes ∙ sym (name_text_of word name is).1));
     }
 
-pub returns-else-is_name : goal.returns-else-is_name
-returns-else-is_name c = record {
+pub returns-else-is_name_text : goal.returns-else-is_name_text
+returns-else-is_name_text c = record {
   some = tt;
-  all = λ name is. absurd (false≢true (sym c.if-is_name.false ∙ c.is_name.ensures.1
+  all = λ name is. absurd (false≢true (sym c.if-is_name_text.false ∙ c.is_name_text.ensures.1
       (subst IsNameText (sym c.as_bytes-bytes.ensures.value) (name_text_of c.args.word.now name is).0)));
 }
