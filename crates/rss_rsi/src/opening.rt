@@ -121,7 +121,7 @@ fn store_of<D: Device>(
     Ok(Rss::new(alloc, Store { pages }, root, number, session))
 }
 
-/// Opens the store that a device holds, with 256 of its pages in memory.
+/// Opens the store that a device holds, with at most `MOST_FRAMES` of its pages in memory.
 ///
 /// It syncs the device, reads the whole store, and writes nothing. The device is handed back where
 /// it holds none: `NotAStore` names the first place at which the layout of the device, of its root
