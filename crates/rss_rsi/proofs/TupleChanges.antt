@@ -8,14 +8,12 @@ use Rattle.std.proofs.lemmas.List.Sums.{sum_by-cons, sum-map, get_or-le-sum_by}
 use Rattle.std.proofs.lemmas.List.FromFn.{length-map-range_with_len, get_or-map-range_with_len, get_or-range_with_len}
 use Rattle.std.proofs.lemmas.Option.{same_Some}
 use Rattle.rss_base.specs.DiskRule.{IsTold}
-use Rattle.rss_base.specs.PageMap.{page_count}
-use Rattle.rss_base.specs.Paged.{Mapped, Held, Backing, IsUnmappedAt, AreAmong, page_key, mapped_in, mapped_of, mapped_pages}
-use Rattle.rss_base.specs.Steps.{PagesView, AreCounted, Keys, no_page, pages_in, PassesOn, PagesStep, PagesCall}
+use Rattle.rss_base.specs.Paged.{Mapped, Held, IsUnmappedAt, page_key, mapped_in, mapped_of, mapped_pages}
+use Rattle.rss_base.specs.Steps.{PagesView, Keys, no_page}
 use Rattle.rss_base.specs.declared.fault.PageFault.{PageFault}
 use Rattle.rss_base.specs.declared.tid.Tid.{Tid}
 use Rattle.rss_base.specs.declared.key.PageKey.{PageKey}
 use Rattle.rss_base.specs.declared.key.Space.TheVariants.{Home, Overflow}
-use Rattle.rss_base.proofs.Steps.{among}
 use Rattle.rss_page.specs.Content.{Content, Empty, Here, Forward, body_length}
 use Rattle.rss_page.specs.Slotted.{bodies_room, HasRoom}
 use Rattle.rss_page.specs.Slotted.{body_bytes as bytes_in}
@@ -24,14 +22,14 @@ use Rattle.rss_page.proofs.Contents.{length-entries}
 use Rattle.rss_tuple.specs.Directory.{Entries, Bodies, contents_in, contents, homes, overflows, body_by, bodies_of, is_same_tid, with_body, tid_at}
 use Rattle.rss_tuple.specs.Finding.{IsFetched}
 use Rattle.rss_tuple.specs.TupleSteps.{TuplesCall, tuples_in, only_tuple, pages_for}
-use Rattle.rss_tuple.specs.Placing.{IsFree, TakesOnly, MayTake, home, overflow}
-use Rattle.rss_tuple.specs.Calls.{IsSegment, IsNoLonger, PutsTuple}
-use Rattle.rss_tuple.specs.Checked.{pages_of}
+use Rattle.rss_tuple.specs.Heaps.{AreHeaps}
+use Rattle.rss_tuple.specs.Placing.{IsFree, TakesOnly, TakesOne, MayTake, home, overflow}
+use Rattle.rss_tuple.specs.Calls.{IsSegment, IsBodyLength, IsNoLonger, PutsTuple, InsertsAt}
 use Rattle.rss_tuple.proofs.Seen.{high_empty}
 use Rattle.rss_tuple.proofs.Changes.{empty_absent, live_some, fits_unmapped}
 use Rattle.rss_tuple.proofs.Placed.{empty_there}
 use Rattle.rss_model.specs.Costs.{IsPageFor}
-use Rattle.rss_rsi.specs.Tuples.{body_at, size_of_body, bytes_at, ChangesTuple, FindsBody}
+use Rattle.rss_rsi.specs.Tuples.{body_at, size_of_body, bytes_at, ChangesTuple, Inserts, FindsBody}
 
 -- ---- sums over a range of numbers
 
@@ -92,13 +90,6 @@ free_there view segment number holds unmapped = record {
   named = record { within = unmapped.within; low = omega arith; allowed = λ has. absurd (omega (arith, has.1)) };
   absent = empty_absent (overflows view.held segment) (homes view.held segment number 0) (empty_there view (page_key segment Home number) 0 holds unmapped.free);
 }
-
--- as many pages are spare where as many are mapped
-pub spare_kept : {asks writes : ℕ} {old new : PagesView} → PassesOn asks writes old new → new.mapped ≡ old.mapped → AreCounted old → AreCounted new → new.spare ≡ old.spare
-spare_kept {old = old} {new = new} passes mapped before after =
-    let pages : mapped_pages new.slots new.mapped ≡ mapped_pages old.slots old.mapped = (λ i. mapped_pages (passes.slots i) (mapped i)) in
-    let shadow : page_count new.backing.shadow ≡ page_count old.backing.shadow = ap (λ (b : Backing). page_count b.shadow) passes.backing in
-    omega (arith, before, after, pages, shadow, passes.slots)
 
 -- ---- a body that has no room at home
 
@@ -186,21 +177,6 @@ page_for : (segment : ℕ) (tid : Tid) (key : PageKey) → pages_for segment tid
 page_for segment tid key (inl home_page) = inl (ap (λ (k : PageKey). k.space) home_page, ap (λ (k : PageKey). k.number) home_page)
 page_for segment tid key (inr over) = inr (ap (λ (k : PageKey). k.space) over)
 
--- a page of one tuple is one of its segment
-pub heap_key : (segment : ℕ) (tid : Tid) (key : PageKey) → pages_for segment tid key → pages_of segment key
-heap_key segment tid key (inl home_page) = (ap (λ (k : PageKey). k.segment) home_page, inl (ap (λ (k : PageKey). k.space) home_page))
-heap_key segment tid key (inr over) = (ap (λ (k : PageKey). k.segment) over, inr (ap (λ (k : PageKey). k.space) over))
-
-pub home_key : (segment : ℕ) (key : PageKey) → pages_in segment Home key → pages_of segment key
-home_key segment key is = (ap (λ (k : PageKey). k.segment) is, inl (ap (λ (k : PageKey). k.space) is))
-
--- more pages may be touched by a call
-pub widens_keys : {T : Type 0} {touched more : Keys} {asks writes : ℕ} {old new : PagesView} {result : Result T PageFault} → ((key : PageKey) → touched key → more key) → PagesCall touched asks writes old new result → PagesCall more asks writes old new result
-widens_keys is call = record { step = among is call.step; failed = call.failed; sound = call.sound }
-
-changed_for : {asks writes : ℕ} (segment : ℕ) (tid : Tid) {old new : PagesView} → PagesStep (pages_for segment tid) asks writes old new → (key : PageKey) → new.changed key ≡ true → (old.changed key ≡ true) ⊎ IsPageFor tid key
-changed_for segment tid step key is = ⊎_elim (λ before. inl before) (λ touched. inr (page_for segment tid key touched)) (step.changed_off key is)
-
 overfills : (old : PagesView) (segment : ℕ) (tid : Tid) (body : List ℕ) (key : PageKey) → tid.slot < 128 → length body ≤ 2400 → key.space ≡ Overflow → MayTake old segment tid body key → bodies_room < bytes_at (with_body (bodies_of old.held) segment tid (Some body)) segment tid.page
 overfills old segment tid body key low few space (home at none) = absurd (let both : Overflow ≡ Home = sym space ∙ ap (λ (k : PageKey). k.space) at in cc)
 overfills old segment tid body key low few space (overflow at full away none) = overfilled old.held segment tid body low few full
@@ -210,24 +186,42 @@ abbrev pub OnlyLonger : PagesView → PagesView → ℕ → Tid → List ℕ →
 OnlyLonger old new segment tid body =
     IsTold old.disk → (key : PageKey) → key.space ≡ Overflow → new.mapped key ≡ true → old.mapped key ≡ false → size_of_body (bodies_of old.held segment tid) < length body
 
-pub changes_put : {T : Type 0} {cost segment : ℕ} {tid : Tid} {body : List ℕ} {old new : PagesView} (result : Result T PageFault) → (IsTold old.disk → tid.slot < 128) → length body ≤ 2400 → OnOk result (OnlyLonger old new segment tid body) → PutsTuple segment tid body cost (tuples_in old) (tuples_in new) result → OnOk result (ChangesTuple segment tid (Some body) old new)
-changes_put (Err e) low few longer puts = tt
-changes_put {segment = segment} {tid = tid} {body = body} {old = old} (Ok value) low few longer puts = record {
-  one = λ key other is not there none. taken puts.takes.one key is not ∙ sym (taken puts.takes.one other there none);
-  changed = changed_for segment tid puts.did.below.step;
+-- the pages of this tuple alone were changed
+for_page : (segment : ℕ) (tid : Tid) (before now : Mapped) → ((key : PageKey) → now key ≡ true → (before key ≡ true) ⊎ pages_for segment tid key) → (key : PageKey) → now key ≡ true → (before key ≡ true) ⊎ IsPageFor tid key
+for_page segment tid before now changed key is = ⊎_elim (λ was. inl was) (λ touched. inr (page_for segment tid key touched)) (changed key is)
+
+-- a tuple was put, whether one stood there or not
+changes_by : {segment : ℕ} {tid : Tid} {body : List ℕ} {old new : PagesView} → (IsTold old.disk → tid.slot < 128) → length body ≤ 2400 → OnlyLonger old new segment tid body → TakesOne segment tid body old new → ((key : PageKey) → new.changed key ≡ true → (old.changed key ≡ true) ⊎ pages_for segment tid key)
+    → (IsTold old.disk → bodies_of new.held ≡ with_body (bodies_of old.held) segment tid (Some body)) → (IsTold old.disk → AreHeaps new) → ChangesTuple segment tid (Some body) old new
+changes_by {segment = segment} {tid = tid} {body = body} {old = old} {new = new} low few longer takes changed put heaps = record {
+  one = λ key other is not there none. taken takes.one key is not ∙ sym (taken takes.one other there none);
+  changed = for_page segment tid old.changed new.changed changed;
   sets = λ told. record {
-    bodies = puts.put told;
-    heaps = puts.did.heaps told;
+    bodies = put told;
+    heaps = heaps told;
     over = λ key space is not.
-        subst (λ (b : Bodies). bodies_room < bytes_at b segment tid.page) (sym (puts.put told))
-        (overfills old segment tid body key (low told) few space (taken (puts.takes.may told) key is not));
+        subst (λ (b : Bodies). bodies_room < bytes_at b segment tid.page) (sym (put told))
+        (overfills old segment tid body key (low told) few space (taken (takes.may told) key is not));
     grows = longer told;
   };
 }
 
+pub changes_put : {T : Type 0} {cost segment : ℕ} {tid : Tid} {body : List ℕ} {old new : PagesView} (result : Result T PageFault) → (IsTold old.disk → tid.slot < 128) → length body ≤ 2400 → OnOk result (OnlyLonger old new segment tid body) → PutsTuple segment tid body cost (tuples_in old) (tuples_in new) result → OnOk result (ChangesTuple segment tid (Some body) old new)
+changes_put (Err e) low few longer puts = tt
+changes_put (Ok value) low few longer puts = changes_by low few longer puts.takes puts.did.below.step.changed_off puts.put puts.did.heaps
+
 -- no tuple stood there
-pub longer_new : (old new : PagesView) (segment : ℕ) (tid : Tid) (body : List ℕ) → 1 ≤ length body → (IsTold old.disk → bodies_of old.held segment tid ≡ None) → OnlyLonger old new segment tid body
+longer_new : (old new : PagesView) (segment : ℕ) (tid : Tid) (body : List ℕ) → 1 ≤ length body → (IsTold old.disk → bodies_of old.held segment tid ≡ None) → OnlyLonger old new segment tid body
 longer_new old new segment tid body some absent told key space is not = omega (arith, some, ap size_of_body (absent told))
+
+-- so an insert changes one tuple
+pub inserts_tuple : {segment : ℕ} {tid : Tid} {body : List ℕ} {old new : PagesView} → IsBodyLength (length body) → InsertsAt segment body [] (tuples_in old) (tuples_in new) tid → (IsTold old.disk → AreHeaps new) → Inserts segment body old new tid
+inserts_tuple {segment = segment} {tid = tid} {body = body} {old = old} {new = new} long is heaps = record {
+  named = record { page = is.named.within; slot = is.named.low };
+  chosen = is.chosen;
+  absent = λ told. (is.free told).absent;
+  changes = changes_by (λ told. is.named.low) long.most (longer_new old new segment tid body long.some (λ told. (is.free told).absent)) is.takes is.changed is.put heaps;
+}
 
 -- one stood there, and no page is taken where the body isn't longer
 pub longer_put : {T : Type 0} (old new : PagesView) (segment : ℕ) (tid : Tid) (body : List ℕ) (result : Result T PageFault) → (IsTold old.disk → IsSome (bodies_of old.held segment tid)) → OnOk result (IsTold old.disk → IsNoLonger (tuples_in old) segment tid (length body) → TakesOnly no_page old new) → OnOk result (OnlyLonger old new segment tid body)
@@ -244,9 +238,9 @@ longer_put old new segment tid body (Ok value) live takes = λ told key space is
 -- a tuple was taken away
 pub changes_removed : {T : Type 0} {cost segment : ℕ} {tid : Tid} {old new : PagesView} (result : Result T PageFault) → OnOk result (IsTold old.disk → bodies_of new.held ≡ with_body (bodies_of old.held) segment tid None) → OnOk result (TakesOnly no_page old new) → TuplesCall (pages_for segment tid) (only_tuple segment tid) cost (tuples_in old) (tuples_in new) result → OnOk result (ChangesTuple segment tid None old new)
 changes_removed (Err e) gone takes did = tt
-changes_removed {segment = segment} {tid = tid} (Ok value) gone takes did = record {
+changes_removed {segment = segment} {tid = tid} {old = old} {new = new} (Ok value) gone takes did = record {
   one = λ key other is not there none. absurd (taken takes key is not);
-  changed = changed_for segment tid did.below.step;
+  changed = for_page segment tid old.changed new.changed did.below.step.changed_off;
   sets = λ told. record {
     bodies = gone told;
     heaps = did.heaps told;
@@ -254,24 +248,6 @@ changes_removed {segment = segment} {tid = tid} (Ok value) gone takes did = reco
     grows = λ key space is not. absurd (taken takes key is not);
   };
 }
-
--- a look before it changed nothing
-pub changes_after : {segment : ℕ} {tid : Tid} {now : Option (List ℕ)} {old mid new : PagesView} → (IsTold old.disk → IsTold mid.disk) → mid.mapped ≡ old.mapped → (IsTold old.disk → mid.held ≡ old.held) → AreAmong mid.changed old.changed → ChangesTuple segment tid now mid new → ChangesTuple segment tid now old new
-changes_after {segment = segment} {tid = tid} {now = now} {old = old} {mid = mid} {new = new} told_mid mapped held among changes = record {
-  one = λ key other is not there none. changes.one key other is (at key not) there (at other none);
-  changed = λ key is. ⊎_elim (λ before. inl (among key before)) (λ may. inr may) (changes.changed key is);
-  sets = λ told.
-      let sets = changes.sets (told_mid told) in
-      record {
-        bodies = sets.bodies ∙ ap (λ (h : Held). with_body (bodies_of h) segment tid now) (held told);
-        heaps = sets.heaps;
-        over = λ key space is not. sets.over key space is (at key not);
-        grows = λ key space is not. subst (λ (h : Held). size_of_body (bodies_of h segment tid) < size_of_body now) (held told) (sets.grows key space is (at key not));
-      };
-}
-  where
-    at : (key : PageKey) → old.mapped key ≡ false → mid.mapped key ≡ false
-    at key not = ap (λ (m : Mapped). m key) mapped ∙ not
 
 -- a tuple stands at an identifier of one of the slots of a page
 pub live_low : (view : PagesView) (segment : ℕ) (tid : Tid) → IsSome (bodies_of view.held segment tid) → tid.slot < 128

@@ -35,15 +35,14 @@ pub(crate) fn insert<P: Pages>(
     requires put { MayPut segment (length body.now) }
     ensures inserts { IfOk result
         (Inserts segment body.now (P.view tuples.old.pages) (P.view tuples.new.pages)) }
-    ensures did { PagesCall (pages_of segment) (3 * (P.view tuples.old.pages).slots + 4)
-        (3 * (P.view tuples.old.pages).slots + 4)
+    ensures did { PagesCall (pages_of segment) (4 * (P.view tuples.old.pages).slots + 4)
+        (4 * (P.view tuples.old.pages).slots + 4)
         (P.view tuples.old.pages) (P.view tuples.new.pages) result }
 {
-    let Some(tid) = tuples.choose(segment, body.len() as u16, &[])? else {
-        return Err(damaged(segment));
-    };
-    tuples.insert_at(segment, tid, body)?;
-    Ok(tid)
+    match tuples.insert(segment, body, &[])? {
+        Some(tid) => Ok(tid),
+        None => Err(damaged(segment)),
+    }
 }
 
 /// Whether the tuple of a segment with this identifier is one of the relation of this number. If so,

@@ -5,7 +5,7 @@ use Rattle.std.proofs.lemmas.Bool.{cases_Bool, cases_lt, cases_eq, cond-true, co
 use Rattle.rss_base.specs.DiskRule.{IsTold}
 use Rattle.rss_base.specs.PageMap.{page_count}
 use Rattle.rss_base.specs.Paged.{Held, Backing, page_key, mapped_pages}
-use Rattle.rss_base.specs.Steps.{PagesView, AreCounted, no_page, PagesStep, PagesCall}
+use Rattle.rss_base.specs.Steps.{PagesView, AreCounted, Keys, no_page, PagesStep, PagesCall}
 use Rattle.rss_base.specs.declared.fault.PageFault.{PageFault}
 use Rattle.rss_base.specs.declared.key.PageKey.{PageKey}
 use Rattle.rss_base.specs.declared.key.Space.TheVariants.{Home, Overflow}
@@ -140,7 +140,7 @@ spare_longer view segment tid count page slot body spare told is slotted low her
   | inr few ↦ absurd (full (fits_again page slot count body slotted low here few))
 ]
 
-pub spare_after : {asks writes : ℕ} {old new : PagesView} → PagesStep no_page asks writes old new → new.mapped ≡ old.mapped → AreCounted old → AreCounted new → new.spare ≡ old.spare
+pub spare_after : {touched : Keys} {asks writes : ℕ} {old new : PagesView} → PagesStep touched asks writes old new → new.mapped ≡ old.mapped → AreCounted old → AreCounted new → new.spare ≡ old.spare
 spare_after {old = old} {new = new} step mapped before after =
     let pages : mapped_pages new.slots new.mapped ≡ mapped_pages old.slots old.mapped = (λ i. mapped_pages (step.passes.slots i) (mapped i)) in
     let shadow : page_count new.backing.shadow ≡ page_count old.backing.shadow = ap (λ (b : Backing). page_count b.shadow) step.passes.backing in

@@ -13,6 +13,7 @@ use Rattle.rss_base.specs.declared.tid.Tid.{Tid}
 use Rattle.rss_page.specs.Content.{Content, Empty}
 use Rattle.rss_page.specs.Slotted.{entries, body_bytes}
 use Rattle.rss_page.proofs.Sums.{bodies_fit}
+use Rattle.rss_tuple.specs.declared.finding.Spot.{Spot}
 use Rattle.rss_tuple.specs.Directory.{contents_in, homes, overflows, bodies_of, tid_at}
 use Rattle.rss_tuple.specs.Heaps.{AreHeaps}
 use Rattle.rss_tuple.specs.TupleSteps.{TuplesCall, IsLeast, NoneIs, tuples_in, no_tuple}
@@ -22,8 +23,8 @@ use Rattle.rss_tuple.specs.Spots.{IsFirstOpen, NoneOpen, IsFoundSpot}
 use Rattle.rss_tuple.specs.Picks.{IsPicked, NonePicked}
 use Rattle.rss_tuple.proofs.Seen.{on_ok, linked_same}
 use Rattle.rss_page.proofs.Blanks.{blank_empty}
-use Rattle.rss_tuple.proofs.Spots.{the_bytes, spot_same}
-use Rattle.rss_tuple.proofs.Placed.{empty_there}
+use Rattle.rss_tuple.proofs.Spots.{the_bytes, least_same}
+use Rattle.rss_tuple.proofs.Placed.{empty_there, none_same}
 use Rattle.rss_tuple.proofs.Changes.{absent_empty, empty_absent}
 
 -- ---- home pages that aren't mapped
@@ -73,41 +74,62 @@ new_same old new segment barred tid slots mapped is = record {
   open_there = is.open_there;
 }
 
+least_new : (old new : PagesView) (segment : ℕ) (barred : List Tid) (tid : Tid) → new.slots ≡ old.slots → new.mapped ≡ old.mapped → IsLeast (IsNew old segment barred) tid → IsLeast (IsNew new segment barred) tid
+least_new old new segment barred tid slots mapped least = record {
+  has = new_same old new segment barred tid slots mapped least.has;
+  least = λ other below is. least.least other below (new_same new old segment barred other (sym slots) (sym mapped) is);
+}
+
+no_new : (old new : PagesView) (segment : ℕ) (barred : List Tid) → new.slots ≡ old.slots → new.mapped ≡ old.mapped → NoneIs (IsNew old segment barred) → NoneIs (IsNew new segment barred)
+no_new old new segment barred slots mapped never = λ tid is. never tid (new_same new old segment barred tid (sym slots) (sym mapped) is)
+
+chosen_same : (old new : PagesView) (segment length : ℕ) (barred : List Tid) (tid : Tid) → new.slots ≡ old.slots → new.mapped ≡ old.mapped → new.held ≡ old.held → IsChosen old segment length barred tid → IsChosen new segment length barred tid
+chosen_same old new segment length barred tid slots mapped held (in_room least) = in_room (least_same old new (home_for segment length barred) tid mapped held least)
+chosen_same old new segment length barred tid slots mapped held (on_new none least) = on_new (none_same old new mapped held (home_for segment length barred) none) (least_new old new segment barred tid slots mapped least)
+chosen_same old new segment length barred tid slots mapped held (by_entry none never least) = by_entry (none_same old new mapped held (home_for segment length barred) none) (no_new old new segment barred slots mapped never) (least_same old new (home_for segment 0 barred) tid mapped held least)
+
 -- ---- what was picked
 
-pub picked_room : (segment length : ℕ) (barred : List Tid) (tid : Tid) (old new : PagesView) → IsFoundSpot old new (home_for segment length barred) tid → IsKey new.slots (page_key segment Home tid.page) → new.slots ≡ old.slots → IsPicked old segment length barred tid
-picked_room segment length barred tid old new found key slots = record {
-  named = record { within = omega (arith, key.number, slots); low = found.there.spot.first.is.low; allowed = found.there.spot.first.is.allowed };
+pub picked_room : (segment length : ℕ) (barred : List Tid) (bytes : List ℕ) (spot : Spot) (old new : PagesView) → IsFoundSpot old new (home_for segment length barred) bytes spot → IsKey new.slots (page_key segment Home spot.tid.page) → new.slots ≡ old.slots → IsPicked old segment length barred spot.tid
+picked_room segment length barred bytes spot old new found key slots = record {
+  named = record { within = omega (arith, key.number, slots); low = found.there.has.first.is.low; allowed = found.there.has.first.is.allowed };
   chosen = λ told. in_room (found.least told);
 }
 
 module _ (segment length : ℕ) (barred : List Tid) (old mid : PagesView) (kept : KeepsEntries old mid) (slots : mid.slots ≡ old.slots) (none : IsTold old.disk → NoneIs (IsSpot old (home_for segment length barred))) where
   pub picked_new : (tid : Tid) → IsLeast (IsNew mid segment barred) tid → IsPicked old segment length barred tid
   picked_new tid least =
-      let is = new_same mid old segment barred tid (sym slots) (sym kept.mapped) least.has in
+      let before = least_new mid old segment barred tid (sym slots) (sym kept.mapped) least in
+      let is = before.has in
       record {
         named = record { within = is.within; low = is.open_there.low; allowed = is.open_there.allowed };
-        chosen = λ told. on_new (none told) (record { has = is; least = λ other below there. least.least other below (new_same old mid segment barred other slots kept.mapped there) });
+        chosen = λ told. on_new (none told) before;
       }
 
-  none_before : NoneIs (IsNew mid segment barred) → NoneIs (IsNew old segment barred)
-  none_before never = λ tid is. never tid (new_same old mid segment barred tid slots kept.mapped is)
-
-  pub picked_entry : (tid : Tid) (new : PagesView) → NoneIs (IsNew mid segment barred) → (IsTold old.disk → IsTold mid.disk) → IsFoundSpot mid new (home_for segment 0 barred) tid → IsKey new.slots (page_key segment Home tid.page) → new.slots ≡ mid.slots → IsPicked old segment length barred tid
-  picked_entry tid new never told_mid found key same = record {
-    named = record { within = omega (arith, key.number, slots, same); low = found.there.spot.first.is.low; allowed = found.there.spot.first.is.allowed };
-    chosen = λ told.
-        let least = found.least (told_mid told) in
-        by_entry (none told) (none_before never) (record {
-          has = spot_same mid old (home_for segment 0 barred) tid (sym kept.mapped) (sym (kept.held told)) least.has;
-          least = λ other below there. least.least other below (spot_same old mid (home_for segment 0 barred) other kept.mapped (kept.held told) there);
-        });
+  pub picked_entry : (bytes : List ℕ) (spot : Spot) (new : PagesView) → NoneIs (IsNew mid segment barred) → (IsTold old.disk → IsTold mid.disk) → IsFoundSpot mid new (home_for segment 0 barred) bytes spot → IsKey new.slots (page_key segment Home spot.tid.page) → new.slots ≡ mid.slots → IsPicked old segment length barred spot.tid
+  picked_entry bytes spot new never told_mid found key same = record {
+    named = record { within = omega (arith, key.number, slots, same); low = found.there.has.first.is.low; allowed = found.there.has.first.is.allowed };
+    chosen = λ told. by_entry (none told) (no_new mid old segment barred (sym slots) (sym kept.mapped) never) (least_same mid old (home_for segment 0 barred) spot.tid (sym kept.mapped) (sym (kept.held told)) (found.least (told_mid told)));
   }
 
   pub none_picked : NoneIs (IsNew mid segment barred) → (IsTold old.disk → NoneIs (IsSpot mid (home_for segment 0 barred))) → NonePicked old segment barred
   none_picked never no_spot = record {
-    no_spot = λ told tid there. no_spot told tid (spot_same old mid (home_for segment 0 barred) tid kept.mapped (kept.held told) there);
-    no_new = none_before never;
+    no_spot = λ told. none_same mid old (sym kept.mapped) (sym (kept.held told)) (home_for segment 0 barred) (no_spot told);
+    no_new = no_new mid old segment barred (sym slots) (sym kept.mapped) never;
+  }
+
+-- the same before a search that changed no page
+module _ {segment : ℕ} {barred : List Tid} {old mid : PagesView} (kept : KeepsEntries old mid) (slots : mid.slots ≡ old.slots) (told_mid : IsTold old.disk → IsTold mid.disk) where
+  pub picked_before : {length : ℕ} {tid : Tid} → IsPicked mid segment length barred tid → IsPicked old segment length barred tid
+  picked_before {length = length} {tid = tid} picked = record {
+    named = record { within = omega (arith, picked.named.within, slots); low = picked.named.low; allowed = picked.named.allowed };
+    chosen = λ told. chosen_same mid old segment length barred tid (sym slots) (sym kept.mapped) (sym (kept.held told)) (picked.chosen (told_mid told));
+  }
+
+  pub none_before : NonePicked mid segment barred → NonePicked old segment barred
+  none_before none = record {
+    no_spot = λ told. none_same mid old (sym kept.mapped) (sym (kept.held told)) (home_for segment 0 barred) (none.no_spot (told_mid told));
+    no_new = no_new mid old segment barred (sym slots) (sym kept.mapped) none.no_new;
   }
 
 -- ---- free identifiers
@@ -144,10 +166,14 @@ none_free view segment barred holds are told none tid free = elim (cases_Bool (v
 
 -- ---- the call
 
+-- the pages are those of a tuple store still
+pub heaps_kept : {old mid : PagesView} → KeepsEntries old mid → (IsTold old.disk → AreHeaps old) → IsTold old.disk → AreHeaps mid
+heaps_kept {old = old} {mid = mid} kept are told = record { formed = kept.formed told; linked = linked_same old.held mid.held (kept.held told) (are told).linked }
+
 pub chosen_call : {T : Type 0} {cost segment : ℕ} {old new : PagesView} {result : Result T PageFault} → (IsTold old.disk → AreHeaps old) → KeepsEntries old new → PagesCall (pages_in segment Home) cost cost old new result → TuplesCall (pages_in segment Home) no_tuple cost (tuples_in old) (tuples_in new) result
 chosen_call {old = old} {new = new} {result = result} are kept call = record {
   below = call;
-  heaps = on_ok result (λ told. record { formed = kept.formed told; linked = linked_same old.held new.held (kept.held told) (are told).linked });
+  heaps = on_ok result (heaps_kept kept are);
   others = on_ok result (λ told s t off. ap (λ (h : Held). bodies_of h s t) (kept.held told));
 }
 
@@ -159,10 +185,6 @@ if_found N (Some tid) follows is = follows tid is
 pub if_none_found : {N : Type 0} (P : Tid → Type 0) (found : Option Tid) → MatchOption found N P → found ≡ None → N
 if_none_found P None is none = is
 if_none_found P (Some tid) is none = absurd (cc)
-
-pub match_found : (N M : Type 0) (P Q : Tid → Type 0) (found : Option Tid) → (N → M) → ((tid : Tid) → P tid → Q tid) → MatchOption found N P → MatchOption found M Q
-match_found N M P Q None none some is = none is
-match_found N M P Q (Some tid) none some is = some tid is
 
 -- two calls that change no page
 pub kept_then : {old mid new : PagesView} → (IsTold old.disk → IsTold mid.disk) → KeepsEntries old mid → KeepsEntries mid new → KeepsEntries old new

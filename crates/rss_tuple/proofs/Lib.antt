@@ -15,4 +15,5 @@ pub mod Moved
 pub mod Fitting
 pub mod Walks
 pub mod Chosen
+pub mod Inserted
 pub mod Props

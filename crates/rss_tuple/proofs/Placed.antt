@@ -15,6 +15,7 @@ use Rattle.rss_page.specs.Content.{Content, Empty, Here, Forward}
 use Rattle.rss_page.specs.Slotted.{entries, entry_of, HasRoom, IsAllowed, IsWellFormed}
 use Rattle.rss_page.specs.declared.entry_form.Entry.TheVariants.{Forward as ForwardEntry}
 use Rattle.rss_page.specs.Surveyed.{held_at}
+use Rattle.rss_tuple.specs.declared.finding.Spot.{Spot}
 use Rattle.rss_tuple.specs.Directory.{contents_in, contents, content_at, homes, overflows, body_in, body_by, tid_at}
 use Rattle.rss_tuple.specs.Heaps.{AreFormed, HasBody}
 use Rattle.rss_tuple.specs.TupleSteps.{IsLeast, NoneIs, pages_for}
@@ -24,7 +25,7 @@ use Rattle.rss_tuple.specs.Puts.{Changed, TakesAway, PutsAway, Puts}
 use Rattle.rss_tuple.specs.Spots.{IsFoundSpot}
 use Rattle.rss_tuple.proofs.Seen.{some_there}
 use Rattle.rss_tuple.proofs.Sets.{sets_taken, none_held}
-use Rattle.rss_tuple.proofs.Spots.{spot_same}
+use Rattle.rss_tuple.proofs.Spots.{spot_same, least_same}
 
 -- ---- keys
 
@@ -89,17 +90,17 @@ taken_away segment number body key old mid new at unmapped holds took fills fill
 pub away_off : (segment p s page slot : ℕ) → ((p ≡ page) → (s ≡ slot) → ⊥) → page_key segment Overflow p ≡ page_key segment Overflow page → s ≡ slot → ⊥
 away_off segment p s page slot off same at = off (same_number segment segment Overflow Overflow p page same) at
 
-pub puts_found : {asks writes : ℕ} (segment length_there : ℕ) (body : List ℕ) (to : Tid) (key : PageKey) (old mid new : PagesView) → length_there ≡ length body → key ≡ page_key segment Overflow to.page → IsFoundSpot old mid (overflow_for segment length_there) to → KeepsEntries old mid → SetsEntry key to.slot (Here body) mid new → PagesStep (only key) asks writes mid new → IsTold old.disk → IsTold mid.disk → PutsAway segment body to old new
-puts_found segment length_there body to key old mid new long at found kept sets_key step_key told told_mid =
-    let one = page_key segment Overflow to.page in
-    let sets = subst (λ (k : PageKey). SetsEntry k to.slot (Here body) mid new) at sets_key in
+pub puts_found : {asks writes : ℕ} (segment length_there : ℕ) (body : List ℕ) (bytes : List ℕ) (spot : Spot) (key : PageKey) (old mid new : PagesView) → length_there ≡ length body → key ≡ page_key segment Overflow spot.tid.page → IsFoundSpot old mid (overflow_for segment length_there) bytes spot → KeepsEntries old mid → SetsEntry key spot.tid.slot (Here body) mid new → PagesStep (only key) asks writes mid new → IsTold old.disk → IsTold mid.disk → PutsAway segment body spot.tid old new
+puts_found segment length_there body bytes spot key old mid new long at found kept sets_key step_key told told_mid =
+    let one = page_key segment Overflow spot.tid.page in
+    let sets = subst (λ (k : PageKey). SetsEntry k spot.tid.slot (Here body) mid new) at sets_key in
     let step = step_at at step_key in
-    let least = subst (λ (n : ℕ). IsLeast (IsSpot old (overflow_for segment n)) to) long (found.least told) in
+    let least = subst (λ (n : ℕ). IsLeast (IsSpot old (overflow_for segment n)) spot.tid) long (found.least told) in
     record {
       place = inl least;
       was = least.has.open_there.empty;
       here = sets.here;
-      others = λ p s off. entry_off sets step told_mid (page_key segment Overflow p) s (away_off segment p s to.page to.slot off) ∙ ap (λ (h : Held). content_at h (page_key segment Overflow p) s) (kept.held told);
+      others = λ p s off. entry_off sets step told_mid (page_key segment Overflow p) s (away_off segment p s spot.tid.page spot.tid.slot off) ∙ ap (λ (h : Held). content_at h (page_key segment Overflow p) s) (kept.held told);
       formed = sets.formed;
     }
 
@@ -187,10 +188,7 @@ pub placed_same : (old new : PagesView) (segment : ℕ) (tid : Tid) (body : List
 placed_same old new segment tid body Empty mapped held placed = elim placed [ ]
 placed_same old new segment tid body (Here _) mapped held (at_home fits) = at_home (subst (λ (h : Held). HasRoom (contents h (page_key segment Home tid.page)) tid.slot (length body)) (sym held) fits)
 placed_same old new segment tid body (Forward page slot) mapped held (stays full fits) = stays (fits_same old new held segment tid (length body) full) (away_same new old (sym held) segment tid (length body) page slot fits)
-placed_same old new segment tid body (Forward _ _) mapped held (moves full away least) = moves (fits_same old new held segment tid (length body) full) (λ p s fits. away p s (away_same old new held segment tid (length body) p s fits)) (record {
-  has = spot_same old new (overflow_for segment (length body)) _ mapped held least.has;
-  least = λ other below spot. least.least other below (spot_same new old (overflow_for segment (length body)) other (sym mapped) (sym held) spot);
-})
+placed_same old new segment tid body (Forward _ _) mapped held (moves full away least) = moves (fits_same old new held segment tid (length body) full) (λ p s fits. away p s (away_same old new held segment tid (length body) p s fits)) (least_same old new (overflow_for segment (length body)) _ mapped held least)
 placed_same old new segment tid body (Forward page _) mapped held (on_new full away none unmapped) = on_new (fits_same old new held segment tid (length body) full) (λ p s fits. away p s (away_same old new held segment tid (length body) p s fits)) (none_same old new mapped held (overflow_for segment (length body)) none) (ap (λ (m : Mapped). m (page_key segment Overflow page)) mapped ∙ unmapped)
 
 pub puts_before : (segment : ℕ) (tid : Tid) (body : List ℕ) (old mid new : PagesView) → mid.mapped ≡ old.mapped → mid.held ≡ old.held → Puts segment tid body mid new → Puts segment tid body old new

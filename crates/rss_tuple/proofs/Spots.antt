@@ -19,9 +19,10 @@ use Rattle.rss_page.specs.Content.{Content, Empty, body_length}
 use Rattle.rss_page.specs.Slotted.{entries, body_bytes, HasRoom}
 use Rattle.rss_page.proofs.Contents.{length-entries}
 use Rattle.rss_page.specs.Surveyed.{held_at, AllTaken, IsFirstEmpty}
+use Rattle.rss_tuple.specs.declared.finding.Spot.{Spot}
 use Rattle.rss_tuple.specs.Directory.{contents_in, contents, tid_at}
 use Rattle.rss_tuple.specs.Heaps.{CoversRoom, AreFormed}
-use Rattle.rss_tuple.specs.TupleSteps.{NoneIs}
+use Rattle.rss_tuple.specs.TupleSteps.{IsLeast, NoneIs}
 use Rattle.rss_tuple.specs.Placing.{Wanted, IsOpen, IsSpot}
 use Rattle.rss_tuple.specs.Edits.{IsRead, KeepsEntries}
 use Rattle.rss_tuple.specs.Spots.{HasSpot, HasNoSpot, IsRoom, ReadsSpot, IsFoundSpot}
@@ -68,6 +69,12 @@ spot_same old new wanted tid mapped held spot =
       bytes = subst (λ (l : List Content). body_bytes l + wanted.length ≤ 3056) same spot.bytes;
       open_there = subst (λ (l : List Content). IsOpen l wanted.barred tid) same spot.open_there;
     }
+
+pub least_same : (old new : PagesView) (wanted : Wanted) (tid : Tid) → new.mapped ≡ old.mapped → new.held ≡ old.held → IsLeast (IsSpot old wanted) tid → IsLeast (IsSpot new wanted) tid
+least_same old new wanted tid mapped held least = record {
+  has = spot_same old new wanted tid mapped held least.has;
+  least = λ other below spot. least.least other below (spot_same new old wanted other (sym mapped) (sym held) spot);
+}
 
 -- a page with room isn't passed over by its note
 pub may_do : (view : PagesView) (wanted : Wanted) (tid : Tid) → AreFormed view → ((key : PageKey) → is_some (view.held key) ≡ view.mapped key) → is_noted_space wanted.space ≡ true → IsSpot view wanted tid → MayDo view.mapped view.notes (wanted.length + 1) wanted.segment wanted.space tid.page
@@ -131,26 +138,29 @@ module _ (start now : PagesView) (wanted : Wanted) (from : ℕ) (so : Searched s
     ];
   }
 
-  module _ (new : PagesView) (number : ℕ) (first : IsFirstFrom (MayDo now.mapped now.notes (wanted.length + 1) wanted.segment wanted.space) from number) (kept : KeepsEntries now new) (told_new : IsTold start.disk → IsTold new.disk) (slot : ℕ) (there : ReadsSpot new (key_of wanted number) wanted.length wanted.barred slot) where
-    same_contents : IsTold start.disk → contents start.held (key_of wanted number) ≡ entries there.bytes
+  module _ (new : PagesView) (number : ℕ) (bytes : List ℕ) (spot : Spot) (first : IsFirstFrom (MayDo now.mapped now.notes (wanted.length + 1) wanted.segment wanted.space) from number) (kept : KeepsEntries now new) (told_new : IsTold start.disk → IsTold new.disk) (there : ReadsSpot new (key_of wanted number) bytes wanted.length wanted.barred spot) where
+    same_contents : IsTold start.disk → contents start.held (key_of wanted number) ≡ entries bytes
     same_contents told = ap (λ (h : Held). contents h (key_of wanted number)) (sym ((kept_all new kept).held told)) ∙ ap contents_in (there.read.held (told_new told))
 
-    pub found_spot : IsFoundSpot start new wanted (tid_at number slot)
-    found_spot = record {
-      there = there;
-      least = λ told.
-          let same = same_contents told in
-          record {
-            has = record {
-              mapped = sym (ap (λ (m : Mapped). m (key_of wanted number)) (kept_all new kept).mapped) ∙ there.read.mapped;
-              bytes = subst (λ (l : List Content). body_bytes l + wanted.length ≤ 3056) (sym same) there.spot.bytes;
-              open_there = subst (λ (l : List Content). IsOpen l wanted.barred (tid_at number slot)) (sym same) there.spot.first.is;
-            };
-            least = λ other low is. elim low [
-              | inl page ↦ before number first told other page is
-              | inr at ↦ there.spot.first.lesser other.slot at.1 (subst (λ (l : List Content). IsOpen l wanted.barred (tid_at number other.slot)) same (subst (λ (n : ℕ). IsOpen (contents start.held (key_of wanted n)) wanted.barred (tid_at n other.slot)) at.0 is.open_there))
-            ];
+    least_spot : IsTold start.disk → IsLeast (IsSpot start wanted) (tid_at number spot.tid.slot)
+    least_spot told =
+        let same = same_contents told in
+        record {
+          has = record {
+            mapped = sym (ap (λ (m : Mapped). m (key_of wanted number)) (kept_all new kept).mapped) ∙ there.read.mapped;
+            bytes = subst (λ (l : List Content). body_bytes l + wanted.length ≤ 3056) (sym same) there.has.bytes;
+            open_there = subst (λ (l : List Content). IsOpen l wanted.barred (tid_at number spot.tid.slot)) (sym same) there.has.first.is;
           };
+          least = λ other low is. elim low [
+            | inl page ↦ before number first told other page is
+            | inr at ↦ there.has.first.lesser other.slot at.1 (subst (λ (l : List Content). IsOpen l wanted.barred (tid_at number other.slot)) same (subst (λ (n : ℕ). IsOpen (contents start.held (key_of wanted n)) wanted.barred (tid_at n other.slot)) at.0 is.open_there))
+          ];
+        }
+
+    pub found_spot : IsFoundSpot start new wanted bytes spot
+    found_spot = record {
+      there = subst (λ (n : ℕ). ReadsSpot new (key_of wanted n) bytes wanted.length wanted.barred spot) (sym there.page) there;
+      least = λ told. subst (λ (n : ℕ). IsLeast (IsSpot start wanted) (tid_at n spot.tid.slot)) (sym there.page) (least_spot told);
     }
 
 -- the last page was looked at
@@ -195,8 +205,3 @@ noted_kept key number bytes mid new notes step read room told formed =
       short = heap.short;
       noted = subst (λ (n : Option ℕ). IfSome n (CoversRoom (entries other))) (sym (ap (λ (n : Noted). n key) notes.notes ∙ cond-true (is_same key key) (Some number) (mid.notes key) (is_same-itself key))) (subst (λ (b : List ℕ). CoversRoom (entries b) number) same room);
     })
-
--- what was found in a page that was read
-pub found_read : {N M : Type 0} (view : PagesView) (key : PageKey) (length : ℕ) (barred : List Tid) (page : List ℕ) (found : Option ℕ) → IsRead view key page → (N → M) → MatchOption found N (HasSpot (entries page) length barred key.number) → MatchOption found M (ReadsSpot view key length barred)
-found_read view key length barred page None read none is = none is
-found_read view key length barred page (Some slot) read none is = record { bytes = page; read = read; spot = is }

@@ -8,7 +8,8 @@ use Rattle.rss_base.specs.declared.key.PageKey.{PageKey}
 use Rattle.rss_base.specs.declared.tid.Tid.{Tid}
 use Rattle.rss_page.specs.Content.{Content, Empty}
 use Rattle.rss_page.specs.Slotted.{bodies_room, entries, body_bytes}
-use Rattle.rss_page.specs.Surveyed.{held_at}
+use Rattle.rss_page.specs.Surveyed.{held_at, IsSurvey}
+use Rattle.rss_tuple.specs.declared.finding.Spot.{Spot}
 use Rattle.rss_tuple.specs.Directory.{tid_at}
 use Rattle.rss_tuple.specs.TupleSteps.{IsLeast, NoneIs}
 use Rattle.rss_tuple.specs.Placing.{Wanted, IsOpen, IsSpot}
@@ -41,17 +42,22 @@ pub record IsRoom (contents : List Content) (room : ℕ) : Type 0 where
   pub free : (slot : ℕ) → slot < page_entries → held_at contents slot ≡ Empty → room + body_bytes contents ≡ bodies_room + 1
   pub most : room ≤ bodies_room + 1
 
--- a page was read that has so many free bytes, and its first open slot is this one
-pub record ReadsSpot (view : PagesView) (key : PageKey) (length : ℕ) (barred : List Tid) (slot : ℕ) : Type 0 where
-  pub bytes : List ℕ
+-- A page was read that has so many free bytes, and its first open slot is this one. With it comes what a walk over the page finds.
+pub record ReadsSpot (view : PagesView) (key : PageKey) (bytes : List ℕ)
+    (length : ℕ) (barred : List Tid) (spot : Spot) : Type 0 where
   pub read : IsRead view key bytes
-  pub spot : HasSpot (entries bytes) length barred key.number slot
+  pub found : IsSurvey bytes spot.found
+  pub page : spot.tid.page ≡ key.number
+  pub has : HasSpot (entries bytes) length barred key.number spot.tid.slot
 
 -- The page of this identifier was read, has what is looked for, and is the first one that had it before the search.
-pub record IsFoundSpot (old new : PagesView) (wanted : Wanted) (tid : Tid) : Type 0 where
-  pub there : ReadsSpot new (page_key wanted.segment wanted.space tid.page) wanted.length wanted.barred tid.slot
-  pub least : IsTold old.disk → IsLeast (IsSpot old wanted) tid
+pub record IsFoundSpot (old new : PagesView) (wanted : Wanted) (bytes : List ℕ) (spot : Spot) : Type 0 where
+  pub there : ReadsSpot new (page_key wanted.segment wanted.space spot.tid.page) bytes
+      wanted.length wanted.barred spot
+  pub least : IsTold old.disk → IsLeast (IsSpot old wanted) spot.tid
 
 -- It was looked for, and if no page has it, there was none before the search.
-abbrev pub FindsSpot : PagesView → PagesView → Wanted → Option Tid → Type 0
-FindsSpot old new wanted found = MatchOption found (IsTold old.disk → NoneIs (IsSpot old wanted)) (IsFoundSpot old new wanted)
+abbrev pub FindsSpot : PagesView → PagesView → Wanted → List ℕ → Option Spot → Type 0
+FindsSpot old new wanted bytes found =
+    MatchOption found (IsTold old.disk → NoneIs (IsSpot old wanted))
+    (IsFoundSpot old new wanted bytes)

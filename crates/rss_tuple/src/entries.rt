@@ -1,6 +1,5 @@
 // One entry of a page that is changed.
 ghost use Rattle.std.specs.Prelude.{◌≡◌, ◌↔◌, ◌<◌, length, true, false, IsTrue, IfOk, IfErr, OnOk, OnErr};
-ghost use Rattle.rss_base.specs.DiskRule.{IsTold};
 ghost use Rattle.rss_base.specs.Sizes.{page_entries};
 ghost use Rattle.rss_base.specs.PageMap.{IsKey};
 ghost use Rattle.rss_base.specs.Steps.{PagesCall, no_page, only};
@@ -10,7 +9,6 @@ ghost use Rattle.rss_base.specs.declared.place.Place.TheVariants.{Page as PagePl
 ghost use Rattle.rss_page.specs.Content.{Empty, Here, Forward};
 ghost use Rattle.rss_page.specs.Slotted.{entries, HasRoom, IsHeapKey, IsSlotted, IsWellFormed};
 ghost use Rattle.rss_page.specs.Surveyed.{IsSurvey, IsVacant};
-ghost use Rattle.rss_tuple.specs.Directory.{contents};
 ghost use Rattle.rss_tuple.specs.Calls.{IsBodyLength};
 ghost use Rattle.rss_tuple.specs.Edits.{MayRead, NamesEntry, MayEdit, Edits, FillsPage};
 
@@ -65,29 +63,6 @@ pub(crate) fn put_here<P: Pages>(
     put_found(page, slot, body, found);
     pages.write(key, page)?;
     Ok(())
-}
-
-/// Gives an entry of a page with room for it a body, whatever it held.
-pub(crate) fn put_in<P: Pages>(
-    pages: &mut P,
-    key: PageKey,
-    slot: u8,
-    body: &[u8],
-) -> Result<(), PageFault>
-    requires may { MayRead (P.view pages.old) key }
-    requires low { slot < page_entries }
-    requires length { IsBodyLength (length body.now) }
-    requires room { IsTold (P.view pages.old).disk
-        → HasRoom (contents (P.view pages.old).held key) slot (length body.now) }
-    ensures { Edits key slot (Here body.now) 2 (P.view pages.old) (P.view pages.new) result }
-{
-    load_there(pages, key)?;
-    let mut page = *pages.loaded(key);
-    let found = walk(&page, key)?;
-    if !found.has_room(&page, slot, body.len() as u16) {
-        return Err(damaged(key));
-    }
-    put_here(pages, key, &mut page, slot, body, &found)
 }
 
 /// Makes an entry of a home page that was read lead to an entry of an overflow page, whatever it

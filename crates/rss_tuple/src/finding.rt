@@ -85,19 +85,28 @@ pub(crate) fn room_of(page: &Page, found: &Survey) -> u16
     }
 }
 
-/// Looks for such a slot in a mapped page, and notes the page's room.
+/// A free entry that was found, and what a walk over its page found.
+#[derive(Clone, Copy)]
+pub(crate) struct Spot {
+    pub(crate) tid: Tid,
+    pub(crate) found: Survey,
+}
+
+/// Looks for such a slot in a mapped page. Where there is one, the page is left in `into`; where
+/// there is none, the page's room is noted.
 fn try_page<P: Pages>(
     pages: &mut P,
     key: PageKey,
     length: u16,
     barred: &[Tid],
-) -> Result<Option<u8>, PageFault>
+    into: &mut Page,
+) -> Result<Option<Spot>, PageFault>
     requires noted { is_noted_space key.space ≡ true }
     requires mapped { (P.view pages.old).mapped key ≡ true }
     requires formed { IsTold (P.view pages.old).disk → AreFormed (P.view pages.old) }
     ensures found { IfOk result (λ found. MatchOption found (IsTold (P.view pages.old).disk
         → HasNoSpot (contents (P.view pages.old).held key) length barred.now key.number)
-        (ReadsSpot (P.view pages.new) key length barred.now)) }
+        (ReadsSpot (P.view pages.new) key into.new length barred.now)) }
     ensures kept { KeepsEntries (P.view pages.old) (P.view pages.new) }
     ensures did { PagesCall (only key) 1 1 (P.view pages.old) (P.view pages.new) result }
 {
@@ -106,27 +115,36 @@ fn try_page<P: Pages>(
     let Some(found) = survey(page, key) else {
         return Err(damaged(key));
     };
+    if let Some(slot) = spot_in(page, key.number, length, barred, &found) {
+        *into = *page;
+        let tid = Tid {
+            page: key.number,
+            slot: u16::from(slot),
+        };
+        return Ok(Some(Spot { tid, found }));
+    }
     let room = room_of(page, &found);
-    let slot = spot_in(page, key.number, length, barred, &found);
     pages.note(key, room);
-    Ok(slot)
+    Ok(None)
 }
 
 /// Finds the first page of a segment and a space that has a free entry whose identifier isn't barred
-/// and so many free bytes, and there the first such entry.
+/// and so many free bytes, and there the first such entry. The page is left in `into`.
 pub(crate) fn find_page<P: Pages>(
     pages: &mut P,
     segment: u8,
     space: Space,
     length: u16,
     barred: &[Tid],
-) -> Result<Option<Tid>, PageFault>
+    into: &mut Page,
+) -> Result<Option<Spot>, PageFault>
     requires segment { IsSegment segment }
     requires noted { is_noted_space space ≡ true }
     requires most { length ≤ body_most }
     requires formed { IsTold (P.view pages.old).disk → AreFormed (P.view pages.old) }
     ensures found { IfOk result (FindsSpot (P.view pages.old) (P.view pages.new)
-        (record { segment = segment; space = space; length = length; barred = barred.now })) }
+        (record { segment = segment; space = space; length = length; barred = barred.now })
+        into.new) }
     ensures kept { KeepsEntries (P.view pages.old) (P.view pages.new) }
     ensures did { PagesCall (pages_in segment space) (P.view pages.old).slots
         (P.view pages.old).slots (P.view pages.old) (P.view pages.new) result }
@@ -140,11 +158,8 @@ pub(crate) fn find_page<P: Pages>(
             space,
             number,
         };
-        if let Some(slot) = try_page(pages, key, length, barred)? {
-            return Ok(Some(Tid {
-                page: number,
-                slot: u16::from(slot),
-            }));
+        if let Some(spot) = try_page(pages, key, length, barred, into)? {
+            return Ok(Some(spot));
         }
         from = number + 1;
     }

@@ -5,6 +5,7 @@ mod checking;
 mod choosing;
 mod entries;
 mod finding;
+mod inserting;
 mod keys;
 mod placing;
 mod reading;

@@ -16,10 +16,8 @@ ghost use Rattle.rss_tuple.specs.Calls.{MayPut, MayInsert, HasTuple, HasSpare, M
 ghost use Rattle.rss_tuple.specs.Edits.{IsRead, MayRead};
 ghost use Rattle.rss_tuple.specs.Puts.{Changed, TakesAway, PutsAway, Puts, MovesBody, HomeRead, Stays};
 
-use crate::entries::{
-    clear, clear_in, fill, load_there, put_forward, put_here, put_in, take_here, walk,
-};
-use crate::finding::find_page;
+use crate::entries::{clear, clear_in, fill, load_there, put_forward, put_here, take_here, walk};
+use crate::finding::{Spot, find_page};
 use crate::keys::{damaged, home, overflow};
 use rss_base::{PAGE_BYTES, Page, PageFault, PageKey, Pages, Space, Tid};
 use rss_page::{ENTRIES, Entry, Survey, entry};
@@ -57,9 +55,12 @@ fn put_away<P: Pages>(pages: &mut P, segment: u8, tid: Tid, body: &[u8]) -> Resu
     ensures did { PagesCall (pages_in segment Overflow) ((P.view pages.old).slots + 2)
         ((P.view pages.old).slots + 2) (P.view pages.old) (P.view pages.new) result }
 {
-    match find_page(pages, segment, Space::Overflow, body.len() as u16, &[])? {
-        Some(to) => {
-            put_in(pages, overflow(segment, to.page), to.slot as u8, body)?;
+    let length = body.len() as u16;
+    let mut page = [0u8; PAGE_BYTES];
+    match find_page(pages, segment, Space::Overflow, length, &[], &mut page)? {
+        Some(Spot { tid: to, found }) => {
+            let key = overflow(segment, to.page);
+            put_here(pages, key, &mut page, to.slot as u8, body, &found)?;
             Ok(to)
         }
         None => {

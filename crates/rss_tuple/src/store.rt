@@ -4,6 +4,7 @@ ghost use Rattle.std.specs.Prelude.{◌≡◌};
 ghost use Rattle.rss_tuple.specs.TupleSteps.{tuples_in};
 
 use crate::choosing::choose;
+use crate::inserting::insert;
 use crate::placing::{insert_at, remove, replace};
 use crate::reading::fetch;
 use crate::tuples::Tuples;
@@ -30,6 +31,15 @@ impl<P: Pages> Tuples for Store<P> {
 
     fn insert_at(&mut self, segment: u8, tid: Tid, body: &[u8]) -> Result<(), PageFault> {
         insert_at(&mut self.pages, segment, tid, body)
+    }
+
+    fn insert(
+        &mut self,
+        segment: u8,
+        body: &[u8],
+        barred: &[Tid],
+    ) -> Result<Option<Tid>, PageFault> {
+        insert(&mut self.pages, segment, body, barred)
     }
 
     fn fetch(&mut self, segment: u8, tid: Tid, into: &mut Body) -> Result<bool, PageFault> {

@@ -1,7 +1,7 @@
 // Pages that aren't what they should be, where the device doesn't tell: each call answers with the
 // place.
 use crate::calls::{
-    Tried, Undone, choose, empty, fetch, insert_at, key_of, put_home, put_overflow, remove,
+    Tried, Undone, choose, empty, fetch, insert, insert_at, key_of, put_home, put_overflow, remove,
     replace, tid,
 };
 use rss_asserts::assert_same;
@@ -79,6 +79,7 @@ fn a_page_that_isnt_well_formed_is_told(rt: HostRuntime) -> Result<(), Fail> {
     let mut store = store_with(rt.alloc(), &home)?;
     assert_same(&fetched(&mut store), &Err(want), "fetch")?;
     assert_same(&choose(&mut store, 9, &[]), &Err(want), "choose")?;
+    assert_same(&insert(&mut store, &[7]), &Err(want), "insert")?;
     assert_same(
         &insert_at(&mut store, tid(3, 2), &[7]),
         &Err(want),

@@ -1,12 +1,9 @@
-use Rattle.std.proofs.Common.{◌≡◌, ◌∙◌, rules, true, false, List, sym, ap, subst}
+use Rattle.std.proofs.Common.{◌≡◌, ◌∙◌, rules, true, false, sym, ap}
 use Rattle.rss_base.specs.Paged.{Held, Mapped}
 use Rattle.rss_base.proofs.Steps.{untouched, then, done, all_mapped, all_held, none_changed_more}
-use Rattle.rss_page.specs.Content.{Content}
-use Rattle.rss_tuple.specs.Directory.{contents_in}
 use Rattle.rss_tuple.specs.Edits.{IsRead}
-use Rattle.rss_tuple.specs.Spots.{HasNoSpot}
 use Rattle.rss_tuple.proofs.Seen.{formed_after, found_damaged, kept_after}
-use Rattle.rss_tuple.proofs.Spots.{noted_heap, covers, noted_kept, found_read}
+use Rattle.rss_tuple.proofs.Spots.{noted_heap, covers, noted_kept}
 use Rattle.rss_tuple.proofs.finding.try_page.Goals as goal
 
 pub returns-in_err-load-clause-kept : goal.returns-in_err-load-clause-kept
@@ -25,20 +22,11 @@ returns-in_default-clause-did g c =
     let formed = c.survey.ensures.formed.1 heap.formed in
     let never : false ≡ true = rw c.in_default.is at formed in absurd (cc))
 
-pub returns-clause-found : goal.returns-clause-found
-returns-clause-found g c =
-    let step = c.in_ok-load.ensures.did.step in
-    let noted = c.note.ensures.noted in
-    found_read (g.P.Pages.view c.note.new.self) c.args.key c.args.length c.args.barred.now c.loaded-page.result.now c.spot_in-slot.result
-    (record {
-      mapped = ap (λ (m : Mapped). m c.args.key) (noted.mapped ∙ all_mapped step) ∙ c.requires.mapped;
-      formed = c.survey.ensures.formed.0 (search rules);
-      held = λ told. ap (λ (h : Held). h c.args.key) noted.held ∙ c.loaded-page.ensures (c.note.ensures.did.passes.leaves.told.1 told);
-    })
-    (λ none told.
-    let there = ap (λ (h : Held). h c.args.key) (sym (all_held step told)) ∙ c.loaded-page.ensures (step.passes.leaves.told.0 told) in
-    subst (λ (l : List Content). HasNoSpot l c.args.length c.args.barred.now c.args.key.number) (sym (ap contents_in there)) none)
-    c.spot_in-slot.ensures
+pub returns-in-Some-spot_in-clause-kept : goal.returns-in-Some-spot_in-clause-kept
+returns-in-Some-spot_in-clause-kept g c = kept_after c.in_ok-load.ensures.did.step c.requires.formed
+
+pub returns-in-Some-spot_in-clause-did : goal.returns-in-Some-spot_in-clause-did
+returns-in-Some-spot_in-clause-did g c = done _ (untouched c.in_ok-load.ensures.did.step)
 
 pub returns-clause-kept : goal.returns-clause-kept
 returns-clause-kept g c =

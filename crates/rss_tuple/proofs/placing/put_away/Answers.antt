@@ -1,50 +1,49 @@
-use Rattle.std.proofs.Common.{List, length, refl, inl, sym, ap, subst, arith}
+use Rattle.std.proofs.Common.{length, refl, inl, sym, arith}
 use Rattle.rss_base.proofs.Steps.{then, then_call, among, widens, done, fails, is_in}
-use Rattle.rss_page.specs.Content.{Content}
-use Rattle.rss_page.specs.Slotted.{HasRoom}
-use Rattle.rss_tuple.specs.Directory.{tid_at, contents_in}
+use Rattle.rss_tuple.specs.Directory.{tid_at}
 use Rattle.rss_tuple.proofs.Spots.{spot_room}
 use Rattle.rss_tuple.proofs.Placed.{step_at, puts_found, puts_taken, read_key}
 use Rattle.rss_tuple.proofs.Taken.{takes_step, takes_same}
 use Rattle.rss_tuple.proofs.placing.put_away.Goals as goal
 
-pub put_in-requires-clause-may : goal.put_in-requires-clause-may
-put_in-requires-clause-may g c =
-    let found = rw c.in-Some.is at c.in_ok-to.ensures.found in
-    let read = read_key (sym c.overflow.ensures) found.there.read in
+pub put_here-requires-clause-may : goal.put_here-requires-clause-may
+put_here-requires-clause-may g c =
+    let there = (rw c.in-Some.is at c.in_ok-to.ensures.found).there in
     record {
-      heap = read.formed.space;
-      mapped = λ told. read.mapped;
+      read = read_key (sym c.overflow-key.ensures) there.read;
+      low = there.has.first.is.low;
       formed = λ told. c.find_page.ensures.kept.formed (c.find_page.ensures.did.step.passes.leaves.told.1 told);
     }
 
-pub put_in-requires-clause-room : goal.put_in-requires-clause-room
-put_in-requires-clause-room g c = λ told.
+pub put_here-requires-clause-found : goal.put_here-requires-clause-found
+put_here-requires-clause-found g c = (rw c.in-Some.is at c.in_ok-to.ensures.found).there.found
+
+pub put_here-requires-clause-room : goal.put_here-requires-clause-room
+put_here-requires-clause-room g c =
     let there = (rw c.in-Some.is at c.in_ok-to.ensures.found).there in
-    let read = read_key (sym c.overflow.ensures) there.read in
-    subst (λ (l : List Content). HasRoom l c.in-Some.to.slot (length c.args.body.now)) (sym (ap contents_in (read.held told))) (spot_room there.bytes c.in-Some.to.slot (length c.args.body.now) there.spot.first.is.low there.spot.bytes)
+    spot_room c.find_page.new.into _ (length c.args.body.now) there.has.first.is.low there.has.bytes
 
 pub put_on_new-requires-clause-formed : goal.put_on_new-requires-clause-formed
 put_on_new-requires-clause-formed g c = λ told. c.find_page.ensures.kept.formed (c.find_page.ensures.did.step.passes.leaves.told.1 told)
 
-pub returns-in_err-put_in-in-Some-clause-did : goal.returns-in_err-put_in-in-Some-clause-did
-returns-in_err-put_in-in-Some-clause-did g c =
-    fails _ c.from_residual-in_err-put_in-in-Some.ensures.1 (λ key there. there) (omega arith) (omega arith) (then_call {asks_then = 2} {writes_then = 2} c.find_page.ensures.did.step (widens (is_in c.overflow.result c.overflow.ensures) (omega arith) (omega arith) c.in_err-put_in-in-Some.ensures.did))
+pub returns-in_err-put_here-in-Some-clause-did : goal.returns-in_err-put_here-in-Some-clause-did
+returns-in_err-put_here-in-Some-clause-did g c =
+    fails _ c.from_residual-in_err-put_here-in-Some.ensures.1 (λ key there. there) (omega arith) (omega arith) (then_call {asks_then = 1} {writes_then = 1} c.find_page.ensures.did.step (widens (is_in c.overflow-key.result c.overflow-key.ensures) (omega arith) (omega arith) c.in_err-put_here-in-Some.ensures.did))
 
-pub returns-in_ok-put_in-in-Some-clause-puts : goal.returns-in_ok-put_in-in-Some-clause-puts
-returns-in_ok-put_in-in-Some-clause-puts g c = λ told.
+pub returns-in_ok-put_here-in-Some-clause-puts : goal.returns-in_ok-put_here-in-Some-clause-puts
+returns-in_ok-put_here-in-Some-clause-puts g c = λ told.
     let step = c.find_page.ensures.did.step in
     let mid = step.passes.leaves.told.0 told in
-    let wrote = c.in_ok-put_in-in-Some.ensures in
-    puts_found c.args.segment _ c.args.body.now c.in-Some.to c.overflow.result _ _ _ refl c.overflow.ensures (rw c.in-Some.is at c.in_ok-to.ensures.found) c.find_page.ensures.kept (wrote.sets mid) wrote.did.step told mid
+    let wrote = c.in_ok-put_here-in-Some.ensures in
+    puts_found c.args.segment _ c.args.body.now c.find_page.new.into _ c.overflow-key.result _ _ _ refl c.overflow-key.ensures (rw c.in-Some.is at c.in_ok-to.ensures.found) c.find_page.ensures.kept (wrote.sets mid) wrote.did.step told mid
 
-pub returns-in_ok-put_in-in-Some-clause-one : goal.returns-in_ok-put_in-in-Some-clause-one
-returns-in_ok-put_in-in-Some-clause-one g c =
+pub returns-in_ok-put_here-in-Some-clause-one : goal.returns-in_ok-put_here-in-Some-clause-one
+returns-in_ok-put_here-in-Some-clause-one g c =
     let found = rw c.in-Some.is at c.in_ok-to.ensures.found in
-    takes_same c.find_page.ensures.kept.mapped (takes_step (step_at c.overflow.ensures c.in_ok-put_in-in-Some.ensures.did.step) (inl found.there.read.mapped))
+    takes_same c.find_page.ensures.kept.mapped (takes_step (step_at c.overflow-key.ensures c.in_ok-put_here-in-Some.ensures.did.step) (inl found.there.read.mapped))
 
-pub returns-in_ok-put_in-in-Some-clause-did : goal.returns-in_ok-put_in-in-Some-clause-did
-returns-in_ok-put_in-in-Some-clause-did g c = widens (λ key there. there) (omega arith) (omega arith) (done _ (then c.find_page.ensures.did.step (among (is_in c.overflow.result c.overflow.ensures) c.in_ok-put_in-in-Some.ensures.did.step)))
+pub returns-in_ok-put_here-in-Some-clause-did : goal.returns-in_ok-put_here-in-Some-clause-did
+returns-in_ok-put_here-in-Some-clause-did g c = widens (λ key there. there) (omega arith) (omega arith) (done _ (then c.find_page.ensures.did.step (among (is_in c.overflow-key.result c.overflow-key.ensures) c.in_ok-put_here-in-Some.ensures.did.step)))
 
 pub returns-in_err-page-in-None-clause-did : goal.returns-in_err-page-in-None-clause-did
 returns-in_err-page-in-None-clause-did g c =
