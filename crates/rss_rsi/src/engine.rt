@@ -365,14 +365,14 @@ impl<S: Saving> Rss<S> {
         ensures { result ≡ pages_below self }
     {
         let Rss {
-            tuples: Store { pages },
+            tuples,
             root: _,
             number: _,
             session: _,
             down: _,
             alloc: _,
         } = self;
-        pages
+        tuples.into_pages()
     }
 }
 

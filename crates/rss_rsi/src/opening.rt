@@ -118,7 +118,7 @@ fn store_of<D: Device>(
         }
     };
     let session = Session::new(root.slots, heap, catalog);
-    Ok(Rss::new(alloc, Store { pages }, root, number, session))
+    Ok(Rss::new(alloc, Store::new(pages), root, number, session))
 }
 
 /// Opens the store that a device holds, with at most `MOST_FRAMES` of its pages in memory.

@@ -12,7 +12,7 @@ ghost use Rattle.rss_tuple.specs.Picks.{Picks};
 
 use crate::finding::{find_page, first_open};
 use crate::keys::home;
-use rss_base::{PAGE_BYTES, PageFault, Pages, Space, Tid};
+use rss_base::{Page, PageFault, Pages, Space, Tid};
 use rss_page::blank;
 
 /// The first identifier of a home page that isn't mapped, of those that aren't barred.
@@ -41,6 +41,7 @@ fn first_new<P: Pages>(pages: &P, segment: u8, barred: &[Tid]) -> Option<Tid>
 /// isn't barred. None exactly where there is none.
 pub(crate) fn choose<P: Pages>(
     pages: &mut P,
+    page: &mut Page,
     segment: u8,
     length: u16,
     barred: &[Tid],
@@ -52,14 +53,13 @@ pub(crate) fn choose<P: Pages>(
     ensures did { PagesCall (pages_in segment Home) (2 * (P.view pages.old).slots)
         (2 * (P.view pages.old).slots) (P.view pages.old) (P.view pages.new) result }
 {
-    let mut page = [0u8; PAGE_BYTES];
-    if let Some(spot) = find_page(pages, segment, Space::Home, length, barred, &mut page)? {
+    if let Some(spot) = find_page(pages, segment, Space::Home, length, barred, page)? {
         return Ok(Some(spot.tid));
     }
     if let Some(tid) = first_new(pages, segment, barred) {
         return Ok(Some(tid));
     }
-    match find_page(pages, segment, Space::Home, 0, barred, &mut page)? {
+    match find_page(pages, segment, Space::Home, 0, barred, page)? {
         Some(spot) => Ok(Some(spot.tid)),
         None => Ok(None),
     }

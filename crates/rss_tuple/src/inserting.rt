@@ -10,12 +10,13 @@ use crate::entries::put_here;
 use crate::finding::{Spot, find_page};
 use crate::keys::home;
 use crate::placing::insert_at;
-use rss_base::{PAGE_BYTES, PageFault, Pages, Space, Tid};
+use rss_base::{Page, PageFault, Pages, Space, Tid};
 
 /// Puts a tuple with this body at the identifier that `choose` names, and answers it. None exactly
-/// where there is none.
+/// where there is none. Whatever was in `page` is lost.
 pub(crate) fn insert<P: Pages>(
     pages: &mut P,
+    page: &mut Page,
     segment: u8,
     body: &[u8],
     barred: &[Tid],
@@ -27,15 +28,14 @@ pub(crate) fn insert<P: Pages>(
         (tuples_in (P.view pages.new)) result }
 {
     let length = body.len() as u16;
-    let mut page = [0u8; PAGE_BYTES];
-    let spot = find_page(pages, segment, Space::Home, length, barred, &mut page)?;
+    let spot = find_page(pages, segment, Space::Home, length, barred, page)?;
     if let Some(Spot { tid, found }) = spot {
         let key = home(segment, tid.page);
-        put_here(pages, key, &mut page, tid.slot as u8, body, &found)?;
+        put_here(pages, key, page, tid.slot as u8, body, &found)?;
         return Ok(Some(tid));
     }
     // No mapped page has the room.
-    let Some(tid) = choose(pages, segment, length, barred)? else {
+    let Some(tid) = choose(pages, page, segment, length, barred)? else {
         return Ok(None);
     };
     insert_at(pages, segment, tid, body)?;

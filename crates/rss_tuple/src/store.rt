@@ -9,12 +9,35 @@ use crate::placing::{insert_at, remove, replace};
 use crate::reading::fetch;
 use crate::tuples::Tuples;
 use crate::walking::next_live;
-use rss_base::{Body, PageFault, Pages, Tid};
+use rss_base::{Body, PAGE_BYTES, Page, PageFault, Pages, Tid};
 
-/// The tuples of any pages. It is made by its literal.
+/// The tuples of any pages.
 #[derive(Drop)]
 pub struct Store<P: Pages> {
     pub pages: P,
+    /// Where a page is copied in which a tuple is to be put. It is kept, since a new one would be
+    /// zeroed for each tuple.
+    page: Page,
+}
+
+impl<P: Pages> Store<P> {
+    /// The tuples of these pages.
+    pub fn new(pages: P) -> Self
+        ensures { result.pages ≡ pages }
+    {
+        Store {
+            pages,
+            page: [0; PAGE_BYTES],
+        }
+    }
+
+    /// The pages, as the last call left them.
+    pub fn into_pages(self) -> P
+        ensures { result ≡ self.pages }
+    {
+        let Store { pages, page: _ } = self;
+        pages
+    }
 }
 
 impl<P: Pages> Tuples for Store<P> {
@@ -26,7 +49,7 @@ impl<P: Pages> Tuples for Store<P> {
         length: u16,
         barred: &[Tid],
     ) -> Result<Option<Tid>, PageFault> {
-        choose(&mut self.pages, segment, length, barred)
+        choose(&mut self.pages, &mut self.page, segment, length, barred)
     }
 
     fn insert_at(&mut self, segment: u8, tid: Tid, body: &[u8]) -> Result<(), PageFault> {
@@ -39,7 +62,7 @@ impl<P: Pages> Tuples for Store<P> {
         body: &[u8],
         barred: &[Tid],
     ) -> Result<Option<Tid>, PageFault> {
-        insert(&mut self.pages, segment, body, barred)
+        insert(&mut self.pages, &mut self.page, segment, body, barred)
     }
 
     fn fetch(&mut self, segment: u8, tid: Tid, into: &mut Body) -> Result<bool, PageFault> {

@@ -36,9 +36,7 @@ impl From<PageFault> for Undone {
 
 pub(crate) fn empty(alloc: Global) -> Result<Tried, Fail> {
     let pages = MemPages::new(alloc, SLOTS)?;
-    Ok(Store {
-        pages: Untold::new(pages),
-    })
+    Ok(Store::new(Untold::new(pages)))
 }
 
 pub(crate) fn tid(page: u32, slot: u16) -> Tid {
