@@ -59,26 +59,26 @@ impl<S: Saving> Rss<S> {
     ghost use Rattle.rss_rsi.specs.Ready.{AreSaved, heap_now};
     ghost use Rattle.rss_rsi.specs.Tuples.{FindsBody};
 
-    /// The store of these tuples, all committed.
+    /// The store whose tuples stand in these pages, all committed.
     pub(crate) fn new(
         alloc: Global,
-        tuples: Store<S>,
+        pages: S,
         root: Root,
         number: u8,
         session: Session,
     ) -> Self
-        requires ready { IsReady (S.view tuples.pages) number root session }
+        requires ready { IsReady (S.view pages) number root session }
         requires size { session.slots ≡ root.slots }
-        requires shown { IsTold (S.view tuples.pages).disk
-            → ∥ ShowsState (engine_view (S.view tuples.pages) number root session ⊤) ∥₁ }
-        ensures pages { pages_below result ≡ tuples.pages }
+        requires shown { IsTold (S.view pages).disk
+            → ∥ ShowsState (engine_view (S.view pages) number root session ⊤) ∥₁ }
+        ensures pages { pages_below result ≡ pages }
         ensures number { result.number ≡ number }
         ensures root { result.root ≡ root }
         ensures session { result.session ≡ session }
         ensures up { result.down ≡ false }
     {
         Rss {
-            tuples,
+            tuples: Store::new(pages),
             root,
             number,
             session,

@@ -19,7 +19,6 @@ use rss_buffer::{Buffer, MOST_FRAMES};
 use rss_model::Engine;
 use rss_pagemap::{SlotTable, read_table};
 use rss_root::load;
-use rss_tuple::Store;
 use std::alloc::Global;
 
 /// The selected root with its number, and the map that it names.
@@ -118,7 +117,7 @@ fn store_of<D: Device>(
         }
     };
     let session = Session::new(root.slots, heap, catalog);
-    Ok(Rss::new(alloc, Store::new(pages), root, number, session))
+    Ok(Rss::new(alloc, pages, root, number, session))
 }
 
 /// Opens the store that a device holds, with at most `MOST_FRAMES` of its pages in memory.
