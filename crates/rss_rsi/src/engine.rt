@@ -60,13 +60,7 @@ impl<S: Saving> Rss<S> {
     ghost use Rattle.rss_rsi.specs.Tuples.{FindsBody};
 
     /// The store whose tuples stand in these pages, all committed.
-    pub(crate) fn new(
-        alloc: Global,
-        pages: S,
-        root: Root,
-        number: u8,
-        session: Session,
-    ) -> Self
+    pub(crate) fn new(alloc: Global, pages: S, root: Root, number: u8, session: Session) -> Self
         requires ready { IsReady (S.view pages) number root session }
         requires size { session.slots ≡ root.slots }
         requires shown { IsTold (S.view pages).disk
