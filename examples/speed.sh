@@ -186,8 +186,8 @@ measure() {
     works[$name]+="$(awk 'END { print ($1 + $2) * 1000 }' work_time) "
 }
 
-# measure_on FILE SLOTS.TUPLES COMMAND SCRIPT..: each script, run on the file; one that ends a
-# transaction, on a copy of its own. What is compared has the same slots and tuples in its name.
+# measure_on FILE SLOTS.TUPLES COMMAND SCRIPT..: each script, run on the file; one that changes
+# something, on a copy of its own. What is compared has the same slots and tuples in its name.
 measure_on() {
     local file="$1" name="${1%%.*}.$2" command="$3" script
     shift 3
@@ -195,7 +195,7 @@ measure_on() {
     wait_for_quiet
     for script in "$@"; do
         measure "$script $name" "$command" "$script"
-        case "$script" in commits | ended | threes) copy "$file" ;; esac
+        case "$script" in nothing | one | less | near | far) ;; *) copy "$file" ;; esac
     done
 }
 
@@ -207,7 +207,7 @@ measure_all() {
         scripts=(nothing commits)
         case "$store" in
             "65536 0") scripts+=(open ended threes) ;;
-            "65536 1000000") scripts+=(one less near far inserted updated deleted each) ;;
+            "65536 1000000") scripts+=(one less near far inserted updated deleted each updated_near deleted_near) ;;
         esac
         measure_on "store.$slots.$tuples" "$slots.$tuples" run_store "${scripts[@]}"
         for mode in "${modes[@]}"; do
@@ -338,7 +338,9 @@ changes insert 6000 1000000 >inserted.script
 changes update 6000 1000000 >updated.script
 changes delete 6000 1000000 >deleted.script
 changes each 6000 1000000 >each.script
-for script in nothing open ended threes commits one less near far inserted updated deleted each; do to_sql "$script"; done
+changes update 6000 20000 >updated_near.script
+changes delete 6000 20000 >deleted_near.script
+for script in *.script; do to_sql "${script%.script}"; done
 for store in "${stores[@]}"; do make_store ${store/ / }; done
 for mode in "${modes[@]}"; do
     for tuples in "${databases[@]}"; do make_database "$mode" "$tuples"; done
@@ -377,6 +379,8 @@ rates "inserts, 6,000 in one transaction, not ended" 6000 inserted 65536 1000000
 rates "updates, the same" 6000 updated 65536 1000000 "$lines"
 rates "deletes, the same" 6000 deleted 65536 1000000 "$lines"
 rates "each in turn, the same" 6000 each 65536 1000000 "$lines"
+rates "updates among 20,000 tuples, the same" 6000 updated_near 65536 1000000 "$lines"
+rates "deletes among 20,000 tuples, the same" 6000 deleted_near 65536 1000000 "$lines"
 rates "fetches of one tuple, 100,000" 100000 less 65536 1000000 "$lines"
 rates "fetches of one tuple, 1,000,000" 1000000 one 65536 1000000 "$lines"
 rates "fetches among 20,000 tuples" 200000 near 65536 1000000 "$lines"
