@@ -252,7 +252,19 @@ rate_of() {
     }')"
 }
 
-rate() { echo "$(rate_of least "$@") ($(rate_of median "$@"))"; }
+# says_something SCRIPT FILE: whether the median means something where an opening is taken off: not where
+# an opening takes three times as long as the work.
+says_something() {
+    local opening
+    opening="$(time_of least "nothing $2")"
+    [ $((4 * opening)) -lt $((3 * $(time_of least "$1 $2"))) ]
+}
+
+rate() {
+    local median=""
+    if says_something "$2" "$3"; then median=" ($(rate_of median "$@"))"; fi
+    echo "$(rate_of least "$@")$median"
+}
 
 # work_of WHICH COUNT SCRIPT FILE: the processor time of one line, in microseconds. That of a run with
 # nothing to do is left out.
@@ -261,7 +273,11 @@ work_of() {
         'BEGIN { printf "%.2f", (all - none) * 1000 / n }'
 }
 
-work() { echo "$(work_of least "$@") ($(work_of median "$@"))"; }
+work() {
+    local median=""
+    if says_something "$2" "$3"; then median=" ($(work_of median "$@"))"; fi
+    echo "$(work_of least "$@")$median"
+}
 
 milliseconds() { awk -v t="$(time_of least "nothing $1")" 'BEGIN { printf "%.1f", t / 1000 }'; }
 
