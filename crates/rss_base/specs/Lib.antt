@@ -2,6 +2,7 @@ pub mod Faults
 pub mod Streams
 pub mod DiskRule
 pub mod Devices
+pub mod Runs
 pub mod Sizes
 pub mod Layout
 pub mod PageMap

@@ -35,7 +35,7 @@ pub use answer::{CallError, Reply};
 pub use bounded::{BODY_BYTES, Body, BoundedBytes, KEY_BYTES, Key};
 pub use call::Call;
 pub use change::Change;
-pub use device::Device;
+pub use device::{Device, RUN_PAGES};
 pub use durable::put;
 pub use fault::{Failed, OpenFault, PageFault, Unopened};
 pub use field::{FieldDef, Fields, MOST_FIELDS, MOST_WIDTH};
