@@ -1,3 +1,4 @@
 mod Events
 mod Images
 mod Places
+mod Runs

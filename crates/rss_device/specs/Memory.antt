@@ -72,7 +72,7 @@ disk_of first events pages = record {
 abbrev pub IsKept : Pages → List Event → Pages → Type 0
 IsKept first events pages = pages ≡ (replay (at_first first) events).pages
 
--- a write, also one that failed
+-- a page was written, also by a write that failed
 abbrev pub is_write : Event → Bool
 is_write (Wrote at bytes) = true
 is_write (Torn at) = true

@@ -95,6 +95,15 @@ impl<S: StoreFiles> Device for FileDevice<'_, S> {
         counted(written, &mut self.faults)
     }
 
+    fn write_run(&mut self, at: u64, from: &[Page]) -> Result<(), Failed> {
+        self.writes = self.writes.saturating_add(1);
+        let written = match opened(self.files, self.path, &mut self.file, false) {
+            Ok(file) => file.write_run(at, from),
+            Err(error) => Err(error),
+        };
+        counted(written, &mut self.faults)
+    }
+
     fn sync(&mut self) -> Result<(), Failed> {
         let synced = match opened(self.files, self.path, &mut self.file, false) {
             Ok(file) => file.sync(),

@@ -52,6 +52,11 @@ impl<F: StoreFile> LockedFile<F> {
         self.file.write_all_at(from, offset(at)?)
     }
 
+    /// Writes pages one behind the other, which the system is given all at once.
+    pub(crate) fn write_run(&self, at: u64, from: &[Page]) -> io::Result<()> {
+        self.file.write_all_at(from.as_flattened(), offset(at)?)
+    }
+
     /// Brings the pages and the size of the file to the disk.
     pub(crate) fn sync(&self) -> io::Result<()> {
         self.file.sync_data()

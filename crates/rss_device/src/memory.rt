@@ -8,9 +8,10 @@ use crate::image::{Unsynced, image_after};
 use rss_base::{Device, Failed, PAGE_BYTES, Page};
 use std::alloc::{AllocError, Global};
 
-/// Pages in memory, with every moment so far. Each write, each sync that succeeds and each new size
-/// makes a moment, and so does a write that fails on purpose: it tears its page, which still reads
-/// as before. A call that finds no memory for what is to be kept fails.
+/// Pages in memory, with every moment so far. Each page that is written, each sync that succeeds
+/// and each new size makes a moment, so a stop may come between two pages of a run. A write that
+/// fails on purpose tears its pages, each at a moment of its own, and they still read as before. A
+/// call that finds no memory for what is to be kept fails.
 #[derive(Drop)]
 pub struct MemDevice {
     first: Vec<Page>,
@@ -24,11 +25,13 @@ pub struct MemDevice {
 }
 
 impl MemDevice {
-    ghost use Rattle.std.specs.Prelude.{◌≡◌, ◌+◌, ◌-◌, ◌≤◌, [], IfOk, IfSome, IsNone, Some};
+    ghost use Rattle.std.specs.Prelude.{◌≡◌, ◌+◌, ◌-◌, ◌<◌, ◌≤◌, [], IfOk, OnOk, IfSome, IsNone};
+    ghost use Rattle.std.specs.Prelude.{Some, slice_set};
+    ghost use Rattle.rss_base.specs.DiskRule.{IsAt};
     ghost use Rattle.rss_base.specs.Devices.{OnlyReads};
     ghost use Rattle.rss_device.specs.Stop.{IsLeft};
     ghost use Rattle.rss_device.specs.MemDevice.{view_of, IsFresh, held_at, writes_by};
-    ghost use Rattle.rss_device.specs.MemDevice.{failing_calls, next_call};
+    ghost use Rattle.rss_device.specs.MemDevice.{failing_calls, next_call, OnlyTouches};
 
     /// A device of these pages, all synced.
     pub fn new(alloc: Global, pages: Vec<Page>) -> Result<Self, AllocError>
@@ -80,8 +83,8 @@ impl MemDevice {
     }
 
     /// The moment right after write number `k`, counted from 0 over all writes, also those that
-    /// failed. A stop before it comes at the moment before, and one within it leaves old or other
-    /// bytes in its page.
+    /// failed, where each page of a run counts as a write of its own. A stop before it comes at the
+    /// moment before, and one within it leaves old or other bytes in its page.
     pub fn moment_of_write(&self, k: usize) -> Option<usize>
         ensures within { IfSome result (λ t. t ≤ (view_of self.now).disk.moment) }
         ensures before { IfSome result (λ t. writes_by self.now (t - 1) ≡ k) }
@@ -118,17 +121,39 @@ impl MemDevice {
             unsynced,
         )
     }
+
+    /// Writes a page. Where no memory is found for the event, nothing is written.
+    fn put(&mut self, at: u64, from: &Page) -> Result<(), AllocError>
+        requires { at < (view_of self.old).size }
+        ensures written { OnOk result (self.new.pages.items
+            ≡ slice_set self.old.pages.items at from.now) }
+        ensures only { OnlyTouches (IsAt at) self.old self.new }
+    {
+        self.events.push(Event::Wrote(at, *from))?;
+        self.pages[at as usize] = *from;
+        Ok(())
+    }
+
+    /// Tears a page, where memory is found for the event. It still reads as before.
+    fn tear(&mut self, at: u64)
+        requires { at < (view_of self.old).size }
+        ensures { OnlyTouches (IsAt at) self.old self.new }
+    {
+        let _ = self.events.push(Event::Torn(at));
+    }
 }
 
 // A call states what it does on every device, and that it fails where its number is named.
 impl Device for MemDevice {
-    ghost use Rattle.std.specs.Prelude.{◌≡◌, ◌<◌, Some, IfOk, OnOk, slice_set};
+    ghost use Rattle.std.specs.Prelude.{◌≡◌, ◌+◌, ◌<◌, ◌≤◌, length, Some, IfOk, OnOk, slice_set};
     ghost use Rattle.rss_base.specs.Faults.{counted, HasCause};
-    ghost use Rattle.rss_base.specs.DiskRule.{page, Told, IsResized, LeavesOnly, IsAt, GoesOn};
+    ghost use Rattle.rss_base.specs.DiskRule.{page, IsTold, Told, IsResized, LeavesOnly};
+    ghost use Rattle.rss_base.specs.DiskRule.{IsAt, IsWithin, GoesOn};
     ghost use Rattle.rss_base.specs.Devices.{OnlyReads, ReadsPages, WritesPages};
+    ghost use Rattle.rss_base.specs.Runs.{run_pages, HoldsRun};
     ghost use Rattle.rss_device.specs.MemDevice.{view_of, IsNumbered, FailsAsNumbered};
     ghost use Rattle.rss_device.specs.MemoryLaws.{reads, same_some};
-    ghost use Rattle.std.proofs.Common.{ap, arith, length, sym};
+    ghost use Rattle.std.proofs.Common.{ap, arith, sym};
 
     ghost view = { λ m. view_of m };
 
@@ -202,13 +227,38 @@ impl Device for MemDevice {
     {
         self.writes = self.writes.saturating_add(1);
         if self.calls.next_fails() {
-            let _ = self.events.push(Event::Torn(at));
+            self.tear(at);
             return Err(failed(&mut self.faults));
         }
-        if self.events.push(Event::Wrote(at, *from)).is_err() {
+        if self.put(at, from).is_err() {
             return Err(failed(&mut self.faults));
         }
-        self.pages[at as usize] = *from;
+        Ok(())
+    }
+
+    fn write_run(&mut self, at: u64, from: &[Page]) -> Result<(), Failed>
+        requires few { length from.now ≤ run_pages }
+        requires within { at + length from.now ≤ (view_of self.old).size }
+        ensures written { OnOk result (IsTold (view_of self.old).disk
+            → Told (view_of self.new).disk (HoldsRun at from.now)) }
+        ensures counts { (view_of self.new).writes ≡ counted (view_of self.old).writes }
+        ensures did { WritesPages (IsWithin at (length from.now)) 1
+            (view_of self.old) (view_of self.new) result }
+        ensures numbered { IsNumbered self.old self.new result }
+    {
+        self.writes = self.writes.saturating_add(1);
+        let fails = self.calls.next_fails();
+        for (k, page) in from.iter().enumerate() {
+            let place = at + k as u64;
+            if fails {
+                self.tear(place);
+            } else if self.put(place, page).is_err() {
+                return Err(failed(&mut self.faults));
+            }
+        }
+        if fails {
+            return Err(failed(&mut self.faults));
+        }
         Ok(())
     }
 
