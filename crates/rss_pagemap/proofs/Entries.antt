@@ -1,11 +1,8 @@
 -- The entries of a page, one of them written.
-use Rattle.std.proofs.Common.{◌≡◌, ◌≢◌, inl, inr, ℕ, ◌+◌, ◌-◌, ◌*◌, ◌<◌, ◌≤◌, List, ◌++◌, length, take, drop, replicate, ◌∙◌, ap, arith, length-take-le, length-drop, length-append, append_assoc}
+use Rattle.std.proofs.Common.{◌≡◌, ◌≢◌, inl, inr, ℕ, ◌+◌, ◌-◌, ◌*◌, ◌<◌, ◌≤◌, List, ◌++◌, length, take, drop, ◌∙◌, ap, arith, length-take-le, length-drop, length-append, append_assoc}
 use Rattle.std.proofs.lemmas.Bool.{cases_lt}
-use Rattle.std.proofs.lemmas.List.{drop_at, take_at, drop-append-le, take-append-le, drop-take, take-take, drop-drop, take-replicate, drop-replicate}
+use Rattle.std.proofs.lemmas.List.{drop_at, take_at, drop-append-le, take-append-le, drop-take, take-take, drop-drop}
 use Rattle.std.proofs.Math.Seq.{drop-append-add}
-
-pub zero_entry : (k : ℕ) → k < 512 → take 8 (drop (8 * k) (replicate {A = ℕ} 4096 0)) ≡ replicate 8 0
-zero_entry k within = ap (λ (l : List ℕ). take 8 l) (drop-replicate (8 * k) 4096 0) ∙ take-replicate 8 (4096 - 8 * k) 0 (omega arith)
 
 pub entry_put : (page bytes : List ℕ) (j : ℕ) → length bytes ≡ 8 → 8 * j + 8 ≤ length page → take 8 (drop (8 * j) (take (8 * j) page ++ bytes ++ drop (8 * j + length bytes) page)) ≡ bytes
 entry_put page bytes j eight within =

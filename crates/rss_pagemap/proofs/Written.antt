@@ -1,16 +1,19 @@
--- A page of a map area as it is made, and an area as it is written page by page.
-use Rattle.std.proofs.Common.{◌≡◌, ◌≢◌, inl, inr, ℕ, ◌+◌, ◌*◌, ◌/◌, ◌%◌, ◌<◌, ◌≤◌, List, [], ◌++◌, length, take, drop, set, replicate, Option, Some, None, IfSome, refl, sym, ◌∙◌, ap, subst, arith, length-take-le, length-drop, length-append, length-set, get_or-set_same, get_or-set_other}
-use Rattle.std.proofs.lemmas.Bool.{cases_eq}
+-- A page of a map area as it is made, and an area as it is written run by run.
+use Rattle.std.proofs.Common.{◌≡◌, inl, inr, ℕ, ◌+◌, ◌-◌, ◌*◌, ◌/◌, ◌%◌, ◌<◌, ◌≤◌, List, ◌++◌, length, take, drop, Option, Some, None, IfSome, refl, sym, ◌∙◌, ap, subst, arith}
+use Rattle.std.proofs.lemmas.Bool.{cases_eq, cases_lt}
 use Rattle.std.proofs.lemmas.List.{get_or_past}
 use Rattle.std.proofs.lemmas.Nat.{row_fits}
 use Rattle.std.specs.Prelude.{Result}
-use Rattle.rss_base.specs.DiskRule.{Pages, Places, page, SameOff, IsWithin}
+use Rattle.rss_base.specs.DiskRule.{Pages, Places, page, SameOff, IsWithin, IsRewrittenIn}
+use Rattle.rss_base.specs.Runs.{HoldsRun}
 use Rattle.rss_base.specs.Devices.{DeviceView, WritesPages}
 use Rattle.rss_base.specs.declared.fault.Failed.{Failed}
 use Rattle.rss_base.specs.Layout.{map_pages, map_at, log_at}
 use Rattle.rss_base.specs.PageMap.{IsTable, owner_of, entry_bytes, entry_at, HoldsMap}
 use Rattle.rss_base.specs.declared.key.PageKey.{PageKey}
-use Rattle.rss_pagemap.proofs.Entries.{zero_entry, entry_put, entry_kept}
+use Rattle.rss_base.proofs.Moments.{changed_then, changed_among}
+use Rattle.rss_pagemap.specs.Spelling.{HasEntries, HasPages}
+use Rattle.rss_pagemap.proofs.Entries.{entry_put, entry_kept}
 
 -- more writes are allowed
 pub wrote_within : {T : Type 0} {places : Places} {count more : ℕ} {old new : DeviceView} {result : Result T Failed} → count ≤ more → WritesPages places count old new result → WritesPages places more old new result
@@ -20,47 +23,16 @@ entry_long : (owner : Option PageKey) → length (entry_bytes owner) ≡ 8
 entry_long None = refl
 entry_long (Some key) = refl
 
--- the entries of so many slots, from one on, and then zeros
-pub record HasEntries (owners : List (Option PageKey)) (base place : ℕ) (page : List ℕ) : Type 0 where
-  pub long : length page ≡ 4096
-  pub written : (k : ℕ) → k < place → take 8 (drop (8 * k) page) ≡ entry_bytes (owner_of owners (base + k))
-  pub rest : (k : ℕ) → place ≤ k → k < 512 → take 8 (drop (8 * k) page) ≡ replicate 8 0
-
-pub no_entries : (owners : List (Option PageKey)) (base : ℕ) → HasEntries owners base 0 (replicate 4096 0)
-no_entries owners base = record {
-  long = refl;
-  written = λ k lt. absurd (omega arith);
-  rest = λ k past within. zero_entry k within;
-}
-
 -- the next entry is written
-pub entries_put : (owners : List (Option PageKey)) (base place slot start : ℕ) (page bytes new : List ℕ) → place < 512 → HasEntries owners base place page → slot ≡ base + place → start ≡ 8 * place → bytes ≡ entry_bytes (owner_of owners slot) → new ≡ take start page ++ bytes ++ drop (start + length bytes) page
-    → HasEntries owners base (place + 1) new
-entries_put owners base place slot start page bytes new within has at_slot at_start is put =
-    let spelled : bytes ≡ entry_bytes (owner_of owners (base + place)) = is ∙ ap (λ (n : ℕ). entry_bytes (owner_of owners n)) at_slot in
-    let eight : length bytes ≡ 8 = ap (λ (l : List ℕ). length l) is ∙ entry_long (owner_of owners slot) in
-    let long = has.long in
+pub entries_put : (owners : List (Option PageKey)) (first place start : ℕ) (page bytes new : List ℕ) → place < 512 → length page ≡ 4096 → HasEntries owners first place page → start ≡ 8 * place → bytes ≡ entry_bytes (owner_of owners (first + place)) → new ≡ take start page ++ bytes ++ drop (start + length bytes) page
+    → HasEntries owners first (place + 1) new
+entries_put owners first place start page bytes new within long has at_start is put k lt =
+    let eight : length bytes ≡ 8 = ap (λ (l : List ℕ). length l) is ∙ entry_long (owner_of owners (first + place)) in
     let made : new ≡ take (8 * place) page ++ bytes ++ drop (8 * place + length bytes) page = put ∙ ap (λ (n : ℕ). take n page ++ bytes ++ drop (n + length bytes) page) at_start in
-    let kept = λ (k : ℕ) (other : k ≢ place). ap (λ (l : List ℕ). take 8 (drop (8 * k) l)) made ∙ entry_kept page bytes place k eight (omega arith) other in
-    record {
-      long = ap (λ (l : List ℕ). length l) made ∙ omega (arith, length-append (take (8 * place) page ++ bytes) (drop (8 * place + length bytes) page), length-append (take (8 * place) page) bytes, length-take-le (8 * place) page (omega arith), length-drop (8 * place + length bytes) page);
-      written = λ k lt. elim (cases_eq k place) [
-        | inl here ↦ subst (λ (n : ℕ). take 8 (drop (8 * n) new) ≡ entry_bytes (owner_of owners (base + n))) (sym here) (ap (λ (l : List ℕ). take 8 (drop (8 * place) l)) made ∙ entry_put page bytes place eight (omega arith) ∙ spelled)
-        | inr other ↦ kept k other ∙ has.written k (omega (arith, other))
-      ];
-      rest = λ k past few. kept k (λ here. omega (arith, here)) ∙ has.rest k (omega arith) few;
-    }
-
--- behind the last slot there is none to write
-pub entries_skip : (owners : List (Option PageKey)) (base place slot : ℕ) (page : List ℕ) → place < 512 → HasEntries owners base place page → slot ≡ base + place → length owners ≤ slot → HasEntries owners base (place + 1) page
-entries_skip owners base place slot page within has at_slot past = record {
-  long = has.long;
-  written = λ k lt. elim (cases_eq k place) [
-    | inl here ↦ has.rest k (omega (arith, here)) (omega (arith, here)) ∙ ap entry_bytes (sym (get_or_past owners (base + k) None (omega (arith, here))))
-    | inr other ↦ has.written k (omega (arith, other))
-  ];
-  rest = λ k le few. has.rest k (omega arith) few;
-}
+    ap (λ (l : List ℕ). take 8 (drop (8 * k) l)) made ∙ elim (cases_eq k place) [
+      | inl here ↦ subst (λ (n : ℕ). take 8 (drop (8 * n) (take (8 * place) page ++ bytes ++ drop (8 * place + length bytes) page)) ≡ entry_bytes (owner_of owners (first + n))) (sym here) (entry_put page bytes place eight (omega arith) ∙ is)
+      | inr other ↦ entry_kept page bytes place k eight (omega arith) other ∙ has k (omega (arith, other))
+    ]
 
 -- ---- an area
 
@@ -72,34 +44,22 @@ pub record IsWrittenTo (before : Pages) (first : ℕ) (owners : List (Option Pag
   pub after : Pages
   pub told : contents ≡ Some after
   pub same : SameOff (IsWithin first (map_pages (length owners))) before after
-  pub entries : (s : ℕ) → s < 512 * count → entry_at after first s ≡ entry_bytes (owner_of owners s)
+  pub written : (k : ℕ) → k < count → HasEntries owners (512 * k) 512 (page after (first + k))
 
-pub none_written : (before : Pages) (first : ℕ) (owners : List (Option PageKey)) (contents : Option Pages) → contents ≡ Some before → IsWrittenTo before first owners 0 contents
-none_written before first owners contents told = record {
-  after = before;
-  told = told;
-  same = record { size = refl; others = λ q off. refl };
-  entries = λ s lt. absurd (omega arith);
-}
-
-pub more_written : (before : Pages) (first : ℕ) (owners : List (Option PageKey)) (count at : ℕ) (contents new : Option Pages) (bytes : List ℕ) → first + map_pages (length owners) ≤ length before → count < map_pages (length owners) → at ≡ first + count
-    → ((k : ℕ) → k < 512 → take 8 (drop (8 * k) bytes) ≡ entry_bytes (owner_of owners (512 * count + k))) → (so_far : IsWrittenTo before first owners count contents) → new ≡ Some (set so_far.after at bytes) → IsWrittenTo before first owners (count + 1) new
-more_written before first owners count at contents new bytes room within is spells so_far now = record {
-  after = set so_far.after at bytes;
-  told = now;
-  same = record {
-    size = length-set so_far.after at bytes ∙ so_far.same.size;
-    others = λ q off. get_or-set_other so_far.after at q bytes [] (λ here. off (omega (arith, here), omega (arith, here))) ∙ so_far.same.others q off;
-  };
-  entries = λ s lt. elim (cases_eq (s / 512) count) [
-    | inl last ↦
-        ap (λ (n : ℕ). take 8 (drop (8 * (s % 512)) (page (set so_far.after at bytes) n))) (omega (arith, last))
-        ∙ ap (λ (l : List ℕ). take 8 (drop (8 * (s % 512)) l)) (get_or-set_same so_far.after at bytes [] (omega (arith, so_far.same.size)))
-        ∙ spells (s % 512) (omega arith)
-        ∙ ap (λ (n : ℕ). entry_bytes (owner_of owners n)) (omega (arith, last))
-    | inr other ↦
-        ap (λ (l : List ℕ). take 8 (drop (8 * (s % 512)) l)) (get_or-set_other so_far.after at (first + s / 512) bytes [] (λ here. other (omega (arith, here))))
-        ∙ so_far.entries s (omega (arith, other))
+-- a run is written
+pub more_written : {before : Pages} {first : ℕ} {owners : List (Option PageKey)} {count more : ℕ} {contents new : Option Pages} (run : Pages) (at : ℕ) → at ≡ first + count → more ≡ length run → count + more ≤ map_pages (length owners) → HasPages owners count more run
+    → (so_far : IsWrittenTo before first owners count contents) → (kept : IsRewrittenIn (IsWithin at (length run)) so_far.after new) → HoldsRun at run kept.after → IsWrittenTo before first owners (count + more) new
+more_written {first = first} {owners = owners} {count = count} run at begins long within has so_far kept holds = record {
+  after = kept.after;
+  told = kept.told;
+  same = changed_then so_far.same (changed_among (λ q is. (omega (arith, is), omega (arith, is))) kept.same);
+  written = λ k lt. elim (cases_lt k count) [
+    | inl before ↦ subst (HasEntries owners (512 * k) 512) (sym (kept.same.others (first + k) (λ inside. omega (arith, inside)))) (so_far.written k before)
+    | inr past ↦
+        let here : first + k ≡ at + (k - count) = omega arith in
+        let same : page kept.after (first + k) ≡ page run (k - count) = ap (page kept.after) here ∙ holds (k - count) (omega arith) in
+        let slots : 512 * k ≡ 512 * (count + (k - count)) = omega arith in
+        subst (HasEntries owners (512 * k) 512) (sym same) (subst (λ (n : ℕ). HasEntries owners n 512 (page run (k - count))) (sym slots) (has (k - count) (omega arith)))
   ];
 }
 
@@ -112,13 +72,16 @@ all_written before first owners contents table so_far = record {
   map = record {
     count = refl;
     begins = record {
-      entries = λ s lt. record { spelled = so_far.entries s (omega arith); allowed = if_some (owner_of owners s) (table.allowed s) };
+      entries = λ s lt. record { spelled = spelled s (omega arith); allowed = if_some (owner_of owners s) (table.allowed s) };
       distinct = table.distinct;
     };
-    rest = λ s past within. so_far.entries s within ∙ ap entry_bytes (get_or_past owners s None past);
+    rest = λ s past within. spelled s within ∙ ap entry_bytes (get_or_past owners s None past);
   };
 }
   where
+    spelled : (s : ℕ) → s < 512 * map_pages (length owners) → entry_at so_far.after first s ≡ entry_bytes (owner_of owners s)
+    spelled s within = so_far.written (s / 512) (omega arith) (s % 512) (omega arith) ∙ ap (λ (n : ℕ). entry_bytes (owner_of owners n)) (omega arith)
+
     if_some : {P : PageKey → Type 0} (owner : Option PageKey) → ((key : PageKey) → owner ≡ Some key → P key) → IfSome owner P
     if_some None each = tt
     if_some (Some key) each = each key refl

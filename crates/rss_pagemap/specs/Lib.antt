@@ -4,4 +4,5 @@ pub use Rattle.rss_base.specs.Sizes
 pub use Rattle.rss_base.specs.Layout
 pub use Rattle.rss_base.specs.PageMap
 pub mod Places
+pub mod Spelling
 pub mod Taking

@@ -1,14 +1,17 @@
 // A table, written to a map area.
-ghost use Rattle.std.specs.Prelude.{◌≡◌, ◌+◌, ◌*◌, ◌/◌, ◌<◌, ◌≤◌, ℕ, length, take, drop, OnOk};
+ghost use Rattle.std.specs.Prelude.{◌≡◌, ◌+◌, ◌*◌, ◌/◌, ◌<◌, ◌≤◌, length, OnOk};
 ghost use Rattle.rss_base.specs.DiskRule.{Told};
 ghost use Rattle.rss_base.specs.Devices.{WritesPages};
 ghost use Rattle.rss_base.specs.Sizes.{map_entries, slots_most};
 ghost use Rattle.rss_base.specs.Layout.{map_pages, map_at, log_at, IsAreaPage};
 ghost use Rattle.rss_base.specs.PageMap.{owner_of, entry_bytes, HoldsMap};
+ghost use Rattle.rss_pagemap.specs.Spelling.{HasEntries, HasPages};
 
 use crate::SlotTable;
-use crate::entry::{ENTRY_BYTES, encode};
-use rss_base::{Device, ENTRIES_OF_PAGE, Failed, PAGE_BYTES, Page, map_at, map_pages, put_bytes};
+use crate::entry::{ENTRY_BYTES, Entry, encode};
+use rss_base::{
+    Device, ENTRIES_OF_PAGE, Failed, PAGE_BYTES, Page, RUN_PAGES, map_at, map_pages, put_bytes,
+};
 
 impl SlotTable {
     /// Writes the table to a map area, 0 or 1, and no other page. It is sure to outlast a stop only
@@ -24,28 +27,49 @@ impl SlotTable {
     {
         let slots = self.slots();
         let first = map_at(slots, area);
-        for at in 0..map_pages(slots) {
-            device.write(first + at, &self.page(at as u32))?;
+        let pages = map_pages(slots);
+        let mut buffer = [[0u8; PAGE_BYTES]; RUN_PAGES];
+        let mut done = 0u64;
+        while done < pages {
+            let count = (pages - done).min(RUN_PAGES as u64);
+            let run = &mut buffer[..count as usize];
+            self.fill_run(done as u32, run);
+            device.write_run(first + done, run)?;
+            done += count;
         }
         Ok(())
     }
 
-    /// A page of the map area: the entries of its slots, and zeros behind the last one.
-    fn page(&self, at: u32) -> Page
-        requires { at < slots_most / map_entries }
-        ensures { (k : ℕ) → k < map_entries
-            → take ENTRY_BYTES (drop (ENTRY_BYTES * k) result)
-            ≡ entry_bytes (owner_of self.now (map_entries * at + k)) }
+    /// Fills pages with those of the map area, from this one on.
+    fn fill_run(&self, at: u32, run: &mut [Page])
+        requires { at + length run.old ≤ slots_most / map_entries }
+        ensures { HasPages self.now at (length run.new) run.new }
     {
-        let mut page = [0u8; PAGE_BYTES];
+        for (place, page) in run.iter_mut().enumerate() {
+            self.fill_page(at + place as u32, page);
+        }
+    }
+
+    /// Fills a page with the entries of its slots, and zeros behind the last one.
+    fn fill_page(&self, at: u32, page: &mut Page)
+        requires { at < slots_most / map_entries }
+        ensures { HasEntries self.now (map_entries * at) map_entries page.new }
+    {
         let first = at * ENTRIES_OF_PAGE;
         for place in 0..ENTRIES_OF_PAGE {
-            let slot = first + place;
-            if slot < self.slots() {
-                let entry = encode(self.owner(slot));
-                put_bytes(&mut page, place as usize * ENTRY_BYTES, &entry);
-            }
+            let entry = self.entry(first + place);
+            put_bytes(page, place as usize * ENTRY_BYTES, &entry);
         }
-        page
+    }
+
+    /// The entry of a slot, or zeros behind the last one.
+    fn entry(&self, slot: u32) -> Entry
+        ensures { result ≡ entry_bytes (owner_of self.now slot) }
+    {
+        if slot < self.slots() {
+            encode(self.owner(slot))
+        } else {
+            [0; ENTRY_BYTES]
+        }
     }
 }
