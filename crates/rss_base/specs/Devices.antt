@@ -9,7 +9,8 @@ use Rattle.rss_base.specs.declared.fault.OpenFault.TheVariants.{Device as Device
 -- disk: what it tells of its pages: what a read gives, and what a stop at each moment may leave.
 -- size: how many pages there are. A device that tells nothing has as many as its last `size` or
 -- `set_size` said.
--- writes, faults: how many writes there were, and how often it failed, counted up to 2 ^ 64 - 1.
+-- writes, faults: how many writes there were, each of a page or of a run of pages, and how often it
+-- failed, counted up to 2 ^ 64 - 1.
 pub record DeviceView : Type 1 where
   pub disk : Disk
   pub size : ℕ

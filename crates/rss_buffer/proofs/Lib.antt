@@ -1,6 +1,7 @@
 pub mod Lookups
 pub mod Loose
 pub mod Turns
+pub mod Runs
 pub mod Waits
 pub mod Changed
 pub mod Noted

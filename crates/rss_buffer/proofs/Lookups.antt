@@ -187,10 +187,6 @@ module _ (entries : List (PageKey × Kept)) (key : PageKey) where
   pub frame_in-promoted-set_value : (box : Kept) → IsApart compared entries → IsSome (frame_in entries key) → frame_in (set_value (compared key) (promoted (compared key) entries) box) ≡ with_frame (frame_in entries) key (Some box.value)
   frame_in-promoted-set_value box = rw compared-is_same (λ apart there. unboxed_by entries _ key (Some box) (written_first entries key box apart (IsSome-unboxed (entry_in entries key) there)))
 
-  -- a page of which nothing was changed
-  pub frame_in-set_same : (box : Kept) → frame_in entries key ≡ Some box.value → frame_in (set_value (compared key) entries box) ≡ frame_in entries
-  frame_in-set_same box at = frame_in-set_value box (ap (λ o. is_some o) at) ∙ with_frame-itself (frame_in entries) key (Some box.value) at
-
   -- a frame that is noted to stand in its slot
   pub settled_now : (box : Kept) (frame : Frame) → frame_in entries key ≡ Some box.value → frame ≡ box.value → frame_in (set_value (compared key) entries (with_value box (record { page = frame.page; changed = false }))) ≡ with_frame (frame_in entries) key (Some (unchanged box.value))
   settled_now box frame at same =

@@ -1,6 +1,6 @@
 -- What is written to the slots and to a map area, and what a switch then selects.
 use Rattle.std.proofs.Common.{◌≡◌, inl, inr, ℕ, ◌+◌, ◌<◌, Bool, true, false, List, [], length, set, Option, Some, None, option_map, refl, sym, ◌∙◌, ap, subst, arith, length-set, get_or-set_other, get_or-set_same}
-use Rattle.std.proofs.lemmas.Bool.{cases_eq}
+use Rattle.std.proofs.lemmas.Bool.{cases_eq, cases_Bool}
 use Rattle.std.proofs.lemmas.Option.{same_Some}
 use Rattle.rss_base.specs.Devices.{DeviceView}
 use Rattle.rss_base.specs.DiskRule.{Disk, Pages, page, Told, IsTold, SameOff, Places, IsWithin, WritesIn}
@@ -8,7 +8,7 @@ use Rattle.rss_base.specs.Layout.{map_pages, map_at, IsAreaPage, slots_at, devic
 use Rattle.rss_base.specs.PageMap.{owner_of, HoldsMap}
 use Rattle.std.specs.Prelude.{Result, Ok, Err, IsErr, IfErr}
 use Rattle.rss_base.specs.Faults.{HasCause, Rises}
-use Rattle.rss_base.specs.Paged.{Held, HasPageCause}
+use Rattle.rss_base.specs.Paged.{Held, AreAmong, HasPageCause}
 use Rattle.rss_base.specs.declared.fault.Failed.{Failed}
 use Rattle.rss_base.specs.declared.fault.PageFault.{PageFault}
 use Rattle.rss_base.specs.declared.fault.PageFault.TheVariants.{Device as DeviceFailed}
@@ -22,39 +22,39 @@ use Rattle.rss_buffer.specs.Saving.{SavingStep, SavingCall}
 use Rattle.rss_buffer.specs.Views.{pages_view, saving_view}
 use Rattle.rss_buffer.specs.declared.stage.Stage.{Stage}
 use Rattle.rss_buffer.specs.declared.stage.Stage.TheVariants.{Saved, Switched}
-use Rattle.rss_buffer.specs.Frames.{FrameOf}
+use Rattle.rss_buffer.specs.Frames.{FrameOf, waiting_in}
+use Rattle.rss_buffer.specs.Gathered.{IsWritten}
 use Rattle.rss_buffer.specs.Slots.{held_in, held_by}
 use Rattle.rss_base.specs.StoredPages.{mapped_by}
-use Rattle.rss_buffer.specs.Buffered.{BufferView, NoneChanged, HoldsMapAt, IsAtStage, IsBuffer, held_of, unchanged, with_unchanged, IsLoose, WritesLoose, KeepsPages, WritesPages}
+use Rattle.rss_buffer.specs.Buffered.{BufferView, NoneChanged, HoldsMapAt, IsAtStage, IsBuffer, held_of, IsLoose, WritesLoose, KeepsPages, WritesPages}
 use Rattle.rss_buffer.specs.Saved.{IsSaveable, AreWritten}
 use Rattle.rss_base.specs.StoredPages.{StandInSlots, SavesPages, HoldsPages}
 use Rattle.rss_shadow.proofs.Owned.{slot_of-owned, HasPage-mapped}
-use Rattle.rss_buffer.proofs.Turns.{with_frame-cases}
+use Rattle.rss_buffer.proofs.Waits.{changed-waits, clean-waits}
 use Rattle.rss_notes.specs.Notes.{NotesView}
 use Rattle.rss_buffer.proofs.Elsewhere.{held_after, same_map, below_log, above_roots}
 
 -- ---- the changed pages
 
--- one page more stands in its slot
-unchanged_frame : (before : Option Frame) (frame : Frame) → option_map unchanged before ≡ Some frame → frame.changed ≡ false
-unchanged_frame None frame is = absurd (cc)
-unchanged_frame (Some before) frame is = ap (λ (f : Frame). f.changed) (sym (same_Some (unchanged before) frame is))
-
-pub one_written : (owners : List (Option PageKey)) (frames frames_now : FrameOf) (slot : ℕ) (key : PageKey) → owner_of owners slot ≡ Some key → frames_now ≡ with_unchanged frames key → AreWritten owners frames slot → AreWritten owners frames_now (slot + 1)
-one_written owners frames frames_now slot key is now before = λ s other frame lt owned here.
-    elim (with_frame-cases frames key (option_map unchanged (frames key)) other frame (ap (λ (f : FrameOf). f other) (sym now) ∙ here)) [
-      | inl same ↦ unchanged_frame (frames key) frame same.1
-      | inr apart ↦ elim (cases_eq s slot) [
-        | inl at ↦ absurd (apart.0 (same_Some other key (sym owned ∙ ap (owner_of owners) at ∙ is)))
-        | inr off ↦ before s other frame (omega (arith, off)) owned apart.1
-      ]
-    ]
+-- one slot more, once its page is written, and no page waits more
+pub one_written : (owners : List (Option PageKey)) (frames frames_now : FrameOf) (slot : ℕ) → IsWritten owners frames_now slot → AreAmong (waiting_in frames_now) (waiting_in frames) → AreWritten owners frames slot → AreWritten owners frames_now (slot + 1)
+one_written owners frames frames_now slot now fewer before = λ s lt. elim (cases_eq s slot) [
+  | inl at ↦ subst (IsWritten owners frames_now) (sym at) now
+  | inr off ↦ λ key frame owned here. elim (cases_Bool frame.changed) [
+    | inl changed ↦
+        let waited = fewer key (changed-waits frames_now key frame here changed) in
+        let clean = clean-waits frames key (λ f there. before s (omega (arith, off)) key f owned there) in
+        let no : true ≡ false = sym waited ∙ clean in
+        absurd (cc)
+    | inr clean ↦ clean
+  ]
+]
 
 -- the pages of all slots
 pub all_written : (owners : List (Option PageKey)) (frames : FrameOf) (limit : ℕ) → limit ≡ length owners → ((key : PageKey) (frame : Frame) → frames key ≡ Some frame → mapped_by owners key ≡ true) → AreWritten owners frames limit → NoneChanged frames
 all_written owners frames limit all mapped written = λ key frame here.
     let has = HasPage-mapped owners key (mapped key frame here) in
-    written has.slot key frame (omega (arith, all, owned_within owners has.slot key has.owned)) has.owned here
+    written has.slot (omega (arith, all, owned_within owners has.slot key has.owned)) key frame has.owned here
 
 -- ---- pages in their slots
 

@@ -1,6 +1,6 @@
 -- What moving pages between memory and their slots does to a buffer.
-use Rattle.std.proofs.Common.{◌≡◌, ◌≢◌, ◌⊎◌, inl, inr, ℕ, ◌+◌, ◌<◌, ◌≤◌, Bool, true, false, List, [], length, Option, Some, None, refl, sym, ◌∙◌, ap, subst, arith, get_or-set_same}
-use Rattle.std.specs.Prelude.{is_some, option_map, slice_set, Result, Ok, Err, is_err, IsErrAnd, OnOk, OnErr}
+use Rattle.std.proofs.Common.{◌≡◌, ◌≢◌, ◌⊎◌, inl, inr, ℕ, ◌+◌, ◌≤◌, Bool, true, false, List, Option, Some, None, refl, sym, ◌∙◌, ap, subst, arith}
+use Rattle.std.specs.Prelude.{is_some, option_map, Result, Ok, Err, is_err, IsErrAnd, OnOk, OnErr}
 use Rattle.std.proofs.lemmas.Result.{err_from_is_err_and, on_ok_weaker}
 use Rattle.rss_base.specs.declared.fault.PageFault.{PageFault}
 use Rattle.rss_base.specs.declared.fault.PageFault.TheVariants.{Device as DeviceFailed, Damaged}
@@ -8,38 +8,36 @@ use Rattle.std.proofs.Math.Path.{fun_ext}
 use Rattle.std.proofs.lemmas.Bool.{cases_Bool, cond-true, cond-false}
 use Rattle.std.proofs.lemmas.Option.{same_Some}
 use Rattle.rss_base.specs.Devices.{DeviceView, OnlyReads}
-use Rattle.rss_base.specs.DiskRule.{Disk, Pages, page, Told, IsTold, IsAt, WritesIn}
+use Rattle.rss_base.specs.DiskRule.{Disk, Pages, page, Told, IsTold}
 use Rattle.rss_base.specs.PageMap.{owner_of}
 use Rattle.rss_base.specs.Paged.{is_same, AreAmong, HasPageCause}
 use Rattle.rss_base.specs.declared.key.PageKey.{PageKey}
-use Rattle.rss_base.proofs.Moments.{only_stays, reads_none, reads_then, writes_none, writes_nothing, writes_one, writes_then}
+use Rattle.rss_base.proofs.Moments.{only_stays, reads_none, reads_then, writes_none, writes_nothing, writes_then}
 use Rattle.rss_notes.specs.Notes.{NotesView}
 use Rattle.rss_shadow.specs.Maps.{Maps}
-use Rattle.rss_shadow.proofs.Counts.{owned_within}
 use Rattle.rss_buffer.specs.declared.frames.Frame.{Frame}
 use Rattle.rss_buffer.specs.declared.stage.Stage.{Stage}
-use Rattle.rss_buffer.specs.declared.stage.Stage.TheVariants.{Changing, Saved, Switched}
 use Rattle.rss_buffer.specs.Frames.{FrameOf, with_frame, waiting_in}
 use Rattle.rss_buffer.specs.Slots.{held_in, held_by}
 use Rattle.rss_base.specs.StoredPages.{slot_of, mapped_by}
-use Rattle.rss_buffer.specs.Buffered.{BufferView, NoneChanged, AreFrames, AreClean, StaysFixed, IsAtStage, AreLaidOut, AreNotesOf, IsBuffer, IsLoose, held_of, unchanged, with_unchanged, WritesLoose, KeepsPages, MovesPages, WritesPages}
+use Rattle.rss_buffer.specs.Buffered.{BufferView, NoneChanged, AreFrames, AreClean, StaysFixed, IsAtStage, AreLaidOut, AreNotesOf, IsBuffer, held_of, WritesLoose, KeepsPages, MovesPages, WritesPages}
 use Rattle.rss_base.proofs.Calls.{leaves_then, leaves_rests}
 use Rattle.rss_base.proofs.Keys.{is_same-true, is_same-itself, owner_of-slot_of}
 use Rattle.rss_buffer.proofs.Lookups.{with_frame-same}
 use Rattle.rss_shadow.proofs.Owned.{mapped-owned}
 use Rattle.rss_buffer.proofs.Waits.{waits-less, waits-alike, none-waits, none-among, settles-rests, settles-then, settles-count, settles-writes}
-use Rattle.rss_buffer.proofs.Loose.{IsLoose-slot, StaysFixed-writes, LeavesFixed-writes}
+use Rattle.rss_buffer.proofs.Loose.{StaysFixed-writes, LeavesFixed-writes}
 
 -- ---- what pages hold
 
-held-same : (first : ℕ) (owners : List (Option PageKey)) (frames frames_now : FrameOf) (pages pages_now : Pages) → ((key : PageKey) (slot : ℕ) → owner_of owners slot ≡ Some key → held_in (frames_now key) (page pages_now (first + slot)) ≡ held_in (frames key) (page pages (first + slot))) → held_by first owners frames_now (Some pages_now) ≡ held_by first owners frames (Some pages)
+pub held-same : (first : ℕ) (owners : List (Option PageKey)) (frames frames_now : FrameOf) (pages pages_now : Pages) → ((key : PageKey) (slot : ℕ) → owner_of owners slot ≡ Some key → held_in (frames_now key) (page pages_now (first + slot)) ≡ held_in (frames key) (page pages (first + slot))) → held_by first owners frames_now (Some pages_now) ≡ held_by first owners frames (Some pages)
 held-same first owners frames frames_now pages pages_now alike = fun_ext (λ key. by (slot_of owners key) _ _ (λ s is. alike key s (owner_of-slot_of owners key s is)))
   where
     by : (o : Option ℕ) (f g : ℕ → List ℕ) → ((s : ℕ) → o ≡ Some s → f s ≡ g s) → option_map f o ≡ option_map g o
     by None f g alike = refl
     by (Some s) f g alike = ap Some (alike s refl)
 
-held_in-same : (frame : Option Frame) (bytes bytes_now : List ℕ) → (frame ≡ None → bytes_now ≡ bytes) → held_in frame bytes_now ≡ held_in frame bytes
+pub held_in-same : (frame : Option Frame) (bytes bytes_now : List ℕ) → (frame ≡ None → bytes_now ≡ bytes) → held_in frame bytes_now ≡ held_in frame bytes
 held_in-same None bytes bytes_now same = same refl
 held_in-same (Some frame) bytes bytes_now same = refl
 
@@ -76,9 +74,6 @@ none_more frames key frame other same none = elim (cases_Bool (is_same other key
   | inl here ↦ cond-true (is_same other key) frame (frames other) here ∙ same (ap frames (sym (is_same-true other key here)) ∙ none)
   | inr off ↦ cond-false (is_same other key) frame (frames other) off ∙ none
 ]
-
-pub none_more-unchanged : (frames frames_now : FrameOf) (key other : PageKey) → frames_now ≡ with_unchanged frames key → frames other ≡ None → frames_now other ≡ None
-none_more-unchanged frames frames_now key other now none = ap (λ (f : FrameOf). f other) now ∙ none_more frames key _ other (λ is. ap (option_map unchanged) is) none
 
 pub none_more-removed : (frames frames_now : FrameOf) (key other : PageKey) → frames_now ≡ with_frame frames key None → frames other ≡ None → frames_now other ≡ None
 none_more-removed frames frames_now key other now none = ap (λ (f : FrameOf). f other) now ∙ none_more frames key None other (λ is. refl) none
@@ -191,10 +186,10 @@ module _ {b : BufferView} (buffer : IsBuffer b) where
     }
 
     -- what one leaves that writes loose pages alone
-    IsBuffer-writes : WritesLoose b.first b.maps.shadow b.device.disk device.disk → device.size ≡ b.device.size → AreFrames b.maps frames → Told device.disk (AreClean b.first b.maps frames) → IsAtStage (record b { device = device; frames = frames }) → IsBuffer (record b { device = device; frames = frames })
+    pub IsBuffer-writes : WritesLoose b.first b.maps.shadow b.device.disk device.disk → device.size ≡ b.device.size → AreFrames b.maps frames → Told device.disk (AreClean b.first b.maps frames) → IsAtStage (record b { device = device; frames = frames }) → IsBuffer (record b { device = device; frames = frames })
     IsBuffer-writes loose same are clean = IsBuffer-after same are clean (λ is. StaysFixed-writes b.first b.maps.shadow b.device.disk device.disk loose (buffer.fixed is))
 
-    KeepsPages-writes : WritesLoose b.first b.maps.shadow b.device.disk device.disk → (NoneChanged b.frames → OnlyReads b.device device) → AreAmong (waiting_in frames) (waiting_in b.frames) → b.device.writes ≤ device.writes → b.device.faults ≤ device.faults → (IsTold b.device.disk → held_by b.first b.maps.current frames device.disk.contents ≡ held_of b) → KeepsPages b (record b { device = device; frames = frames })
+    pub KeepsPages-writes : WritesLoose b.first b.maps.shadow b.device.disk device.disk → (NoneChanged b.frames → OnlyReads b.device device) → AreAmong (waiting_in frames) (waiting_in b.frames) → b.device.writes ≤ device.writes → b.device.faults ≤ device.faults → (IsTold b.device.disk → held_by b.first b.maps.current frames device.disk.contents ≡ held_of b) → KeepsPages b (record b { device = device; frames = frames })
     KeepsPages-writes loose unwritten waiting more later held = record {
       first = refl;
       maps = refl;
@@ -211,101 +206,6 @@ module _ {b : BufferView} (buffer : IsBuffer b) where
       writes = more;
       later = later;
     }
-
-  -- ---- a page that was changed is written to its slot
-
-  module _ (key : PageKey) (frame : Frame) (slot : ℕ) (there : b.frames key ≡ Some frame) (changed : frame.changed ≡ true) (owned : owner_of b.maps.current slot ≡ Some key)
-      (device : DeviceView) (only : WritesIn (IsAt (b.first + slot)) b.device.disk device.disk) where
-    pub loose-back : WritesLoose b.first b.maps.shadow b.device.disk device.disk
-    loose-back = writes_one {places = IsLoose b.first b.maps.shadow} (IsLoose-slot b.first b.maps.shadow slot (buffer.frames_hold.own_slot key frame slot there changed owned)) only
-
-    -- no other page stands there
-    other_slot : (other : PageKey) (s : ℕ) → other ≢ key → owner_of b.maps.current s ≡ Some other → b.first + s ≢ b.first + slot
-    other_slot other s off is at =
-        let same : s ≡ slot = omega arith in
-        let here : Some other ≡ Some key = sym is ∙ ap (owner_of b.maps.current) same ∙ owned in
-        off (same_Some other key here)
-
-    held-written : (frames : FrameOf) → ((other : PageKey) (bytes : List ℕ) → held_in (frames other) bytes ≡ held_in (b.frames other) bytes) → IsTold b.device.disk → held_by b.first b.maps.current frames device.disk.contents ≡ held_of b
-    held-written frames alike is_told =
-        let written = only.kept is_told.pages is_told.is in
-        ap (held_by b.first b.maps.current frames) written.told
-        ∙ held-same b.first b.maps.current b.frames frames is_told.pages written.after (λ other s is.
-        alike other (page written.after (b.first + s)) ∙ held_in-same (b.frames other) (page is_told.pages (b.first + s)) (page written.after (b.first + s))
-        (λ none. written.same.others (b.first + s) (other_slot other s (λ at. let some : b.frames other ≡ Some frame = ap b.frames at ∙ there in cc) is)))
-        ∙ sym (ap (held_by b.first b.maps.current b.frames) is_told.is)
-
-    not_saved : (b.stage ≢ Changing) → ⊥
-    not_saved is = let clean = buffer.at_stage.none_changed is key frame there in let no : true ≡ false = sym changed ∙ clean in cc
-
-    -- that page waited
-    waited : NoneChanged b.frames → OnlyReads b.device device
-    waited none = let no : true ≡ false = sym changed ∙ none key frame there in absurd (cc)
-
-    at_stage-written : (frames : FrameOf) → IsAtStage (record b { device = device; frames = frames })
-    at_stage-written frames = record {
-      none_changed = λ is. absurd (not_saved is);
-      saved = λ area is. absurd (not_saved (λ at. let no : Saved area ≡ Changing = sym is ∙ at in cc));
-      synced = λ is. absurd (not_saved (λ at. let no : Switched ≡ Changing = sym is ∙ at in cc));
-    }
-
-    -- the pages of the other frames still stand in their slots
-    clean-others : (pages : Pages) (is : b.device.disk.contents ≡ Some pages) (other : PageKey) (f : Frame) (s : ℕ) → other ≢ key → b.frames other ≡ Some f → f.changed ≡ false → owner_of b.maps.current s ≡ Some other → f.page ≡ page (only.kept pages is).after (b.first + s)
-    clean-others pages is other f s off here clean owns = buffer.clean pages is other f s here clean owns ∙ sym ((only.kept pages is).same.others (b.first + s) (other_slot other s off owns))
-
-    -- the write failed
-    pub IsBuffer-failed : {frames : FrameOf} → frames ≡ b.frames → device.size ≡ b.device.size → IsBuffer (record b { device = device; frames = frames })
-    IsBuffer-failed now same = subst (λ (f : FrameOf). IsBuffer (record b { device = device; frames = f })) (sym now) (IsBuffer-writes loose-back same buffer.frames_hold (λ pages is other f s here clean owns.
-        let was = only.told.1 (record { pages = pages; is = is }) in
-        let after : (only.kept was.pages was.is).after ≡ pages = same_Some _ _ (sym (only.kept was.pages was.is).told ∙ is) in
-        let off : other ≢ key = λ at. let same_frame : frame ≡ f = same_Some _ _ (sym there ∙ ap b.frames (sym at) ∙ here) in let no : true ≡ false = sym changed ∙ ap (λ (x : Frame). x.changed) same_frame ∙ clean in cc in
-        clean-others was.pages was.is other f s off here clean owns ∙ ap (λ (p : Pages). page p (b.first + s)) after)
-        (at_stage-written b.frames))
-
-    pub KeepsPages-failed : {frames : FrameOf} → frames ≡ b.frames → b.device.writes ≤ device.writes → b.device.faults ≤ device.faults → KeepsPages b (record b { device = device; frames = frames })
-    KeepsPages-failed {frames = frames} now more later = KeepsPages-writes loose-back waited (waits-alike b.frames frames now) more later
-        (λ is_told. ap (λ (f : FrameOf). held_by b.first b.maps.current f device.disk.contents) now ∙ held-written b.frames (λ other bytes. refl) is_told)
-
-    -- it was written, and is noted as such
-    abbrev settled_frames : FrameOf
-    settled_frames = with_frame b.frames key (Some (unchanged frame))
-
-    held_in-settled : (other : PageKey) (bytes : List ℕ) → held_in (settled_frames other) bytes ≡ held_in (b.frames other) bytes
-    held_in-settled other bytes = elim (cases_Bool (is_same other key)) [
-      | inl here ↦
-          let at = is_same-true other key here in
-          ap (λ (k : PageKey). held_in (settled_frames k) bytes) at ∙ ap (λ (o : Option Frame). held_in o bytes) (with_frame-same b.frames key (Some (unchanged frame)))
-          ∙ sym (ap (λ (o : Option Frame). held_in o bytes) (ap b.frames at ∙ there))
-      | inr off ↦ ap (λ (o : Option Frame). held_in o bytes) (cond-false (is_same other key) (Some (unchanged frame)) (b.frames other) off)
-    ]
-
-    module _ {frames : FrameOf} (now : frames ≡ settled_frames) where
-      pub KeepsPages-written : b.device.writes ≤ device.writes → b.device.faults ≤ device.faults → KeepsPages b (record b { device = device; frames = frames })
-      KeepsPages-written more later = KeepsPages-writes loose-back waited (waits-less b.frames frames key (Some (unchanged frame)) now refl) more later
-          (λ is_told. ap (λ (f : FrameOf). held_by b.first b.maps.current f device.disk.contents) now ∙ held-written settled_frames held_in-settled is_told)
-
-      pub IsBuffer-written : {bytes : List ℕ} → device.size ≡ b.device.size → bytes ≡ frame.page → Told b.device.disk (λ pages. length pages ≡ b.device.size) → Told b.device.disk (λ pages. device.disk.contents ≡ Some (slice_set pages (b.first + slot) bytes)) → IsBuffer (record b { device = device; frames = frames })
-      IsBuffer-written {bytes = bytes} same from sized written =
-          subst (λ (f : FrameOf). IsBuffer (record b { device = device; frames = f })) (sym now)
-          (IsBuffer-writes loose-back same (AreFrames-put b.maps b.frames key (unchanged frame) buffer.frames_hold (buffer.frames_hold.mapped key frame there) refl) clean (at_stage-written settled_frames))
-        where
-          within : slot < length b.maps.current
-          within = owned_within b.maps.current slot key owned
-
-          clean : Told device.disk (AreClean b.first b.maps settled_frames)
-          clean pages is other f s here is_clean owns =
-              let was = only.told.1 (record { pages = pages; is = is }) in
-              elim (with_frame-cases b.frames key (Some (unchanged frame)) other f here) [
-                | inl at_key ↦
-                    let set : slice_set was.pages (b.first + slot) bytes ≡ pages = same_Some _ _ (sym (written was.pages was.is) ∙ is) in
-                    let long : b.first + slot < length was.pages = omega (arith, sized was.pages was.is, buffer.laid_out.ends, within) in
-                    let at : s ≡ slot = buffer.laid_out.table.distinct s slot key (owns ∙ ap Some at_key.0) owned in
-                    ap (λ (x : Frame). x.page) (sym (same_Some _ _ at_key.1)) ∙ sym from ∙ sym (get_or-set_same was.pages (b.first + slot) bytes [] long)
-                    ∙ ap (λ (p : Pages). page p (b.first + slot)) set ∙ ap (λ (t : ℕ). page pages (b.first + t)) (sym at)
-                | inr off ↦
-                    let after : (only.kept was.pages was.is).after ≡ pages = same_Some _ _ (sym (only.kept was.pages was.is).told ∙ is) in
-                    clean-others was.pages was.is other f s off.0 off.1 is_clean owns ∙ ap (λ (p : Pages). page p (b.first + s)) after
-              ]
 
   -- ---- nothing is written
 
@@ -496,29 +396,3 @@ WritesPages-fails {U = U} {old = old} {new = new} {fault = fault} result is call
       fault = call.fault;
       cause = cause_fails {U = U} (Err fault) refl call.cause;
     })
-
--- ---- a page after it was written to its slot, where it was in memory
-
--- it stands there
-pub unchanged-clean_at : (frames frames_now : FrameOf) (key : PageKey) → frames_now ≡ with_unchanged frames key → (frame : Frame) → frames_now key ≡ Some frame → frame.changed ≡ false
-unchanged-clean_at frames frames_now key now frame there = by (frames key) (sym (ap (λ (f : FrameOf). f key) now ∙ with_frame-same frames key (option_map unchanged (frames key))) ∙ there)
-  where
-    by : (o : Option Frame) → option_map unchanged o ≡ Some frame → frame.changed ≡ false
-    by None is = absurd (cc)
-    by (Some before) is = ap (λ (f : Frame). f.changed) (sym (same_Some (unchanged before) frame is))
-
--- it is there as before
-pub unchanged-there : (frames frames_now : FrameOf) (key : PageKey) → frames_now ≡ with_unchanged frames key → is_some (frames key) ≡ true → is_some (frames_now key) ≡ true
-unchanged-there frames frames_now key now there =
-    ap (λ (f : FrameOf). is_some (f key)) now ∙ ap (λ (o : Option Frame). is_some o) (with_frame-same frames key (option_map unchanged (frames key))) ∙ by (frames key) there
-  where
-    by : (o : Option Frame) → is_some o ≡ true → is_some (option_map unchanged o) ≡ true
-    by None is = absurd (cc)
-    by (Some frame) is = refl
-
--- nothing changes where it has no frame, or one that stands in its slot
-pub unchanged-same : (frames : FrameOf) (key : PageKey) → option_map unchanged (frames key) ≡ frames key → frames ≡ with_unchanged frames key
-unchanged-same frames key same = fun_ext (λ other. elim (cases_Bool (is_same other key)) [
-  | inl here ↦ ap frames (is_same-true other key here) ∙ sym same ∙ sym (cond-true (is_same other key) (option_map unchanged (frames key)) (frames other) here)
-  | inr off ↦ sym (cond-false (is_same other key) (option_map unchanged (frames key)) (frames other) off)
-])

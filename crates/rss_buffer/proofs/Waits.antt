@@ -7,7 +7,6 @@ use Rattle.lru.proofs.Splits.{Contains-cut, Contains-without}
 use Rattle.std.specs.List.{Contains}
 use Rattle.rss_base.specs.Paged.{Mapped, is_same, with_mapped, AreAmong, HasEach, WritesWaiting}
 use Rattle.rss_base.specs.declared.key.PageKey.{PageKey}
-use Rattle.rss_base.proofs.Keys.{is_same-itself}
 use Rattle.rss_buffer.specs.declared.frames.Frame.{Frame}
 use Rattle.rss_buffer.specs.Frames.{FrameOf, with_frame, is_changed, waiting_in, Settles}
 use Rattle.rss_buffer.specs.Buffered.{NoneChanged, unchanged}
@@ -39,12 +38,15 @@ pub unchanged-clean : (frame : Option Frame) → is_changed (option_map unchange
 unchanged-clean None = refl
 unchanged-clean (Some frame) = refl
 
-pub none-waits : (frames : FrameOf) → NoneChanged frames → (key : PageKey) → waiting_in frames key ≡ false
-none-waits frames none key = by (frames key) (none key)
+pub clean-waits : (frames : FrameOf) (key : PageKey) → ((frame : Frame) → frames key ≡ Some frame → frame.changed ≡ false) → waiting_in frames key ≡ false
+clean-waits frames key clean = by (frames key) clean
   where
     by : (o : Option Frame) → ((frame : Frame) → o ≡ Some frame → frame.changed ≡ false) → is_changed o ≡ false
     by None is = refl
     by (Some frame) is = is frame refl
+
+pub none-waits : (frames : FrameOf) → NoneChanged frames → (key : PageKey) → waiting_in frames key ≡ false
+none-waits frames none key = clean-waits frames key (none key)
 
 -- those that wait are among none
 pub none-among : {changed : Mapped} (frames : FrameOf) → AreAmong (waiting_in frames) changed → ((key : PageKey) → changed key ≡ false) → NoneChanged frames
@@ -70,26 +72,17 @@ settles-then one two = record {
       (second.0, second.1, omega (arith, first.2, second.2));
 }
 
-apart : (waiting : Mapped) (key other : PageKey) → with_mapped waiting key false other ≡ true → key ≡ other → ⊥
-apart waiting key other is at =
-    let here : is_same other key ≡ true = ap (λ (k : PageKey). is_same k key) (sym at) ∙ is_same-itself key in
-    let no = sym (cond-true (is_same other key) false (waiting other) here) ∙ is in
-    cc
-
-left : (frames frames_now : FrameOf) (key : PageKey) (keys us vs : List PageKey) → waiting_in frames_now ≡ with_mapped (waiting_in frames) key false → HasEach keys (waiting_in frames) → keys ≡ us ++ key ∷ vs → HasEach (us ++ vs) (waiting_in frames_now)
-left frames frames_now key keys us vs now has is = λ other still.
-    let was = sym (ap (λ (w : Mapped). w other) now) ∙ still in
-    let there = has other (among-less (waiting_in frames) key other was) in
-    ⊎_elim (λ at. absurd (apart (waiting_in frames) key other was at)) (λ rest. rest) (Contains-without us key vs other (subst (λ (k : List PageKey). Contains k other) is there))
-
--- a page that waited is written
-pub settles-one : (frames frames_now : FrameOf) (key : PageKey) (frame : Option Frame) (writes writes_now : ℕ) → waiting_in frames key ≡ true → frames_now ≡ with_frame frames key frame → is_changed frame ≡ false → writes_now ≤ writes + 1 → Settles (waiting_in frames) (waiting_in frames_now) writes writes_now
-settles-one frames frames_now key frame writes writes_now waits now clean few = record {
-  fewer = waits-less frames frames_now key frame now clean;
+-- pages that waited are written together
+pub settles-one : {waiting waiting_now : Mapped} {writes writes_now : ℕ} (key : PageKey) → waiting key ≡ true → waiting_now key ≡ false → AreAmong waiting_now waiting → writes_now ≤ writes + 1 → Settles waiting waiting_now writes writes_now
+settles-one {waiting_now = waiting_now} key waits settled fewer few = record {
+  fewer = fewer;
   each = λ keys has.
       let cut = Contains-cut keys key (has key waits) in
       let long : length keys ≡ length (cut.0 ++ cut.1) + 1 = omega (arith, ap (λ (k : List PageKey). length k) cut.2, length-append cut.0 (key ∷ cut.1), length-append cut.0 cut.1) in
-      (cut.0 ++ cut.1, left frames frames_now key keys cut.0 cut.1 (waiting-now frames frames_now key frame now ∙ ap (with_mapped (waiting_in frames) key) clean) has cut.2, omega (arith, long, few));
+      let left : HasEach (cut.0 ++ cut.1) waiting_now = λ other still.
+      ⊎_elim (λ at. let no : true ≡ false = sym still ∙ ap waiting_now (sym at) ∙ settled in absurd (cc)) (λ rest. rest)
+      (Contains-without cut.0 key cut.1 other (subst (λ (k : List PageKey). Contains k other) cut.2 (has other (fewer other still)))) in
+      (cut.0 ++ cut.1, left, omega (arith, long, few));
 }
 
 -- of a list of the pages that wait one is written at most

@@ -8,6 +8,7 @@ pub use Rattle.rss_shadow.specs.Maps
 pub mod Frames
 pub mod Slots
 pub mod Buffered
+pub mod Gathered
 pub mod Saved
 pub mod Saving
 pub mod Views

@@ -15,6 +15,7 @@ ghost use Rattle.rss_buffer.specs.Saving.{IsFresh};
 ghost use Rattle.rss_buffer.specs.declared.stage.Stage.TheVariants.{Saved};
 
 use crate::frames::Frames;
+use crate::run::Run;
 use crate::{Saving, Stage};
 use rss_base::{Device, OpenFault, Pages, Root, Unopened, slots_at};
 use rss_notes::Notes;
@@ -37,6 +38,7 @@ pub struct Buffer<D: Device> {
     pub(crate) shadow: Shadow,
     pub(crate) notes: Notes,
     pub(crate) frames: Frames,
+    pub(crate) run: Run,
     pub(crate) log_pages: u32,
     /// Where the data slots begin on the device.
     pub(crate) first_slot: u64,
@@ -89,7 +91,7 @@ impl<D: Device> Buffer<D> {
             (⟦<Buffer<D> as Pages>⟧.view buffer) (⟦<Buffer<D> as Saving>⟧.saving buffer)) }
         ensures back { IfErr result (λ e. (e.device ≡ device) × (e.fault ≡ LacksMemory)) }
     {
-        let Ok((shadow, notes, frames)) = new_parts(alloc, table, frames) else {
+        let Ok((shadow, notes, frames, run)) = new_parts(alloc, table, frames) else {
             return Err(Unopened {
                 device,
                 fault: OpenFault::NoMemory,
@@ -100,6 +102,7 @@ impl<D: Device> Buffer<D> {
             shadow,
             notes,
             frames,
+            run,
             log_pages: root.log_pages,
             first_slot: slots_at(root.slots, root.log_pages),
             area: root.area,
@@ -111,12 +114,13 @@ impl<D: Device> Buffer<D> {
 }
 
 /// What a buffer keeps of this map: the map itself, as it is now and as it was saved, no notes, and
-/// so many frames, all empty.
+/// so many frames, all empty, with
+/// room to write pages together.
 fn new_parts(
     alloc: Global,
     table: SlotTable,
     frames: u32,
-) -> Result<(Shadow, Notes, Frames), AllocError>
+) -> Result<(Shadow, Notes, Frames, Run), AllocError>
     requires some { 0 < frames }
     requires half { 2 * page_count table ≤ length table }
     ensures table { IfOk result (λ _. IsTable table) }
@@ -127,7 +131,8 @@ fn new_parts(
 {
     let notes = new_notes(alloc, &table)?;
     let frames = new_frames(alloc, frames)?;
-    Ok((Shadow::new(alloc, table)?, notes, frames))
+    let run = Run::new(alloc)?;
+    Ok((Shadow::new(alloc, table)?, notes, frames, run))
 }
 
 /// The notes of a map, with none on any page.

@@ -1,10 +1,14 @@
 // The pages in memory.
-ghost use Rattle.std.specs.Prelude.{◌≡◌, ◌⊎◌, ◌↔◌, ◌<◌, ◌≤◌, [], length, Some, None, false, is_some, IsTrue, IsSome, IfSome, IfNone, IsOk, IfOk, OnOk, OnErr};
+ghost use Rattle.std.specs.Prelude.{◌≡◌, ◌⊎◌, ◌↔◌, ◌+◌, ◌<◌, ◌≤◌, [], length, Some, None, false, is_some, IsTrue, IsSome, IfSome, IfNone, IsOk, IfOk, OnOk, OnErr};
 ghost use Rattle.std.specs.Option.{option_copied};
+ghost use Rattle.rss_base.specs.PageMap.{IsTable};
 ghost use Rattle.rss_buffer.specs.Frames.{frame_in, with_frame};
+ghost use Rattle.rss_buffer.specs.Buffered.{with_unchanged};
+ghost use Rattle.rss_buffer.specs.Gathered.{AreSettled};
 
 use lru::LruCache;
 use rss_base::{Page, PageKey};
+use rss_pagemap::SlotTable;
 use std::alloc::{AllocError, Global};
 use std::num::NonZeroUsize;
 
@@ -105,6 +109,30 @@ impl Frames {
         let frame = Box::new(self.alloc, frame)?;
         self.cache.put(key, frame)?;
         Ok(())
+    }
+
+    /// Takes the pages of so many slots, from this one on, as ones that were written there.
+    pub(crate) fn settle(&mut self, owners: &SlotTable, slot: u32, count: u32)
+        requires within { slot + count ≤ length owners.now }
+        requires table { IsTable owners.now }
+        ensures { AreSettled owners.now slot count (frame_in self.old.cache.entries)
+            (frame_in self.new.cache.entries) }
+    {
+        for at in slot..slot + count {
+            if let Some(key) = owners.owner(at) {
+                self.settle_page(key);
+            }
+        }
+    }
+
+    /// Takes the page, where it is in memory, as one that was written to its slot.
+    fn settle_page(&mut self, key: PageKey)
+        ensures { frame_in self.new.cache.entries
+            ≡ with_unchanged (frame_in self.old.cache.entries) key }
+    {
+        if let Some(frame) = self.cache.peek_mut(&key) {
+            frame.changed = false;
+        }
     }
 
     /// Drops the page from memory.

@@ -5,6 +5,7 @@
 mod buffer;
 mod frames;
 mod pages;
+mod run;
 mod saving;
 mod stage;
 

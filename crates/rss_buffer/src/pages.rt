@@ -1,9 +1,9 @@
 // The pages of a buffer, one at a time.
-ghost use Rattle.std.specs.Prelude.{◌≡◌, ◌⊎◌, ◌+◌, ◌<◌, ◌≤◌, length, true, None, Some, IsSome, OnOk, OnErr};
-ghost use Rattle.rss_base.specs.PageMap.{owner_of};
+ghost use Rattle.std.specs.Prelude.{◌≡◌, ◌⊎◌, ◌+◌, ◌<◌, ◌≤◌, length, true, None, is_some, IsSome, OnOk};
 ghost use Rattle.rss_base.specs.StoredPages.{mapped_by};
 ghost use Rattle.rss_base.specs.declared.key.PageKey.{PageKey as Key};
-ghost use Rattle.rss_buffer.specs.Buffered.{with_unchanged, MovesPages, WritesPages};
+ghost use Rattle.rss_buffer.specs.Buffered.{MovesPages, WritesPages};
+ghost use Rattle.rss_buffer.specs.Gathered.{IsWritten};
 
 use crate::{Buffer, Stage};
 use rss_base::{Device, PAGE_BYTES, Page, PageFault, PageKey, Pages, Space};
@@ -11,25 +11,26 @@ use rss_base::{Device, PAGE_BYTES, Page, PageFault, PageKey, Pages, Space};
 impl<D: Device> Buffer<D> {
     ghost use Rattle.rss_buffer.specs.Devices.{buffer_view};
 
-    /// Writes a page to its slot, where it is in memory and was changed.
-    pub(crate) fn write_back(&mut self, key: PageKey, slot: u32) -> Result<(), PageFault>
-        requires { owner_of self.old.shadow.current slot ≡ Some key }
+    /// Writes the page of a slot there, where it is in memory and was changed, and in the same write
+    /// those of the slots behind it, up to the first that isn't so.
+    pub(crate) fn write_back(&mut self, slot: u32) -> Result<(), PageFault>
+        requires { slot < length self.old.shadow.current }
         ensures written { OnOk result
-            ((buffer_view self.new).frames ≡ with_unchanged (buffer_view self.old).frames key) }
-        ensures err { OnErr result ((buffer_view self.new).frames ≡ (buffer_view self.old).frames) }
+            (IsWritten self.old.shadow.current (buffer_view self.new).frames slot) }
+        ensures same_there { (key : Key) → is_some ((buffer_view self.new).frames key)
+            ≡ is_some ((buffer_view self.old).frames key) }
         ensures few { (buffer_view self.new).device.writes
             ≤ (buffer_view self.old).device.writes + 1 }
         ensures did { WritesPages (buffer_view self.old) (buffer_view self.new) result }
     {
-        let Some(frame) = self.frames.cache.peek_mut(&key) else {
-            return Ok(());
-        };
-        if !frame.changed {
+        let owners = self.shadow.current();
+        let count = self.run.gather(owners, &self.frames, slot);
+        if count == 0 {
             return Ok(());
         }
-        self.device
-            .write(self.first_slot + u64::from(slot), &frame.page)?;
-        frame.changed = false;
+        let at = self.first_slot + u64::from(slot);
+        self.device.write_run(at, self.run.first(count))?;
+        self.frames.settle(owners, slot, count);
         Ok(())
     }
 
@@ -51,7 +52,7 @@ impl<D: Device> Buffer<D> {
         let Some(slot) = self.shadow.slot_of(key) else {
             unreachable!()
         };
-        self.write_back(key, slot)?;
+        self.write_back(slot)?;
         self.frames.remove(key);
         Ok(())
     }

@@ -213,23 +213,9 @@ impl<D: Device> Buffer<D> {
         ensures did { WritesPages (buffer_view self.old) (buffer_view self.new) result }
     {
         for slot in 0..self.shadow.current().slots() {
-            self.flush_slot(slot)?;
+            self.write_back(slot)?;
         }
         Ok(())
-    }
-
-    /// Writes the page of a slot there, where it was changed.
-    fn flush_slot(&mut self, slot: u32) -> Result<(), PageFault>
-        requires { slot < length self.old.shadow.current }
-        ensures written { OnOk result
-            (AreWritten self.old.shadow.current (buffer_view self.old).frames slot
-            → AreWritten self.old.shadow.current (buffer_view self.new).frames (slot + 1)) }
-        ensures did { WritesPages (buffer_view self.old) (buffer_view self.new) result }
-    {
-        match self.shadow.current().owner(slot) {
-            Some(key) => self.write_back(key, slot),
-            None => Ok(()),
-        }
     }
 
     /// The device, as the last call left it. Changed pages that were not written are dropped.
@@ -241,6 +227,7 @@ impl<D: Device> Buffer<D> {
             shadow: _,
             notes: _,
             frames: _,
+            run: _,
             log_pages: _,
             first_slot: _,
             area: _,

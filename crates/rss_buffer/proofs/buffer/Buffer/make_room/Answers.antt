@@ -1,7 +1,7 @@
-use Rattle.std.proofs.Common.{◌∙◌, ap, arith}
-use Rattle.rss_buffer.specs.Frames.{FrameOf, frame_in}
+use Rattle.std.proofs.Common.{◌∙◌, is_some, ap, arith}
+use Rattle.rss_buffer.specs.Frames.{frame_in}
 use Rattle.rss_shadow.proofs.Owned.{HasPage-mapped}
-use Rattle.rss_buffer.proofs.Turns.{mapped_there, none_more-unchanged, none_more-removed, unchanged-clean_at, unchanged-there, KeepsPages-rests, KeepsPages-then, KeepsPages-removed, IsBuffer-removed, MovesPages-keeps, cause_fails}
+use Rattle.rss_buffer.proofs.Turns.{mapped_there, none_from, none_more-removed, KeepsPages-rests, KeepsPages-then, KeepsPages-removed, IsBuffer-removed, MovesPages-keeps, cause_fails}
 use Rattle.rss_buffer.proofs.buffer.Buffer.make_room.Goals as goal
 
 pub returns-then-not-is_full-clause-did : goal.returns-then-not-is_full-clause-did
@@ -20,27 +20,18 @@ returns-in_err-write_back-clause-did g c = record {
   cause = cause_fails _ c.from_residual.ensures.1 c.in_err-write_back.ensures.did.cause;
 }
 
-pub returns-in_err-write_back-clause-none_more : goal.returns-in_err-write_back-clause-none_more
-returns-in_err-write_back-clause-none_more g c = λ key none. ap (λ (f : FrameOf). f key) c.in_err-write_back.ensures.err ∙ none
-
 pub invariant_of-self : goal.invariant_of-self
 invariant_of-self g c =
     let mid = c.write_back.new.self in
-    let clean = unchanged-clean_at (frame_in c.args.self.now.frames.cache.entries) (frame_in mid.frames.cache.entries) c.in-Some.key c.in_ok-write_back.ensures.written in
-    record { saved_area = mid.saved_area; holds = IsBuffer-removed mid.holds c.in-Some.key clean c.remove.ensures.gone }
-
-pub returns-clause-room : goal.returns-clause-room
-returns-clause-room g c =
-    c.remove.ensures.free (unchanged-there (frame_in c.args.self.now.frames.cache.entries) (frame_in c.write_back.new.self.frames.cache.entries) c.in-Some.key c.in_ok-write_back.ensures.written c.in-Some.ensures.there)
+    record { saved_area = mid.saved_area; holds = IsBuffer-removed mid.holds c.in-Some.key (λ frame there. c.in_ok-write_back.ensures.written c.in-Some.key frame c.in-Some-slot_of.ensures.some there) c.remove.ensures.gone }
 
 pub returns-clause-none_more : goal.returns-clause-none_more
 returns-clause-none_more g c = λ key none.
     let mid = frame_in c.write_back.new.self.frames.cache.entries in
     none_more-removed mid (frame_in c.remove.new.self.cache.entries) c.in-Some.key key c.remove.ensures.gone
-    (none_more-unchanged (frame_in c.args.self.now.frames.cache.entries) mid c.in-Some.key key c.in_ok-write_back.ensures.written none)
+    (none_from (mid key) (c.write_back.ensures.same_there key ∙ ap (λ o. is_some o) none))
 
 pub returns-clause-did : goal.returns-clause-did
 returns-clause-did g c =
     let mid = c.write_back.new.self in
-    let clean = unchanged-clean_at (frame_in c.args.self.now.frames.cache.entries) (frame_in mid.frames.cache.entries) c.in-Some.key c.in_ok-write_back.ensures.written in
-    MovesPages-keeps _ (KeepsPages-then c.write_back.ensures.did.keeps (KeepsPages-removed mid.holds c.in-Some.key clean c.remove.ensures.gone)) c.write_back.ensures.few
+    MovesPages-keeps _ (KeepsPages-then c.write_back.ensures.did.keeps (KeepsPages-removed mid.holds c.in-Some.key (λ frame there. c.in_ok-write_back.ensures.written c.in-Some.key frame c.in-Some-slot_of.ensures.some there) c.remove.ensures.gone)) c.write_back.ensures.few

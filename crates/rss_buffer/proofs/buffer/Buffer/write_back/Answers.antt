@@ -1,80 +1,48 @@
-use Rattle.std.proofs.Common.{rules, ◌≡◌, ◌∙◌, Some, Option, option_map, refl, sym, ap, arith}
-use Rattle.rss_base.specs.PageMap.{owner_of}
-use Rattle.rss_buffer.specs.declared.frames.Frame.{Frame}
-use Rattle.rss_buffer.specs.Frames.{frame_in, with_frame}
-use Rattle.rss_buffer.specs.Buffered.{unchanged}
-use Rattle.rss_buffer.proofs.Lookups.{frame_in-found, frame_in-none, frame_in-set_same, settled_now}
-use Rattle.rss_buffer.proofs.Waits.{changed-waits, settles-one, writes-one}
-use Rattle.rss_buffer.proofs.Turns.{unchanged-same, WritesPages-none, IsBuffer-same, loose-back, IsBuffer-failed, KeepsPages-failed, IsBuffer-written, KeepsPages-written}
+use Rattle.std.proofs.Common.{rules, ℕ, ◌+◌, ◌≤◌, length, refl, ap, arith}
+use Rattle.rss_buffer.proofs.Runs.{IsRunOf, wrote-run, holds-run, loose-run, first_waits, first_settled, waits-settled, IsBuffer-failed, KeepsPages-failed, IsBuffer-written, KeepsPages-written}
+use Rattle.rss_buffer.proofs.Turns.{WritesPages-none}
+use Rattle.rss_buffer.proofs.Waits.{settles-one, writes-one}
+use Rattle.rss_buffer.specs.Devices.{buffer_view}
+use Rattle.rss_buffer.specs.Frames.{frame_in}
+use Rattle.rss_buffer.specs.Gathered.{AreSettled}
 use Rattle.rss_buffer.proofs.buffer.Buffer.write_back.Goals as goal
 
--- ---- it isn't in memory
+-- ---- the page of the slot isn't in memory, or wasn't changed
 
-pub returns-in_default-clause-written : goal.returns-in_default-clause-written
-returns-in_default-clause-written g c =
-    let frames = frame_in c.args.self.now.frames.cache.entries in
-    let none = frame_in-none c.args.self.now.frames.cache.entries c.args.key c.in_default.ensures.value in
-    unchanged-same frames c.args.key (ap (option_map unchanged) none ∙ sym none)
-
-pub returns-in_default-clause-did : goal.returns-in_default-clause-did
-returns-in_default-clause-did g c = WritesPages-none _ refl
-
--- ---- it stands in its slot
-
-pub invariant_of-self-then-not-deref : goal.invariant_of-self-then-not-deref
-invariant_of-self-then-not-deref g c =
-    let self = c.args.self.now in
-    let at = frame_in-found self.frames.cache.entries c.args.key c.in-Some.frame.now c.in-Some.ensures.value in
-    record { saved_area = self.saved_area; holds = IsBuffer-same self.holds (frame_in-set_same self.frames.cache.entries c.args.key c.in-Some.frame.now at) }
-
-pub returns-then-not-deref-clause-written : goal.returns-then-not-deref-clause-written
-returns-then-not-deref-clause-written g c =
-    let entries = c.args.self.now.frames.cache.entries in
-    let at = frame_in-found entries c.args.key c.in-Some.frame.now c.in-Some.ensures.value in
-    let box = c.in-Some.frame.now.value in
-    let clean = ap (λ (f : Frame). f.changed) (sym c.deref.ensures) ∙ c.if-not-deref.true in
-    let same : unchanged box ≡ box = λ i. record { page = box.page; changed = sym clean i } in
-    frame_in-set_same entries c.args.key c.in-Some.frame.now at
-    ∙ unchanged-same (frame_in entries) c.args.key (ap (option_map unchanged) at ∙ ap Some same ∙ sym at)
-
-pub returns-then-not-deref-clause-did : goal.returns-then-not-deref-clause-did
-returns-then-not-deref-clause-did g c =
-    let entries = c.args.self.now.frames.cache.entries in
-    WritesPages-none _ (frame_in-set_same entries c.args.key c.in-Some.frame.now (frame_in-found entries c.args.key c.in-Some.frame.now c.in-Some.ensures.value))
+pub returns-then-count-eq0-clause-did : goal.returns-then-count-eq0-clause-did
+returns-then-count-eq0-clause-did g c = WritesPages-none _ refl
 
 -- ---- the write fails
 
 pub invariant_of-self-in-Break-1 : goal.invariant_of-self-in-Break-1
 invariant_of-self-in-Break-1 g c =
     let self = c.args.self.now in
-    let entries = self.frames.cache.entries in
-    let at = frame_in-found entries c.args.key c.in-Some.frame.now c.in-Some.ensures.value in
-    let changed = ap (λ (f : Frame). f.changed) (sym c.deref.ensures) ∙ c.if-not-deref.false in
-    let owned = ap (owner_of self.shadow.current) c.from.ensures ∙ c.requires in
-    record {
-      saved_area = self.saved_area;
-      holds = IsBuffer-failed self.holds c.args.key c.in-Some.frame.now.value c.from.result at changed owned (g.D.Device.view c.write.new.self) c.write.ensures.did.only (frame_in-set_same entries c.args.key c.in-Some.frame.now at) c.write.ensures.did.size;
-    }
+    let run = c.gather-count.new.self.pages.items in
+    let few : c.gather-count.result ≤ length run = omega (arith, c.gather-count.new.self.room, c.gather-count.ensures.few) in
+    let wrote = wrote-run run c.first.ensures few (ap (λ (n : ℕ). self.first_slot + n) c.from.ensures) c.write_run.ensures.did in
+    let writes : IsRunOf (buffer_view self) c.args.slot c.gather-count.result run (g.D.Device.view c.write_run.new.self) = record {
+      gathered = rw (← c.current-owners.ensures.current) c.gather-count.ensures.gathered;
+      some = omega (arith, c.if-count-eq0.false);
+      only = wrote.only;
+    } in
+    record { saved_area = self.saved_area; holds = IsBuffer-failed self.holds writes wrote.size }
 
-pub returns-in_err-write-clause-err : goal.returns-in_err-write-clause-err
-returns-in_err-write-clause-err g c =
-    let entries = c.args.self.now.frames.cache.entries in
-    let same = frame_in-set_same entries c.args.key c.in-Some.frame.now (frame_in-found entries c.args.key c.in-Some.frame.now c.in-Some.ensures.value) in
-    rw same (search rules)
-
-pub returns-in_err-write-clause-did : goal.returns-in_err-write-clause-did
-returns-in_err-write-clause-did g c =
+pub returns-in_err-write_run-clause-did : goal.returns-in_err-write_run-clause-did
+returns-in_err-write_run-clause-did g c =
     let self = c.args.self.now in
-    let entries = self.frames.cache.entries in
-    let at = frame_in-found entries c.args.key c.in-Some.frame.now c.in-Some.ensures.value in
-    let changed = ap (λ (f : Frame). f.changed) (sym c.deref.ensures) ∙ c.if-not-deref.false in
-    let owned = ap (owner_of self.shadow.current) c.from.ensures ∙ c.requires in
-    let waits = changed-waits (frame_in entries) c.args.key c.in-Some.frame.now.value at changed in
+    let run = c.gather-count.new.self.pages.items in
+    let few : c.gather-count.result ≤ length run = omega (arith, c.gather-count.new.self.room, c.gather-count.ensures.few) in
+    let wrote = wrote-run run c.first.ensures few (ap (λ (n : ℕ). self.first_slot + n) c.from.ensures) c.write_run.ensures.did in
+    let writes : IsRunOf (buffer_view self) c.args.slot c.gather-count.result run (g.D.Device.view c.write_run.new.self) = record {
+      gathered = rw (← c.current-owners.ensures.current) c.gather-count.ensures.gathered;
+      some = omega (arith, c.if-count-eq0.false);
+      only = wrote.only;
+    } in
     record {
-      keeps = KeepsPages-failed self.holds c.args.key c.in-Some.frame.now.value c.from.result at changed owned (g.D.Device.view c.write.new.self) c.write.ensures.did.only (frame_in-set_same entries c.args.key c.in-Some.frame.now at) (omega (arith, g.met.D.Device.limited self.device, c.write.ensures.counts)) c.write.ensures.did.cause.later;
-      loose = loose-back self.holds c.args.key c.in-Some.frame.now.value c.from.result at changed owned (g.D.Device.view c.write.new.self) c.write.ensures.did.only;
+      keeps = KeepsPages-failed self.holds writes (omega (arith, g.met.D.Device.limited self.device, c.write_run.ensures.counts)) wrote.cause.later;
+      loose = loose-run self.holds writes;
       settles = search rules;
-      few = writes-one _ c.args.key _ _ waits c.write.ensures.did.writes;
+      few = writes-one _ _ _ _ (first_waits self.holds writes) wrote.writes;
       fault = search rules;
       cause = search rules;
     }
@@ -84,40 +52,39 @@ returns-in_err-write-clause-did g c =
 pub invariant_of-self-2 : goal.invariant_of-self-2
 invariant_of-self-2 g c =
     let self = c.args.self.now in
-    let entries = self.frames.cache.entries in
-    let box = c.in-Some.frame.now in
-    let at = frame_in-found entries c.args.key box c.in-Some.ensures.value in
-    let changed = ap (λ (f : Frame). f.changed) (sym c.deref.ensures) ∙ c.if-not-deref.false in
-    let owned = ap (owner_of self.shadow.current) c.from.ensures ∙ c.requires in
-    let now = settled_now entries c.args.key box c.deref_mut.result.now at c.deref_mut.ensures.value in
+    let run = c.gather-count.new.self.pages.items in
+    let few : c.gather-count.result ≤ length run = omega (arith, c.gather-count.new.self.room, c.gather-count.ensures.few) in
+    let place = ap (λ (n : ℕ). self.first_slot + n) c.from.ensures in
+    let wrote = wrote-run run c.first.ensures few place c.write_run.ensures.did in
+    let writes : IsRunOf (buffer_view self) c.args.slot c.gather-count.result run (g.D.Device.view c.write_run.new.self) = record {
+      gathered = rw (← c.current-owners.ensures.current) c.gather-count.ensures.gathered;
+      some = omega (arith, c.if-count-eq0.false);
+      only = wrote.only;
+    } in
+    let settled : AreSettled self.shadow.current c.args.slot c.gather-count.result (frame_in self.frames.cache.entries) (frame_in c.settle.new.self.cache.entries) = rw (← c.current-owners.ensures.current) c.settle.ensures in
     record {
       saved_area = self.saved_area;
-      holds = IsBuffer-written self.holds c.args.key box.value c.from.result at changed owned (g.D.Device.view c.write.new.self) c.write.ensures.did.only now c.write.ensures.did.size (ap (λ (f : Frame). f.page) c.deref-2.ensures) (g.met.D.Device.sized self.device) c.in_ok-write.ensures.written;
+      holds = IsBuffer-written self.holds writes settled wrote.size (holds-run run c.first.ensures few place wrote.only.told.1 c.in_ok-write_run.ensures.written);
     }
-
-pub returns-clause-written : goal.returns-clause-written
-returns-clause-written g c =
-    let entries = c.args.self.now.frames.cache.entries in
-    let box = c.in-Some.frame.now in
-    let at = frame_in-found entries c.args.key box c.in-Some.ensures.value in
-    settled_now entries c.args.key box c.deref_mut.result.now at c.deref_mut.ensures.value
-    ∙ ap (λ (o : Option Frame). with_frame (frame_in entries) c.args.key (option_map unchanged o)) (sym at)
 
 pub returns-clause-did : goal.returns-clause-did
 returns-clause-did g c =
     let self = c.args.self.now in
-    let entries = self.frames.cache.entries in
-    let box = c.in-Some.frame.now in
-    let at = frame_in-found entries c.args.key box c.in-Some.ensures.value in
-    let changed = ap (λ (f : Frame). f.changed) (sym c.deref.ensures) ∙ c.if-not-deref.false in
-    let owned = ap (owner_of self.shadow.current) c.from.ensures ∙ c.requires in
-    let now = settled_now entries c.args.key box c.deref_mut.result.now at c.deref_mut.ensures.value in
-    let waits = changed-waits (frame_in entries) c.args.key box.value at changed in
+    let run = c.gather-count.new.self.pages.items in
+    let few : c.gather-count.result ≤ length run = omega (arith, c.gather-count.new.self.room, c.gather-count.ensures.few) in
+    let wrote = wrote-run run c.first.ensures few (ap (λ (n : ℕ). self.first_slot + n) c.from.ensures) c.write_run.ensures.did in
+    let writes : IsRunOf (buffer_view self) c.args.slot c.gather-count.result run (g.D.Device.view c.write_run.new.self) = record {
+      gathered = rw (← c.current-owners.ensures.current) c.gather-count.ensures.gathered;
+      some = omega (arith, c.if-count-eq0.false);
+      only = wrote.only;
+    } in
+    let settled : AreSettled self.shadow.current c.args.slot c.gather-count.result (frame_in self.frames.cache.entries) (frame_in c.settle.new.self.cache.entries) = rw (← c.current-owners.ensures.current) c.settle.ensures in
+    let waits = first_waits self.holds writes in
     record {
-      keeps = KeepsPages-written self.holds c.args.key box.value c.from.result at changed owned (g.D.Device.view c.write.new.self) c.write.ensures.did.only now (omega (arith, g.met.D.Device.limited self.device, c.write.ensures.counts)) c.write.ensures.did.cause.later;
-      loose = loose-back self.holds c.args.key box.value c.from.result at changed owned (g.D.Device.view c.write.new.self) c.write.ensures.did.only;
-      settles = settles-one (frame_in entries) _ c.args.key _ _ _ waits now refl c.write.ensures.did.writes;
-      few = writes-one _ c.args.key _ _ waits c.write.ensures.did.writes;
+      keeps = KeepsPages-written self.holds writes settled (omega (arith, g.met.D.Device.limited self.device, c.write_run.ensures.counts)) wrote.cause.later;
+      loose = loose-run self.holds writes;
+      settles = settles-one _ waits (first_settled self.holds writes settled) (waits-settled self.holds writes settled) wrote.writes;
+      few = writes-one _ _ _ _ waits wrote.writes;
       fault = tt;
       cause = search rules;
     }
