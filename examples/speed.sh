@@ -316,7 +316,7 @@ store_calls() {
     if [ -n "$(command -v strace)" ]; then
         calls "store.$1.0" "$rss" run work
     else
-        echo "$pages.0 writes of $((4 * pages)).0 KiB in all, 2.0 syncs (by the layout)"
+        echo "$((4 * pages)).0 KiB in all, 2.0 syncs (by the layout)"
     fi
 }
 

@@ -25,11 +25,11 @@ const KEPT: usize = 60;
 const FRAMES: u32 = 8;
 
 /// How many calls of the device an opening takes, and how many there are when the second round is
-/// done: after the opening's, 25 reads, 32 writes of pages, one of the map, and the four calls of a
-/// switch.
+/// done: after the opening's, 25 reads, four writes of the eight pages that are in memory, one of
+/// the map, and the four calls of a switch.
 pub(crate) const OPENING: u64 = 5;
 
-const DONE: u64 = 67;
+const DONE: u64 = 39;
 
 /// The pages of the home space of segment 1 by the rounds in which they were written.
 type Rounds = [Option<u8>; KEPT];

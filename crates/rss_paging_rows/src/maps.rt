@@ -188,24 +188,23 @@ fn assert_wrong(alloc: Global, name: &str, entry: Entry) -> Result<(), Fail> {
     Ok(())
 }
 
-/// The calls of a device whose areas have three pages each, and what a write of a table answers where
-/// one fails. There is no fourth call.
-const WRITE_CALLS: [(u64, Result<(), Failed>); 4] = [
+/// The calls of a device whose areas have 20 pages each, and what a write of a table answers where one
+/// fails: the first writes 16 pages, the second four. There is no third call.
+const WRITE_CALLS: [(u64, Result<(), Failed>); 3] = [
     (0, Err(Failed)),
     (1, Err(Failed)),
-    (2, Err(Failed)),
-    (3, Ok(())),
+    (2, Ok(())),
 ];
 
-/// A device of nine pages of which this call fails.
-fn nine_pages(alloc: Global, call: u64) -> Result<MemDevice, Fail> {
-    let device = MemDevice::new(alloc, filled_pages(alloc, 9, 0)?)?;
+/// A device of 43 pages of which this call fails.
+fn two_areas(alloc: Global, call: u64) -> Result<MemDevice, Fail> {
+    let device = MemDevice::new(alloc, filled_pages(alloc, 43, 0)?)?;
     Ok(failing_at(alloc, device, call)?)
 }
 
 /// Writes a table to a device of which this call fails.
 fn write_failing(alloc: Global, table: &SlotTable, call: u64) -> Result<Result<(), Failed>, Fail> {
-    let mut device = nine_pages(alloc, call)?;
+    let mut device = two_areas(alloc, call)?;
     write_to(&mut device, table, 1)
 }
 
@@ -270,7 +269,7 @@ fn a_failed_read_of_a_table_is_a_device_fault(rt: HostRuntime) -> Result<(), Fai
 
 #[test]
 fn a_failed_write_of_a_table_is_a_failure(rt: HostRuntime) -> Result<(), Fail> {
-    let table = SlotTable::new(rt.alloc(), 1500)?;
+    let table = SlotTable::new(rt.alloc(), 10_000)?;
     assert_write_calls(rt.alloc(), &table)
 }
 

@@ -14,25 +14,46 @@ use std::{env, fs, process};
 
 const TEXT: &[u8] = b"begin 1\nend 1\n";
 
-/// Stops of a device of two pages, of which the second is written and synced: the moment, what the
-/// stop leaves of a page that isn't synced, and the byte that fills the second page then.
-static STOPS: [(&str, usize, Unsynced, u8); 6] = [
-    ("entry", 0, Unsynced::Filled(255), 2),
-    ("written", 1, Unsynced::Old, 2),
-    ("written", 1, Unsynced::New, 3),
-    ("written", 1, Unsynced::Filled(255), 255),
-    ("synced", 2, Unsynced::Old, 3),
-    ("synced", 2, Unsynced::Filled(255), 3),
+/// A stop: when it comes, the moment, what it leaves of a page that isn't synced, and the bytes that
+/// fill the two pages of a device then.
+type Stop = (&'static str, usize, Unsynced, [u8; 2]);
+
+/// Stops of a device of which the second page is written and synced.
+static STOPS: [Stop; 6] = [
+    ("entry", 0, Unsynced::Filled(255), [1, 2]),
+    ("written", 1, Unsynced::Old, [1, 2]),
+    ("written", 1, Unsynced::New, [1, 3]),
+    ("written", 1, Unsynced::Filled(255), [1, 255]),
+    ("synced", 2, Unsynced::Old, [1, 3]),
+    ("synced", 2, Unsynced::Filled(255), [1, 3]),
 ];
 
 /// The same of a write that fails, of the next one, which doesn't, and of a sync that fails.
-static STOPS_OF_FAILURES: [(&str, usize, Unsynced, u8); 6] = [
-    ("torn", 1, Unsynced::Old, 2),
-    ("torn", 1, Unsynced::New, 2),
-    ("torn", 1, Unsynced::Filled(255), 255),
-    ("written", 2, Unsynced::Old, 2),
-    ("written", 2, Unsynced::New, 4),
-    ("written", 2, Unsynced::Filled(255), 255),
+static STOPS_OF_FAILURES: [Stop; 6] = [
+    ("torn", 1, Unsynced::Old, [1, 2]),
+    ("torn", 1, Unsynced::New, [1, 2]),
+    ("torn", 1, Unsynced::Filled(255), [1, 255]),
+    ("written", 2, Unsynced::Old, [1, 2]),
+    ("written", 2, Unsynced::New, [1, 4]),
+    ("written", 2, Unsynced::Filled(255), [1, 255]),
+];
+
+/// The same of a write of both pages.
+static STOPS_OF_RUN: [Stop; 6] = [
+    ("within", 1, Unsynced::Old, [1, 2]),
+    ("within", 1, Unsynced::New, [3, 2]),
+    ("within", 1, Unsynced::Filled(255), [255, 2]),
+    ("written", 2, Unsynced::Old, [1, 2]),
+    ("written", 2, Unsynced::New, [3, 4]),
+    ("written", 2, Unsynced::Filled(255), [255, 255]),
+];
+
+/// The same of one that fails.
+static STOPS_OF_TORN_RUN: [Stop; 4] = [
+    ("within", 1, Unsynced::New, [1, 2]),
+    ("within", 1, Unsynced::Filled(255), [255, 2]),
+    ("torn", 2, Unsynced::New, [1, 2]),
+    ("torn", 2, Unsynced::Filled(255), [255, 255]),
 ];
 
 /// The writes of such a device, and the moments that they made.
@@ -74,10 +95,10 @@ fn is_full_of<D: Device>(device: &mut D, at: u64, byte: u8) -> Result<bool, Fail
     Ok(page.iter().all(|b| *b == byte))
 }
 
-/// Makes a device three pages, and writes the last two.
-pub(crate) fn write_two<D: Device>(device: &mut D) -> Result<(), Failed> {
+/// Makes a device three pages, and writes the first two together and the last alone.
+pub(crate) fn write_three<D: Device>(device: &mut D) -> Result<(), Failed> {
     device.set_size(3)?;
-    device.write(1, &page_full_of(7))?;
+    device.write_run(0, &[page_full_of(5), page_full_of(7)])?;
     device.write(2, &page_full_of(9))?;
     device.sync()
 }
@@ -87,7 +108,7 @@ pub(crate) fn has_three<D: Device>(device: &mut D) -> Result<bool, Failed> {
     if device.size()? != 3 {
         return Ok(false);
     }
-    Ok(is_full_of(device, 0, 0)? && is_full_of(device, 1, 7)? && is_full_of(device, 2, 9)?)
+    Ok(is_full_of(device, 0, 5)? && is_full_of(device, 1, 7)? && is_full_of(device, 2, 9)?)
 }
 
 /// A device has them.
@@ -106,7 +127,7 @@ pub(crate) fn new_path(rt: &HostRuntime, name: &str) -> Result<String, Fail> {
 fn make_file<S: StoreFiles>(rt: &S, path: &str) -> Result<(), Fail> {
     let mut device = FileDevice::new(rt, path);
     assert_same(&device.size(), &Err(Failed), "no file")?;
-    write_two(&mut device)?;
+    write_three(&mut device)?;
     Ok(())
 }
 
@@ -165,15 +186,19 @@ fn write_second(device: &mut MemDevice, byte: u8) -> Result<(), Failed> {
     device.write(1, &page_full_of(byte))
 }
 
-/// Each stop leaves its byte in the second page.
-fn assert_stops(
-    alloc: Global,
-    device: &MemDevice,
-    stops: &[(&str, usize, Unsynced, u8)],
-) -> Result<(), Fail> {
-    for (when, moment, unsynced, byte) in stops {
+/// Writes both pages of a device together. It fails where there are none.
+fn write_both(device: &mut MemDevice) -> Result<(), Failed> {
+    if device.pages().len() < 2 {
+        return Err(Failed);
+    }
+    device.write_run(0, &[page_full_of(3), page_full_of(4)])
+}
+
+/// Each stop leaves its bytes in the two pages.
+fn assert_stops(alloc: Global, device: &MemDevice, stops: &[Stop]) -> Result<(), Fail> {
+    for (when, moment, unsynced, [first, second]) in stops {
         let image = image_at(alloc, device, *moment, *unsynced)?;
-        let is_left = image.as_slice() == [page_full_of(1), page_full_of(*byte)].as_slice();
+        let is_left = image.as_slice() == [page_full_of(*first), page_full_of(*second)].as_slice();
         assert_same(&is_left, &true, (*when, *unsynced))?;
     }
     Ok(())
@@ -271,6 +296,22 @@ fn a_call_that_fails_brings_nothing_to_the_disk(rt: HostRuntime) -> Result<(), F
         assert_same(&device.moment_of_write(*write), moment, ("write", *write))?;
     }
     assert_stops(rt.alloc(), &device, &STOPS_OF_FAILURES)
+}
+
+#[test]
+fn a_stop_comes_between_the_pages_of_a_run(rt: HostRuntime) -> Result<(), Fail> {
+    let mut device = two_pages(rt.alloc())?;
+    assert_same(&write_both(&mut device), &Ok(()), "the run")?;
+    assert_stops(rt.alloc(), &device, &STOPS_OF_RUN)
+}
+
+#[test]
+fn a_run_that_fails_is_one_call_and_tears_each_of_its_pages(rt: HostRuntime) -> Result<(), Fail> {
+    let calls = vec![in rt.alloc(); 0]?;
+    let mut device = two_pages(rt.alloc())?.failing_at(calls);
+    assert_same(&write_both(&mut device), &Err(Failed), "the run")?;
+    assert_stops(rt.alloc(), &device, &STOPS_OF_TORN_RUN)?;
+    assert_same(&write_both(&mut device), &Ok(()), "the next one")
 }
 
 #[test]

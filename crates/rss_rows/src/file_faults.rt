@@ -1,7 +1,7 @@
 // Files that fail, and files that another opening has.
 ghost use Rattle.std.specs.Prelude.{◌≤◌, true, IfOk};
 
-use crate::adapters::{assert_three, has_three, new_path, write_two};
+use crate::adapters::{assert_three, has_three, new_path, write_three};
 use crate::harness::NEVER;
 use rss_asserts::assert_same;
 use rss_base::{Device, Failed};
@@ -184,7 +184,7 @@ impl<'a, S: StoreFiles<File = File>> StoreFiles for FaultyFiles<'a, S> {
     }
 }
 
-/// The calls of a file in a row: how many they are, and which of them move a page.
+/// The calls of a file in a row: how many they are, and which of them move pages.
 struct Calls {
     count: u64,
     first_page: u64,
@@ -230,7 +230,7 @@ fn assert_written<S: StoreFiles<File = File> + Files + Drop>(
 ) -> Result<(), Fail> {
     let plan = Plan::failing_at(call, fault);
     let files = FaultyFiles::new(rt, &plan);
-    let is_written = write_two(&mut FileDevice::new(&files, path)).is_ok();
+    let is_written = write_three(&mut FileDevice::new(&files, path)).is_ok();
     let case = ("writing", call, fault);
     assert_same(&is_written, &WRITING.goes_well(call, fault), case)?;
     if is_written {
@@ -278,7 +278,7 @@ fn a_fault_of_each_call_of_a_file_is_told(rt: HostRuntime) -> Result<(), Fail> {
             assert_written(&rt, path.as_str(), call, *fault)?;
         }
     }
-    write_two(&mut FileDevice::new(&rt, path.as_str()))?;
+    write_three(&mut FileDevice::new(&rt, path.as_str()))?;
     for fault in &FAULTS {
         for call in 0..12 {
             assert_read(&rt, path.as_str(), call, *fault)?;
@@ -291,7 +291,7 @@ fn a_fault_of_each_call_of_a_file_is_told(rt: HostRuntime) -> Result<(), Fail> {
 #[test]
 fn a_file_is_away_from_the_standard_streams(rt: HostRuntime) -> Result<(), Fail> {
     let path = new_path(&rt, "descriptors")?;
-    write_two(&mut FileDevice::new(&rt, path.as_str()))?;
+    write_three(&mut FileDevice::new(&rt, path.as_str()))?;
     for (opened, cloned, size) in [
         (3, 0, Ok(3)),
         (2, 3, Ok(3)),
@@ -312,7 +312,7 @@ fn a_file_has_one_device_at_a_time(rt: HostRuntime) -> Result<(), Fail> {
     let mut second = FileDevice::new(&rt, path.as_str());
     {
         let mut first = FileDevice::new(&rt, path.as_str());
-        write_two(&mut first)?;
+        write_three(&mut first)?;
         assert_same(&second.size(), &Err(Failed), "its size")?;
         assert_same(&second.set_size(1), &Err(Failed), "another size")?;
         assert_three(&mut first)?;
