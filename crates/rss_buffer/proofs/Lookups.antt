@@ -13,7 +13,7 @@ use Rattle.std.specs.Option.{option_map_or}
 use Rattle.std.specs.declared.alloc.Global.{Global}
 use Rattle.std.specs.declared.boxed.Box.{Box}
 use Rattle.std.specs.Map.{keys_of, lookup, lookup_entry, remove_entry, set_value}
-use Rattle.lru.specs.LruCache.{lru_cache, last_entry, promoted, put_entries}
+use Rattle.lru.specs.LruCache.{LruCache, lru_cache, last_entry, promoted, put_entries}
 use Rattle.lru.proofs.CallerLemmas.{Contains-lookup_entry}
 use Rattle.lru.proofs.Pairs.{lookup-lookup_entry}
 use Rattle.rss_base.specs.declared.key.Space.{Space}
@@ -202,6 +202,10 @@ module _ (entries : List (PageKey × Kept)) (key : PageKey) where
 
   pub frame_in-place : (i : ℕ) (box : Kept) → IsApart compared entries → slice_get entries i ≡ Some (key, box) → frame_in entries key ≡ Some box.value
   frame_in-place i box = rw compared-is_same (λ apart at. ap unboxed (lookup_from_place is_same-laws entries i key box apart at))
+
+-- a cache that is the same has the same frames
+pub same_frames : {before after : LruCache PageKey Kept} → after ≡ before → frame_in after.entries ≡ frame_in before.entries
+same_frames same = ap (λ (cache : LruCache PageKey Kept). frame_in cache.entries) same
 
 pub last_entry-none : {K V : Type 0} (es : List (K × V)) → last_entry es ≡ None → es ≡ []
 last_entry-none [] h = refl

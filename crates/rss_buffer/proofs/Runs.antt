@@ -1,6 +1,6 @@
 -- What writing changed pages together to their slots does to a buffer.
 use Rattle.std.proofs.Common.{◌≡◌, ◌≢◌, ◌⊎◌, inl, inr, ⊎_elim, ℕ, ◌+◌, ◌-◌, ◌<◌, ◌≤◌, true, false, List, [], length, take, Option, Some, None, refl, sym, ◌∙◌, ap, subst, arith, length-take-le}
-use Rattle.std.specs.Prelude.{is_some, option_map, Result}
+use Rattle.std.specs.Prelude.{option_map, Result}
 use Rattle.std.proofs.lemmas.List.{get_or-take}
 use Rattle.std.proofs.lemmas.Bool.{cases_Bool, cond-true, cond-false}
 use Rattle.std.proofs.lemmas.Option.{same_Some}

@@ -1,5 +1,7 @@
 // The pages in memory.
-ghost use Rattle.std.specs.Prelude.{◌≡◌, ◌⊎◌, ◌↔◌, ◌+◌, ◌<◌, ◌≤◌, [], length, Some, None, false, is_some, IsTrue, IsSome, IfSome, IfNone, IsOk, IfOk, OnOk, OnErr};
+ghost use Rattle.std.specs.Prelude.{◌≡◌, ◌⊎◌, ◌↔◌, ◌+◌, ◌<◌, ◌≤◌, [], length, Some, None, false};
+ghost use Rattle.std.specs.Prelude.{is_some, IsTrue, IsSome, IfSome, IfNone, IsOk, IfOk, OnOk, OnErr};
+ghost use Rattle.std.specs.Prelude.{box_value};
 ghost use Rattle.std.specs.Option.{option_copied};
 ghost use Rattle.rss_base.specs.PageMap.{IsTable};
 ghost use Rattle.rss_buffer.specs.Frames.{frame_in, with_frame};
@@ -7,7 +9,7 @@ ghost use Rattle.rss_buffer.specs.Buffered.{with_unchanged};
 ghost use Rattle.rss_buffer.specs.Gathered.{AreSettled};
 
 use lru::LruCache;
-use rss_base::{Page, PageKey};
+use rss_base::{PAGE_BYTES, Page, PageKey};
 use rss_pagemap::SlotTable;
 use std::alloc::{AllocError, Global};
 use std::num::NonZeroUsize;
@@ -25,6 +27,8 @@ pub(crate) struct Frame {
 #[derive(Drop)]
 pub(crate) struct Frames {
     pub(crate) cache: LruCache<PageKey, Box<Frame>>,
+    /// The box of a page that has left memory, for the next one that comes.
+    spare: Option<Box<Frame>>,
     alloc: Global,
 }
 
@@ -34,6 +38,7 @@ impl Frames {
     {
         Ok(Frames {
             cache: LruCache::new(alloc, frames)?,
+            spare: None,
             alloc,
         })
     }
@@ -82,6 +87,38 @@ impl Frames {
         self.cache.promote(&key);
     }
 
+    /// A frame to fill, which no page has as yet. Its bytes and its mark are any.
+    pub(crate) fn blank(&mut self) -> Result<Box<Frame>, AllocError>
+        ensures { self.new.cache ≡ self.old.cache }
+    {
+        if let Some(frame) = self.spare.take() {
+            return Ok(frame);
+        }
+        let frame = Frame {
+            page: [0; PAGE_BYTES],
+            changed: false,
+        };
+        Ok(Box::new(self.alloc, frame)?)
+    }
+
+    /// Puts the frame of a page into memory, in place of what is there of it.
+    pub(crate) fn admit(&mut self, key: PageKey, frame: Box<Frame>) -> Result<(), AllocError>
+        requires { (length self.old.cache.entries < self.old.cache.cap)
+            ⊎ IsSome (frame_in self.old.cache.entries key) }
+        ensures ok { OnOk result
+            (frame_in self.new.cache.entries
+            ≡ with_frame (frame_in self.old.cache.entries) key (Some (box_value frame))) }
+        ensures err { OnErr result
+            (frame_in self.new.cache.entries ≡ frame_in self.old.cache.entries) }
+        ensures succeeds { IsSome (frame_in self.old.cache.entries key) → IsOk result }
+        ensures room { self.new.cache.cap ≡ self.old.cache.cap }
+    {
+        // `len` is called for its clause that the keys are distinct, which the proof cites.
+        let _len = self.cache.len();
+        self.cache.put(key, frame)?;
+        Ok(())
+    }
+
     /// Puts a page into memory, in place of what is there of it.
     pub(crate) fn put(&mut self, key: PageKey, page: &Page, changed: bool) -> Result<(), AllocError>
         requires { (length self.old.cache.entries < self.old.cache.cap)
@@ -90,7 +127,8 @@ impl Frames {
             (frame_in self.new.cache.entries
             ≡ with_frame (frame_in self.old.cache.entries) key
             (Some (record { page = page.now; changed = changed }))) }
-        ensures err { OnErr result (self.new ≡ self.old) }
+        ensures err { OnErr result
+            (frame_in self.new.cache.entries ≡ frame_in self.old.cache.entries) }
         ensures succeeds { IsSome (frame_in self.old.cache.entries key) → IsOk result }
         ensures room { self.new.cache.cap ≡ self.old.cache.cap }
     {
@@ -102,13 +140,10 @@ impl Frames {
             frame.changed = changed;
             return Ok(());
         }
-        let frame = Frame {
-            page: *page,
-            changed,
-        };
-        let frame = Box::new(self.alloc, frame)?;
-        self.cache.put(key, frame)?;
-        Ok(())
+        let mut frame = self.blank()?;
+        frame.page = *page;
+        frame.changed = changed;
+        self.admit(key, frame)
     }
 
     /// Takes the pages of so many slots, from this one on, as ones that were written there.
@@ -135,7 +170,7 @@ impl Frames {
         }
     }
 
-    /// Drops the page from memory.
+    /// Drops the page from memory. Its box is kept for another one.
     pub(crate) fn remove(&mut self, key: PageKey)
         ensures gone { frame_in self.new.cache.entries
             ≡ with_frame (frame_in self.old.cache.entries) key None }
@@ -147,6 +182,6 @@ impl Frames {
     {
         // `len` is called for its clause that the keys are distinct, which the proof cites.
         let _len = self.cache.len();
-        self.cache.pop(&key);
+        self.spare = self.cache.pop(&key);
     }
 }

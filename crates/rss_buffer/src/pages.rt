@@ -84,10 +84,13 @@ impl<D: Device> Buffer<D> {
         let Some(slot) = self.shadow.slot_of(key) else {
             unreachable!()
         };
-        let mut page = [0u8; PAGE_BYTES];
+        let Ok(mut frame) = self.frames.blank() else {
+            return Err(PageFault::NoMemory);
+        };
         self.device
-            .read(self.first_slot + u64::from(slot), &mut page)?;
-        if self.frames.put(key, &page, false).is_err() {
+            .read(self.first_slot + u64::from(slot), &mut frame.page)?;
+        frame.changed = false;
+        if self.frames.admit(key, frame).is_err() {
             return Err(PageFault::NoMemory);
         }
         Ok(())

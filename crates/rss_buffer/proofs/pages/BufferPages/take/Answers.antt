@@ -1,10 +1,8 @@
-use Rattle.std.proofs.Common.{◌<◌, ◌∙◌, refl, ap, sym, subst}
+use Rattle.std.proofs.Common.{◌<◌, ◌∙◌, refl, sym, subst}
 use Rattle.rss_base.specs.Paged.{page_key, IsLeastUnmapped}
 use Rattle.rss_base.specs.StoredPages.{mapped_by}
 use Rattle.rss_shadow.specs.Maps.{Maps, spare}
 use Rattle.rss_base.proofs.Steps.{took, lacks_memory, fails_by}
-use Rattle.rss_buffer.specs.declared.frames.Frames.{Frames}
-use Rattle.rss_buffer.specs.Frames.{frame_in}
 use Rattle.rss_buffer.specs.Devices.{buffer_view}
 use Rattle.rss_buffer.proofs.Turns.{ok_then, err_then, IsBuffer-back, KeepsPages-back, KeepsPages-then}
 use Rattle.rss_buffer.proofs.Changed.{IsKey-least, IsLeastUnmapped-lacking, HasPage-gains, same_after, Reslots-takes, Fits-changed, changes_page, IsBuffer-changes, passes_on, changed-off, takes_page, keeps_step}
@@ -36,7 +34,7 @@ invariant_of-self g c =
     let re = Reslots-takes mid.shadow c.take-number.new.self c.args.segment c.args.space c.take-number.result mid.holds.laid_out.table room c.requires.low c.requires.high c.requires.space took.least took.gains in
     let back = same_after mid.shadow c.take-number.new.self c.give.new.self key re.table took.gains c.give.ensures.loses in
     let left = err_then c.put.result (sym c.is_err.ensures.value ∙ c.if-is_err.true) c.put.ensures.err in
-    record { saved_area = mid.saved_area; holds = IsBuffer-back mid.holds back (ap (λ (f : Frames). frame_in f.cache.entries) left) }
+    record { saved_area = mid.saved_area; holds = IsBuffer-back mid.holds back left }
 
 pub returns-then-is_err-clause-did : goal.returns-then-is_err-clause-did
 returns-then-is_err-clause-did g c =
@@ -48,7 +46,7 @@ returns-then-is_err-clause-did g c =
     let re = Reslots-takes mid.shadow c.take-number.new.self c.args.segment c.args.space c.take-number.result mid.holds.laid_out.table room c.requires.low c.requires.high c.requires.space took.least took.gains in
     let back = same_after mid.shadow c.take-number.new.self c.give.new.self key re.table took.gains c.give.ensures.loses in
     let left = err_then c.put.result (sym c.is_err.ensures.value ∙ c.if-is_err.true) c.put.ensures.err in
-    lacks_memory (keeps_step (KeepsPages-then did.keeps (KeepsPages-back back (ap (λ (f : Frames). frame_in f.cache.entries) left))) did.few)
+    lacks_memory (keeps_step (KeepsPages-then did.keeps (KeepsPages-back back left)) did.few)
 
 -- ---- the page is mapped
 

@@ -2,8 +2,6 @@ use Rattle.std.proofs.Common.{◌∙◌, refl, ap, sym}
 use Rattle.rss_base.specs.StoredPages.{mapped_by}
 use Rattle.rss_shadow.specs.Maps.{Maps}
 use Rattle.rss_base.proofs.Steps.{took, lacks_memory, fails_by}
-use Rattle.rss_buffer.specs.declared.frames.Frames.{Frames}
-use Rattle.rss_buffer.specs.Frames.{frame_in}
 use Rattle.rss_buffer.specs.Devices.{buffer_view}
 use Rattle.rss_shadow.proofs.Owned.{LacksPage-unmapped}
 use Rattle.rss_buffer.proofs.Turns.{ok_then, err_then, IsBuffer-same, KeepsPages-same, KeepsPages-then}
@@ -25,13 +23,13 @@ pub invariant_of-self : goal.invariant_of-self
 invariant_of-self g c =
     let mid = c.make_room.new.self in
     let left = err_then c.put.result (sym c.is_err.ensures.value ∙ c.if-is_err.true) c.put.ensures.err in
-    record { saved_area = mid.saved_area; holds = IsBuffer-same mid.holds (ap (λ (f : Frames). frame_in f.cache.entries) left) }
+    record { saved_area = mid.saved_area; holds = IsBuffer-same mid.holds left }
 
 pub returns-then-is_err-clause-did : goal.returns-then-is_err-clause-did
 returns-then-is_err-clause-did g c =
     let room = c.make_room.ensures.did in
     let left = err_then c.put.result (sym c.is_err.ensures.value ∙ c.if-is_err.true) c.put.ensures.err in
-    lacks_memory (keeps_step (KeepsPages-then room.keeps (KeepsPages-same (ap (λ (f : Frames). frame_in f.cache.entries) left))) room.few)
+    lacks_memory (keeps_step (KeepsPages-then room.keeps (KeepsPages-same left)) room.few)
 
 -- ---- the page is mapped
 
