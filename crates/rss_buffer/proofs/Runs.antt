@@ -97,10 +97,6 @@ module _ (owners : List (Option PageKey)) (slot count : ℕ) (frames frames_mid 
 first_long : {count : ℕ} (run : List (List ℕ)) {written : List (List ℕ)} → written ≡ take count run → count ≤ length run → length written ≡ count
 first_long {count = count} run is few = ap (λ (l : List (List ℕ)). length l) is ∙ length-take-le count run few
 
-pub wrote-run : {T : Type 0} {old new : DeviceView} {at place count : ℕ} (run : List (List ℕ)) {written : List (List ℕ)} {result : Result T Failed} → written ≡ take count run → count ≤ length run → at ≡ place → WritesPages (IsWithin at (length written)) 1 old new result → WritesPages (IsWithin place count) 1 old new result
-wrote-run {old = old} {new = new} {at = at} {count = count} run {result = result} is few here did =
-    subst (λ (n : ℕ). WritesPages (IsWithin n count) 1 old new result) here (subst (λ (n : ℕ). WritesPages (IsWithin at n) 1 old new result) (first_long run is few) did)
-
 -- they are those of the run
 pub holds-run : {old new : Disk} {at place count : ℕ} (run : List (List ℕ)) {written : List (List ℕ)} → written ≡ take count run → count ≤ length run → at ≡ place → (IsTold new → IsTold old) → (IsTold old → Told new (HoldsRun at written)) → Told new (λ pages. (k : ℕ) → k < count → page pages (place + k) ≡ page run k)
 holds-run {count = count} run is few here told holds = λ pages told_now k less.
@@ -115,6 +111,14 @@ pub record IsRunOf (b : BufferView) (slot count : ℕ) (run : List (List ℕ)) (
   pub gathered : IsGathered b.maps.current b.frames slot count run
   pub some : 0 < count
   pub only : WritesIn (IsWithin (b.first + slot) count) b.device.disk device.disk
+
+pub run_of : {T : Type 0} {b : BufferView} {device : DeviceView} {owners : List (Option PageKey)} {at slot count : ℕ} (run : List (List ℕ)) {written : List (List ℕ)} {result : Result T Failed} → owners ≡ b.maps.current → IsGathered owners b.frames slot count run → 0 < count → count ≤ length run → written ≡ take count run → at ≡ b.first + slot
+    → WritesPages (IsWithin at (length written)) 1 b.device device result → IsRunOf b slot count run device
+run_of {b = b} {device = device} {at = at} {slot = slot} {count = count} run same gathered some few is here did = record {
+  gathered = subst (λ (o : List (Option PageKey)). IsGathered o b.frames slot count run) same gathered;
+  some = some;
+  only = subst (λ (n : ℕ). WritesIn (IsWithin n count) b.device.disk device.disk) here (subst (λ (n : ℕ). WritesIn (IsWithin at n) b.device.disk device.disk) (first_long run is few) did.only);
+}
 
 module _ {b : BufferView} {slot count : ℕ} {run : List (List ℕ)} {device : DeviceView} (buffer : IsBuffer b) (writes : IsRunOf b slot count run device) where
   abbrev gathered : IsGathered b.maps.current b.frames slot count run

@@ -1,5 +1,5 @@
-use Rattle.std.proofs.Common.{rules, ℕ, ◌+◌, ◌≤◌, length, refl, ap, arith}
-use Rattle.rss_buffer.proofs.Runs.{IsRunOf, wrote-run, holds-run, loose-run, first_waits, first_settled, waits-settled, IsBuffer-failed, KeepsPages-failed, IsBuffer-written, KeepsPages-written}
+use Rattle.std.proofs.Common.{rules, ℕ, ◌+◌, ◌≡◌, ◌≤◌, length, refl, ap, arith}
+use Rattle.rss_buffer.proofs.Runs.{run_of, holds-run, loose-run, first_waits, first_settled, waits-settled, IsBuffer-failed, KeepsPages-failed, IsBuffer-written, KeepsPages-written}
 use Rattle.rss_buffer.proofs.Turns.{WritesPages-none}
 use Rattle.rss_buffer.proofs.Waits.{settles-one, writes-one}
 use Rattle.rss_buffer.specs.Devices.{buffer_view}
@@ -19,30 +19,24 @@ invariant_of-self-in-Break-1 g c =
     let self = c.args.self.now in
     let run = c.gather-count.new.self.pages.items in
     let few : c.gather-count.result ≤ length run = omega (arith, c.gather-count.new.self.room, c.gather-count.ensures.few) in
-    let wrote = wrote-run run c.first.ensures few (ap (λ (n : ℕ). self.first_slot + n) c.from.ensures) c.write_run.ensures.did in
-    let writes : IsRunOf (buffer_view self) c.args.slot c.gather-count.result run (g.D.Device.view c.write_run.new.self) = record {
-      gathered = rw (← c.current-owners.ensures.current) c.gather-count.ensures.gathered;
-      some = omega (arith, c.if-count-eq0.false);
-      only = wrote.only;
-    } in
-    record { saved_area = self.saved_area; holds = IsBuffer-failed self.holds writes wrote.size }
+    let place = ap (λ (n : ℕ). self.first_slot + n) c.from.ensures in
+    let did = c.write_run.ensures.did in
+    let writes = run_of {b = buffer_view self} run c.current-owners.ensures.current c.gather-count.ensures.gathered (omega (arith, c.if-count-eq0.false)) few c.first.ensures place did in
+    record { saved_area = self.saved_area; holds = IsBuffer-failed self.holds writes did.size }
 
 pub returns-in_err-write_run-clause-did : goal.returns-in_err-write_run-clause-did
 returns-in_err-write_run-clause-did g c =
     let self = c.args.self.now in
     let run = c.gather-count.new.self.pages.items in
     let few : c.gather-count.result ≤ length run = omega (arith, c.gather-count.new.self.room, c.gather-count.ensures.few) in
-    let wrote = wrote-run run c.first.ensures few (ap (λ (n : ℕ). self.first_slot + n) c.from.ensures) c.write_run.ensures.did in
-    let writes : IsRunOf (buffer_view self) c.args.slot c.gather-count.result run (g.D.Device.view c.write_run.new.self) = record {
-      gathered = rw (← c.current-owners.ensures.current) c.gather-count.ensures.gathered;
-      some = omega (arith, c.if-count-eq0.false);
-      only = wrote.only;
-    } in
+    let place = ap (λ (n : ℕ). self.first_slot + n) c.from.ensures in
+    let did = c.write_run.ensures.did in
+    let writes = run_of {b = buffer_view self} run c.current-owners.ensures.current c.gather-count.ensures.gathered (omega (arith, c.if-count-eq0.false)) few c.first.ensures place did in
     record {
-      keeps = KeepsPages-failed self.holds writes (omega (arith, g.met.D.Device.limited self.device, c.write_run.ensures.counts)) wrote.cause.later;
+      keeps = KeepsPages-failed self.holds writes (omega (arith, g.met.D.Device.limited self.device, c.write_run.ensures.counts)) did.cause.later;
       loose = loose-run self.holds writes;
       settles = search rules;
-      few = writes-one _ _ _ _ (first_waits self.holds writes) wrote.writes;
+      few = writes-one _ _ _ _ (first_waits self.holds writes) did.writes;
       fault = search rules;
       cause = search rules;
     }
@@ -55,16 +49,12 @@ invariant_of-self-2 g c =
     let run = c.gather-count.new.self.pages.items in
     let few : c.gather-count.result ≤ length run = omega (arith, c.gather-count.new.self.room, c.gather-count.ensures.few) in
     let place = ap (λ (n : ℕ). self.first_slot + n) c.from.ensures in
-    let wrote = wrote-run run c.first.ensures few place c.write_run.ensures.did in
-    let writes : IsRunOf (buffer_view self) c.args.slot c.gather-count.result run (g.D.Device.view c.write_run.new.self) = record {
-      gathered = rw (← c.current-owners.ensures.current) c.gather-count.ensures.gathered;
-      some = omega (arith, c.if-count-eq0.false);
-      only = wrote.only;
-    } in
+    let did = c.write_run.ensures.did in
+    let writes = run_of {b = buffer_view self} run c.current-owners.ensures.current c.gather-count.ensures.gathered (omega (arith, c.if-count-eq0.false)) few c.first.ensures place did in
     let settled : AreSettled self.shadow.current c.args.slot c.gather-count.result (frame_in self.frames.cache.entries) (frame_in c.settle.new.self.cache.entries) = rw (← c.current-owners.ensures.current) c.settle.ensures in
     record {
       saved_area = self.saved_area;
-      holds = IsBuffer-written self.holds writes settled wrote.size (holds-run run c.first.ensures few place wrote.only.told.1 c.in_ok-write_run.ensures.written);
+      holds = IsBuffer-written self.holds writes settled did.size (holds-run run c.first.ensures few place did.only.told.1 c.in_ok-write_run.ensures.written);
     }
 
 pub returns-clause-did : goal.returns-clause-did
@@ -72,19 +62,16 @@ returns-clause-did g c =
     let self = c.args.self.now in
     let run = c.gather-count.new.self.pages.items in
     let few : c.gather-count.result ≤ length run = omega (arith, c.gather-count.new.self.room, c.gather-count.ensures.few) in
-    let wrote = wrote-run run c.first.ensures few (ap (λ (n : ℕ). self.first_slot + n) c.from.ensures) c.write_run.ensures.did in
-    let writes : IsRunOf (buffer_view self) c.args.slot c.gather-count.result run (g.D.Device.view c.write_run.new.self) = record {
-      gathered = rw (← c.current-owners.ensures.current) c.gather-count.ensures.gathered;
-      some = omega (arith, c.if-count-eq0.false);
-      only = wrote.only;
-    } in
+    let place = ap (λ (n : ℕ). self.first_slot + n) c.from.ensures in
+    let did = c.write_run.ensures.did in
+    let writes = run_of {b = buffer_view self} run c.current-owners.ensures.current c.gather-count.ensures.gathered (omega (arith, c.if-count-eq0.false)) few c.first.ensures place did in
     let settled : AreSettled self.shadow.current c.args.slot c.gather-count.result (frame_in self.frames.cache.entries) (frame_in c.settle.new.self.cache.entries) = rw (← c.current-owners.ensures.current) c.settle.ensures in
     let waits = first_waits self.holds writes in
     record {
-      keeps = KeepsPages-written self.holds writes settled (omega (arith, g.met.D.Device.limited self.device, c.write_run.ensures.counts)) wrote.cause.later;
+      keeps = KeepsPages-written self.holds writes settled (omega (arith, g.met.D.Device.limited self.device, c.write_run.ensures.counts)) did.cause.later;
       loose = loose-run self.holds writes;
-      settles = settles-one _ waits (first_settled self.holds writes settled) (waits-settled self.holds writes settled) wrote.writes;
-      few = writes-one _ _ _ _ waits wrote.writes;
+      settles = settles-one _ waits (first_settled self.holds writes settled) (waits-settled self.holds writes settled) did.writes;
+      few = writes-one _ _ _ _ waits did.writes;
       fault = tt;
       cause = search rules;
     }
