@@ -8,6 +8,7 @@ ghost use Rattle.rss_base.specs.StoredPages.{StandInSlots, SavesPages};
 ghost use Rattle.rss_base.specs.declared.key.PageKey.{PageKey as Key};
 ghost use Rattle.rss_root.specs.Roots.{IsPhase, IsSwitched};
 ghost use Rattle.rss_buffer.specs.Buffered.{NoneChanged, WritesPages};
+ghost use Rattle.rss_buffer.specs.Gathered.{IsWritten};
 ghost use Rattle.rss_buffer.specs.Saved.{IsSaveable, AreWritten, unsynced};
 ghost use Rattle.rss_buffer.specs.Saving.{SavingView, maps_of, first_slot, AreSaveable, SavingStep, SavingCall, IsRootOf, LeavesSaved, IsAdopted};
 ghost use Rattle.rss_buffer.specs.declared.stage.Stage.{Stage as AnyStage};
@@ -213,9 +214,23 @@ impl<D: Device> Buffer<D> {
         ensures did { WritesPages (buffer_view self.old) (buffer_view self.new) result }
     {
         for slot in 0..self.shadow.current().slots() {
-            self.write_back(slot)?;
+            self.flush_slot(slot)?;
         }
         Ok(())
+    }
+
+    /// Writes the page of a slot there, where it is in memory and was changed.
+    fn flush_slot(&mut self, slot: u32) -> Result<(), PageFault>
+        requires { slot < length self.old.shadow.current }
+        ensures written { OnOk result
+            (IsWritten self.old.shadow.current (buffer_view self.new).frames slot) }
+        ensures did { WritesPages (buffer_view self.old) (buffer_view self.new) result }
+    {
+        // Most slots are free, and are passed over at once.
+        match self.shadow.current().owner(slot) {
+            Some(_) => self.write_back(slot),
+            None => Ok(()),
+        }
     }
 
     /// The device, as the last call left it. Changed pages that were not written are dropped.

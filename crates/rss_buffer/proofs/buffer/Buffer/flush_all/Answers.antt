@@ -21,15 +21,15 @@ loop-slot-preserved g c =
     let so_far = c.loop-slot.invariant in
     let owners = c.args.self.now.shadow.current in
     let frames = frame_in c.loop-slot.self.frames.cache.entries in
-    let frames_now = frame_in c.write_back.new.self.frames.cache.entries in
-    let now = subst (λ (m : Maps). IsWritten m.current frames_now c.loop-slot.slot) so_far.did.keeps.maps c.in_ok-write_back.ensures.written in
+    let frames_now = frame_in c.flush_slot.new.self.frames.cache.entries in
+    let now = subst (λ (m : Maps). IsWritten m.current frames_now c.loop-slot.slot) so_far.did.keeps.maps c.in_ok-flush_slot.ensures.written in
     record {
-      written = one_written owners frames frames_now c.loop-slot.slot now c.write_back.ensures.did.keeps.waiting so_far.written;
-      did = WritesPages-then {result = Ok tt} so_far.did c.in_ok-write_back.ensures.did;
+      written = one_written owners frames frames_now c.loop-slot.slot now c.flush_slot.ensures.did.keeps.waiting so_far.written;
+      did = WritesPages-then {result = Ok tt} so_far.did c.in_ok-flush_slot.ensures.did;
     }
 
-pub returns-in_err-write_back-clause-did : goal.returns-in_err-write_back-clause-did
-returns-in_err-write_back-clause-did g c = WritesPages-fails _ c.from_residual.ensures.1 (WritesPages-then c.loop-slot.invariant.did c.in_err-write_back.ensures.did)
+pub returns-in_err-flush_slot-clause-did : goal.returns-in_err-flush_slot-clause-did
+returns-in_err-flush_slot-clause-did g c = WritesPages-fails _ c.from_residual.ensures.1 (WritesPages-then c.loop-slot.invariant.did c.in_err-flush_slot.ensures.did)
 
 pub returns-clause-none_changed : goal.returns-clause-none_changed
 returns-clause-none_changed g c =
