@@ -113,9 +113,8 @@ impl<D: Device> Buffer<D> {
     }
 }
 
-/// What a buffer keeps of this map: the map itself, as it is now and as it was saved, no notes, and
-/// so many frames, all empty, with
-/// room to write pages together.
+/// What a buffer keeps of this map: the map itself, as it is now and as it was saved, no notes, so
+/// many frames, all empty, and room for a run of pages.
 fn new_parts(
     alloc: Global,
     table: SlotTable,
