@@ -196,9 +196,10 @@ fn write_both(device: &mut MemDevice) -> Result<(), Failed> {
 
 /// Each stop leaves its bytes in the two pages.
 fn assert_stops(alloc: Global, device: &MemDevice, stops: &[Stop]) -> Result<(), Fail> {
-    for (when, moment, unsynced, [first, second]) in stops {
+    for (when, moment, unsynced, bytes) in stops {
         let image = image_at(alloc, device, *moment, *unsynced)?;
-        let is_left = image.as_slice() == [page_full_of(*first), page_full_of(*second)].as_slice();
+        let is_left = image.as_slice()
+            == [page_full_of(bytes[0]), page_full_of(bytes[1])].as_slice();
         assert_same(&is_left, &true, (*when, *unsynced))?;
     }
     Ok(())
