@@ -168,6 +168,12 @@ OthersStay old new slot = (other : ℕ) → other < page_entries → (other ≡ 
 abbrev pub OthersStayIfRoom : List ℕ → List ℕ → ℕ → ℕ → Type 0
 OthersStayIfRoom old new slot length = (end : ℕ) → OthersEndBy old slot end → end + length ≤ page_bytes → OthersStay old new slot
 
+-- the entry of a slot has this body now, from a place on, and each other body stays in its place
+pub record Overwrites (old new : List ℕ) (slot place : ℕ) (body : List ℕ) : Type 0 where
+  pub becomes : Sets old new slot (Here body)
+  pub stay : OthersStay old new slot
+  pub stands : entry_of new slot ≡ HereEntry place (length body)
+
 -- a body may be put at a slot of a page
 pub record MayPut (page : List ℕ) (slot : ℕ) (body : List ℕ) : Type 0 where
   pub slotted : IsSlotted page

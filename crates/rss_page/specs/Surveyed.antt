@@ -1,11 +1,11 @@
 -- What one walk over the directory of a page finds.
-use Rattle.std.specs.Prelude.{◌≡◌, ◌↔◌, ℕ, ◌+◌, ◌<◌, ◌≤◌, max, Bool, true, false, ◌&&◌, if◌then◌else◌, List, take, slice_index_or, Some, unwrap_or, IsTrue, MatchOption}
+use Rattle.std.specs.Prelude.{◌≡◌, ◌↔◌, ℕ, ◌+◌, ◌<◌, ◌≤◌, max, Bool, true, false, ◌&&◌, if◌then◌else◌, List, length as count, take, slice_index_or, Some, unwrap_or, IsTrue, MatchOption}
 use Rattle.rss_base.specs.Sizes.{page_entries, page_bytes}
 use Rattle.rss_page.specs.declared.entry_form.Entry.{Entry}
 use Rattle.rss_page.specs.declared.entry_form.Entry.TheVariants.{Empty as EmptyEntry, Here as HereEntry, Forward as ForwardEntry}
 use Rattle.rss_page.specs.declared.surveying.Survey.{Survey}
-use Rattle.rss_page.specs.Content.{Content, Empty}
-use Rattle.rss_page.specs.Slotted.{bodies_at, bodies_room, entries, entry_at, entry_of, body_bytes, place_of, length_of, IsEntry, IsSlotted, EndBy}
+use Rattle.rss_page.specs.Content.{Content, Empty, Here}
+use Rattle.rss_page.specs.Slotted.{bodies_at, bodies_room, entries, entry_at, entry_of, body_bytes, place_of, length_of, IsEntry, IsSlotted, EndBy, OthersBeside}
 
 -- what the entry of a slot holds
 abbrev pub held_at : List Content → ℕ → Content
@@ -34,6 +34,13 @@ pub record IsSurvey (page : List ℕ) (survey : Survey) : Type 0 where
   pub least : (end : ℕ) → bodies_at ≤ end → EndBy page end → survey.end ≤ end
   pub empty : MatchOption survey.first_empty (AllTaken (entries page) page_entries) (IsFirstEmpty (entries page))
   pub vacant : IsTrue survey.is_vacant ↔ IsVacant (entries page)
+
+-- The entry of a slot has a body of so many bytes or more, and in a page no other body has any of them from this place on.
+pub record IsOwnPlace (page : List ℕ) (slot length place : ℕ) : Type 0 where
+  pub body : List ℕ
+  pub here : held_at (entries page) slot ≡ Here body
+  pub long : length ≤ count body
+  pub beside : IsSlotted page → OthersBeside page slot place length
 
 -- ---- the order of bodies
 

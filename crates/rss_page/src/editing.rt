@@ -1,11 +1,11 @@
 // Changes of a page.
 ghost use Rattle.std.specs.Prelude.{◌≡◌, ◌+◌, ◌-◌, ◌<◌, ◌≤◌, ℕ, length, replicate, IfSome};
-ghost use Rattle.rss_page.specs.declared.entry_form.Entry.TheVariants.{Here as HereEntry};
 ghost use Rattle.rss_base.specs.Sizes.{page_entries, page_bytes};
 ghost use Rattle.rss_page.specs.Content.{Empty, Here, Forward, body_length};
-ghost use Rattle.rss_page.specs.Slotted.{bodies_at, bodies_room, part, entries, entry_of, body_bytes, HasRoom, IsBody, IsSlotted, IsHome, Becomes, Sets, EndBy, MayPut, OthersBeside, OthersEndBy, OthersStay, OthersStayIfRoom};
-ghost use Rattle.rss_page.specs.Surveyed.{held_at, IsSurvey};
+ghost use Rattle.rss_page.specs.Slotted.{bodies_at, bodies_room, part, entries, body_bytes, HasRoom, IsBody, IsSlotted, IsHome, Becomes, Sets, EndBy, MayPut, Overwrites, OthersBeside, OthersEndBy, OthersStay, OthersStayIfRoom};
+ghost use Rattle.rss_page.specs.Surveyed.{held_at, IsOwnPlace, IsSurvey};
 
+use crate::checked::formed_entry;
 use crate::directory::{HEADER_BYTES, entry, set_entry};
 use crate::entry_form::{BODIES_AT, ENTRIES, Entry, PAGE_END};
 use crate::surveying::Survey;
@@ -14,12 +14,11 @@ use rss_base::{Page, put_bytes};
 /// How many bytes the directory has.
 const DIRECTORY_BYTES: usize = 1024;
 
-/// Empties an entry, whatever it holds.
+/// Empties an entry, whatever it holds. Nothing of the page is looked at, so it may be any bytes.
 pub fn remove(page: &mut Page, slot: u8)
-    requires slotted { IsSlotted page.old }
-    requires slot { slot < page_entries }
-    ensures becomes { Sets page.old page.new slot Empty }
-    ensures stay { OthersStay page.old page.new slot }
+    requires { slot < page_entries }
+    ensures becomes { IsSlotted page.old → Sets page.old page.new slot Empty }
+    ensures stay { IsSlotted page.old → OthersStay page.old page.new slot }
 {
     set_entry(page, slot, Entry::Empty);
 }
@@ -65,7 +64,7 @@ pub fn put_found(page: &mut Page, slot: u8, body: &[u8], found: &Survey)
     ensures stay { OthersStayIfRoom page.old page.new slot (length body.now) }
 {
     if let Some(place) = own_place(page, slot, body.len() as u16) {
-        write_at(page, slot, place, body);
+        overwrite(page, slot, place, body);
     } else if found.end <= PAGE_END - body.len() as u16 {
         append(page, slot, found.end, body);
     } else {
@@ -73,15 +72,15 @@ pub fn put_found(page: &mut Page, slot: u8, body: &[u8], found: &Survey)
     }
 }
 
-/// Where the body of a slot stands, if it has one of so many bytes or more.
-fn own_place(page: &Page, slot: u8, length: u16) -> Option<u16>
-    requires slotted { IsSlotted page.now }
+/// Where the body of a slot stands, if its entry is in form and has one of so many bytes or more.
+/// Nothing else of the page is looked at, so it may be any bytes.
+pub fn own_place(page: &Page, slot: u8, length: u16) -> Option<u16>
     requires slot { slot < page_entries }
     requires some { 1 ≤ length }
     ensures place { IfSome result (λ place. IsBody place length) }
-    ensures beside { IfSome result (λ place. OthersBeside page.now slot place length) }
+    ensures own { IfSome result (IsOwnPlace page.now slot length) }
 {
-    let Entry::Here { place, length: own } = entry(page, slot) else {
+    let Entry::Here { place, length: own } = formed_entry(page, slot)? else {
         return None;
     };
     if length <= own { Some(place) } else { None }
@@ -174,18 +173,16 @@ fn append(page: &mut Page, slot: u8, end: u16, body: &[u8])
     ensures stay { OthersStay page.old page.new slot }
     ensures ends { EndBy page.new (end + length body.now) }
 {
-    write_at(page, slot, end, body);
+    overwrite(page, slot, end, body);
 }
 
-/// Gives an entry a body at a place where no other body is.
-fn write_at(page: &mut Page, slot: u8, place: u16, body: &[u8])
-    requires slotted { IsSlotted page.old }
+/// Gives an entry a body at a place. Nothing of the page is looked at, so it may be any bytes; in a
+/// page no other body may be there.
+pub fn overwrite(page: &mut Page, slot: u8, place: u16, body: &[u8])
     requires slot { slot < page_entries }
-    requires beside { OthersBeside page.old slot place (length body.now) }
     requires place { IsBody place (length body.now) }
-    ensures becomes { Sets page.old page.new slot (Here body.now) }
-    ensures stay { OthersStay page.old page.new slot }
-    ensures stands { entry_of page.new slot ≡ HereEntry place (length body.now) }
+    ensures { IsSlotted page.old → OthersBeside page.old slot place (length body.now)
+        → Overwrites page.old page.new slot place body.now }
 {
     put_bytes(page, usize::from(place), body);
     let here = Entry::Here {

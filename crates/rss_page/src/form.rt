@@ -53,8 +53,9 @@ pub fn survey(page: &Page, key: PageKey) -> Option<Survey>
     }
 }
 
-/// Whether a page begins with the header of a key that names a home or an overflow page.
-fn has_header(page: &Page, key: PageKey) -> bool
+/// Whether a page begins with the header of a key that names a home or an overflow page. Its entries
+/// are not looked at.
+pub fn has_header(page: &Page, key: PageKey) -> bool
     ensures { IsTrue result ↔ IsHeader key page.now }
 {
     let heap = match key.space {

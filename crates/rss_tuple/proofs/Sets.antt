@@ -21,7 +21,7 @@ use Rattle.rss_page.proofs.Blanks.{blank_bytes}
 use Rattle.rss_page.proofs.Contents.{length-entries}
 use Rattle.rss_tuple.specs.Directory.{contents_in, content_at}
 use Rattle.rss_tuple.specs.Heaps.{IsHeap, AreFormed}
-use Rattle.rss_tuple.specs.Edits.{IsRead, SetsEntry, FillsPage, Edits}
+use Rattle.rss_tuple.specs.Edits.{IsRead, IsCopied, SetsEntry, FillsPage, Edits}
 use Rattle.rss_tuple.proofs.Seen.{not_ok, on_ok_then, content_after, found_damaged}
 
 -- ---- all pages, where one was changed
@@ -126,7 +126,15 @@ none_held (Some bytes) is = absurd (cc)
 pub is_read : (view : PagesView) (key : PageKey) (bytes : List ℕ) → view.mapped key ≡ true → IsWellFormed key bytes → (IsTold view.disk → view.held key ≡ Some bytes) → IsRead view key bytes
 is_read view key bytes mapped formed held = record { mapped = mapped; formed = formed; held = held }
 
--- where a walk finds it ill-formed, the device tells nothing
+-- a copy is well-formed where the device tells its contents
+pub read_copied : {view : PagesView} {key : PageKey} {bytes : List ℕ} → IsHeapKey key → (IsTold view.disk → AreFormed view) → IsCopied view key bytes → IsTold view.disk → IsRead view key bytes
+read_copied {key = key} {bytes = bytes} heap formed copied told = record {
+  mapped = copied.mapped;
+  formed = (formed told key bytes heap (copied.held told)).formed;
+  held = copied.held;
+}
+
+-- where it is found to be ill-formed, the device tells nothing
 pub ill_formed : {asks writes : ℕ} {old mid : PagesView} (key : PageKey) (bytes : List ℕ) (fault : PageFault) → PagesStep no_page asks writes old mid → IsHeapKey key → (IsTold old.disk → AreFormed old) → (IsTold mid.disk → mid.held key ≡ Some bytes) → (IsWellFormed key bytes → ⊥) → fault ≡ Damaged (PagePlace key) → PagesCall {T = Unit {0}} no_page asks writes old mid (Err fault)
 ill_formed key bytes fault step heap formed held ill is = found_damaged fault is step (λ told. ill (formed told key bytes heap (ap (λ (h : Held). h key) (sym (all_held step told)) ∙ held (step.passes.leaves.told.0 told))).formed)
 

@@ -18,7 +18,12 @@ pub record IsRead (view : PagesView) (key : PageKey) (bytes : List ℕ) : Type 0
   pub formed : IsWellFormed key bytes
   pub held : IsTold view.disk → view.held key ≡ Some bytes
 
--- what a call may be given that reads a page, looks at an entry of one, or changes an entry of one that was read
+-- these bytes are those of the key where the device tells its contents, and nothing is known of them else
+pub record IsCopied (view : PagesView) (key : PageKey) (bytes : List ℕ) : Type 0 where
+  pub mapped : view.mapped key ≡ true
+  pub held : IsTold view.disk → view.held key ≡ Some bytes
+
+-- what a call may be given that reads a page, looks at an entry of one, or changes an entry of one that was read or copied
 pub record MayRead (view : PagesView) (key : PageKey) : Type 0 where
   pub heap : IsHeapKey key
   pub mapped : IsTold view.disk → view.mapped key ≡ true
@@ -31,6 +36,12 @@ pub record NamesEntry (view : PagesView) (key : PageKey) (slot : ℕ) : Type 0 w
 
 pub record MayEdit (view : PagesView) (key : PageKey) (slot : ℕ) (bytes : List ℕ) : Type 0 where
   pub read : IsRead view key bytes
+  pub low : slot < page_entries
+  pub formed : IsTold view.disk → AreFormed view
+
+pub record MayChange (view : PagesView) (key : PageKey) (slot : ℕ) (bytes : List ℕ) : Type 0 where
+  pub heap : IsHeapKey key
+  pub copied : IsCopied view key bytes
   pub low : slot < page_entries
   pub formed : IsTold view.disk → AreFormed view
 

@@ -7,15 +7,15 @@ ghost use Rattle.rss_base.specs.declared.key.Space.TheVariants.{Home};
 ghost use Rattle.rss_base.specs.declared.fault.PageFault.TheVariants.{Damaged as PageDamaged};
 ghost use Rattle.rss_base.specs.declared.place.Place.TheVariants.{Page as PagePlace};
 ghost use Rattle.rss_page.specs.Content.{Empty, Here, Forward};
-ghost use Rattle.rss_page.specs.Slotted.{entries, HasRoom, IsHeapKey, IsSlotted, IsWellFormed};
-ghost use Rattle.rss_page.specs.Surveyed.{IsSurvey, IsVacant};
+ghost use Rattle.rss_page.specs.Slotted.{entries, HasRoom, IsBody, IsHeapKey, IsWellFormed};
+ghost use Rattle.rss_page.specs.Surveyed.{IsOwnPlace, IsSurvey, IsVacant};
 ghost use Rattle.rss_tuple.specs.Calls.{IsBodyLength};
-ghost use Rattle.rss_tuple.specs.Edits.{MayRead, NamesEntry, MayEdit, Edits, FillsPage};
+ghost use Rattle.rss_tuple.specs.Edits.{MayRead, NamesEntry, MayChange, MayEdit, Edits, FillsPage};
 
 use crate::keys::damaged;
 use crate::walking::taken_from;
 use rss_base::{Page, PageFault, PageKey, Pages, Tid};
-use rss_page::{Survey, blank, forward_at, put_found, remove, survey};
+use rss_page::{Survey, blank, forward_at, has_header, overwrite, put_found, remove, survey};
 
 /// Brings a page into memory that is to be mapped. A caller copies it from there, since a buffer to
 /// read it into would have to be zeroed before.
@@ -45,6 +45,19 @@ pub(crate) fn walk(page: &Page, key: PageKey) -> Result<Survey, PageFault>
     }
 }
 
+/// Finds out whether a page begins as that of its key does, where it is to be well-formed. What costs
+/// more, a walk over its entries, is left to calls that need to know each of them.
+pub(crate) fn confirm(page: &Page, key: PageKey) -> Result<(), PageFault>
+    ensures damaged { IfErr result (λ fault. fault ≡ PageDamaged (PagePlace key)) }
+    ensures ill { OnErr result (IsWellFormed key page.now → ⊥) }
+{
+    if has_header(page, key) {
+        Ok(())
+    } else {
+        Err(damaged(key))
+    }
+}
+
 /// Gives an entry of a page that was read and walked over a body, whatever it held.
 pub(crate) fn put_here<P: Pages>(
     pages: &mut P,
@@ -61,6 +74,26 @@ pub(crate) fn put_here<P: Pages>(
     ensures { Edits key slot (Here body.now) 1 (P.view pages.old) (P.view pages.new) result }
 {
     put_found(page, slot, body, found);
+    pages.write(key, page)?;
+    Ok(())
+}
+
+/// Writes a body over one that stands in an entry of a page that was copied, and that isn't shorter.
+pub(crate) fn put_over<P: Pages>(
+    pages: &mut P,
+    key: PageKey,
+    page: &mut Page,
+    slot: u8,
+    place: u16,
+    body: &[u8],
+) -> Result<(), PageFault>
+    requires may { MayChange (P.view pages.old) key slot page.old }
+    requires length { IsBodyLength (length body.now) }
+    requires place { IsBody place (length body.now) }
+    requires own { IsOwnPlace page.old slot (length body.now) place }
+    ensures { Edits key slot (Here body.now) 1 (P.view pages.old) (P.view pages.new) result }
+{
+    overwrite(page, slot, place, body);
     pages.write(key, page)?;
     Ok(())
 }
@@ -87,20 +120,19 @@ pub(crate) fn put_forward<P: Pages>(
 
 /// Whether all entries of a page are empty.
 fn is_vacant(page: &Page) -> bool
-    requires { IsSlotted page.now }
     ensures { IsTrue result ↔ IsVacant (entries page.now) }
 {
     taken_from(page, 0).is_none()
 }
 
-/// Empties an entry of a page that was read. A page whose entries are all empty then is given back.
+/// Empties an entry of a page that was copied. A page whose entries are all empty then is given back.
 pub(crate) fn clear_in<P: Pages>(
     pages: &mut P,
     key: PageKey,
     page: &mut Page,
     slot: u8,
 ) -> Result<(), PageFault>
-    requires { MayEdit (P.view pages.old) key slot page.old }
+    requires { MayChange (P.view pages.old) key slot page.old }
     ensures { Edits key slot Empty 1 (P.view pages.old) (P.view pages.new) result }
 {
     remove(page, slot);
@@ -121,7 +153,7 @@ pub(crate) fn clear<P: Pages>(pages: &mut P, key: PageKey, slot: u8) -> Result<(
 {
     load_there(pages, key)?;
     let mut page = *pages.loaded(key);
-    walk(&page, key)?;
+    confirm(&page, key)?;
     clear_in(pages, key, &mut page, slot)
 }
 

@@ -16,11 +16,11 @@ ghost use Rattle.rss_tuple.specs.Calls.{MayPut, MayInsert, HasTuple, HasSpare, M
 ghost use Rattle.rss_tuple.specs.Edits.{IsRead, MayRead};
 ghost use Rattle.rss_tuple.specs.Puts.{Changed, TakesAway, PutsAway, Puts, MovesBody, HomeRead, Stays};
 
-use crate::entries::{clear, clear_in, fill, load_there, put_forward, put_here, take_here, walk};
+use crate::entries::{clear, clear_in, confirm, fill, load_there, put_forward, put_here, put_over, take_here, walk};
 use crate::finding::{Spot, find_page};
 use crate::keys::{damaged, home, overflow};
 use rss_base::{PAGE_BYTES, Page, PageFault, PageKey, Pages, Space, Tid};
-use rss_page::{ENTRIES, Entry, Survey, entry};
+use rss_page::{ENTRIES, Entry, Survey, checked_entry, entry, own_place};
 
 // ---- a body and its place
 
@@ -145,8 +145,11 @@ pub(crate) fn remove<P: Pages>(pages: &mut P, segment: u8, tid: Tid) -> Result<(
     let slot = tid.slot as u8;
     load_there(pages, key)?;
     let mut page = *pages.loaded(key);
-    walk(&page, key)?;
-    match entry(&page, slot) {
+    confirm(&page, key)?;
+    let Some(found) = checked_entry(&page, slot) else {
+        return Err(damaged(key));
+    };
+    match found {
         Entry::Empty => Err(damaged(key)),
         Entry::Here { .. } => clear_in(pages, key, &mut page, slot),
         Entry::Forward {
@@ -159,7 +162,8 @@ pub(crate) fn remove<P: Pages>(pages: &mut P, segment: u8, tid: Tid) -> Result<(
     }
 }
 
-/// Puts another body in place of that of a tuple.
+/// Puts another body in place of that of a tuple. One that stands in its home page and isn't shorter
+/// is written over.
 pub(crate) fn replace<P: Pages>(
     pages: &mut P,
     segment: u8,
@@ -177,6 +181,10 @@ pub(crate) fn replace<P: Pages>(
     let slot = tid.slot as u8;
     load_there(pages, key)?;
     let mut page = *pages.loaded(key);
+    confirm(&page, key)?;
+    if let Some(place) = own_place(&page, slot, body.len() as u16) {
+        return put_over(pages, key, &mut page, slot, place, body);
+    }
     let found = walk(&page, key)?;
     match entry(&page, slot) {
         Entry::Empty => Err(damaged(key)),

@@ -15,10 +15,10 @@ append-requires-clause-place c =
     subst (λ (l : List ℕ). IsBody c.args.end (length l)) (sym (lent from c.in-Here.place c.from-start.result c.in-Here.length c.from.result c.from-start.ensures c.from.ensures)) (record { low = c.requires.low; some = omega (arith, body.some); high = omega arith })
 
 pub returns-in-Empty-clause-becomes : goal.returns-in-Empty-clause-becomes
-returns-in-Empty-clause-becomes c = rw (held_is c.args.from.now c.args.slot _ c.requires.slot c.in-Empty.ensures.spelled) c.remove.ensures.becomes
+returns-in-Empty-clause-becomes c = rw (held_is c.args.from.now c.args.slot _ c.requires.slot c.in-Empty.ensures.spelled) (c.remove.ensures.becomes c.requires.slotted)
 
 pub returns-in-Empty-clause-ends : goal.returns-in-Empty-clause-ends
-returns-in-Empty-clause-ends c = ends_without c.args.page.now c.remove.new.page c.args.slot c.args.end Empty c.remove.ensures.becomes c.remove.ensures.stay (λ other low differ. c.requires.ends other low) c.requires.slot (λ body is. cc)
+returns-in-Empty-clause-ends c = ends_without c.args.page.now c.remove.new.page c.args.slot c.args.end Empty (c.remove.ensures.becomes c.requires.slotted) (c.remove.ensures.stay c.requires.slotted) (λ other low differ. c.requires.ends other low) c.requires.slot (λ body is. cc)
 
 pub returns-in-Empty-clause-close : goal.returns-in-Empty-clause-close
 returns-in-Empty-clause-close c = rw (held_is c.args.from.now c.args.slot _ c.requires.slot c.in-Empty.ensures.spelled) (omega arith)

@@ -2,18 +2,19 @@ use Rattle.std.proofs.Common.{◌∙◌, sym, ap, arith}
 use Rattle.rss_base.specs.Paged.{Mapped}
 use Rattle.rss_base.proofs.Steps.{all_mapped}
 use Rattle.rss_tuple.proofs.Seen.{on_ok, formed_after}
-use Rattle.rss_tuple.proofs.Sets.{edits_after, edits_fails, is_read, ill_formed}
+use Rattle.rss_tuple.proofs.Sets.{edits_after, edits_fails, ill_formed}
 use Rattle.rss_tuple.proofs.entries.clear.Goals as goal
 
 pub clear_in-requires : goal.clear_in-requires
 clear_in-requires g c = record {
-  read = (is_read (g.P.Pages.view c.load_there.new.pages) _ _ c.in_ok-load_there.ensures.mapped c.in_ok-walk.ensures.formed c.loaded.ensures);
+  heap = c.requires.may.heap;
+  copied = record { mapped = c.in_ok-load_there.ensures.mapped; held = c.loaded.ensures };
   low = c.requires.low;
   formed = formed_after c.in_ok-load_there.ensures.did.step c.requires.may.formed;
 }
 
-pub returns-in_err-walk-clause-edits : goal.returns-in_err-walk-clause-edits
-returns-in_err-walk-clause-edits g c = edits_fails _ c.from_residual-in_err-walk.ensures.1 (λ key none. absurd none) (omega arith) (omega arith) (ill_formed _ _ _ c.in_ok-load_there.ensures.did.step c.requires.may.heap c.requires.may.formed c.loaded.ensures c.in_err-walk.ensures.ill c.in_err-walk.ensures.damaged)
+pub returns-in_err-confirm-clause-edits : goal.returns-in_err-confirm-clause-edits
+returns-in_err-confirm-clause-edits g c = edits_fails _ c.from_residual-in_err-confirm.ensures.1 (λ key none. absurd none) (omega arith) (omega arith) (ill_formed _ _ _ c.in_ok-load_there.ensures.did.step c.requires.may.heap c.requires.may.formed c.loaded.ensures c.in_err-confirm.ensures.ill c.in_err-confirm.ensures.damaged)
 
 pub returns-clause-there : goal.returns-clause-there
 returns-clause-there g c = on_ok c.clear_in.result (sym (ap (λ (m : Mapped). m c.args.key) (all_mapped c.in_ok-load_there.ensures.did.step)) ∙ c.in_ok-load_there.ensures.mapped)

@@ -1,15 +1,19 @@
 use Rattle.std.proofs.Common.{◌∙◌, ◌<◌, length, rules, inl, sym, ap, arith}
+use Rattle.rss_base.specs.DiskRule.{IsTold}
 use Rattle.rss_base.specs.Paged.{Held, page_key}
 use Rattle.rss_tuple.specs.Directory.{bodies_of}
+use Rattle.rss_tuple.specs.Edits.{IsCopied, IsRead}
 use Rattle.rss_base.specs.declared.key.PageKey.{PageKey}
 use Rattle.rss_base.specs.declared.key.Space.TheVariants.{Home}
 use Rattle.rss_base.proofs.Steps.{rests, untouched, widens, all_held, all_mapped}
-use Rattle.rss_tuple.proofs.Seen.{found_damaged, high_empty, formed_after, heaps_after}
-use Rattle.rss_tuple.proofs.Placed.{read_at, mapped_there, low_forward, held_there, read_key, stands_here, body_read, room_back}
-use Rattle.rss_tuple.proofs.Sets.{is_read, ill_formed}
-use Rattle.rss_tuple.proofs.Changes.{entry_there, spare_after, spare_longer}
+use Rattle.rss_tuple.proofs.Seen.{on_ok, on_ok_then, found_damaged, high_empty, formed_after, heaps_after}
+use Rattle.rss_tuple.proofs.Placed.{read_at, mapped_there, low_forward, held_there, read_key, stands_here, body_read, room_back, puts_home}
+use Rattle.rss_tuple.proofs.Sets.{is_read, read_copied, ill_formed}
+use Rattle.rss_tuple.proofs.Changes.{entry_there, fits_again, spare_after, spare_longer}
+use Rattle.rss_tuple.proofs.Taken.{takes_step, takes_none}
 use Rattle.rss_tuple.proofs.Moved.{moves_fails, moves_puts, moves_after}
 use Rattle.rss_tuple.proofs.placing.replace.Goals as goal
+use Rattle.rss_tuple.proofs.placing.replace.Goals.{After-loaded}
 
 pub returns-then-tid-from : goal.returns-then-tid-from
 returns-then-tid-from g c =
@@ -33,6 +37,43 @@ load_there-requires g c =
 
 pub returns-in_err-load_there : goal.returns-in_err-load_there
 returns-in_err-load_there g c = moves_fails _ c.from_residual.ensures.1 (λ key none. absurd none) (omega arith) (omega arith) c.in_err-load_there.ensures.did
+
+pub returns-in_err-confirm : goal.returns-in_err-confirm
+returns-in_err-confirm g c = moves_fails _ c.from_residual-in_err-confirm.ensures.1 (λ key none. absurd none) (omega arith) (omega arith) (ill_formed _ _ _ c.in_ok-load_there.ensures.did.step (inl (ap (λ (k : PageKey). k.space) c.home-key.ensures)) (λ told. (c.requires.there.heaps told).formed) c.loaded.ensures c.in_err-confirm.ensures.ill c.in_err-confirm.ensures.damaged)
+
+-- ---- where the body that stands there isn't shorter
+
+-- a copy of the home page, which is well-formed where the device tells its contents
+copied : (g : _) (c : After-loaded g) → IsCopied (g.P.Pages.view c.load_there.new.pages) c.home-key.result c.loaded.result.now
+copied g c = record { mapped = c.in_ok-load_there.ensures.mapped; held = c.loaded.ensures }
+
+read_home : (g : _) (c : After-loaded g) → IsTold (g.P.Pages.view c.load_there.new.pages).disk → IsRead (g.P.Pages.view c.load_there.new.pages) (page_key c.args.segment Home c.args.tid.page) c.loaded.result.now
+read_home g c told = read_key c.home-key.ensures (read_copied (inl (ap (λ (k : PageKey). k.space) c.home-key.ensures)) (formed_after c.in_ok-load_there.ensures.did.step (λ before. (c.requires.there.heaps before).formed)) (copied g c) told)
+
+pub put_over-requires-clause-may : goal.put_over-requires-clause-may
+put_over-requires-clause-may g c = record {
+  heap = inl (ap (λ (k : PageKey). k.space) c.home-key.ensures);
+  copied = copied g (goal.at.put_over-requires-clause-may g c).After-loaded;
+  low = omega (arith, c.from.ensures, c.if-tid-from.false);
+  formed = formed_after c.in_ok-load_there.ensures.did.step (λ told. (c.requires.there.heaps told).formed);
+}
+
+pub returns-in-Some : goal.returns-in-Some
+returns-in-Some g c =
+    let step = c.in_ok-load_there.ensures.did.step in
+    let own = c.in-Some.ensures.own in
+    let read = read_home g (goal.at.returns-in-Some g c).After-loaded in
+    let low : c.args.tid.slot < 128 = omega (arith, c.from.ensures, c.if-tid-from.false) in
+    let wrote = c.put_over.ensures in
+    moves_after {cost = 1} step (moves_puts (λ told. stands_here c.args.tid (read told) own.here told)
+    (on_ok_then c.put_over.result (λ sets told.
+        let room = fits_again c.loaded.result.now c.args.tid.slot (length c.args.body.now) own.body (read told).formed.slotted low own.here own.long in
+        puts_home c.args.segment c.args.tid c.args.body.now c.home-key.result _ _ c.home-key.ensures (room_back _ _ c.loaded.result.now c.args.tid.slot (length c.args.body.now) (read told) told room) (sets told) wrote.did.step told)
+        wrote.sets)
+    (on_ok c.put_over.result (takes_none (takes_step wrote.did.step (inl c.in_ok-load_there.ensures.mapped))))
+    (widens (λ key is. inl (is ∙ c.home-key.ensures)) (omega arith) (omega arith) wrote.did)) (omega arith)
+
+-- ---- where the page is walked over
 
 pub returns-in_err-found : goal.returns-in_err-found
 returns-in_err-found g c = moves_fails _ c.from_residual-in_err-found.ensures.1 (λ key none. absurd none) (omega arith) (omega arith) (ill_formed _ _ _ c.in_ok-load_there.ensures.did.step (inl (ap (λ (k : PageKey). k.space) c.home-key.ensures)) (λ told. (c.requires.there.heaps told).formed) c.loaded.ensures c.in_err-found.ensures.ill c.in_err-found.ensures.damaged)
