@@ -1,17 +1,16 @@
 -- How looks at pages follow one another, and how calls that look end.
-use Rattle.std.proofs.Common.{◌≡◌, inl, inr, ◌+◌, ℕ, ◌≤◌, refl, sym, ◌∙◌, ap, subst, arith}
+use Rattle.std.proofs.Common.{◌≡◌, ◌+◌, ℕ, ◌≤◌, sym, ◌∙◌, ap, subst, arith}
 use Rattle.std.specs.Prelude.{Result, Ok, Err, IsErrAnd, IfErr, OnErr}
-use Rattle.std.proofs.lemmas.Bool.{cases_Bool}
 use Rattle.std.proofs.lemmas.Result.{err_from_is_err_and}
 use Rattle.rss_base.specs.DiskRule.{IsTold}
 use Rattle.rss_base.specs.Devices.{OnlyReads}
-use Rattle.rss_base.specs.Paged.{Mapped, AreAmong}
-use Rattle.rss_base.specs.Steps.{PagesView, Keys, no_page, only, NotesPage, PagesStep, NoneChanged, device_below}
+use Rattle.rss_base.specs.Paged.{Mapped}
+use Rattle.rss_base.specs.Steps.{PagesView, Keys, only, NotesPage, PagesStep, NoneChanged, device_below}
 use Rattle.rss_base.specs.declared.place.Place.TheVariants.{Room, Page as PagePlace}
 use Rattle.rss_base.specs.declared.fault.PageFault.{PageFault}
 use Rattle.rss_base.specs.declared.fault.PageFault.TheVariants.{Device as DeviceFailed, Damaged}
 use Rattle.rss_base.specs.declared.key.PageKey.{PageKey}
-use Rattle.rss_base.proofs.Looking.{looks_then, looks_within, looks_more}
+use Rattle.rss_base.proofs.Looking.{looks_then, looks_within}
 use Rattle.rss_base.specs.Looking.{LooksStep}
 use Rattle.rss_tuple.specs.Looks.{LooksCall, NamesDamage}
 

@@ -1,5 +1,5 @@
 // One entry of a page that is changed.
-ghost use Rattle.std.specs.Prelude.{◌≡◌, ◌↔◌, ◌<◌, length, true, false, IsTrue, IfOk, IfErr, OnOk, OnErr};
+ghost use Rattle.std.specs.Prelude.{◌≡◌, ◌↔◌, ◌<◌, length, slice_index_or, true, false, IsTrue, IfOk, IfErr, OnOk, OnErr};
 ghost use Rattle.rss_base.specs.Sizes.{page_entries};
 ghost use Rattle.rss_base.specs.PageMap.{IsKey};
 ghost use Rattle.rss_base.specs.Steps.{PagesCall, no_page, only};
@@ -7,15 +7,18 @@ ghost use Rattle.rss_base.specs.declared.key.Space.TheVariants.{Home};
 ghost use Rattle.rss_base.specs.declared.fault.PageFault.TheVariants.{Damaged as PageDamaged};
 ghost use Rattle.rss_base.specs.declared.place.Place.TheVariants.{Page as PagePlace};
 ghost use Rattle.rss_page.specs.Content.{Empty, Here, Forward};
-ghost use Rattle.rss_page.specs.Slotted.{entries, HasRoom, IsBody, IsHeapKey, IsWellFormed};
-ghost use Rattle.rss_page.specs.Surveyed.{IsOwnPlace, IsSurvey, IsVacant};
+ghost use Rattle.rss_page.specs.Slotted.{content_of, entries, HasRoom, IsAllowed, IsBody, IsHeapKey, IsWellFormed};
+ghost use Rattle.rss_page.specs.Surveyed.{held_at, IsOwnPlace, IsSurvey, IsVacant};
 ghost use Rattle.rss_tuple.specs.Calls.{IsBodyLength};
 ghost use Rattle.rss_tuple.specs.Edits.{MayRead, NamesEntry, MayChange, MayEdit, Edits, FillsPage};
 
 use crate::keys::damaged;
 use crate::walking::taken_from;
 use rss_base::{Page, PageFault, PageKey, Pages, Tid};
-use rss_page::{Survey, blank, forward_at, has_header, overwrite, put_found, remove, survey};
+use rss_page::{
+    Entry, Survey, blank, checked_entry, forward_at, has_header, overwrite, put_found, remove,
+    survey,
+};
 
 /// Brings a page into memory that is to be mapped. A caller copies it from there, since a buffer to
 /// read it into would have to be zeroed before.
@@ -45,16 +48,22 @@ pub(crate) fn walk(page: &Page, key: PageKey) -> Result<Survey, PageFault>
     }
 }
 
-/// Finds out whether a page begins as that of its key does, where it is to be well-formed. What costs
-/// more, a walk over its entries, is left to calls that need to know each of them.
-pub(crate) fn confirm(page: &Page, key: PageKey) -> Result<(), PageFault>
+/// The entry of a slot, in a page that is to be well-formed. Of the others none is looked at, which
+/// takes less than a walk.
+pub(crate) fn entry_in(page: &Page, key: PageKey, slot: u8) -> Result<Entry, PageFault>
+    requires { slot < page_entries }
+    ensures holds { IfOk result
+        (λ found. held_at (entries page.now) slot ≡ content_of page.now found) }
+    ensures allowed { IfOk result (IsAllowed (slice_index_or page.now 0 0)) }
     ensures damaged { IfErr result (λ fault. fault ≡ PageDamaged (PagePlace key)) }
     ensures ill { OnErr result (IsWellFormed key page.now → ⊥) }
 {
-    if has_header(page, key) {
-        Ok(())
-    } else {
-        Err(damaged(key))
+    if !has_header(page, key) {
+        return Err(damaged(key));
+    }
+    match checked_entry(page, slot) {
+        Some(found) => Ok(found),
+        None => Err(damaged(key)),
     }
 }
 
@@ -153,7 +162,7 @@ pub(crate) fn clear<P: Pages>(pages: &mut P, key: PageKey, slot: u8) -> Result<(
 {
     load_there(pages, key)?;
     let mut page = *pages.loaded(key);
-    confirm(&page, key)?;
+    entry_in(&page, key, slot)?;
     clear_in(pages, key, &mut page, slot)
 }
 

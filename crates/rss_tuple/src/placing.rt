@@ -16,11 +16,13 @@ ghost use Rattle.rss_tuple.specs.Calls.{MayPut, MayInsert, HasTuple, HasSpare, M
 ghost use Rattle.rss_tuple.specs.Edits.{IsRead, MayRead};
 ghost use Rattle.rss_tuple.specs.Puts.{Changed, TakesAway, PutsAway, Puts, MovesBody, HomeRead, Stays};
 
-use crate::entries::{clear, clear_in, confirm, fill, load_there, put_forward, put_here, put_over, take_here, walk};
+use crate::entries::{
+    clear, clear_in, entry_in, fill, load_there, put_forward, put_here, put_over, take_here, walk,
+};
 use crate::finding::{Spot, find_page};
 use crate::keys::{damaged, home, overflow};
 use rss_base::{PAGE_BYTES, Page, PageFault, PageKey, Pages, Space, Tid};
-use rss_page::{ENTRIES, Entry, Survey, checked_entry, entry, own_place};
+use rss_page::{ENTRIES, Entry, Survey, entry, own_place};
 
 // ---- a body and its place
 
@@ -145,11 +147,7 @@ pub(crate) fn remove<P: Pages>(pages: &mut P, segment: u8, tid: Tid) -> Result<(
     let slot = tid.slot as u8;
     load_there(pages, key)?;
     let mut page = *pages.loaded(key);
-    confirm(&page, key)?;
-    let Some(found) = checked_entry(&page, slot) else {
-        return Err(damaged(key));
-    };
-    match found {
+    match entry_in(&page, key, slot)? {
         Entry::Empty => Err(damaged(key)),
         Entry::Here { .. } => clear_in(pages, key, &mut page, slot),
         Entry::Forward {
@@ -181,7 +179,7 @@ pub(crate) fn replace<P: Pages>(
     let slot = tid.slot as u8;
     load_there(pages, key)?;
     let mut page = *pages.loaded(key);
-    confirm(&page, key)?;
+    entry_in(&page, key, slot)?;
     if let Some(place) = own_place(&page, slot, body.len() as u16) {
         return put_over(pages, key, &mut page, slot, place, body);
     }

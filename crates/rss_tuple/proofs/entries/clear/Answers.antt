@@ -13,8 +13,8 @@ clear_in-requires g c = record {
   formed = formed_after c.in_ok-load_there.ensures.did.step c.requires.may.formed;
 }
 
-pub returns-in_err-confirm-clause-edits : goal.returns-in_err-confirm-clause-edits
-returns-in_err-confirm-clause-edits g c = edits_fails _ c.from_residual-in_err-confirm.ensures.1 (λ key none. absurd none) (omega arith) (omega arith) (ill_formed _ _ _ c.in_ok-load_there.ensures.did.step c.requires.may.heap c.requires.may.formed c.loaded.ensures c.in_err-confirm.ensures.ill c.in_err-confirm.ensures.damaged)
+pub returns-in_err-entry_in-clause-edits : goal.returns-in_err-entry_in-clause-edits
+returns-in_err-entry_in-clause-edits g c = edits_fails _ c.from_residual-in_err-entry_in.ensures.1 (λ key none. absurd none) (omega arith) (omega arith) (ill_formed _ _ _ c.in_ok-load_there.ensures.did.step c.requires.may.heap c.requires.may.formed c.loaded.ensures c.in_err-entry_in.ensures.ill c.in_err-entry_in.ensures.damaged)
 
 pub returns-clause-there : goal.returns-clause-there
 returns-clause-there g c = on_ok c.clear_in.result (sym (ap (λ (m : Mapped). m c.args.key) (all_mapped c.in_ok-load_there.ensures.did.step)) ∙ c.in_ok-load_there.ensures.mapped)

@@ -35,8 +35,8 @@ load_there-requires g c =
 pub returns-in_err-load_there-clause-did : goal.returns-in_err-load_there-clause-did
 returns-in_err-load_there-clause-did g c = fails _ c.from_residual.ensures.1 (λ key none. absurd none) (omega arith) (omega arith) c.in_err-load_there.ensures.did
 
-pub returns-in_err-confirm-clause-did : goal.returns-in_err-confirm-clause-did
-returns-in_err-confirm-clause-did g c = fails _ c.from_residual-in_err-confirm.ensures.1 (λ key none. absurd none) (omega arith) (omega arith) (ill_formed _ _ _ c.in_ok-load_there.ensures.did.step (inl (ap (λ (k : PageKey). k.space) c.home-key.ensures)) (λ told. (c.requires.heaps told).formed) c.loaded.ensures c.in_err-confirm.ensures.ill c.in_err-confirm.ensures.damaged)
+pub returns-in_err-entry_in-clause-did : goal.returns-in_err-entry_in-clause-did
+returns-in_err-entry_in-clause-did g c = fails _ c.from_residual-in_err-entry_in.ensures.1 (λ key none. absurd none) (omega arith) (omega arith) (ill_formed _ _ _ c.in_ok-load_there.ensures.did.step (inl (ap (λ (k : PageKey). k.space) c.home-key.ensures)) (λ told. (c.requires.heaps told).formed) c.loaded.ensures c.in_err-entry_in.ensures.ill c.in_err-entry_in.ensures.damaged)
 
 -- a copy of the home page, which is well-formed where the device tells its contents
 copied : (g : _) (c : After-loaded g) → IsCopied (g.P.Pages.view c.load_there.new.pages) c.home-key.result c.loaded.result.now
@@ -65,7 +65,7 @@ clear_in-requires-in-Forward g c = record {
 
 -- where the home entry leads
 leads : (g : _) (c : In-Forward g) → IsRead (g.P.Pages.view c.load_there.new.pages) c.home-key.result c.loaded.result.now → IsTold (g.P.Pages.view c.args.pages.now).disk → homes (g.P.Pages.view c.args.pages.now).held c.args.segment c.args.tid.page c.args.tid.slot ≡ Forward c.in-Forward.to c.in-Forward.to_slot
-leads g c there told = held_there c.home-key.result _ c.args.tid.slot c.home-key.ensures (g.P.Pages.view c.args.pages.now).held _ (read_at c.in_ok-load_there.ensures.did.step there told c.args.tid.slot ∙ (rw c.in-Forward.is at c.in-Some.ensures.holds))
+leads g c there told = held_there c.home-key.result _ c.args.tid.slot c.home-key.ensures (g.P.Pages.view c.args.pages.now).held _ (read_at c.in_ok-load_there.ensures.did.step there told c.args.tid.slot ∙ (rw c.in-Forward.is at c.in_ok-entry_in.ensures.holds))
 
 pub returns-in_err-clear_in-in-Forward-clause-did : goal.returns-in_err-clear_in-in-Forward-clause-did
 returns-in_err-clear_in-in-Forward-clause-did g c =
@@ -88,14 +88,11 @@ clear-requires-clause-may g c =
       formed = λ told_new. (cleared.sets (cleared.did.step.passes.leaves.told.1 told_new)).formed;
     }
 
-pub returns-in_default-clause-did : goal.returns-in_default-clause-did
-returns-in_default-clause-did g c = widens {asks_now = 4} {writes_now = 4} (λ key there. there) (omega arith) (omega arith) (found_damaged c.damaged-in_default.result c.damaged-in_default.ensures (untouched c.in_ok-load_there.ensures.did.step) (λ told. c.in_default.ensures.none (read_home g (goal.at.returns-in_default-clause-did g c).After-loaded told).formed.slotted))
-
 pub returns-in-Empty-clause-did : goal.returns-in-Empty-clause-did
 returns-in-Empty-clause-did g c =
     let step = c.in_ok-load_there.ensures.did.step in
     widens {asks_now = 4} {writes_now = 4} (λ key there. there) (omega arith) (omega arith) (found_damaged c.damaged-in-Empty.result c.damaged-in-Empty.ensures (untouched step) (λ told.
-    entry_there (g.P.Pages.view c.args.pages.now) c.args.segment c.args.tid c.requires told (held_there c.home-key.result _ c.args.tid.slot c.home-key.ensures (g.P.Pages.view c.args.pages.now).held _ (read_at step (read_home g (goal.at.returns-in-Empty-clause-did g c).After-loaded told) told c.args.tid.slot ∙ (rw c.in-Empty.is at c.in-Some.ensures.holds)))))
+    entry_there (g.P.Pages.view c.args.pages.now) c.args.segment c.args.tid c.requires told (held_there c.home-key.result _ c.args.tid.slot c.home-key.ensures (g.P.Pages.view c.args.pages.now).held _ (read_at step (read_home g (goal.at.returns-in-Empty-clause-did g c).After-loaded told) told c.args.tid.slot ∙ (rw c.in-Empty.is at c.in_ok-entry_in.ensures.holds)))))
 
 pub returns-in-Here-clause-changed : goal.returns-in-Here-clause-changed
 returns-in-Here-clause-changed g c =
@@ -103,7 +100,7 @@ returns-in-Here-clause-changed g c =
     on_ok_then c.clear_in.result (λ sets told.
     let mid = step.passes.leaves.told.0 told in
     let held = all_held step told in
-    let here = read_at step (read_home g (goal.at.returns-in-Here-clause-changed g c).After-loaded told) told c.args.tid.slot ∙ (rw c.in-Here.is at c.in-Some.ensures.holds) in
+    let here = read_at step (read_home g (goal.at.returns-in-Here-clause-changed g c).After-loaded told) told c.args.tid.slot ∙ (rw c.in-Here.is at c.in_ok-entry_in.ensures.holds) in
     changed_before c.args.segment c.args.tid _ _ _ _ held (changed_here c.args.segment c.args.tid c.home-key.result _ _ c.home-key.ensures
     (λ p s is. let never = sym here ∙ ap (λ (k : PageKey). content_at (g.P.Pages.view c.args.pages.now).held k c.args.tid.slot) c.home-key.ensures ∙ ap (λ (h : _). homes h c.args.segment c.args.tid.page c.args.tid.slot) (sym held) ∙ is in absurd (cc))
     (sets mid) c.clear_in.ensures.did.step mid))

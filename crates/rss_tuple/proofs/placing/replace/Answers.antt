@@ -38,8 +38,8 @@ load_there-requires g c =
 pub returns-in_err-load_there : goal.returns-in_err-load_there
 returns-in_err-load_there g c = moves_fails _ c.from_residual.ensures.1 (λ key none. absurd none) (omega arith) (omega arith) c.in_err-load_there.ensures.did
 
-pub returns-in_err-confirm : goal.returns-in_err-confirm
-returns-in_err-confirm g c = moves_fails _ c.from_residual-in_err-confirm.ensures.1 (λ key none. absurd none) (omega arith) (omega arith) (ill_formed _ _ _ c.in_ok-load_there.ensures.did.step (inl (ap (λ (k : PageKey). k.space) c.home-key.ensures)) (λ told. (c.requires.there.heaps told).formed) c.loaded.ensures c.in_err-confirm.ensures.ill c.in_err-confirm.ensures.damaged)
+pub returns-in_err-entry_in : goal.returns-in_err-entry_in
+returns-in_err-entry_in g c = moves_fails _ c.from_residual-in_err-entry_in.ensures.1 (λ key none. absurd none) (omega arith) (omega arith) (ill_formed _ _ _ c.in_ok-load_there.ensures.did.step (inl (ap (λ (k : PageKey). k.space) c.home-key.ensures)) (λ told. (c.requires.there.heaps told).formed) c.loaded.ensures c.in_err-entry_in.ensures.ill c.in_err-entry_in.ensures.damaged)
 
 -- ---- where the body that stands there isn't shorter
 
@@ -67,9 +67,9 @@ returns-in-Some g c =
     let wrote = c.put_over.ensures in
     moves_after {cost = 1} step (moves_puts (λ told. stands_here c.args.tid (read told) own.here told)
     (on_ok_then c.put_over.result (λ sets told.
-        let room = fits_again c.loaded.result.now c.args.tid.slot (length c.args.body.now) own.body (read told).formed.slotted low own.here own.long in
-        puts_home c.args.segment c.args.tid c.args.body.now c.home-key.result _ _ c.home-key.ensures (room_back _ _ c.loaded.result.now c.args.tid.slot (length c.args.body.now) (read told) told room) (sets told) wrote.did.step told)
-        wrote.sets)
+    let room = fits_again c.loaded.result.now c.args.tid.slot (length c.args.body.now) own.body (read told).formed.slotted low own.here own.long in
+    puts_home c.args.segment c.args.tid c.args.body.now c.home-key.result _ _ c.home-key.ensures (room_back _ _ c.loaded.result.now c.args.tid.slot (length c.args.body.now) (read told) told room) (sets told) wrote.did.step told)
+    wrote.sets)
     (on_ok c.put_over.result (takes_none (takes_step wrote.did.step (inl c.in_ok-load_there.ensures.mapped))))
     (widens (λ key is. inl (is ∙ c.home-key.ensures)) (omega arith) (omega arith) wrote.did)) (omega arith)
 
