@@ -100,6 +100,13 @@ to_sql() {
         /^end/ { print "COMMIT;" }' "$1.script" >"$1.sql"
 }
 
+# part FILE COUNT: the first so many lines of a script, to which the last one of them has a reply, and
+# the rest.
+part() {
+    head -n "$2" "$1" >"$1.first"
+    tail -n +$(($2 + 1)) "$1" >"$1.rest"
+}
+
 # Files.
 
 must_be_granted() {
@@ -129,8 +136,8 @@ copy() {
 
 # Work.
 
-run_store() { "$rss" run work <"$1.script"; }
-run_sqlite() { sqlite3 work <"$1.sql"; }
+run_store() { "$rss" run work; }
+run_sqlite() { sqlite3 work; }
 write_lines() { dd if=/dev/zero of=lines bs=5 count="$1" 2>errors; }
 
 # What so many commits at so many slots have at least to write, to pages that are there: in one write
@@ -164,20 +171,21 @@ wait_for_quiet() {
     done
 }
 
-# measure NAME COMMAND..: how long the command takes, in microseconds, for each run, and how much of the
-# processors' time, in milliseconds.
 declare -A times works
 all_times=0
 all_waits=0
 TIMEFORMAT='%3U %3S'
-measure() {
-    local name="$1" start took before
+
+# timed NAME COMMAND..: how long the command takes from the moment that is in the file `start`, in
+# microseconds, for each run, and how much of the processors' time in all, in milliseconds.
+timed() {
+    local name="$1" took before
     shift
     look_for_waits
     before="$waits"
-    start="${EPOCHREALTIME/[.,]/}"
+    echo "${EPOCHREALTIME/[.,]/}" >start
     { time "$@" >replies; } 2>work_time
-    took=$((${EPOCHREALTIME/[.,]/} - start))
+    took=$((${EPOCHREALTIME/[.,]/} - $(<start)))
     look_for_waits
     all_times=$((all_times + took))
     all_waits=$((all_waits + waits - before))
@@ -186,22 +194,32 @@ measure() {
     works[$name]+="$(awk 'END { print ($1 + $2) * 1000 }' work_time) "
 }
 
-# measure_on FILE SLOTS.TUPLES COMMAND SCRIPT..: each script, run on the file; one that changes
-# something, on a copy of its own. What is compared has the same slots and tuples in its name.
-measure_on() {
-    local file="$1" name="${1%%.*}.$2" command="$3" script
-    shift 3
-    copy "$file"
+# Gives a script to the command that reads it. Where the script has a first part, the clock starts
+# anew once that has its reply: the file is open then.
+give() {
+    local rest
+    if [ -s "$1.first" ]; then
+        rest="$(<"$1.rest")"
+        cat "$1.first"
+        until [ -s replies ]; do sleep 0.002; done
+        sleep 0.03
+        echo "${EPOCHREALTIME/[.,]/}" >start
+        printf '%s\n' "$rest"
+    fi
+}
+
+# measure FILE NAME COMMAND SCRIPT: the script, run on a copy of the file. What is compared has the
+# same name but for its first word.
+measure() {
+    copy "$1"
     wait_for_quiet
-    for script in "$@"; do
-        measure "$script $name" "$command" "$script"
-        case "$script" in nothing | one | less | near | far) ;; *) copy "$file" ;; esac
-    done
+    : >replies
+    timed "$2" "$3" < <(give "$4")
 }
 
 # What is compared is measured one behind the other, and each as often as the others.
 measure_all() {
-    local store slots tuples mode scripts
+    local store slots tuples mode script scripts
     for store in "${stores[@]}"; do
         slots="${store% *}" tuples="${store#* }"
         scripts=(nothing commits)
@@ -209,15 +227,17 @@ measure_all() {
             "65536 0") scripts+=(open ended threes) ;;
             "65536 1000000") scripts+=(one less near far inserted updated deleted each updated_near deleted_near) ;;
         esac
-        measure_on "store.$slots.$tuples" "$slots.$tuples" run_store "${scripts[@]}"
-        for mode in "${modes[@]}"; do
-            measure_on "$mode.$tuples" "$slots.$tuples" run_sqlite "${scripts[@]}"
+        for script in "${scripts[@]}"; do
+            measure "store.$slots.$tuples" "$script store.$slots.$tuples" run_store "$script.script"
+            for mode in "${modes[@]}"; do
+                measure "$mode.$tuples" "$script $mode.$slots.$tuples" run_sqlite "$script.sql"
+            done
         done
-        measure "nothing pages.$slots.$tuples" write_pages 0 "$slots"
-        measure "commits pages.$slots.$tuples" write_pages "$commits" "$slots"
+        timed "nothing pages.$slots.$tuples" write_pages 0 "$slots"
+        timed "commits pages.$slots.$tuples" write_pages "$commits" "$slots"
     done
-    measure "nothing lines" write_lines 0
-    measure "lines lines" write_lines 1000000
+    timed "nothing lines" write_lines 0
+    timed "lines lines" write_lines 1000000
 }
 
 # Figures.
@@ -239,10 +259,12 @@ one_of() {
 
 time_of() { one_of "$1" ${times[$2]}; }
 
-# rate_of WHICH COUNT SCRIPT FILE: how many a second, to three digits. The time of a run with nothing
-# to do is left out.
+# rate_of WHICH COUNT SCRIPT FILE: how many a second, to three digits. Of bare writes the time of a run
+# with nothing to do is left out.
 rate_of() {
-    local took=$(($(time_of "$1" "$3 $4") - $(time_of "$1" "nothing $4")))
+    local took
+    took="$(time_of "$1" "$3 $4")"
+    case "$4" in pages* | lines) took=$((took - $(time_of "$1" "nothing $4"))) ;; esac
     commas "$(awk -v n="$2" -v t="$took" 'BEGIN {
         if (t <= 0) { print "?"; exit }
         rate = n * 1000000 / t
@@ -252,25 +274,21 @@ rate_of() {
     }')"
 }
 
-# says_something SCRIPT FILE: whether the median means something where an opening is taken off: not where
-# an opening takes three times as long as the work.
-says_something() {
-    local opening
-    opening="$(time_of least "nothing $2")"
-    [ $((4 * opening)) -lt $((3 * $(time_of least "$1 $2"))) ]
-}
-
-rate() {
-    local median=""
-    if says_something "$2" "$3"; then median=" ($(rate_of median "$@"))"; fi
-    echo "$(rate_of least "$@")$median"
-}
+rate() { echo "$(rate_of least "$@") ($(rate_of median "$@"))"; }
 
 # work_of WHICH COUNT SCRIPT FILE: the processor time of one line, in microseconds. That of a run with
 # nothing to do is left out.
 work_of() {
     awk -v n="$2" -v all="$(one_of "$1" ${works["$3 $4"]})" -v none="$(one_of "$1" ${works["nothing $4"]})" \
         'BEGIN { printf "%.2f", (all - none) * 1000 / n }'
+}
+
+# says_something SCRIPT FILE: whether the median means something where an opening is taken off: not where
+# an opening takes three times as long as the work.
+says_something() {
+    local none
+    none="$(one_of least ${works["nothing $2"]})"
+    awk -v none="$none" -v all="$(one_of least ${works["$1 $2"]})" 'BEGIN { exit !(4 * none < 3 * all) }'
 }
 
 work() {
@@ -357,6 +375,8 @@ changes each 6000 1000000 >each.script
 changes update 6000 20000 >updated_near.script
 changes delete 6000 20000 >deleted_near.script
 for script in *.script; do to_sql "${script%.script}"; done
+for script in *.script; do part "$script" 1; done
+for script in *.sql; do part "$script" 2; done
 for store in "${stores[@]}"; do make_store ${store/ / }; done
 for mode in "${modes[@]}"; do
     for tuples in "${databases[@]}"; do make_database "$mode" "$tuples"; done
@@ -366,9 +386,9 @@ sync
 
 # Both give the same values.
 copy store.65536.1000000
-run_store far | sed -n 's/^ok \([0-9]\)/\1/p' >values
+run_store <far.script | sed -n 's/^ok \([0-9]\)/\1/p' >values
 copy delete.1000000
-run_sqlite far | tail -n +2 | cmp - values
+run_sqlite <far.sql | tail -n +2 | cmp - values
 [ "$(wc -l <values)" = 200000 ]
 
 before="$(load)"
