@@ -356,6 +356,10 @@ MovesPages-keeps value keeps few = record {
   cause = record { later = keeps.later; failed = λ is. absurd (cc); sound = λ place is. absurd (cc) };
 }
 
+-- the order of the pages in memory was changed before
+pub MovesPages-same : {T : Type 0} {b new : BufferView} {frames : FrameOf} {result : Result T PageFault} → frames ≡ b.frames → MovesPages (record b { frames = frames }) new result → MovesPages b new result
+MovesPages-same now moves = record { keeps = KeepsPages-then (KeepsPages-same now) moves.keeps; few = moves.few; cause = moves.cause }
+
 -- the error of a call is passed on
 pub MovesPages-fails : {T U : Type 0} {old new : BufferView} {fault : PageFault} (result : Result U PageFault) → IsErrAnd result (λ why. why ≡ fault) → MovesPages {T = T} old new (Err fault) → MovesPages old new result
 MovesPages-fails result is call = record { keeps = call.keeps; few = call.few; cause = cause_fails result is call.cause }

@@ -76,15 +76,16 @@ impl Frames {
         Some(self.cache.peek(&key)?.as_ref())
     }
 
-    /// Makes the page the one that was used last.
-    pub(crate) fn touch(&mut self, key: PageKey)
+    /// Makes the page the one that was used last, where it is in memory, and tells whether it is.
+    pub(crate) fn touch(&mut self, key: PageKey) -> bool
+        ensures there { result ≡ is_some (frame_in self.old.cache.entries key) }
         ensures same { frame_in self.new.cache.entries ≡ frame_in self.old.cache.entries }
         ensures count { length self.new.cache.entries ≡ length self.old.cache.entries }
         ensures room { self.new.cache.cap ≡ self.old.cache.cap }
     {
         // `len` is called for its clause that the keys are distinct, which the proof cites.
         let _len = self.cache.len();
-        self.cache.promote(&key);
+        self.cache.promote(&key)
     }
 
     /// A frame to fill, which no page has as yet. Its bytes and its mark are any.

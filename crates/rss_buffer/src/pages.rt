@@ -76,10 +76,19 @@ impl<D: Device> Buffer<D> {
         ensures there { OnOk result (IsSome ((buffer_view self.new).frames key)) }
         ensures did { MovesPages (buffer_view self.old) (buffer_view self.new) result }
     {
-        if self.frames.has(key) {
-            self.frames.touch(key);
+        if self.frames.touch(key) {
             return Ok(());
         }
+        self.read_in(key)
+    }
+
+    /// Brings a page into memory that isn't there.
+    fn read_in(&mut self, key: PageKey) -> Result<(), PageFault>
+        requires mapped { mapped_by self.old.shadow.current key ≡ true }
+        requires absent { (buffer_view self.old).frames key ≡ None }
+        ensures there { OnOk result (IsSome ((buffer_view self.new).frames key)) }
+        ensures did { MovesPages (buffer_view self.old) (buffer_view self.new) result }
+    {
         self.make_room()?;
         let Some(slot) = self.shadow.slot_of(key) else {
             unreachable!()

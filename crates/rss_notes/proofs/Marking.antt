@@ -150,9 +150,9 @@ module _ (slots : ℕ) (columns : Columns) (are : AreColumns slots columns) (key
       (subst (λ (n : Option ℕ). Marks before (after mark) key (is_mapped_mark mark) n) is
       (marks_put mark (put_again columns (column_at key.space key.segment) key.number mark there some)))
 
-  -- one that isn't stays as it is
-  pub rests : mark_of columns key ≡ 0 → Marks before before key (is_mapped_mark (mark_of columns key)) None
-  rests none = subst (λ (n : ℕ). Marks before before key (is_mapped_mark n) None) (sym none) (Marks-marked slots columns columns key 0 none (λ other off. refl))
+  -- one without a note stays as it is
+  pub rests : note_of_mark (mark_of columns key) ≡ None → Marks before before key (is_mapped_mark (mark_of columns key)) None
+  rests none = subst (λ (n : Option ℕ). Marks before before key (is_mapped_mark (mark_of columns key)) n) none (Marks-marked slots columns columns key (mark_of columns key) refl (λ other off. refl))
 
 pub maps : (slots : ℕ) (columns : Columns) → AreColumns slots columns → (key : PageKey) → IsKey slots key → Marks (told (record { slots = slots; columns = columns })) (told (record { slots = slots; columns = with_mark columns key 65535 })) key (is_noted_space key.space) None
 maps slots columns are key is = at key.space key.segment key.number is.segment is.number

@@ -68,12 +68,12 @@ impl Notes {
         put_mark(&mut self.columns, key, UNMAPPED);
     }
 
-    /// The page has no note from now on.
+    /// The page has no note from now on. Nothing is written where it has none.
     pub fn forget(&mut self, key: PageKey)
         ensures { Marks (told self.old) (told self.new) key ((told self.old).mapped key) None }
     {
         let mark = mark_of(&self.columns, key);
-        if mark != UNMAPPED {
+        if mark != UNMAPPED && mark != UNNOTED {
             put_mark(&mut self.columns, key, UNNOTED);
         }
     }

@@ -91,6 +91,30 @@ fn a_page_that_isnt_well_formed_is_told(rt: HostRuntime) -> Result<(), Fail> {
 }
 
 #[test]
+fn a_page_of_another_number_is_told(rt: HostRuntime) -> Result<(), Fail> {
+    let want = damaged(Space::Home, 3);
+    let mut home = home_with(NOTHING, BODY);
+    home[7] = 4;
+    let mut store = store_with(rt.alloc(), &home)?;
+    assert_same(&replace(&mut store, AT, &[7]), &Err(want), "replace")?;
+    assert_same(&remove(&mut store, AT), &Err(want), "remove")?;
+    Ok(())
+}
+
+#[test]
+fn a_body_is_written_over_whatever_stands_beside_it(rt: HostRuntime) -> Result<(), Fail> {
+    let mut store = store_with(rt.alloc(), &home_with(MALFORMED, BODY))?;
+    assert_same(&replace(&mut store, AT, &[7; 9]), &Ok(()), "as long")?;
+    assert_same(&replace(&mut store, AT, &[7]), &Ok(()), "shorter")?;
+    let want = damaged(Space::Home, 3);
+    assert_same(&replace(&mut store, AT, &[7; 2]), &Err(want), "longer")?;
+    assert_same(&fetched(&mut store), &Ok(true), "it stands there")?;
+    let beside = fetch(&mut store, tid(3, 0), &mut Body::new());
+    assert_same(&beside, &Err(want), "and it was left")?;
+    Ok(())
+}
+
+#[test]
 fn an_overflow_page_that_isnt_well_formed_is_told(rt: HostRuntime) -> Result<(), Fail> {
     let want = damaged(Space::Overflow, 7);
     let home = home_with(BODY, FORWARD);

@@ -1,11 +1,12 @@
-use Rattle.std.proofs.Common.{length, refl, ap, ◌∙◌, arith}
+use Rattle.std.proofs.Common.{◌≡◌, inl, inr, length, refl, sym, ap, ◌∙◌, arith}
 use Rattle.std.specs.Prelude.{None}
 use Rattle.std.proofs.lemmas.List.{with_items_is}
+use Rattle.rss_notes.specs.Marks.{mark_of, note_of_mark}
 use Rattle.rss_notes.proofs.Marking.{notes_again, rests, length-with_mark}
 use Rattle.rss_notes.proofs.notes.Notes.forget.Goals as goal
 
-pub returns-then-mark-ne-UNMAPPED : goal.returns-then-mark-ne-UNMAPPED
-returns-then-mark-ne-UNMAPPED c =
+pub returns-then-mark : goal.returns-then-mark
+returns-then-mark c =
     let s = c.self.inside in
     let mark = rw c.deref.ensures.value at c.mark_of-mark.ensures in
     let put = rw c.deref_mut.ensures.value at c.put_mark.ensures in
@@ -16,4 +17,8 @@ pub returns-else-mark-ne-UNMAPPED : goal.returns-else-mark-ne-UNMAPPED
 returns-else-mark-ne-UNMAPPED c =
     let s = c.self.inside in
     let mark = rw c.deref.ensures.value at c.mark_of-mark.ensures in
-    rw (← c.self.view_is) (rests s.slots s.columns.items c.self.invariant c.args.key (omega (arith, mark)))
+    let none : note_of_mark (mark_of s.columns.items c.args.key) ≡ None = elim c.else-mark-ne-UNMAPPED.either [
+      | inl both ↦ ap note_of_mark (sym mark ∙ both.1)
+      | inr zero ↦ ap note_of_mark (sym mark ∙ zero)
+    ] in
+    rw (← c.self.view_is) (rests s.slots s.columns.items c.self.invariant c.args.key none)
