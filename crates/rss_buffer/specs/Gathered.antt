@@ -1,5 +1,5 @@
 -- Changed pages that stand in slots one behind the other, before and after they are written there.
-use Rattle.std.specs.Prelude.{◌≡◌, ◌⊎◌, ℕ, ◌+◌, ◌<◌, true, false, List, Option, Some, option_map}
+use Rattle.std.specs.Prelude.{◌≡◌, ◌⊎◌, ℕ, ◌+◌, ◌<◌, Bool, true, false, List, Option, Some, option_map}
 use Rattle.rss_base.specs.DiskRule.{page, IsWithin}
 use Rattle.rss_base.specs.PageMap.{owner_of}
 use Rattle.rss_base.specs.declared.key.PageKey.{PageKey}
@@ -10,6 +10,16 @@ use Rattle.rss_buffer.specs.Buffered.{unchanged}
 -- where the page of a slot is in memory, it stands in the slot as well
 abbrev pub IsWritten : List (Option PageKey) → FrameOf → ℕ → Type 0
 IsWritten owners frames slot = (key : PageKey) (frame : Frame) → owner_of owners slot ≡ Some key → frames key ≡ Some frame → frame.changed ≡ false
+
+-- a page is in memory, and it was changed or wasn't
+pub record IsInFrame (frames : FrameOf) (key : PageKey) (changed : Bool) : Type 0 where
+  pub frame : Frame
+  pub there : frames key ≡ Some frame
+  pub mark : frame.changed ≡ changed
+
+-- where a page is in memory, it wasn't changed
+abbrev pub IsUnchanged : FrameOf → PageKey → Type 0
+IsUnchanged frames key = (frame : Frame) → frames key ≡ Some frame → frame.changed ≡ false
 
 -- the page of a slot is in memory, was changed, and has these bytes
 pub record IsChangedAt (owners : List (Option PageKey)) (frames : FrameOf) (slot : ℕ) (bytes : List ℕ) : Type 0 where

@@ -6,7 +6,7 @@ ghost use Rattle.std.specs.Option.{option_copied};
 ghost use Rattle.rss_base.specs.PageMap.{IsTable};
 ghost use Rattle.rss_buffer.specs.Frames.{frame_in, with_frame};
 ghost use Rattle.rss_buffer.specs.Buffered.{with_unchanged};
-ghost use Rattle.rss_buffer.specs.Gathered.{AreSettled};
+ghost use Rattle.rss_buffer.specs.Gathered.{AreSettled, IsInFrame};
 
 use lru::LruCache;
 use rss_base::{PAGE_BYTES, Page, PageKey};
@@ -57,16 +57,17 @@ impl Frames {
         self.cache.len() >= self.cache.cap().get()
     }
 
-    /// The page that wasn't used for the longest time.
-    pub(crate) fn eldest(&self) -> Option<PageKey>
-        ensures there { IfSome result (λ key. IsSome (frame_in self.now.cache.entries key)) }
+    /// The page that wasn't used for the longest time, and whether it was changed.
+    pub(crate) fn eldest(&self) -> Option<(PageKey, bool)>
+        ensures there { IfSome result (λ eldest.
+            IsInFrame (frame_in self.now.cache.entries) eldest.0 eldest.1) }
         ensures none { IfNone result (self.now.cache.entries ≡ []) }
         ensures holds_some { 0 < self.now.cache.cap }
     {
         // `len` is called for its clause that the keys are distinct, which the proof cites.
         let _len = self.cache.len();
-        let (key, _) = self.cache.peek_lru()?;
-        Some(*key)
+        let (key, frame) = self.cache.peek_lru()?;
+        Some((*key, frame.as_ref().changed))
     }
 
     /// The frame of a page.

@@ -3,7 +3,7 @@ ghost use Rattle.std.specs.Prelude.{◌≡◌, ◌⊎◌, ◌+◌, ◌<◌, ◌�
 ghost use Rattle.rss_base.specs.StoredPages.{mapped_by};
 ghost use Rattle.rss_base.specs.declared.key.PageKey.{PageKey as Key};
 ghost use Rattle.rss_buffer.specs.Buffered.{MovesPages, WritesPages};
-ghost use Rattle.rss_buffer.specs.Gathered.{IsWritten};
+ghost use Rattle.rss_buffer.specs.Gathered.{IsInFrame, IsUnchanged, IsWritten};
 
 use crate::{Buffer, Stage};
 use rss_base::{Device, PAGE_BYTES, Page, PageFault, PageKey, Pages, Space};
@@ -46,15 +46,31 @@ impl<D: Device> Buffer<D> {
         if !self.frames.is_full() {
             return Ok(());
         }
-        let Some(key) = self.frames.eldest() else {
+        let Some((key, changed)) = self.frames.eldest() else {
             unreachable!()
         };
+        self.write_out(key, changed)?;
+        self.frames.remove(key);
+        Ok(())
+    }
+
+    /// Writes a page that is in memory to its slot, where it was changed.
+    fn write_out(&mut self, key: PageKey, changed: bool) -> Result<(), PageFault>
+        requires { IsInFrame (buffer_view self.old).frames key changed }
+        ensures written { OnOk result (IsUnchanged (buffer_view self.new).frames key) }
+        ensures same_there { (other : Key) → is_some ((buffer_view self.new).frames other)
+            ≡ is_some ((buffer_view self.old).frames other) }
+        ensures few { (buffer_view self.new).device.writes
+            ≤ (buffer_view self.old).device.writes + 1 }
+        ensures did { WritesPages (buffer_view self.old) (buffer_view self.new) result }
+    {
+        if !changed {
+            return Ok(());
+        }
         let Some(slot) = self.shadow.slot_of(key) else {
             unreachable!()
         };
-        self.write_back(slot)?;
-        self.frames.remove(key);
-        Ok(())
+        self.write_back(slot)
     }
 
     /// Makes sure that a frame is free, where none has the page.

@@ -1,37 +1,30 @@
 use Rattle.std.proofs.Common.{◌∙◌, is_some, ap, arith}
 use Rattle.rss_buffer.specs.Frames.{frame_in}
-use Rattle.rss_shadow.proofs.Owned.{HasPage-mapped}
-use Rattle.rss_buffer.proofs.Turns.{mapped_there, none_from, none_more-removed, KeepsPages-rests, KeepsPages-then, KeepsPages-removed, IsBuffer-removed, MovesPages-keeps, cause_fails}
+use Rattle.rss_buffer.proofs.Turns.{none_from, none_more-removed, KeepsPages-rests, KeepsPages-then, KeepsPages-removed, IsBuffer-removed, MovesPages-keeps, cause_fails}
 use Rattle.rss_buffer.proofs.buffer.Buffer.make_room.Goals as goal
 
 pub returns-then-not-is_full-clause-did : goal.returns-then-not-is_full-clause-did
 returns-then-not-is_full-clause-did g c = MovesPages-keeps _ (KeepsPages-rests _) (omega arith)
 
-pub unreachable-requires-in_default-slot_of : goal.unreachable-requires-in_default-slot_of
-unreachable-requires-in_default-slot_of g c =
-    let self = c.args.self.now in
-    let has = HasPage-mapped self.shadow.current c.in-Some.key (mapped_there self.holds c.in-Some.key c.in-Some.ensures.there) in
-    c.in_default-slot_of.ensures.none has.slot has.owned
-
-pub returns-in_err-write_back-clause-did : goal.returns-in_err-write_back-clause-did
-returns-in_err-write_back-clause-did g c = record {
-  keeps = c.write_back.ensures.did.keeps;
-  few = c.write_back.ensures.few;
-  cause = cause_fails _ c.from_residual.ensures.1 c.in_err-write_back.ensures.did.cause;
+pub returns-in_err-write_out-clause-did : goal.returns-in_err-write_out-clause-did
+returns-in_err-write_out-clause-did g c = record {
+  keeps = c.write_out.ensures.did.keeps;
+  few = c.write_out.ensures.few;
+  cause = cause_fails _ c.from_residual.ensures.1 c.in_err-write_out.ensures.did.cause;
 }
 
 pub invariant_of-self : goal.invariant_of-self
 invariant_of-self g c =
-    let mid = c.write_back.new.self in
-    record { saved_area = mid.saved_area; holds = IsBuffer-removed mid.holds c.in-Some.key (λ frame there. c.in_ok-write_back.ensures.written c.in-Some.key frame c.in-Some-slot_of.ensures.some there) c.remove.ensures.gone }
+    let mid = c.write_out.new.self in
+    record { saved_area = mid.saved_area; holds = IsBuffer-removed mid.holds c.in-Some.key c.in_ok-write_out.ensures.written c.remove.ensures.gone }
 
 pub returns-clause-none_more : goal.returns-clause-none_more
 returns-clause-none_more g c = λ key none.
-    let mid = frame_in c.write_back.new.self.frames.cache.entries in
+    let mid = frame_in c.write_out.new.self.frames.cache.entries in
     none_more-removed mid (frame_in c.remove.new.self.cache.entries) c.in-Some.key key c.remove.ensures.gone
-    (none_from (mid key) (c.write_back.ensures.same_there key ∙ ap (λ o. is_some o) none))
+    (none_from (mid key) (c.write_out.ensures.same_there key ∙ ap (λ o. is_some o) none))
 
 pub returns-clause-did : goal.returns-clause-did
 returns-clause-did g c =
-    let mid = c.write_back.new.self in
-    MovesPages-keeps _ (KeepsPages-then c.write_back.ensures.did.keeps (KeepsPages-removed mid.holds c.in-Some.key (λ frame there. c.in_ok-write_back.ensures.written c.in-Some.key frame c.in-Some-slot_of.ensures.some there) c.remove.ensures.gone)) c.write_back.ensures.few
+    let mid = c.write_out.new.self in
+    MovesPages-keeps _ (KeepsPages-then c.write_out.ensures.did.keeps (KeepsPages-removed mid.holds c.in-Some.key c.in_ok-write_out.ensures.written c.remove.ensures.gone)) c.write_out.ensures.few

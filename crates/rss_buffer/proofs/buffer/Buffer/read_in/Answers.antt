@@ -7,7 +7,7 @@ use Rattle.rss_buffer.specs.declared.frames.Frame.{Frame}
 use Rattle.rss_buffer.specs.Frames.{frame_in, FrameOf}
 use Rattle.rss_buffer.proofs.Lookups.{same_frames, with_frame-same}
 use Rattle.rss_shadow.proofs.Owned.{HasPage-mapped}
-use Rattle.rss_buffer.proofs.Turns.{none_from, ok_then, either, IsBuffer-same, KeepsPages-same, IsBuffer-rests, KeepsPages-read, IsBuffer-loads, KeepsPages-loads, KeepsPages-then, MovesPages-keeps, MovesPages-fails}
+use Rattle.rss_buffer.proofs.Turns.{ok_then, either, IsBuffer-same, KeepsPages-same, IsBuffer-rests, KeepsPages-read, IsBuffer-loads, KeepsPages-loads, KeepsPages-then, MovesPages-keeps, MovesPages-fails}
 use Rattle.rss_buffer.proofs.buffer.Buffer.read_in.Goals as goal
 
 -- ---- there is no room

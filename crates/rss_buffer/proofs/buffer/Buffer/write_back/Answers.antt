@@ -1,4 +1,4 @@
-use Rattle.std.proofs.Common.{rules, ℕ, ◌+◌, ◌≡◌, ◌≤◌, length, refl, ap, arith}
+use Rattle.std.proofs.Common.{rules, ℕ, ◌+◌, ◌≤◌, length, refl, ap, arith}
 use Rattle.rss_buffer.proofs.Runs.{run_of, holds-run, loose-run, first_waits, first_settled, waits-settled, IsBuffer-failed, KeepsPages-failed, IsBuffer-written, KeepsPages-written}
 use Rattle.rss_buffer.proofs.Turns.{WritesPages-none}
 use Rattle.rss_buffer.proofs.Waits.{settles-one, writes-one}
