@@ -7,17 +7,16 @@ ghost use Rattle.rss_base.specs.declared.key.Space.TheVariants.{Home};
 ghost use Rattle.rss_base.specs.declared.fault.PageFault.TheVariants.{Damaged as PageDamaged};
 ghost use Rattle.rss_base.specs.declared.place.Place.TheVariants.{Page as PagePlace};
 ghost use Rattle.rss_page.specs.Content.{Empty, Here, Forward};
-ghost use Rattle.rss_page.specs.Slotted.{content_of, entries, HasRoom, IsAllowed, IsBody, IsHeapKey, IsWellFormed};
+ghost use Rattle.rss_page.specs.Slotted.{content_of, entries, HasRoom, IsAllowed, IsBody, IsHeapKey, IsSlotted, IsWellFormed};
 ghost use Rattle.rss_page.specs.Surveyed.{held_at, IsOwnPlace, IsSurvey, IsVacant};
 ghost use Rattle.rss_tuple.specs.Calls.{IsBodyLength};
 ghost use Rattle.rss_tuple.specs.Edits.{MayRead, NamesEntry, MayChange, MayEdit, Edits, FillsPage};
 
 use crate::keys::damaged;
-use crate::walking::taken_from;
 use rss_base::{Page, PageFault, PageKey, Pages, Tid};
 use rss_page::{
-    Entry, Survey, blank, checked_entry, forward_at, has_header, overwrite, put_found, remove,
-    survey,
+    ENTRIES, Entry, Survey, blank, checked_entry, forward_at, has_header, overwrite, put_found,
+    remove, survey,
 };
 
 /// Brings a page into memory that is to be mapped. A caller copies it from there, since a buffer to
@@ -127,11 +126,31 @@ pub(crate) fn put_forward<P: Pages>(
     Ok(())
 }
 
-/// Whether all entries of a page are empty.
-fn is_vacant(page: &Page) -> bool
-    ensures { IsTrue result ↔ IsVacant (entries page.now) }
+/// Whether an entry of any bytes is in form, and holds nothing.
+fn is_clear(page: &Page, slot: u8) -> bool
+    requires { slot < page_entries }
+    ensures empty { IsTrue result → held_at (entries page.now) slot ≡ Empty }
+    ensures exact { IsSlotted page.now → held_at (entries page.now) slot ≡ Empty
+        → IsTrue result }
 {
-    taken_from(page, 0).is_none()
+    match checked_entry(page, slot) {
+        Some(Entry::Empty) => true,
+        Some(Entry::Here { .. } | Entry::Forward { .. }) | None => false,
+    }
+}
+
+/// Whether all entries of any bytes are in form, and hold nothing. So a page of which something isn't
+/// in form is never given back.
+fn is_vacant(page: &Page) -> bool
+    ensures vacant { IsTrue result → IsVacant (entries page.now) }
+    ensures exact { IsSlotted page.now → IsVacant (entries page.now) → IsTrue result }
+{
+    for slot in 0..ENTRIES {
+        if !is_clear(page, slot) {
+            return false;
+        }
+    }
+    true
 }
 
 /// Empties an entry of a page that was copied. A page whose entries are all empty then is given back.

@@ -35,7 +35,7 @@ fn start_of(after: Option<Tid>) -> Tid
 }
 
 /// The first slot of a page from one on that holds something.
-pub(crate) fn taken_from(page: &Page, from: u8) -> Option<u8>
+fn taken_from(page: &Page, from: u8) -> Option<u8>
     ensures { MatchOption result (NoneTaken (entries page.now) from)
         (IsFirstTaken (entries page.now) from) }
 {

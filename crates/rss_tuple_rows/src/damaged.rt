@@ -102,13 +102,14 @@ fn a_page_of_another_number_is_told(rt: HostRuntime) -> Result<(), Fail> {
 }
 
 #[test]
-fn a_body_is_written_over_whatever_stands_beside_it(rt: HostRuntime) -> Result<(), Fail> {
+fn what_stands_beside_a_body_is_left_as_it_is(rt: HostRuntime) -> Result<(), Fail> {
     let mut store = store_with(rt.alloc(), &home_with(MALFORMED, BODY))?;
     assert_same(&replace(&mut store, AT, &[7; 9]), &Ok(()), "as long")?;
     assert_same(&replace(&mut store, AT, &[7]), &Ok(()), "shorter")?;
     let want = damaged(Space::Home, 3);
     assert_same(&replace(&mut store, AT, &[7; 2]), &Err(want), "longer")?;
     assert_same(&fetched(&mut store), &Ok(true), "it stands there")?;
+    assert_same(&remove(&mut store, AT), &Ok(()), "remove")?;
     let beside = fetch(&mut store, tid(3, 0), &mut Body::new());
     assert_same(&beside, &Err(want), "and it was left")?;
     Ok(())

@@ -11,7 +11,7 @@ returns-then-is_vacant g c =
       sets = λ told.
           let read = read_copied c.requires.heap c.requires.formed c.requires.copied told in
           sets_given c.args.key c.args.slot Empty c.args.page.now c.remove.new.page _ _ read c.requires.low (c.remove.ensures.becomes read.formed.slotted)
-          (c.is_vacant.ensures.0 c.if-is_vacant.true) gave.given gave.did.step (c.requires.formed told) told;
+          (c.is_vacant.ensures.vacant c.if-is_vacant.true) gave.given gave.did.step (c.requires.formed told) told;
       did = widens (λ key there. there) (omega arith) (omega arith) (done _ gave.did.step);
     }
 
@@ -25,7 +25,7 @@ returns g c =
       sets = λ told.
           let read = read_copied c.requires.heap c.requires.formed c.requires.copied told in
           sets_written c.args.key c.args.slot Empty c.args.page.now c.remove.new.page _ _ read c.requires.low (c.remove.ensures.becomes read.formed.slotted)
-          (λ vacant. let never : c.is_vacant.result ≡ true = c.is_vacant.ensures.1 vacant in let not : c.is_vacant.result ≡ false = c.if-is_vacant.false in absurd (cc))
+          (λ vacant. let never : c.is_vacant.result ≡ true = c.is_vacant.ensures.exact (c.remove.ensures.becomes read.formed.slotted).slotted vacant in let not : c.is_vacant.result ≡ false = c.if-is_vacant.false in absurd (cc))
           (λ body is. absurd (cc))
           wrote.written wrote.did.step (c.requires.formed told) told;
       did = widens (λ key there. there) (omega arith) (omega arith) (done _ wrote.did.step);
