@@ -276,6 +276,17 @@ rate_of() {
 
 rate() { echo "$(rate_of least "$@") ($(rate_of median "$@"))"; }
 
+# times_as_many SCRIPT FILE OTHER: how many times as fast the script runs on the file as on the other
+# one: the median of what each run of the two, which are made one behind the other, gave. A machine that
+# changes its speed from run to run changes both.
+times_as_many() {
+    local mine theirs run ratios=()
+    mine=(${times["$1 $2"]})
+    theirs=(${times["$1 $3"]})
+    for run in "${!mine[@]}"; do ratios+=($((100 * theirs[run] / mine[run]))); done
+    one_of median "${ratios[@]}" | awk '{ printf "%.2f", $1 / 100 }'
+}
+
 # work_of WHICH COUNT SCRIPT FILE: the processor time of one line, in microseconds. That of a run with
 # nothing to do is left out.
 work_of() {
@@ -315,6 +326,12 @@ rates() {
 work_row() {
     row "$1" "$(commas "$4")" "$(commas "$5")" "$(work "$2" "$3" "store.$4.$5")" \
         "$(work "$2" "$3" "delete.$4.$5")" "$(work "$2" "$3" "wal.$4.$5")"
+}
+
+# ratios WHAT SCRIPT SLOTS TUPLES
+ratios() {
+    row "$1" "$(commas "$3")" "$(commas "$4")" "$(times_as_many "$2" "store.$3.$4" "delete.$3.$4")" \
+        "$(times_as_many "$2" "store.$3.$4" "wal.$3.$4")"
 }
 
 # calls FILE COMMAND..: the writes to a file, its journal and its log, their bytes, and all syncs, of
@@ -421,6 +438,20 @@ rates "fetches of one tuple, 100,000" 100000 less 65536 1000000 "$lines"
 rates "fetches of one tuple, 1,000,000" 1000000 one 65536 1000000 "$lines"
 rates "fetches among 20,000 tuples" 200000 near 65536 1000000 "$lines"
 rates "fetches among 1,000,000 tuples" 200000 far 65536 1000000 "$lines"
+echo
+row "Times as many as sqlite's" slots tuples DELETE WAL
+row --- ---: ---: ---: ---:
+ratios "inserts, 8,000 in one transaction, not ended" open 65536 0
+ratios "the same with its end" ended 65536 0
+ratios "the same of two INTs and a TEXT of 20 bytes, with its end" threes 65536 0
+ratios "inserts, 6,000 in one transaction, not ended" inserted 65536 1000000
+ratios "updates, the same" updated 65536 1000000
+ratios "deletes, the same" deleted 65536 1000000
+ratios "each in turn, the same" each 65536 1000000
+ratios "updates among 20,000 tuples, the same" updated_near 65536 1000000
+ratios "deletes among 20,000 tuples, the same" deleted_near 65536 1000000
+ratios "fetches among 20,000 tuples" near 65536 1000000
+ratios "fetches among 1,000,000 tuples" far 65536 1000000
 echo
 row "Microseconds of processor time a line" slots tuples rss "sqlite, DELETE" "sqlite, WAL"
 row --- ---: ---: ---: ---: ---:
