@@ -457,9 +457,6 @@ row "Microseconds of processor time a line" slots tuples rss "sqlite, DELETE" "s
 row --- ---: ---: ---: ---: ---:
 work_row "inserts, 8,000 in one transaction with its end" 8000 ended 65536 0
 work_row "the same of two INTs and a TEXT of 20 bytes" 8000 threes 65536 0
-work_row "inserts, 6,000 in one transaction, not ended" 6000 inserted 65536 1000000
-work_row "updates, the same" 6000 updated 65536 1000000
-work_row "deletes, the same" 6000 deleted 65536 1000000
 work_row "fetches among 1,000,000 tuples" 200000 far 65536 1000000
 echo
 row "Milliseconds" slots tuples rss "sqlite, DELETE" "sqlite, WAL"
