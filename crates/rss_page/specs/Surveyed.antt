@@ -42,6 +42,10 @@ pub record IsOwnPlace (page : List ℕ) (slot length place : ℕ) : Type 0 where
   pub long : length ≤ count body
   pub beside : IsSlotted page → OthersBeside page slot place length
 
+-- in a page, the entry of a slot has no body of so many bytes or more
+abbrev pub HasNoneAsLong : List ℕ → ℕ → ℕ → Type 0
+HasNoneAsLong page slot length = IsSlotted page → (body : List ℕ) → held_at (entries page) slot ≡ Here body → length ≤ count body → ⊥
+
 -- ---- the order of bodies
 
 -- the body, if there is one, begins at this place or behind it

@@ -1,9 +1,9 @@
 // Changes of a page.
-ghost use Rattle.std.specs.Prelude.{◌≡◌, ◌+◌, ◌-◌, ◌<◌, ◌≤◌, ℕ, length, replicate, IfSome};
+ghost use Rattle.std.specs.Prelude.{◌≡◌, ◌+◌, ◌-◌, ◌<◌, ◌≤◌, ℕ, length, replicate, IfSome, IfNone};
 ghost use Rattle.rss_base.specs.Sizes.{page_entries, page_bytes};
 ghost use Rattle.rss_page.specs.Content.{Empty, Here, Forward, body_length};
 ghost use Rattle.rss_page.specs.Slotted.{bodies_at, bodies_room, part, entries, body_bytes, HasRoom, IsBody, IsSlotted, IsHome, Becomes, Sets, EndBy, MayPut, Overwrites, OthersBeside, OthersEndBy, OthersStay, OthersStayIfRoom};
-ghost use Rattle.rss_page.specs.Surveyed.{held_at, IsOwnPlace, IsSurvey};
+ghost use Rattle.rss_page.specs.Surveyed.{held_at, HasNoneAsLong, IsOwnPlace, IsSurvey};
 
 use crate::checked::formed_entry;
 use crate::directory::{HEADER_BYTES, entry, set_entry};
@@ -79,6 +79,7 @@ pub fn own_place(page: &Page, slot: u8, length: u16) -> Option<u16>
     requires some { 1 ≤ length }
     ensures place { IfSome result (λ place. IsBody place length) }
     ensures own { IfSome result (IsOwnPlace page.now slot length) }
+    ensures none { IfNone result (HasNoneAsLong page.now slot length) }
 {
     let Entry::Here { place, length: own } = formed_entry(page, slot)? else {
         return None;
