@@ -2,13 +2,22 @@
 use Rattle.std.proofs.Common.{◌≡◌, ℕ, ◌+◌, ◌-◌, length, List, [], ◌++◌, take, drop, Option, Some, refl, sym, ◌∙◌, ap, subst, append_assoc}
 use Rattle.std.proofs.lemmas.List.{append-nil, take_rest}
 use Rattle.std.proofs.Math.Seq.{take-add}
-use Rattle.rss_base.specs.Streams.{Gives, Takes}
+use Rattle.rss_base.specs.Streams.{Gives, Takes, TakesSome, TakesLast}
 
 pub takes_none : (told : Option (List ℕ)) → Takes told [] told
 takes_none told = record { appends = λ all is. is ∙ ap Some (sym (append-nil all)) }
 
 pub takes_then : (old mid new : Option (List ℕ)) (first second : List ℕ) → Takes old first mid → Takes mid second new → Takes old (first ++ second) new
 takes_then old mid new first second a b = record { appends = λ all is. b.appends (all ++ first) (a.appends all is) ∙ ap Some (append_assoc all first second) }
+
+pub some_none : (told : Option (List ℕ)) → TakesSome told told
+some_none told = record { said = []; takes = takes_none told }
+
+pub some_then : {old mid new : Option (List ℕ)} → TakesSome old mid → TakesSome mid new → TakesSome old new
+some_then {old = old} {mid = mid} {new = new} first second = record { said = first.said ++ second.said; takes = takes_then old mid new first.said second.said first.takes second.takes }
+
+pub some_last : {old mid new : Option (List ℕ)} {bytes : List ℕ} → TakesSome old mid → Takes mid bytes new → TakesLast old bytes new
+some_last {old = old} {mid = mid} {new = new} {bytes = bytes} first last = record { before = first.said; takes = takes_then old mid new first.said bytes first.takes last }
 
 -- a call that takes nothing adds nothing
 pub takes_kept : (old mid new : Option (List ℕ)) (bytes : List ℕ) → Takes old bytes mid → Takes mid [] new → Takes old bytes new

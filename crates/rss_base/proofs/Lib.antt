@@ -8,3 +8,5 @@ pub mod Counts
 pub mod Keys
 pub mod Numbers
 pub mod Looking
+pub mod Copies
+pub mod Equal

@@ -1,5 +1,5 @@
 -- A number by its eight bytes.
-use Rattle.std.proofs.Common.{◌≡◌, ℕ, List, ◌<◌, ◌^◌, ℤ, pos, negsuc, suc, ◌-◌, sym, ap, ◌∙◌, arith, FitsSigned, w64}
+use Rattle.std.proofs.Common.{◌≡◌, ℕ, List, ◌<◌, ◌^◌, ℤ, pos, negsuc, sym, ap, ◌∙◌, arith, FitsSigned, w64}
 use Rattle.std.proofs.lemmas.Nat.{from_be_bytes-to_be_bytes_8}
 use Rattle.std.proofs.lemmas.Int.{ints, to_z-of_z}
 use Rattle.std.specs.Int.{from_be_bytes, cast_unsigned, cast_signed}

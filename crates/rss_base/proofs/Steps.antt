@@ -4,7 +4,7 @@ use Rattle.std.specs.Prelude.{Result, Ok, Err, IsErrAnd}
 use Rattle.std.proofs.lemmas.Result.{err_from_is_err_and}
 use Rattle.std.proofs.lemmas.Bool.{cond-true, cond-false}
 use Rattle.rss_base.specs.DiskRule.{IsTold}
-use Rattle.rss_base.specs.Paged.{AreAmong, Mapped, Held, LeavesFixed, HasPageCause, is_same, with_mapped, with_page, page_key}
+use Rattle.rss_base.specs.Paged.{AreAmong, Mapped, Held, HasPageCause, is_same, with_mapped, with_page, page_key}
 use Rattle.rss_base.specs.Notes.{Noted, with_note}
 use Rattle.rss_base.specs.Steps.{PagesView, Keys, no_page, only, pages_in, WritesPage, TakesPage, GivesPage, NotesPage, PassesOn, PagesStep, PagesCall}
 use Rattle.rss_base.specs.declared.fault.PageFault.{PageFault}
@@ -97,11 +97,12 @@ then_call step call = record {
   step = then step call.step;
   failed = λ is. let rose = call.failed is in omega (arith, rose, step.passes.later);
   sound = λ place is told. call.sound place is (step.passes.leaves.told.0 told);
+  memory = call.memory;
 }
 
 -- a step that is done
 pub done : {T : Type 0} {touched : Keys} {asks writes : ℕ} {old new : PagesView} (value : T) → PagesStep touched asks writes old new → PagesCall touched asks writes old new (Ok value)
-done value step = record { step = step; failed = λ is. absurd (cc); sound = λ place is. absurd (cc) }
+done value step = record { step = step; failed = λ is. absurd (cc); sound = λ place is. absurd (cc); memory = λ is. absurd (cc) }
 
 -- the error of a call is passed on
 pub fails : {T U : Type 0} {touched more : Keys} {asks writes asks_now writes_now : ℕ} {old new : PagesView} {fault : PageFault} (result : Result U PageFault) → IsErrAnd result (λ why. why ≡ fault) → ((key : PageKey) → touched key → more key) → asks ≤ asks_now → writes ≤ writes_now
@@ -112,6 +113,7 @@ fails {U = U} {more = more} {asks_now = asks_now} {writes_now = writes_now} {old
       step = within wider few_asks few_writes call.step;
       failed = λ is. let same : fault ≡ DeviceFailed = cc in call.failed (ap Err same);
       sound = λ place is told. let same : fault ≡ Damaged place = cc in call.sound place (ap Err same) told;
+      memory = λ is. let same : fault ≡ NoMemory = cc in call.memory (ap Err same);
     })
 
 -- ---- what a call on one page leaves of it, and of the others
@@ -180,15 +182,11 @@ kept_all passes changed mapped held notes = record {
 -- a fault below ends the call
 pub fails_by : {T U : Type 0} {touched : Keys} {asks writes : ℕ} {old new : PagesView} {fault : PageFault} (result : Result U PageFault) → IsErrAnd result (λ why. why ≡ fault) → HasPageCause {T = T} old.disk old.faults new.faults (Err fault) → PagesStep touched asks writes old new → PagesCall touched asks writes old new result
 fails_by {T = T} {U = U} {touched = touched} {asks = asks} {writes = writes} {old = old} {new = new} {fault = fault} result is cause step =
-    fails {T = T} result is (λ key there. there) (omega arith) (omega arith) (record { step = step; failed = cause.failed; sound = cause.sound })
-
--- memory ran out
-pub lacks_memory : {U : Type 0} {touched : Keys} {asks writes : ℕ} {old new : PagesView} → PagesStep touched asks writes old new → PagesCall {T = U} touched asks writes old new (Err NoMemory)
-lacks_memory step = record { step = step; failed = λ is. absurd (cc); sound = λ place is. absurd (cc) }
+    fails {T = T} result is (λ key there. there) (omega arith) (omega arith) (record { step = step; failed = cause.failed; sound = cause.sound; memory = cause.memory })
 
 -- more pages may be touched by a call, and more asked for and written
 pub widens : {T : Type 0} {touched more : Keys} {asks writes asks_now writes_now : ℕ} {old new : PagesView} {result : Result T PageFault} → ((key : PageKey) → touched key → more key) → asks ≤ asks_now → writes ≤ writes_now → PagesCall touched asks writes old new result → PagesCall more asks_now writes_now old new result
-widens is few_asks few_writes call = record { step = within is few_asks few_writes call.step; failed = call.failed; sound = call.sound }
+widens is few_asks few_writes call = record { step = within is few_asks few_writes call.step; failed = call.failed; sound = call.sound; memory = call.memory }
 
 -- where nothing was touched, all is as it was
 pub all_mapped : {asks writes : ℕ} {old new : PagesView} → PagesStep no_page asks writes old new → new.mapped ≡ old.mapped
@@ -204,7 +202,7 @@ pub none_changed_more : {asks writes : ℕ} {old new : PagesView} → PagesStep 
 none_changed_more step = λ key is. ⊎_elim (λ there. there) (λ none. absurd none) (step.changed_off key is)
 
 pub cause_of : {T : Type 0} {touched : Keys} {asks writes : ℕ} {old new : PagesView} {result : Result T PageFault} → PagesCall touched asks writes old new result → HasPageCause old.disk old.faults new.faults result
-cause_of call = record { later = call.step.passes.later; failed = call.failed; sound = call.sound }
+cause_of call = record { later = call.step.passes.later; failed = call.failed; sound = call.sound; memory = call.memory }
 
 -- a page of a segment and a space is one of theirs
 pub is_in : {segment : ℕ} {space : Space} {number : ℕ} (one : PageKey) → one ≡ page_key segment space number → (key : PageKey) → key ≡ one → pages_in segment space key
@@ -212,4 +210,4 @@ is_in {segment = segment} {space = space} one there key is = let at = is ∙ the
 
 -- a call that touched nothing, among those that touch something
 pub untouched_call : {T : Type 0} {more : Keys} {asks writes : ℕ} {old new : PagesView} {result : Result T PageFault} → PagesCall no_page asks writes old new result → PagesCall more asks writes old new result
-untouched_call call = record { step = untouched call.step; failed = call.failed; sound = call.sound }
+untouched_call call = record { step = untouched call.step; failed = call.failed; sound = call.sound; memory = call.memory }

@@ -14,6 +14,10 @@ pub mod Answers
 pub mod LogRecords
 pub mod LogPages
 pub mod Names
+pub mod Items
 pub mod TupleTypes
 pub mod Listings
+pub mod Nodes
+pub mod Trees
+pub mod Prefixes
 pub mod Looking

@@ -7,7 +7,7 @@ use Rattle.rss_base.specs.Sizes.{segments, system_pages}
 use Rattle.rss_base.specs.PageMap.{space_code}
 use Rattle.rss_base.specs.declared.place.Place.{Place}
 use Rattle.rss_base.specs.declared.fault.PageFault.{PageFault}
-use Rattle.rss_base.specs.declared.fault.PageFault.TheVariants.{Device as DeviceFailed, Damaged}
+use Rattle.rss_base.specs.declared.fault.PageFault.TheVariants.{Device as DeviceFailed, Damaged, NoMemory}
 use Rattle.rss_base.specs.declared.key.Space.{Space}
 use Rattle.rss_base.specs.declared.key.Space.TheVariants.{Home, Overflow, Image, System}
 use Rattle.rss_base.specs.declared.key.PageKey.{PageKey}
@@ -94,11 +94,12 @@ pub record HasFixed (fixed : Fixed) (image : Pages) : Type 0 where
   pub size : length image ≡ fixed.size
   pub pages : (q : ℕ) (bytes : List ℕ) → fixed.held_at q ≡ Some bytes → page image q ≡ bytes
 
--- What the pages stand on, which no call on a page changes: how many log pages the device has, the map area that the selected root names, and the map as it was last saved.
+-- What the pages stand on, which no call on a page changes: how many log pages the device has, the map area that the selected root names, the map as it was last saved, and how many pages there may be in memory at once.
 pub record Backing : Type 0 where
   pub log_pages : ℕ
   pub area : ℕ
   pub shadow : List (Option PageKey)
+  pub frames : ℕ
 
 -- A call that leaves alone what is fixed: where nothing fixed is on its way to the disk, it stays the same, and each image at a moment of the call has it. The device tells its contents as before.
 pub record LeavesFixed (settled settled_now : Type 0) (old new : Disk) (before after : Fixed) : Type 0 where
@@ -107,11 +108,12 @@ pub record LeavesFixed (settled settled_now : Type 0) (old new : Disk) (before a
   pub same : settled → IsTold old → after ≡ before
   pub moments : settled → IsTold old → Passes old new (HasFixed before)
 
--- A count of faults never falls, and a device's fault comes only where it rose. Nothing is found damaged on a device that tells its contents.
+-- A count of faults never falls, and a device's fault comes only where it rose. Nothing is found damaged on a device that tells its contents, and memory never runs out.
 pub record HasPageCause {T : Type 0} (disk : Disk) (before now : ℕ) (result : Result T PageFault) : Type 0 where
   pub later : before ≤ now
   pub failed : IsErrOf result DeviceFailed → Rises before now
   pub sound : (place : Place) → result ≡ Err (Damaged place) → IsTold disk → ⊥
+  pub memory : IsErrOf result NoMemory → ⊥
 
 -- ---- the first number from one on
 

@@ -47,6 +47,17 @@ segments = 8
 abbrev pub relations_most : ℕ
 relations_most = 48
 
+-- how many images and links there may be
+abbrev pub images_most : ℕ
+images_most = 128
+
+abbrev pub links_most : ℕ
+links_most = 64
+
+-- in how many links a relation may be
+abbrev pub roles_most : ℕ
+roles_most = 16
+
 -- how many pages the system space has
 abbrev pub system_pages : ℕ
 system_pages = 10

@@ -1,5 +1,5 @@
 -- What there is to see of pages, and what a call on them passes on, whatever it does.
-use Rattle.std.specs.Prelude.{◌≡◌, ◌⊎◌, ℕ, ◌+◌, ◌≤◌, Bool, true, false, List, Some, None, Result, Ok, Err, IsErrOf}
+use Rattle.std.specs.Prelude.{◌≡◌, ◌⊎◌, ℕ, ◌+◌, ◌≤◌, Bool, true, false, List, ◌++◌, length, take, drop, slice_range, Some, None, Result, Ok, Err, IsErrOf}
 use Rattle.rss_base.specs.DiskRule.{Disk, IsTold}
 use Rattle.rss_base.specs.Devices.{DeviceView}
 use Rattle.rss_base.specs.Sizes.{zero_page}
@@ -9,7 +9,7 @@ use Rattle.rss_base.specs.Notes.{Noted, with_note}
 use Rattle.rss_base.specs.Paged.{Mapped, Held, Fixed, Backing, LeavesFixed, page_key, with_mapped, with_page, mapped_pages}
 use Rattle.rss_base.specs.declared.place.Place.{Place}
 use Rattle.rss_base.specs.declared.fault.PageFault.{PageFault}
-use Rattle.rss_base.specs.declared.fault.PageFault.TheVariants.{Device as DeviceFailed, Damaged}
+use Rattle.rss_base.specs.declared.fault.PageFault.TheVariants.{Device as DeviceFailed, Damaged, NoMemory}
 use Rattle.rss_base.specs.declared.key.PageKey.{PageKey}
 use Rattle.rss_base.specs.declared.key.Space.{Space}
 
@@ -84,6 +84,17 @@ pub record WritesPage (key : PageKey) (bytes : List ℕ) (old new : PagesView) :
   pub held : IsTold old.disk → new.held ≡ with_page old.held key (Some bytes)
   pub notes : new.notes ≡ with_note old.notes key None
 
+-- a page with some bytes of another one from a place on
+abbrev pub with_bytes : List ℕ → ℕ → List ℕ → List ℕ
+with_bytes page at bytes = take at page ++ (bytes ++ drop (at + length bytes) page)
+
+-- The page has so many bytes of another one now, from a place on, and no note.
+pub record CopiesBytes (from : PageKey) (from_at : ℕ) (to : PageKey) (to_at count : ℕ) (old new : PagesView) : Type 0 where
+  pub mapped : new.mapped ≡ old.mapped
+  pub held : IsTold old.disk → (source page : List ℕ) → old.held from ≡ Some source → old.held to ≡ Some page
+      → new.held ≡ with_page old.held to (Some (with_bytes page to_at (slice_range source from_at (from_at + count))))
+  pub notes : new.notes ≡ with_note old.notes to None
+
 -- the page is mapped now, holds zeros, and has no note
 pub record TakesPage (key : PageKey) (old new : PagesView) : Type 0 where
   pub mapped : new.mapped ≡ with_mapped old.mapped key true
@@ -124,8 +135,9 @@ pub record PagesStep (touched : Keys) (asks writes : ℕ) (old new : PagesView) 
   pub held_off : IsTold old.disk → (key : PageKey) → (touched key → ⊥) → new.held key ≡ old.held key
   pub notes_off : (key : PageKey) → (touched key → ⊥) → new.notes key ≡ old.notes key
 
--- The same of a call, by its result: a device's fault has come, and nothing is found damaged on a device that tells its contents.
+-- The same of a call, by its result: a device's fault has come, nothing is found damaged on a device that tells its contents, and memory never runs out.
 pub record PagesCall {T : Type 0} (touched : Keys) (asks writes : ℕ) (old new : PagesView) (result : Result T PageFault) : Type 0 where
   pub step : PagesStep touched asks writes old new
   pub failed : IsErrOf result DeviceFailed → Rises old.faults new.faults
   pub sound : (place : Place) → result ≡ Err (Damaged place) → IsTold old.disk → ⊥
+  pub memory : IsErrOf result NoMemory → ⊥

@@ -2,7 +2,7 @@
 use crate::{Name, Tid, Tuple};
 
 /// What can be locked. A tuple and a chain also have a content.
-#[derive(Debug, Drop)]
+#[derive(Debug, PartialEq, Eq, Hash, Drop)]
 pub enum Item {
     Segment(Name),
     Relation(Name),

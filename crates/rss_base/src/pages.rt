@@ -1,18 +1,18 @@
 // Pages by their keys.
-ghost use Rattle.std.specs.Prelude.{◌≡◌, ◌≢◌, ◌<◌, ◌≤◌, true, false, is_some, Some, IfOk, IfSome, IfNone, OnOk};
+ghost use Rattle.std.specs.Prelude.{◌≡◌, ◌≢◌, ◌+◌, ◌<◌, ◌≤◌, true, false, is_some, Some, IfOk, IfSome, IfNone, OnOk};
 ghost use Rattle.rss_base.specs.Faults.{counted};
-ghost use Rattle.rss_base.specs.Sizes.{segments};
+ghost use Rattle.rss_base.specs.Sizes.{segments, page_bytes};
 ghost use Rattle.rss_base.specs.DiskRule.{Pages as DevicePages, Told, IsTold, Leaves};
 ghost use Rattle.rss_base.specs.PageMap.{IsKey};
 ghost use Rattle.rss_base.specs.Notes.{is_noted_space, note_most, MayDo};
 ghost use Rattle.rss_base.specs.Paged.{page_key, IsLeastUnmapped, IsMappedAt, IsUnmappedAt, IsFirstFrom, NoneFrom, HasFixed};
 ghost use Rattle.rss_base.specs.Devices.{OnlyReads};
-ghost use Rattle.rss_base.specs.Steps.{PagesView, AreCounted, PagesStep, PagesCall, NotesPage, no_page, only, only_on_ok, taken, WritesPage, TakesPage, GivesPage};
+ghost use Rattle.rss_base.specs.Steps.{PagesView, AreCounted, PagesStep, PagesCall, NotesPage, no_page, only, only_on_ok, taken, WritesPage, CopiesBytes, TakesPage, GivesPage};
 ghost use Rattle.rss_base.specs.Steps.{NoneChanged, device_below};
 ghost use Rattle.rss_base.specs.declared.key.Space.TheVariants.{System};
 ghost use Rattle.rss_base.specs.declared.key.PageKey.{PageKey as Key};
 
-use crate::{Page, PageFault, PageKey, Space};
+use crate::{PAGE_BYTES, Page, PageFault, PageKey, Space, copy_bytes};
 
 /// The pages of a store, by their keys: a finite map from keys to pages, of which each change stays
 /// in free slots of the device until all of them are saved together.
@@ -104,6 +104,33 @@ pub trait Pages {
         ensures written { OnOk result (WritesPage key from.now (view self.old) (view self.new)) }
         ensures did { PagesCall (only_on_ok key result) 0 1
             (view self.old) (view self.new) result };
+
+    /// Copies so many bytes of a page into another one.
+    fn copy(
+        &mut self,
+        from: PageKey,
+        from_at: usize,
+        to: PageKey,
+        to_at: usize,
+        count: usize,
+    ) -> Result<(), PageFault>
+        requires from { (view self.old).mapped from ≡ true }
+        requires to { (view self.old).mapped to ≡ true }
+        requires apart { from ≢ to }
+        requires from_within { from_at + count ≤ page_bytes }
+        requires to_within { to_at + count ≤ page_bytes }
+        ensures copied { OnOk result
+            (CopiesBytes from from_at to to_at count (view self.old) (view self.new)) }
+        ensures did { PagesCall (only_on_ok to result) 2 3
+            (view self.old) (view self.new) result }
+    {
+        let mut source = [0; PAGE_BYTES];
+        self.read(from, &mut source)?;
+        let mut page = [0; PAGE_BYTES];
+        self.read(to, &mut page)?;
+        copy_bytes(&source, from_at, &mut page, to_at, count);
+        self.write(to, &page)
+    }
 
     /// Maps the least page of a segment and a space that isn't mapped, to a page of zeros, and
     /// answers its number.

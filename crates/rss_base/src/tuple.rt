@@ -3,6 +3,7 @@ ghost use Rattle.std.specs.Prelude.{◌≡◌, [], ◌∷◌, ◌++◌, IfOk, On
 
 use crate::Value;
 use std::alloc::{AllocError, Global};
+use std::hash::{Hash, Hasher};
 use std::marker::Model;
 
 /// The values of a tuple, in the order of its relation's fields.
@@ -18,6 +19,42 @@ impl Model for Tuple {
     ghost Value = { List FieldValue };
 
     ghost view = { λ t. t.values.items };
+}
+
+impl PartialEq for Tuple {
+    ghost use Rattle.std.specs.Cmp.Lexicographic.{pointwise, lists_per};
+    ghost use Rattle.rss_base.specs.contracts.value.ValuePartialEq.TheImpl as value_eq;
+    ghost use Rattle.rss_base.specs.contracts.value.ValuePartialEq.TheImpl.Laws as value_laws;
+
+    ghost eq = { pointwise (value_eq.ghosts).eq };
+
+    ghost laws = { lists_per value_laws.laws-law };
+
+    fn eq(&self, other: &Tuple) -> bool {
+        self.as_slice() == other.as_slice()
+    }
+}
+
+impl Eq for Tuple {
+    ghost use Rattle.std.specs.Cmp.Lexicographic.{lists_equiv};
+    ghost use Rattle.rss_base.specs.contracts.value.ValueEq.TheImpl.Laws as value_laws;
+
+    ghost laws = { lists_equiv value_laws.laws-law };
+}
+
+impl Hash for Tuple {
+    ghost use Rattle.std.specs.Hash.{items_Alike};
+    ghost use Rattle.std.specs.Hash as fed;
+    ghost use Rattle.rss_base.specs.contracts.value.ValueHash.TheImpl as value_hash;
+    ghost use Rattle.rss_base.specs.contracts.value.ValueHash.TheImpl.Laws as value_laws;
+
+    ghost hash_input = { fed.slice (value_hash.ghosts).hash_input };
+
+    ghost respects_eq = { λ a b. (items_Alike (record { fed = value_laws.respects_eq-law })).fed a b };
+
+    fn hash<H: Hasher>(&self, state: &mut H) {
+        self.as_slice().hash(state);
+    }
 }
 
 impl Tuple {

@@ -5,7 +5,7 @@ ghost use Rattle.rss_base.specs.TupleTypes.{is_kind};
 use crate::Text;
 
 /// What a field of a tuple holds.
-#[derive(Debug, Drop)]
+#[derive(Debug, PartialEq, Eq, Hash, Drop)]
 pub enum Value {
     Int(i64),
     /// UTF-8 text of characters from U+0020 on, without U+007F.

@@ -1,0 +1,18 @@
+// A link as the catalog has it.
+use crate::{Name, Tid};
+
+/// A link by its definition, and the ends of its chain where it has only one.
+#[derive(Clone, Copy, Debug, PartialEq, Eq)]
+pub struct LinkEntry {
+    pub name: Name,
+    /// The number of the relation whose tuples have chains, and none of a link with one chain.
+    pub parent: Option<u8>,
+    /// The number of the relation whose tuples stand in chains.
+    pub child: u8,
+    /// The ends of the one chain, where there is no parent.
+    pub first: Option<Tid>,
+    pub last: Option<Tid>,
+}
+
+/// How many links there may be.
+pub const LINKS_MOST: u8 = 64;
