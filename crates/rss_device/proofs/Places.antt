@@ -12,7 +12,7 @@ use Rattle.rss_base.specs.Paged.{Held, with_page, with_mapped, page_key, is_same
 use Rattle.rss_base.specs.declared.key.Space.{Space}
 use Rattle.rss_base.specs.declared.key.PageKey.{PageKey}
 use Rattle.rss_base.proofs.Keys.{is_same-true, is_same-itself}
-use Rattle.rss_device.specs.MemPages.{has_key, place_at, StoredOf, stored_in, with_stored, page_in, held_in, note_in, noted_in, placed_in, free_in, ArePlaces}
+use Rattle.rss_device.specs.MemPages.{has_key, place_at, StoredOf, stored_in, with_stored, page_in, held_in, note_in, noted_in, placed_in, free_in, ArePlaces, no_backing}
 use Rattle.rss_device.specs.MemPagesLaws.{mapped_at}
 use Rattle.rss_device.specs.declared.stored.Stored.{Stored}
 
@@ -281,3 +281,7 @@ pub some_unmapped : (places : List (Option Stored)) (segment : ℕ) (space : Spa
 some_unmapped places segment space room none =
     let used = filled (length places) places segment space (λ k less. true_from_ne_false (placed_in places (page_key segment space k)) (λ free. none k (omega arith) (record { within = less; free = free }))) in
     omega (arith, used, room)
+
+-- as many places, and so the pages stand on the same
+pub same_backing : {slots slots_now : ℕ} → slots_now ≡ slots → no_backing slots_now ≡ no_backing slots
+same_backing same = ap no_backing same

@@ -67,5 +67,6 @@ no_device = record { contents = Some []; moment = 0; images = λ t image. image 
 abbrev pub none_fixed : Fixed
 none_fixed = record { size = 0; held_at = λ q. None }
 
-abbrev pub no_backing : Backing
-no_backing = record { log_pages = 0; area = 0; shadow = [] }
+-- and as many of them may be in memory as there are slots
+abbrev pub no_backing : ℕ → Backing
+no_backing slots = record { log_pages = 0; area = 0; shadow = []; frames = slots }

@@ -81,7 +81,7 @@ free_and_used [] = refl
 free_and_used (None ∷ places) = omega (arith, free_and_used places, sum_by-cons (λ (o : Option Stored). cond (is_none o) 1 0) None places)
 free_and_used (Some stored ∷ places) = omega (arith, free_and_used places, sum_by-cons (λ (o : Option PageKey). cond (is_some o) 1 0) (Some stored.key) (owners_of places))
 
-pub counted_in : {places : List (Option Stored)} → ArePlaces places → free_in places + mapped_pages (length places) (placed_in places) + page_count no_backing.shadow ≡ length places
+pub counted_in : {places : List (Option Stored)} → ArePlaces places → free_in places + mapped_pages (length places) (placed_in places) + page_count (no_backing (length places)).shadow ≡ length places
 unfolding placed_in
 counted_in {places} placed =
     let pages = mapped_pages-owners (length places) (owners_of places) (λ key. is_some (stored_in places key))

@@ -1,5 +1,6 @@
 -- How a source in memory was set up.
 use Rattle.std.specs.Prelude.{ℕ, List, Option, Some}
+use Rattle.rss_base.specs.Streams.{Stream}
 use Rattle.rss_device.specs.declared.source.MemSource.{MemSource}
 
 -- how many bytes it gives a read at most, where that isn't 0
@@ -14,9 +15,6 @@ failing_read source = source.reads_before_fault
 abbrev pub bytes_left : MemSource → List ℕ
 bytes_left source = source.left.now
 
-abbrev pub told_left : MemSource → Option (List ℕ)
-told_left source = Some (bytes_left source)
-
--- how often it has failed
-abbrev pub faults_of : MemSource → ℕ
-faults_of source = source.faults
+-- it tells them
+abbrev pub view_of : MemSource → Stream
+view_of source = record { bytes = Some (bytes_left source); faults = source.faults }

@@ -20,6 +20,8 @@ use std::alloc::{AllocError, Global};
 
 /// Pages in memory, for the tests of what stands on pages. There is no device: no call fails, and
 /// nothing is fixed. A page is searched for place by place, and no call after `new` takes memory.
+/// `copy` is the provided one, by copies of both pages: a page stands in its place among its key and
+/// its note, so that no two of them can be lent at once.
 #[derive(Drop)]
 pub struct MemPages {
     places: Vec<Option<Stored>>,
@@ -112,7 +114,7 @@ impl Pages for MemPages {
       faults = 0;
       fixed = none_fixed;
       settled = true;
-      backing = no_backing;
+      backing = no_backing (length m.places.items);
     } };
 
     ghost reads_as_image = { λ m pages told. none_left pages told };

@@ -16,17 +16,15 @@ pub struct ReaderSource<R: Read + Drop> {
 
 impl<R: Read + Drop> ReaderSource<R> {
     pub fn new(reader: R) -> Self
-        ensures left { ⟦<ReaderSource<R> as Source>⟧.left result ≡ R.remaining reader }
-        ensures faults { ⟦<ReaderSource<R> as Source>⟧.faults result ≡ 0 }
+        ensures left { (⟦<ReaderSource<R> as Source>⟧.view result).bytes ≡ R.remaining reader }
+        ensures faults { (⟦<ReaderSource<R> as Source>⟧.view result).faults ≡ 0 }
     {
         ReaderSource { reader, faults: 0 }
     }
 }
 
 impl<R: Read + Drop> Source for ReaderSource<R> {
-    ghost left = { λ s. R.remaining s.reader };
-
-    ghost faults = { λ s. s.faults };
+    ghost view = { λ s. record { bytes = R.remaining s.reader; faults = s.faults } };
 
     fn read(&mut self, into: &mut [u8]) -> Result<usize, Failed> {
         match read_some(&mut self.reader, into) {

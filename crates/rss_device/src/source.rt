@@ -1,11 +1,8 @@
 // A source in memory.
-ghost use Rattle.std.specs.Prelude.{◌≡◌, ◌↔◌, ◌-◌, ◌^◌, ◌<◌, ◌≤◌, ℕ, List, [], length, take, min};
-ghost use Rattle.std.specs.Prelude.{max, None, Some, Ok, IfOk, OnErr, IsErr};
-ghost use Rattle.rss_base.specs.Faults.{HasCause};
-ghost use Rattle.rss_base.specs.Streams.{Gives};
+ghost use Rattle.std.specs.Prelude.{◌≡◌, ◌↔◌, ◌-◌, ◌^◌, length, min, max, None, Some, IfOk, IsErr};
+ghost use Rattle.rss_base.specs.Streams.{ReadsBytes};
 ghost use Rattle.rss_device.specs.Failing.{after_call};
-ghost use Rattle.rss_device.specs.MemSource.{bytes_left, told_left, faults_of, piece_of};
-ghost use Rattle.rss_device.specs.MemSource.{failing_read};
+ghost use Rattle.rss_device.specs.MemSource.{bytes_left, view_of, piece_of, failing_read};
 
 use crate::failing::{failed, is_due};
 use rss_base::{Failed, Source};
@@ -22,8 +19,8 @@ pub struct MemSource<'a> {
 impl<'a> MemSource<'a> {
     /// These bytes, each read as many as fit its buffer.
     pub fn new(bytes: &'a [u8]) -> Self
-        ensures left { ⟦<MemSource<'a> as Source>⟧.left result ≡ Some bytes.now }
-        ensures faults { ⟦<MemSource<'a> as Source>⟧.faults result ≡ 0 }
+        ensures left { (⟦<MemSource<'a> as Source>⟧.view result).bytes ≡ Some bytes.now }
+        ensures faults { (⟦<MemSource<'a> as Source>⟧.view result).faults ≡ 0 }
         ensures piece { piece_of result ≡ 2 ^ 64 - 1 }
         ensures failing { failing_read result ≡ None }
     {
@@ -37,8 +34,7 @@ impl<'a> MemSource<'a> {
 
     /// Gives at most `piece` bytes a read, but at least one.
     pub fn in_pieces(self, piece: usize) -> Self
-        ensures left { told_left result ≡ told_left self.entry }
-        ensures faults { faults_of result ≡ faults_of self.entry }
+        ensures view { view_of result ≡ view_of self.entry }
         ensures piece { piece_of result ≡ piece }
         ensures failing { failing_read result ≡ failing_read self.entry }
     {
@@ -47,8 +43,7 @@ impl<'a> MemSource<'a> {
 
     /// Fails the read with this number, counted from 0 from here on, and no other.
     pub fn failing_at(self, call: u64) -> Self
-        ensures left { told_left result ≡ told_left self.entry }
-        ensures faults { faults_of result ≡ faults_of self.entry }
+        ensures view { view_of result ≡ view_of self.entry }
         ensures piece { piece_of result ≡ piece_of self.entry }
         ensures failing { failing_read result ≡ Some call }
     {
@@ -60,19 +55,12 @@ impl<'a> MemSource<'a> {
 }
 
 impl Source for MemSource<'_> {
-    ghost left = { λ s. Some s.left.now };
-
-    ghost faults = { λ s. s.faults };
+    ghost view = { view_of };
 
     // What every source does.
     fn read(&mut self, into: &mut [u8]) -> Result<usize, Failed>
-        ensures within { IfOk result (λ n. n ≤ length into.old) }
-        ensures gives { IfOk result (λ n.
-            Gives (told_left self.old) (take n into.new) (told_left self.new)) }
-        ensures end { result ≡ Ok 0 → 0 < length into.old
-            → (all : List ℕ) → told_left self.old ≡ Some all → all ≡ [] }
-        ensures failed { OnErr result (Gives (told_left self.old) [] (told_left self.new)) }
-        ensures cause { HasCause (faults_of self.old) (faults_of self.new) result }
+        ensures reads { ReadsBytes (length into.old) into.new
+            (view_of self.old) (view_of self.new) result }
 
         // When this one fails, and how much it gives.
         ensures due { IsErr result ↔ (failing_read self.old ≡ Some 0) }

@@ -17,17 +17,15 @@ pub struct WriterSink<W: Write + Drop> {
 
 impl<W: Write + Drop> WriterSink<W> {
     pub fn new(writer: W) -> Self
-        ensures written { ⟦<WriterSink<W> as Sink>⟧.written result ≡ W.contents writer }
-        ensures faults { ⟦<WriterSink<W> as Sink>⟧.faults result ≡ 0 }
+        ensures written { (⟦<WriterSink<W> as Sink>⟧.view result).bytes ≡ W.contents writer }
+        ensures faults { (⟦<WriterSink<W> as Sink>⟧.view result).faults ≡ 0 }
     {
         WriterSink { writer, faults: 0 }
     }
 }
 
 impl<W: Write + Drop> Sink for WriterSink<W> {
-    ghost written = { λ s. W.contents s.writer };
-
-    ghost faults = { λ s. s.faults };
+    ghost view = { λ s. record { bytes = W.contents s.writer; faults = s.faults } };
 
     fn write(&mut self, from: &[u8]) -> Result<usize, Failed> {
         if from.is_empty() {

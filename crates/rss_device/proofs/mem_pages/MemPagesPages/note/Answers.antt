@@ -4,7 +4,7 @@ use Rattle.rss_base.proofs.Calls.{leaves_rests}
 use Rattle.rss_base.proofs.Moments.{reads_none}
 use Rattle.rss_base.proofs.Steps.{noted}
 use Rattle.rss_device.specs.MemPages.{place_at, page_in}
-use Rattle.rss_device.proofs.Places.{changes_own, stored_at, stored_put, follows, stays_mapped, held_kept, placed_after}
+use Rattle.rss_device.proofs.Places.{changes_own, stored_at, stored_put, follows, stays_mapped, held_kept, placed_after, same_backing}
 use Rattle.rss_device.proofs.mem_pages.MemPagesPages.note.Goals as goal
 
 pub invariant_of-self : goal.invariant_of-self
@@ -29,4 +29,4 @@ pub returns-clause-unwritten : goal.returns-clause-unwritten
 returns-clause-unwritten c = λ none. reads_none _
 
 pub returns-clause-did : goal.returns-clause-did
-returns-clause-did c = noted (record { slots = search rules; backing = refl; leaves = leaves_rests _ _ _; later = omega arith; asks_low = omega arith; asks_high = omega arith; writes_low = omega arith; writes_high = omega arith }) (returns-clause-noted c)
+returns-clause-did c = noted (record { slots = search rules; backing = same_backing (search rules); leaves = leaves_rests _ _ _; later = omega arith; asks_low = omega arith; asks_high = omega arith; writes_low = omega arith; writes_high = omega arith }) (returns-clause-noted c)

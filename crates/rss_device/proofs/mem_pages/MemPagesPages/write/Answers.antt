@@ -1,5 +1,5 @@
 use Rattle.std.proofs.Common.{rules, refl, arith, inl, ◌∙◌, None}
-use Rattle.rss_device.proofs.Places.{changes_own, stored_put, follows, stays_mapped, placed_after}
+use Rattle.rss_device.proofs.Places.{changes_own, stored_put, follows, stays_mapped, placed_after, same_backing}
 use Rattle.rss_base.proofs.Calls.{leaves_rests}
 use Rattle.rss_base.proofs.Steps.{wrote}
 use Rattle.rss_device.proofs.mem_pages.MemPagesPages.write.Goals as goal
@@ -15,4 +15,4 @@ returns-clause-written c =
     record { mapped = follows.mapped ∙ stays_mapped _ c.args.key c.requires; held = λ told. follows.held; notes = follows.notes }
 
 pub returns-clause-did : goal.returns-clause-did
-returns-clause-did c = wrote _ (record { slots = search rules; backing = refl; leaves = leaves_rests _ _ _; later = omega arith; asks_low = omega arith; asks_high = omega arith; writes_low = omega arith; writes_high = omega arith }) (λ other is. inl is) (returns-clause-written c)
+returns-clause-did c = wrote _ (record { slots = search rules; backing = same_backing (search rules); leaves = leaves_rests _ _ _; later = omega arith; asks_low = omega arith; asks_high = omega arith; writes_low = omega arith; writes_high = omega arith }) (λ other is. inl is) (returns-clause-written c)
