@@ -4,7 +4,6 @@ use Rattle.std.specs.Prelude.{Result, is_some, is_none, option_map, unwrap_or}
 use Rattle.std.proofs.Math.Path.{fun_ext}
 use Rattle.std.proofs.lemmas.Bool.{cases_Bool, cond-true, cond-false}
 use Rattle.std.proofs.lemmas.Option.{same_Some}
-use Rattle.std.proofs.lemmas.List.{set-set, set-get_or}
 use Rattle.rss_base.specs.Devices.{OnlyReads}
 use Rattle.rss_base.specs.DiskRule.{Pages, page, Told, IsTold}
 use Rattle.rss_base.specs.Layout.{slots_at}
@@ -19,12 +18,11 @@ use Rattle.rss_base.specs.declared.key.Space.TheVariants.{Home, Overflow, Image,
 use Rattle.rss_base.specs.declared.key.PageKey.{PageKey}
 use Rattle.rss_pagemap.proofs.Owners.{table_set}
 use Rattle.rss_notes.specs.Notes.{NotesView, Marks}
-use Rattle.rss_shadow.specs.Maps.{Maps, spare, HasPage, LacksPage, GainsPage, LosesPage, MovesPage, IsLeastLacking}
+use Rattle.rss_shadow.specs.Maps.{Maps, spare, LacksPage, GainsPage, LosesPage, MovesPage, IsLeastLacking}
 use Rattle.rss_shadow.proofs.Counts.{Owners, no_owner, one_page, Assigns-set, owned_within}
 use Rattle.rss_shadow.proofs.Slots.{Changes, Changes-then, Changes-gains, Changes-loses}
-use Rattle.rss_buffer.specs.declared.frames.Frame.{Frame}
+use Rattle.rss_buffer.specs.Frames.{Frame, FrameOf, with_frame}
 use Rattle.rss_buffer.specs.declared.stage.Stage.TheVariants.{Changing}
-use Rattle.rss_buffer.specs.Frames.{FrameOf, with_frame}
 use Rattle.rss_buffer.specs.Slots.{held_in, held_by, fixed_by, told_pages}
 use Rattle.rss_base.specs.StoredPages.{slot_of, mapped_by}
 use Rattle.rss_buffer.specs.Buffered.{BufferView, AreFrames, StaysFixed, HaveSlots, AreNotesOf, IsBuffer, held_of, KeepsPages, MovesPages}
@@ -149,19 +147,6 @@ Reslots-gained {before = before} {old = old} {new = new} {key = key} table same 
 gained : (old new : Maps) (key : PageKey) (gains : GainsPage old new key) → owner_of new.current gains.slot ≡ Some key
 gained old new key gains = ap (λ (owners : Owners). owner_of owners gains.slot) gains.current ∙ get_or-set_same old.current gains.slot (Some key) None gains.free.within
 
-pub HasPage-gains : (old new : Maps) (key : PageKey) → GainsPage old new key → HasPage new.current key
-HasPage-gains old new key gains = record { slot = gains.slot; owned = gained old new key gains }
-
--- a page that got a slot and lost it again
-pub same_after : (old mid new : Maps) (key : PageKey) → IsTable mid.current → GainsPage old mid key → LosesPage mid new key → new ≡ old
-same_after old mid new key table gains loses = λ i. record { current = current i; shadow = (loses.shadow ∙ gains.shadow) i }
-  where
-    current : new.current ≡ old.current
-    current =
-        let at = table.distinct loses.slot gains.slot key loses.owned (gained old mid key gains) in
-        loses.current ∙ ap (λ (owners : Owners). set owners loses.slot None) gains.current ∙ ap (λ (s : ℕ). set (set old.current gains.slot (Some key)) s None) at
-        ∙ set-set old.current gains.slot (Some key) None ∙ ap (λ (o : Option PageKey). set old.current gains.slot o) (sym gains.free.current) ∙ set-get_or old.current gains.slot None
-
 -- ---- which pages are mapped, and what they hold
 
 pub with_mapped-same : (mapped : Mapped) (key : PageKey) → mapped key ≡ true → with_mapped mapped key true ≡ mapped
@@ -267,6 +252,7 @@ module _ {b : BufferView} {maps : Maps} {notes : NotesView} {frames : FrameOf} {
 
     pub IsBuffer-changes : IsBuffer after
     IsBuffer-changes = subst (λ (f : FrameOf). IsBuffer (record b { maps = maps; notes = notes; frames = f; stage = Changing })) (sym change.now) (record {
+      least = buffer.least;
       laid_out = record {
         table = change.re.table;
         count = ap (λ (owners : Owners). length owners) change.re.shadow ∙ buffer.laid_out.count ∙ sym change.re.long;
@@ -298,7 +284,7 @@ module _ {b : BufferView} {maps : Maps} {notes : NotesView} {frames : FrameOf} {
     pub passes_on : {asks writes : ℕ} → b.device.writes ≤ old.device.writes + writes → PassesOn asks writes (pages_view old) (pages_view after)
     passes_on few = record {
       slots = change.re.long ∙ ap (λ (m : Maps). length m.current) keeps.maps;
-      backing = λ i. record { log_pages = keeps.log_pages i; area = keeps.area i; shadow = (change.re.shadow ∙ ap (λ (m : Maps). m.shadow) keeps.maps) i };
+      backing = λ i. record { log_pages = keeps.log_pages i; area = keeps.area i; shadow = (change.re.shadow ∙ ap (λ (m : Maps). m.shadow) keeps.maps) i; frames = keeps.room i };
       leaves = subst (λ (f : Fixed). LeavesFixed (old.settled ≡ true) (b.settled ≡ true) old.device.disk b.device.disk (fixed_by old.first old.maps.shadow old.device.disk.contents) f) (sym fixed_same) keeps.leaves;
       later = keeps.later;
       asks_low = omega (arith, keeps.asks);
@@ -359,7 +345,7 @@ module _ {old b : BufferView} {maps : Maps} {notes : NotesView} {frames : FrameO
 pub keeps_on : {old new : BufferView} {asks writes : ℕ} → KeepsPages old new → new.device.writes ≤ old.device.writes + writes → PassesOn asks writes (pages_view old) (pages_view new)
 keeps_on keeps few = record {
   slots = ap (λ (m : Maps). length m.current) keeps.maps;
-  backing = λ i. record { log_pages = keeps.log_pages i; area = keeps.area i; shadow = ap (λ (m : Maps). m.shadow) keeps.maps i };
+  backing = λ i. record { log_pages = keeps.log_pages i; area = keeps.area i; shadow = ap (λ (m : Maps). m.shadow) keeps.maps i; frames = keeps.room i };
   leaves = keeps.leaves;
   later = keeps.later;
   asks_low = omega (arith, keeps.asks);
@@ -388,7 +374,7 @@ asked_step keeps low high few =
     }) (ap (λ (m : Maps). changed_by m) keeps.maps) (ap (λ (m : Maps). mapped_by m.current) keeps.maps) keeps.held (ap (λ (n : NotesView). n.notes) keeps.notes)
 
 pub asked : {T : Type 0} {old new : BufferView} {asks : ℕ} {result : Result T PageFault} → MovesPages (record old { asks = asks }) new result → old.asks ≤ asks → asks ≤ old.asks + 1 → PagesCall no_page 1 1 (pages_view old) (pages_view new) result
-asked call low high = record { step = asked_step call.keeps low high call.few; failed = call.cause.failed; sound = call.cause.sound }
+asked call low high = record { step = asked_step call.keeps low high call.few; failed = call.cause.failed; sound = call.cause.sound; memory = call.cause.memory }
 
 -- where no page was changed the device was only read
 pub looks : {old new : BufferView} {asks : ℕ} → IsBuffer old → KeepsPages (record old { asks = asks }) new → NoneChanged (pages_view old) → OnlyReads (device_below (pages_view old)) (device_below (pages_view new))

@@ -1,5 +1,5 @@
 -- Writes outside the data slots leave what pages hold, and those outside a map area leave its map.
-use Rattle.std.proofs.Common.{◌≡◌, ◌≢◌, ℕ, ◌+◌, ◌*◌, ◌/◌, ◌%◌, ◌<◌, ◌≤◌, Bool, true, false, List, [], length, take, drop, Option, Some, None, option_map, refl, sym, ◌∙◌, ap, subst, arith}
+use Rattle.std.proofs.Common.{◌≡◌, ◌≢◌, ℕ, ◌+◌, ◌*◌, ◌/◌, ◌%◌, ◌<◌, ◌≤◌, Bool, true, false, List, length, take, drop, Option, Some, None, option_map, refl, sym, ◌∙◌, ap, subst, arith}
 use Rattle.std.proofs.Math.Path.{fun_ext}
 use Rattle.std.proofs.lemmas.Option.{same_Some}
 use Rattle.rss_base.specs.Devices.{DeviceView}
@@ -10,12 +10,11 @@ use Rattle.rss_base.specs.Paged.{HasFixed}
 use Rattle.rss_base.specs.declared.key.PageKey.{PageKey}
 use Rattle.rss_pagemap.proofs.Written.{area_ends}
 use Rattle.rss_shadow.specs.Maps.{Maps}
-use Rattle.rss_buffer.specs.Frames.{FrameOf, frame_in}
+use Rattle.rss_buffer.specs.Frames.{FrameOf, Frame, least_frames}
 use Rattle.rss_buffer.specs.Slots.{held_in, held_by, fixed_by}
 use Rattle.rss_base.specs.StoredPages.{slot_of}
 use Rattle.rss_buffer.specs.Buffered.{BufferView, NoneChanged, AreClean, StaysFixed, HoldsMapAt, IsAtStage, AreNotesOf, IsBuffer}
 use Rattle.rss_buffer.specs.Saved.{unsynced}
-use Rattle.rss_buffer.specs.declared.frames.Frame.{Frame}
 use Rattle.rss_buffer.proofs.Loose.{fixed_page}
 use Rattle.rss_buffer.proofs.Turns.{IsBuffer-after, IsBuffer-beside}
 use Rattle.rss_buffer.specs.declared.stage.Stage.{Stage}
@@ -133,8 +132,9 @@ buffer_synced {b = b} buffer only at_stage =
     IsBuffer-beside (IsBuffer-after buffer refl buffer.frames_hold buffer.clean (λ is. fixed_synced b.device.disk b.first b.maps.shadow only) at_stage) buffer.noted
 
 -- a buffer with nothing in memory, of one map
-pub buffer_new : (b : BufferView) → b.frames ≡ frame_in [] → b.maps.shadow ≡ b.maps.current → b.stage ≡ Changing → IsTable b.maps.current → 2 * page_count b.maps.current ≤ length b.maps.current → b.first ≡ slots_at (length b.maps.current) b.log_pages → b.device.size ≡ b.first + length b.maps.current → AreNotesOf b.maps.current b.notes → Told b.device.disk (LeavesOnly b.device.disk) → IsBuffer b
-buffer_new b no_frames same stage table half place ends noted only = record {
+pub buffer_new : (b : BufferView) → least_frames ≤ b.room → ((key : PageKey) → b.frames key ≡ None) → b.maps.shadow ≡ b.maps.current → b.stage ≡ Changing → IsTable b.maps.current → 2 * page_count b.maps.current ≤ length b.maps.current → b.first ≡ slots_at (length b.maps.current) b.log_pages → b.device.size ≡ b.first + length b.maps.current → AreNotesOf b.maps.current b.notes → Told b.device.disk (LeavesOnly b.device.disk) → IsBuffer b
+buffer_new b least no_frames same stage table half place ends noted only = record {
+  least = least;
   laid_out = record {
     table = table;
     count = ap (λ (o : List (Option PageKey)). length o) same;
@@ -153,13 +153,14 @@ buffer_new b no_frames same stage table half place ends noted only = record {
 }
   where
     none : {P : Type 0} (key : PageKey) (frame : Frame) → b.frames key ≡ Some frame → P
-    none key frame here = let no : None ≡ Some frame = sym (ap (λ (f : FrameOf). f key) no_frames) ∙ here in absurd (cc)
+    none key frame here = let no : None ≡ Some frame = sym (no_frames key) ∙ here in absurd (cc)
 
 -- the current map becomes the shadow map
 pub buffer_adopted : {b : BufferView} → b.stage ≡ Switched → 2 * page_count b.maps.current ≤ length b.maps.current → IsBuffer b → IsBuffer (record b { maps = record { current = b.maps.current; shadow = b.maps.current }; settled = true; stage = Changing })
 buffer_adopted {b = b} is half buffer =
     let none = buffer.at_stage.none_changed (λ other. cc) in
     record {
+      least = buffer.least;
       laid_out = record {
         table = buffer.laid_out.table;
         count = refl;

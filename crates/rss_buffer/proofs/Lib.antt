@@ -1,3 +1,4 @@
+pub mod Cuts
 pub mod Lookups
 pub mod Loose
 pub mod Turns

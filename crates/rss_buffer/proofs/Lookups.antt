@@ -1,33 +1,21 @@
 -- The frames of pages.
-use Rattle.std.proofs.Common.{◌≡◌, ◌≢◌, ℕ, ◌+◌, ◌-◌, ◌<◌, Bool, true, false, cond, ◌==◌, ◌&&◌, ◌⊎◌, inl, inr, List, [], ◌∷◌, length, take, slice_get, option_map, Option, Some, None, IsSome, is_some, box_value, refl, sym, ◌∙◌, ap, subst, arith}
+use Rattle.std.proofs.Common.{◌≡◌, ◌≢◌, ◌<◌, ℕ, Bool, true, false, cond, inl, inr, List, [], ◌∷◌, length, Option, Some, None, IsSome, is_some, option_map, refl, sym, ◌∙◌, ap, subst}
 use Rattle.std.proofs.Math.Path.{fun_ext}
-use Rattle.std.proofs.Math.Bool.{and_assoc}
-use Rattle.std.proofs.lemmas.Bool.{cases_Bool, cond-true, cond-false, cond_both}
-use Rattle.std.proofs.lemmas.List.{take_all}
-use Rattle.std.proofs.lemmas.Option.{slice_get_cases}
-use Rattle.std.proofs.lemmas.Map.{lookup-remove_entry, lookup-set_value}
-use Rattle.std.proofs.lemmas.Map.Entries.{lookup_from_place}
-use Rattle.std.specs.Cmp.{IsEquivalence, nat_eq_equiv}
-use Rattle.std.specs.List.{IsDistinct}
-use Rattle.std.specs.Option.{option_map_or}
-use Rattle.std.specs.declared.alloc.Global.{Global}
-use Rattle.std.specs.declared.boxed.Box.{Box}
-use Rattle.std.specs.Map.{keys_of, lookup, lookup_entry, remove_entry, set_value}
-use Rattle.lru.specs.LruCache.{LruCache, lru_cache, last_entry, promoted, put_entries}
-use Rattle.lru.proofs.CallerLemmas.{Contains-lookup_entry}
-use Rattle.lru.proofs.Pairs.{lookup-lookup_entry}
-use Rattle.rss_base.specs.declared.key.Space.{Space}
-use Rattle.rss_base.specs.declared.key.Space.TheVariants.{Home, Overflow, Image, System}
+use Rattle.std.proofs.lemmas.Bool.{cases_Bool, cond-false}
+use Rattle.std.proofs.lemmas.Option.{same_Some}
 use Rattle.rss_base.specs.declared.key.PageKey.{PageKey}
-use Rattle.rss_base.specs.PageMap.{space_code}
 use Rattle.rss_base.specs.Paged.{is_same}
 use Rattle.rss_base.proofs.Keys.{is_same-true, is_same-itself, is_same-other}
-use Rattle.rss_buffer.specs.declared.frames.Frame.{Frame}
-use Rattle.std.specs.Box.{with_value}
-use Rattle.rss_buffer.specs.Frames.{FrameOf, frame_in, with_frame}
-use Rattle.rss_buffer.specs.Buffered.{unchanged}
-use Rattle.rss_base.specs.contracts.key.PageKeyPartialEq.TheImpl as key_eq
-use Rattle.rss_base.specs.contracts.key.SpacePartialEq.TheImpl as space_eq
+use Rattle.rss_frames.specs.State.{State}
+use Rattle.rss_frames.specs.Entries.{Held, Shows, AreDistinct, IsEntry, entry, others, bytes_of, changed_to, fronted, settled, entries, eldest, newest, name_of}
+use Rattle.rss_frames.specs.Lending.{both_changed}
+use Rattle.std.specs.Option.{OnSome}
+use Rattle.std.specs.Prelude.{IfSome, IfNone, Result, Ok, Err, OnOk, OnErr}
+use Rattle.rss_buffer.specs.Gathered.{IsInFrame}
+use Rattle.rss_frames.specs.Entries.{unchanged as unmarked}
+use Rattle.rss_frames.proofs.Looked.{entry_key, entry_others, entry_first, entry_new, entry_fronted, entry_settled, entry_eldest, none_eldest, entry_newest, newest_fronted, newest_apart}
+use Rattle.rss_buffer.specs.Frames.{Frame, FrameOf, frame_of, frame_among, frame_in, with_frame, IsNewest}
+use Rattle.rss_buffer.specs.Buffered.{with_unchanged}
 
 -- ---- the frames after a change at one page
 
@@ -37,176 +25,159 @@ with_frame-same frames key frame = rw (is_same-itself key)
 pub with_frame-other : (frames : FrameOf) (key : PageKey) (frame : Option Frame) (other : PageKey) → other ≢ key → with_frame frames key frame other ≡ frames other
 with_frame-other frames key frame other apart = rw (is_same-other other key apart)
 
--- nothing changes where it has that frame, or none, already
-pub with_frame-itself : (frames : FrameOf) (key : PageKey) (frame : Option Frame) → frames key ≡ frame → with_frame frames key frame ≡ frames
-with_frame-itself frames key frame is = fun_ext (λ other. elim (cases_Bool (is_same other key)) [
-  | inl here ↦ cond-true (is_same other key) frame (frames other) here ∙ sym is ∙ sym (ap frames (is_same-true other key here))
-  | inr off ↦ cond-false (is_same other key) frame (frames other) off
+-- a page in memory stays there as another one comes
+pub stays-with : (frames : FrameOf) (key : PageKey) (frame : Frame) (other : PageKey) → IsSome (frames other) → IsSome (with_frame frames key (Some frame) other)
+stays-with frames key frame other some = elim (cases_Bool (is_same other key)) [
+  | inl same ↦ rw same refl
+  | inr off ↦ rw off some
+]
+
+-- ---- the frames among entries that were changed
+
+-- what is found of a page, or else of the others
+among_cond : (b : Bool) (o p : Option Held) → option_map frame_of (cond b o p) ≡ cond b (option_map frame_of o) (option_map frame_of p)
+among_cond true o p = refl
+among_cond false o p = refl
+
+pub among_others : (key : PageKey) (es : List Held) → frame_among (others key es) ≡ with_frame (frame_among es) key None
+among_others key es = fun_ext (λ other. ap (option_map frame_of) (entry_others key other es) ∙ among_cond (is_same other key) None (entry other es))
+
+pub among_first : (key : PageKey) (e : Held) (es : List Held) → e.key ≡ key → frame_among (e ∷ others key es) ≡ with_frame (frame_among es) key (Some (frame_of e))
+among_first key e es at = fun_ext (λ other. ap (option_map frame_of) (entry_first key other e es at) ∙ among_cond (is_same other key) (Some e) (entry other es))
+
+pub among_new : (e : Held) (es : List Held) → frame_among (e ∷ es) ≡ with_frame (frame_among es) e.key (Some (frame_of e))
+among_new e es = fun_ext (λ other. ap (option_map frame_of) (entry_new other e es) ∙ among_cond (is_same other e.key) (Some e) (entry other es))
+
+pub among_fronted : (key : PageKey) (es : List Held) → frame_among (fronted key es) ≡ frame_among es
+among_fronted key es = fun_ext (λ other. ap (option_map frame_of) (entry_fronted key other es))
+
+pub among_settled : (key : PageKey) (es : List Held) → frame_among (settled key es) ≡ with_unchanged (frame_among es) key
+among_settled key es = fun_ext (λ other. ap (option_map frame_of) (entry_settled key other es) ∙ by other (entry other es) refl)
+  where
+    here : (other : PageKey) (e : Held) → is_same other key ≡ true → entry other es ≡ Some e → Some (frame_of (unmarked key e)) ≡ with_unchanged (frame_among es) key other
+    here other e same is =
+        let at : other ≡ key = is_same-true other key same in
+        let marked : is_same e.key key ≡ true = ap (λ (k : PageKey). is_same k key) (entry_key other es e is ∙ at) ∙ is_same-itself key in
+        let there : frame_among es key ≡ Some (frame_of e) = ap (λ (k : PageKey). frame_among es k) (sym at) ∙ ap (option_map frame_of) is in
+        rw (same, marked, there) refl
+
+    by : (other : PageKey) (o : Option Held) → entry other es ≡ o → option_map frame_of (option_map (unmarked key) o) ≡ with_unchanged (frame_among es) key other
+    by other None is = elim (cases_Bool (is_same other key)) [
+      | inl same ↦
+          let none : frame_among es key ≡ None = ap (λ (k : PageKey). frame_among es k) (sym (is_same-true other key same)) ∙ ap (option_map frame_of) is in
+          rw (same, none) refl
+      | inr off ↦ rw off (sym (ap (option_map frame_of) is))
+    ]
+    by other (Some e) is = elim (cases_Bool (is_same other key)) [
+      | inl same ↦ here other e same is
+      | inr off ↦
+          let unmarked : is_same e.key key ≡ false = ap (λ (k : PageKey). is_same k key) (entry_key other es e is) ∙ off in
+          rw (off, unmarked) (sym (ap (option_map frame_of) is))
+    ]
+
+-- two pages are used, and one of them is written
+pub among_both : (from to : PageKey) (mark : Bool) (v w : List ℕ) (es : List Held) → from ≢ to → IsEntry from w mark es → frame_among (both_changed to from mark v w es) ≡ with_frame (frame_among es) to (Some (record { page = v; changed = true }))
+unfolding others
+among_both from to mark v w es apart is =
+    let e : Held = record { key = from; bytes = w; changed = mark } in
+    let put : FrameOf → FrameOf = λ frames. with_frame frames to (Some (record { page = v; changed = true })) in
+    let stays : e ∷ others to (others from es) ≡ others to (e ∷ others from es) = rw (is_same-other from to apart) refl in
+    let front : e ∷ others from es ≡ fronted from es = rw is refl in
+    ap (λ (l : List Held). frame_among (changed_to to v ∷ l)) stays
+    ∙ among_first to (changed_to to v) (e ∷ others from es) refl
+    ∙ ap (λ (l : List Held). put (frame_among l)) front
+    ∙ ap put (among_fronted from es)
+
+-- the frame of an entry with these bytes
+pub bytes_frame : (o : Option Held) (bytes : List ℕ) → bytes_of o ≡ Some bytes → (frame : Frame) × (option_map frame_of o ≡ Some frame) × (frame.page ≡ bytes)
+bytes_frame None bytes is = absurd (cc)
+bytes_frame (Some e) bytes is = (frame_of e, refl, same_Some _ _ is)
+
+-- a frame that was put where none was, and dropped again
+pub among_dropped : (e : Held) (es : List Held) → frame_among es e.key ≡ None → frame_among (others e.key (e ∷ es)) ≡ frame_among es
+among_dropped e es none = among_others e.key (e ∷ es) ∙ fun_ext (λ other. elim (cases_Bool (is_same other e.key)) [
+  | inl same ↦ rw same (sym none ∙ ap (frame_among es) (sym (is_same-true other e.key same)))
+  | inr off ↦ rw off (ap (λ (f : FrameOf). f other) (among_new e es) ∙ cond-false (is_same other e.key) _ _ off)
 ])
 
--- ---- the keys that a cache compares
+-- ---- the same of frames that show their entries
 
-abbrev pub compared : PageKey → PageKey → Bool
-compared = (key_eq.eq-value).it
+pub in_shown : {s : State} {es : List Held} {n : ℕ} → Shows s es n → frame_in s ≡ frame_among es
+in_shown shows = ap frame_among shows.are
 
-eq_space : (a b : Space) → (space_eq.eq-value).it a b ≡ (space_code a == space_code b)
-eq_space Home Home = refl
-eq_space Home _ = refl
-eq_space Overflow Overflow = refl
-eq_space Overflow _ = refl
-eq_space Image Image = refl
-eq_space Image _ = refl
-eq_space System System = refl
-eq_space System _ = refl
+pub none_shown : {s : State} {n : ℕ} → Shows s [] n → (key : PageKey) → frame_in s key ≡ None
+unfolding entry
+none_shown shows key = ap (λ (f : FrameOf). f key) (in_shown shows)
 
-pub compared-is_same : compared ≡ is_same
-compared-is_same = λ i a b. let at : compared a b ≡ is_same a b = rw eq_space (sym (and_assoc (a.segment == b.segment) (space_code a.space == space_code b.space) (a.number == b.number))) in at i
+-- the page that was used last is in memory
+pub newest_there : (s : State) (key : PageKey) → IsNewest key s → IsSome (frame_in s key)
+newest_there s key is = by (newest (entries s)) refl is
+  where
+    by : (o : Option Held) → newest (entries s) ≡ o → option_map (λ e. e.key) o ≡ Some key → IsSome (frame_in s key)
+    by None last same = absurd (cc)
+    by (Some e) last same =
+        let at : e.key ≡ key = same_Some _ _ same in
+        subst (λ (k : PageKey). IsSome (frame_in s k)) at (ap (λ o. is_some (option_map frame_of o)) (entry_newest (entries s) e last))
 
-pub is_same-symm : (a b : PageKey) → is_same a b ≡ is_same b a
-is_same-symm a b = λ i. nat_eq_equiv.symm a.segment b.segment i && nat_eq_equiv.symm (space_code a.space) (space_code b.space) i && nat_eq_equiv.symm a.number b.number i
+pub newest_shown : {s : State} {es : List Held} {n : ℕ} {key : PageKey} → Shows s es n → option_map (λ e. e.key) (newest es) ≡ Some key → IsNewest key s
+newest_shown shows is = ap (λ (es : List Held). option_map (λ e. e.key) (newest es)) shows.are ∙ is
 
-pub is_same-laws : IsEquivalence is_same
-is_same-laws = record {
-  refl = is_same-itself;
-  symm = is_same-symm;
-  congr = λ x y z same. ap (λ k. is_same k z) (is_same-true x y same);
-}
+pub some_from : {T : Type 0} (o : Option T) → is_some o ≡ true → (x : T) × (o ≡ Some x)
+some_from None is = absurd (cc)
+some_from (Some x) is = (x, refl)
 
--- ---- the entries after a call of the cache
+pub none_from : {T : Type 0} (o : Option T) → is_some o ≡ false → o ≡ None
+none_from None is = refl
+none_from (Some x) is = absurd (cc)
 
-module _ {K V : Type 0} (test : K → Bool) where
-  found : (es : List (K × V)) (o : Option (K × V)) → lookup_entry test es ≡ o → lookup test es ≡ option_map (λ e. e.1) o
-  found es o h = sym (lookup-lookup_entry test es) ∙ ap (option_map (λ e. e.1)) h
+pub newest_touched : {s : State} {n : ℕ} {key : PageKey} (es : List Held) → Shows s (fronted key es) n → (e : Held) × (entry key es ≡ Some e) → IsNewest key s
+newest_touched {key = key} es shows found =
+    newest_shown shows (ap (option_map (λ e. e.key)) (newest_fronted key es found.0 found.1) ∙ ap Some (entry_key key es found.0 found.1))
 
-  pub length-remove_entry : (es : List (K × V)) → IsSome (lookup test es) → length (remove_entry test es) + 1 ≡ length es
-  length-remove_entry [] some = cc
-  length-remove_entry (e ∷ es) some = (elim (test e.0) as (λ b. IsSome (cond b (Some e.1) (lookup test es)) → length (cond b es (e ∷ remove_entry test es)) + 1 ≡ length (e ∷ es)) [
-    | true ↦ λ s. omega arith
-    | false ↦ λ s. omega (arith, length-remove_entry es s)
-  ]) some
+pub some_entry : (o : Option Held) → IsSome (option_map frame_of o) → IsSome o
+some_entry None some = absurd (cc)
+some_entry (Some e) some = refl
 
-  length_moved : (es : List (K × V)) (o : Option (K × V)) → lookup_entry test es ≡ o → length (option_map_or (λ e. e ∷ remove_entry test es) o es) ≡ length es
-  length_moved es None h = refl
-  length_moved es (Some e) h = omega (arith, length-remove_entry es (rw (found es (Some e) h) refl))
+pub is_some_entry : (o : Option Held) → is_some o ≡ is_some (option_map frame_of o)
+is_some_entry None = refl
+is_some_entry (Some e) = refl
 
-  pub length-promoted : (es : List (K × V)) → length (promoted test es) ≡ length es
-  length-promoted es = length_moved es (lookup_entry test es) refl
+-- ---- the page that wasn't used for the longest time
 
-abbrev IsApart : {V : Type 0} → (PageKey → PageKey → Bool) → List (PageKey × V) → Type 0
-IsApart eq entries = IsDistinct eq (keys_of entries)
+pub eldest_there : (es : List Held) (r : Option (PageKey × Bool)) → AreDistinct es → r ≡ option_map name_of (eldest es) → IfSome r (λ name. IsInFrame (frame_among es) name.0 name.1)
+eldest_there es r apart is = subst (λ (o : Option (PageKey × Bool)). IfSome o (λ name. IsInFrame (frame_among es) name.0 name.1)) (sym is) (by (eldest es) refl)
+  where
+    by : (o : Option Held) → eldest es ≡ o → IfSome (option_map name_of o) (λ name. IsInFrame (frame_among es) name.0 name.1)
+    by None last = tt
+    by (Some e) last = record { frame = frame_of e; there = ap (option_map frame_of) (entry_eldest es e apart last); mark = refl }
 
--- what these entries have of each page, and the same with this page's changed
-module _ {V : Type 0} where
-  abbrev entry_in : List (PageKey × V) → PageKey → Option V
-  entry_in entries key = lookup (is_same key) entries
+pub eldest_none : (es : List Held) (r : Option (PageKey × Bool)) → r ≡ option_map name_of (eldest es) → IfNone r (es ≡ [])
+eldest_none es r is = subst (λ (o : Option (PageKey × Bool)). IfNone o (es ≡ [])) (sym is) (by (eldest es) refl)
+  where
+    by : (o : Option Held) → eldest es ≡ o → IfNone (option_map name_of o) (es ≡ [])
+    by None last = none_eldest es last
+    by (Some e) last = tt
 
-  abbrev with_entry : (PageKey → Option V) → PageKey → Option V → PageKey → Option V
-  with_entry values key value other = cond (is_same other key) value (values other)
+pub eldest_apart : (es : List Held) (r : Option (PageKey × Bool)) → AreDistinct es → r ≡ option_map name_of (eldest es) → IfSome r (λ name. 1 < length es → option_map (λ e. e.key) (newest es) ≡ Some name.0 → ⊥)
+eldest_apart es r apart is = subst (λ (o : Option (PageKey × Bool)). IfSome o (λ name. 1 < length es → option_map (λ e. e.key) (newest es) ≡ Some name.0 → ⊥)) (sym is) (by (eldest es) refl)
+  where
+    first : (old : Held) → eldest es ≡ Some old → 1 < length es → (o : Option Held) → newest es ≡ o → option_map (λ e. e.key) o ≡ Some old.key → ⊥
+    first old last two None is same = absurd (cc)
+    first old last two (Some new) is same = newest_apart es new old apart two is last (same_Some _ _ same)
 
-  with_entry-again : (values : PageKey → Option V) (key : PageKey) (before value : Option V) → with_entry (with_entry values key before) key value ≡ with_entry values key value
-  with_entry-again values key before value = fun_ext (λ other. elim (is_same other key) as (λ b. cond b value (cond b before (values other)) ≡ cond b value (values other)) [ true ↦ refl | false ↦ refl ])
+    by : (o : Option Held) → eldest es ≡ o → IfSome (option_map name_of o) (λ name. 1 < length es → option_map (λ e. e.key) (newest es) ≡ Some name.0 → ⊥)
+    by None last = tt
+    by (Some old) last = λ two. first old last two (newest es) refl
 
-  with_entry-unchanged : (values : PageKey → Option V) (key : PageKey) → with_entry values key (values key) ≡ values
-  with_entry-unchanged values key = fun_ext (λ other. cond_both (is_same other key) (values key) (values other) (λ value. value ≡ values other) (λ same. ap values (sym (is_same-true other key same))) (λ _. refl))
+-- ---- results
 
-  removed : (entries : List (PageKey × V)) (key : PageKey) → IsApart is_same entries → entry_in (remove_entry (is_same key) entries) ≡ with_entry (entry_in entries) key None
-  removed entries key apart = fun_ext (λ other. lookup-remove_entry is_same-laws (is_same key) (is_same-laws.congr key) other entries apart ∙ ap (λ b. cond b None (entry_in entries other)) (is_same-symm key other))
+pub on_ok : {T E P : Type 0} (result : Result T E) → P → OnOk result P
+on_ok (Ok x) p = p
+on_ok (Err e) p = tt
 
-  -- an entry whose key names the page goes before the others
-  moved : (entries : List (PageKey × V)) (key : PageKey) (e : PageKey × V) (value : V) → lookup_entry (is_same key) entries ≡ Some e → IsApart is_same entries → entry_in ((e.0, value) ∷ remove_entry (is_same key) entries) ≡ with_entry (entry_in entries) key (Some value)
-  moved entries key e value h apart =
-      let at = is_same-true key e.0 (Contains-lookup_entry (is_same key) entries e h).1 in
-      rw (← at) ((λ i other. cond (is_same other key) (Some value) (removed entries key apart i other)) ∙ with_entry-again (entry_in entries) key None (Some value))
+pub on_some : {A P : Type 0} {o : Option A} {x : A} → o ≡ Some x → OnSome o P → P
+on_some {P = P} is has = subst (λ o. OnSome o P) is has
 
-  promoted_by : (entries : List (PageKey × V)) (key : PageKey) (o : Option (PageKey × V)) → lookup_entry (is_same key) entries ≡ o → IsApart is_same entries → entry_in (option_map_or (λ e. e ∷ remove_entry (is_same key) entries) o entries) ≡ entry_in entries
-  promoted_by entries key None h apart = refl
-  promoted_by entries key (Some e) h apart = moved entries key e e.1 h apart ∙ ap (with_entry (entry_in entries) key) (sym (found (is_same key) entries (Some e) h)) ∙ with_entry-unchanged (entry_in entries) key
-
-  put_by : (entries : List (PageKey × V)) (cap : ℕ) (key : PageKey) (value : V) (o : Option (PageKey × V)) → lookup_entry (is_same key) entries ≡ o → IsApart is_same entries → (length entries < cap) ⊎ IsSome (entry_in entries key) → entry_in (option_map_or (λ e. (e.0, value) ∷ remove_entry (is_same key) entries) o ((key, value) ∷ take (cap - 1) entries)) ≡ with_entry (entry_in entries) key (Some value)
-  put_by entries cap key value None h apart (inl room) = rw (take_all (cap - 1) entries (omega arith))
-  put_by entries cap key value None h apart (inr some) = let some' = rw (found (is_same key) entries None h) at some in cc
-  put_by entries cap key value (Some e) h apart room = moved entries key e value h apart
-
-  written : (entries : List (PageKey × V)) (key : PageKey) (value : V) → IsSome (entry_in entries key) → entry_in (set_value (is_same key) entries value) ≡ with_entry (entry_in entries) key (Some value)
-  written entries key value there = fun_ext (λ other. lookup-set_value is_same-laws (is_same key) (is_same-laws.congr key) other value entries there ∙ ap (λ b. cond b (Some value) (entry_in entries other)) (is_same-symm key other))
-
-  written_first : (entries : List (PageKey × V)) (key : PageKey) (value : V) → IsApart is_same entries → IsSome (entry_in entries key) → entry_in (set_value (is_same key) (promoted (is_same key) entries) value) ≡ with_entry (entry_in entries) key (Some value)
-  written_first entries key value apart there =
-      let same = promoted_by entries key (lookup_entry (is_same key) entries) refl apart in
-      written (promoted (is_same key) entries) key value (subst (λ (values : PageKey → Option V). IsSome (values key)) (sym same) there) ∙ ap (λ values. with_entry values key (Some value)) same
-
--- ---- the same of frames, each in its box, by the keys as the cache compares them
-
-abbrev Kept : Type 0
-Kept = Box Frame Global
-
-abbrev unboxed : Option Kept → Option Frame
-unboxed = option_map box_value
-
-abbrev unboxed_all : (PageKey → Option Kept) → FrameOf
-unboxed_all boxes key = unboxed (boxes key)
-
-unboxed-with_entry : (boxes : PageKey → Option Kept) (key : PageKey) (box : Option Kept) → unboxed_all (with_entry boxes key box) ≡ with_frame (unboxed_all boxes) key (unboxed box)
-unboxed-with_entry boxes key box = fun_ext (λ other. elim (is_same other key) as (λ b. unboxed (cond b box (boxes other)) ≡ cond b (unboxed box) (unboxed (boxes other))) [ true ↦ refl | false ↦ refl ])
-
--- entries after a change of one page's box
-unboxed_by : (entries now : List (PageKey × Kept)) (key : PageKey) (box : Option Kept) → entry_in now ≡ with_entry (entry_in entries) key box → frame_in now ≡ with_frame (frame_in entries) key (unboxed box)
-unboxed_by entries now key box changed = ap unboxed_all changed ∙ unboxed-with_entry (entry_in entries) key box
-
-IsSome-unboxed : (box : Option Kept) → IsSome (unboxed box) → IsSome box
-IsSome-unboxed None some = absurd (cc)
-IsSome-unboxed (Some box) some = refl
-
-module _ (entries : List (PageKey × Kept)) (key : PageKey) where
-  pub frame_in-compared : unboxed (lookup (compared key) entries) ≡ frame_in entries key
-  frame_in-compared = ap (λ eq. unboxed (lookup (eq key) entries)) compared-is_same
-
-  pub frame_in-found : (box : Kept) → Some box ≡ lookup (compared key) entries → frame_in entries key ≡ Some box.value
-  frame_in-found box here = sym frame_in-compared ∙ ap unboxed (sym here)
-
-  -- the cache has the page where the frames do
-  pub IsSome-compared : IsSome (frame_in entries key) → IsSome (lookup (compared key) entries)
-  IsSome-compared some = IsSome-unboxed (lookup (compared key) entries) (rw frame_in-compared some)
-
-  -- a page that the cache doesn't have is in no frame
-  pub frame_in-absent : {P : Type 0} → None ≡ lookup (compared key) entries → IsSome (frame_in entries key) → P
-  frame_in-absent none some = let there = IsSome-compared some in absurd (cc)
-
-  pub frame_in-none : None ≡ lookup (compared key) entries → frame_in entries key ≡ None
-  frame_in-none none = sym frame_in-compared ∙ ap unboxed (sym none)
-
-  pub frame_in-remove_entry : IsApart compared entries → frame_in (remove_entry (compared key) entries) ≡ with_frame (frame_in entries) key None
-  frame_in-remove_entry = rw compared-is_same (λ apart. unboxed_by entries _ key None (removed entries key apart))
-
-  pub frame_in-promoted : IsApart compared entries → frame_in (promoted (compared key) entries) ≡ frame_in entries
-  frame_in-promoted = rw compared-is_same (λ apart. ap unboxed_all (promoted_by entries key (lookup_entry (is_same key) entries) refl apart))
-
-  pub frame_in-set_value : (box : Kept) → IsSome (frame_in entries key) → frame_in (set_value (compared key) entries box) ≡ with_frame (frame_in entries) key (Some box.value)
-  frame_in-set_value box = rw compared-is_same (λ there. unboxed_by entries _ key (Some box) (written entries key box (IsSome-unboxed (entry_in entries key) there)))
-
-  pub frame_in-promoted-set_value : (box : Kept) → IsApart compared entries → IsSome (frame_in entries key) → frame_in (set_value (compared key) (promoted (compared key) entries) box) ≡ with_frame (frame_in entries) key (Some box.value)
-  frame_in-promoted-set_value box = rw compared-is_same (λ apart there. unboxed_by entries _ key (Some box) (written_first entries key box apart (IsSome-unboxed (entry_in entries key) there)))
-
-  -- a frame that is noted to stand in its slot
-  pub settled_now : (box : Kept) (frame : Frame) → frame_in entries key ≡ Some box.value → frame ≡ box.value → frame_in (set_value (compared key) entries (with_value box (record { page = frame.page; changed = false }))) ≡ with_frame (frame_in entries) key (Some (unchanged box.value))
-  settled_now box frame at same =
-      frame_in-set_value (with_value box (record { page = frame.page; changed = false })) (ap (λ o. is_some o) at)
-      ∙ ap (λ (f : Frame). with_frame (frame_in entries) key (Some (unchanged f))) same
-
-  pub frame_in-put_entries : (cap : ℕ) (box : Kept) → IsApart compared entries → (length entries < cap) ⊎ IsSome (frame_in entries key) → frame_in (put_entries compared (lru_cache entries cap) key box) ≡ with_frame (frame_in entries) key (Some box.value)
-  frame_in-put_entries cap box = rw compared-is_same (λ apart room. unboxed_by entries _ key (Some box) (put_by entries cap key box (lookup_entry (is_same key) entries) refl apart (has room)))
-    where
-      has : (length entries < cap) ⊎ IsSome (frame_in entries key) → (length entries < cap) ⊎ IsSome (entry_in entries key)
-      has (inl room) = inl room
-      has (inr some) = inr (IsSome-unboxed (entry_in entries key) some)
-
-  pub frame_in-place : (i : ℕ) (box : Kept) → IsApart compared entries → slice_get entries i ≡ Some (key, box) → frame_in entries key ≡ Some box.value
-  frame_in-place i box = rw compared-is_same (λ apart at. ap unboxed (lookup_from_place is_same-laws entries i key box apart at))
-
--- a cache that is the same has the same frames
-pub same_frames : {before after : LruCache PageKey Kept} → after ≡ before → frame_in after.entries ≡ frame_in before.entries
-same_frames same = ap (λ (cache : LruCache PageKey Kept). frame_in cache.entries) same
-
-pub last_entry-none : {K V : Type 0} (es : List (K × V)) → last_entry es ≡ None → es ≡ []
-last_entry-none [] h = refl
-last_entry-none (e ∷ es) h = grind (arith, slice_get_cases (e ∷ es) (length (e ∷ es) - 1))
+pub on_err : {T E P : Type 0} (result : Result T E) → P → OnErr result P
+on_err (Ok x) p = tt
+on_err (Err e) p = p

@@ -17,12 +17,11 @@ use Rattle.rss_base.specs.declared.key.PageKey.{PageKey}
 use Rattle.rss_base.proofs.Moments.{rises_since, writes_among, writes_then}
 use Rattle.rss_pagemap.proofs.Owners.{owned_within}
 use Rattle.rss_shadow.specs.Maps.{Maps}
-use Rattle.rss_buffer.specs.declared.frames.Frame.{Frame}
+use Rattle.rss_buffer.specs.Frames.{Frame, FrameOf, waiting_in}
 use Rattle.rss_buffer.specs.Saving.{SavingStep, SavingCall}
 use Rattle.rss_buffer.specs.Views.{pages_view, saving_view}
 use Rattle.rss_buffer.specs.declared.stage.Stage.{Stage}
 use Rattle.rss_buffer.specs.declared.stage.Stage.TheVariants.{Saved, Switched}
-use Rattle.rss_buffer.specs.Frames.{FrameOf, waiting_in}
 use Rattle.rss_buffer.specs.Gathered.{IsWritten}
 use Rattle.rss_buffer.specs.Slots.{held_in, held_by}
 use Rattle.rss_base.specs.StoredPages.{mapped_by}
@@ -111,7 +110,7 @@ at_saved b area at none only written = record {
 -- ---- what a layer above sees of it
 
 pub backing_kept : {old new : BufferView} → KeepsPages old new → (pages_view new).backing ≡ (pages_view old).backing
-backing_kept keeps = λ i. record { log_pages = keeps.log_pages i; area = keeps.area i; shadow = ap (λ (m : Maps). m.shadow) keeps.maps i }
+backing_kept keeps = λ i. record { log_pages = keeps.log_pages i; area = keeps.area i; shadow = ap (λ (m : Maps). m.shadow) keeps.maps i; frames = keeps.room i }
 
 pub saving_kept : {old new : BufferView} → KeepsPages old new → SavingStep (pages_view old) (pages_view new) (saving_view old) (saving_view new)
 saving_kept keeps = record {
@@ -120,6 +119,7 @@ saving_kept keeps = record {
   held = keeps.held;
   notes = ap (λ (n : NotesView). n.notes) keeps.notes;
   log_pages = keeps.log_pages;
+  frames = keeps.room;
   asks = keeps.asks;
   told = keeps.leaves.told;
   later = keeps.later;
@@ -143,6 +143,7 @@ saving_wrote {mid = mid} device keeps below only cause fault is_err = record {
     held = λ is. held_after mid.device.disk device.disk mid.first mid.maps.current mid.frames below only (keeps.leaves.told.0 is) ∙ keeps.held is;
     notes = ap (λ (n : NotesView). n.notes) keeps.notes;
     log_pages = keeps.log_pages;
+    frames = keeps.room;
     asks = keeps.asks;
     told = (λ is. only.told.0 (keeps.leaves.told.0 is), λ is. keeps.leaves.told.1 (only.told.1 is));
     later = omega (arith, keeps.later, cause.later);

@@ -6,7 +6,7 @@ use Rattle.rss_base.specs.Paged.{Backing, HasPageCause}
 use Rattle.rss_base.specs.Steps.{PagesView, NoneChanged}
 use Rattle.rss_base.specs.StoredPages.{slot_of}
 use Rattle.rss_base.specs.declared.fault.PageFault.{PageFault}
-use Rattle.rss_base.specs.declared.fault.PageFault.TheVariants.{Device as DeviceFailed, Damaged}
+use Rattle.rss_base.specs.declared.fault.PageFault.TheVariants.{Device as DeviceFailed, Damaged, NoMemory}
 use Rattle.rss_base.specs.declared.key.PageKey.{PageKey}
 use Rattle.rss_base.specs.declared.root.Root.{Root}
 use Rattle.rss_base.proofs.Keys.{owner_of-slot_of}
@@ -20,6 +20,7 @@ saving_then one two = record {
   held = λ told. two.held (one.told.0 told) ∙ one.held told;
   notes = two.notes ∙ one.notes;
   log_pages = two.log_pages ∙ one.log_pages;
+  frames = two.frames ∙ one.frames;
   asks = two.asks ∙ one.asks;
   told = (λ told. two.told.0 (one.told.0 told), λ told. one.told.1 (two.told.1 told));
   later = omega (arith, one.later, two.later);
@@ -37,7 +38,7 @@ none_changed {pages = pages} {saving = saving} saveable saved key =
     unchanged (Some slot) is = ap (λ (o : Option PageKey). is_none o) (owner_of-slot_of saving.current key slot is)
 
 -- and so right after the pages were read
-pub fresh_unchanged : {root : Root} {table : List (Option PageKey)} {writes : ℕ} {pages : PagesView} {saving : SavingView} → IsFresh root table writes pages saving → AreSaveable pages saving → NoneChanged pages
+pub fresh_unchanged : {root : Root} {table : List (Option PageKey)} {frames writes : ℕ} {pages : PagesView} {saving : SavingView} → IsFresh root table frames writes pages saving → AreSaveable pages saving → NoneChanged pages
 fresh_unchanged fresh saveable = none_changed saveable (ap (λ (b : Backing). b.shadow) fresh.backing ∙ sym fresh.current)
 
 -- it fails by the device alone
@@ -49,4 +50,5 @@ saving_cause {fault = fault} call = record {
   later = call.step.later;
   failed = λ is. call.cause refl;
   sound = λ place is told. let device : fault ≡ DeviceFailed = call.fault in let damaged : fault ≡ Damaged place = cc in absurd (cc);
+  memory = λ is. let device : fault ≡ DeviceFailed = call.fault in let lacks : fault ≡ NoMemory = cc in absurd (cc);
 }

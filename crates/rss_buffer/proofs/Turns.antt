@@ -1,9 +1,9 @@
 -- What moving pages between memory and their slots does to a buffer.
 use Rattle.std.proofs.Common.{◌≡◌, ◌≢◌, ◌⊎◌, inl, inr, ℕ, ◌+◌, ◌≤◌, Bool, true, false, List, Option, Some, None, refl, sym, ◌∙◌, ap, subst, arith}
-use Rattle.std.specs.Prelude.{is_some, option_map, Result, Ok, Err, is_err, IsErrAnd, OnOk, OnErr}
+use Rattle.std.specs.Prelude.{is_some, option_map, Result, Ok, Err, IsErrAnd, OnOk, OnErr}
 use Rattle.std.proofs.lemmas.Result.{err_from_is_err_and, on_ok_weaker}
 use Rattle.rss_base.specs.declared.fault.PageFault.{PageFault}
-use Rattle.rss_base.specs.declared.fault.PageFault.TheVariants.{Device as DeviceFailed, Damaged}
+use Rattle.rss_base.specs.declared.fault.PageFault.TheVariants.{Device as DeviceFailed, Damaged, NoMemory}
 use Rattle.std.proofs.Math.Path.{fun_ext}
 use Rattle.std.proofs.lemmas.Bool.{cases_Bool, cond-true, cond-false}
 use Rattle.std.proofs.lemmas.Option.{same_Some}
@@ -15,9 +15,8 @@ use Rattle.rss_base.specs.declared.key.PageKey.{PageKey}
 use Rattle.rss_base.proofs.Moments.{only_stays, reads_none, reads_then, writes_none, writes_nothing, writes_then}
 use Rattle.rss_notes.specs.Notes.{NotesView}
 use Rattle.rss_shadow.specs.Maps.{Maps}
-use Rattle.rss_buffer.specs.declared.frames.Frame.{Frame}
+use Rattle.rss_buffer.specs.Frames.{Frame, FrameOf, with_frame, waiting_in}
 use Rattle.rss_buffer.specs.declared.stage.Stage.{Stage}
-use Rattle.rss_buffer.specs.Frames.{FrameOf, with_frame, waiting_in}
 use Rattle.rss_buffer.specs.Slots.{held_in, held_by}
 use Rattle.rss_base.specs.StoredPages.{slot_of, mapped_by}
 use Rattle.rss_buffer.specs.Buffered.{BufferView, NoneChanged, AreFrames, AreClean, StaysFixed, IsAtStage, AreLaidOut, AreNotesOf, IsBuffer, held_of, WritesLoose, KeepsPages, MovesPages, WritesPages}
@@ -51,22 +50,10 @@ with_frame-cases frames key frame other f is = elim (cases_Bool (is_same other k
   )
 ]
 
-pub none_from : {T : Type 0} (o : Option T) → is_some o ≡ false → o ≡ None
-none_from None is = refl
-none_from (Some x) is = absurd (cc)
-
 -- what is known of a result that was not looked at
 pub either : {T E P Q R : Type 0} (result : Result T E) → OnOk result P → OnErr result Q → (Q → R) → P ⊎ R
 either (Ok x) ok err then = inl ok
 either (Err e) ok err then = inr (then err)
-
-pub ok_then : {T E P : Type 0} (result : Result T E) → is_err result ≡ false → OnOk result P → P
-ok_then (Ok x) is ok = ok
-ok_then (Err e) is ok = absurd (cc)
-
-pub err_then : {T E P : Type 0} (result : Result T E) → is_err result ≡ true → OnErr result P → P
-err_then (Ok x) is err = absurd (cc)
-err_then (Err e) is err = err
 
 -- a page that isn't in memory isn't brought there by a change of another's frame
 none_more : (frames : FrameOf) (key : PageKey) (frame : Option Frame) (other : PageKey) → (frames key ≡ None → frame ≡ None) → frames other ≡ None → with_frame frames key frame other ≡ None
@@ -90,6 +77,7 @@ KeepsPages-rests view = record {
   area = refl;
   stage = refl;
   asks = refl;
+  room = refl;
   held = λ told. refl;
   leaves = leaves_rests (view.settled ≡ true) view.device.disk _;
   waiting = λ key is. is;
@@ -108,6 +96,7 @@ KeepsPages-then {old = old} {mid = mid} one two = record {
   area = two.area ∙ one.area;
   stage = two.stage ∙ one.stage;
   asks = two.asks ∙ one.asks;
+  room = two.room ∙ one.room;
   held = λ told. two.held (one.leaves.told.0 told) ∙ one.held told;
   leaves = leaves_then one.leaves two.leaves;
   waiting = λ key is. one.waiting key (two.waiting key is);
@@ -159,6 +148,7 @@ NoneChanged-removed frames key none = λ other f is. elim (with_frame-cases fram
 -- other notes, and what says nothing of its pages: the area of the selected root, and the count
 pub IsBuffer-beside : {b : BufferView} {notes : NotesView} {area asks : ℕ} → IsBuffer b → AreNotesOf b.maps.current notes → IsBuffer (record b { notes = notes; area = area; asks = asks })
 IsBuffer-beside buffer noted = record {
+  least = buffer.least;
   laid_out = buffer.laid_out;
   noted = noted;
   frames_hold = buffer.frames_hold;
@@ -177,6 +167,7 @@ module _ {b : BufferView} (buffer : IsBuffer b) where
     pub IsBuffer-after : {settled : Bool} {stage : Stage} → device.size ≡ b.device.size → AreFrames b.maps frames → Told device.disk (AreClean b.first b.maps frames) → (settled ≡ true → Told device.disk (StaysFixed device.disk b.first b.maps.shadow))
         → IsAtStage (record b { device = device; frames = frames; settled = settled; stage = stage }) → IsBuffer (record b { device = device; frames = frames; settled = settled; stage = stage })
     IsBuffer-after same are clean fixed at_stage = record {
+      least = buffer.least;
       laid_out = subst (AreLaidOut b.maps b.first b.log_pages) (sym same) buffer.laid_out;
       noted = buffer.noted;
       frames_hold = are;
@@ -199,6 +190,7 @@ module _ {b : BufferView} (buffer : IsBuffer b) where
       area = refl;
       stage = refl;
       asks = refl;
+      room = refl;
       held = held;
       leaves = LeavesFixed-writes b.first b.maps.shadow (b.settled ≡ true) b.device.disk device.disk loose buffer.fixed;
       waiting = waiting;
@@ -330,14 +322,8 @@ IsBuffer-same {b = b} buffer now = subst (λ (f : FrameOf). IsBuffer (record b {
 pub KeepsPages-same : {b : BufferView} {frames : FrameOf} → frames ≡ b.frames → KeepsPages b (record b { frames = frames })
 KeepsPages-same {b = b} now = subst (λ (f : FrameOf). KeepsPages b (record b { frames = f })) (sym now) (KeepsPages-rests b)
 
-pub IsBuffer-back : {b : BufferView} {maps : Maps} {frames : FrameOf} → IsBuffer b → maps ≡ b.maps → frames ≡ b.frames → IsBuffer (record b { maps = maps; frames = frames })
-IsBuffer-back {b = b} {frames = frames} buffer back now = subst (λ (m : Maps). IsBuffer (record b { maps = m; frames = frames })) (sym back) (IsBuffer-same buffer now)
-
-pub KeepsPages-back : {b : BufferView} {maps : Maps} {frames : FrameOf} → maps ≡ b.maps → frames ≡ b.frames → KeepsPages b (record b { maps = maps; frames = frames })
-KeepsPages-back {b = b} {frames = frames} back now = subst (λ (m : Maps). KeepsPages b (record b { maps = m; frames = frames })) (sym back) (KeepsPages-same now)
-
 pub no_cause : {T : Type 0} (disk : Disk) (faults : ℕ) (value : T) → HasPageCause disk faults faults (Ok value)
-no_cause disk faults value = record { later = omega arith; failed = λ is. absurd (cc); sound = λ place is. absurd (cc) }
+no_cause disk faults value = record { later = omega arith; failed = λ is. absurd (cc); sound = λ place is. absurd (cc); memory = λ is. absurd (cc) }
 
 -- the error of a call is passed on
 pub cause_fails : {T U : Type 0} {disk : Disk} {faults faults_now : ℕ} {fault : PageFault} (result : Result U PageFault) → IsErrAnd result (λ why. why ≡ fault) → HasPageCause {T = T} disk faults faults_now (Err fault) → HasPageCause disk faults faults_now result
@@ -347,18 +333,23 @@ cause_fails {U = U} {disk = disk} {faults = faults} {faults_now = faults_now} {f
       later = cause.later;
       failed = λ at. let same : fault ≡ DeviceFailed = cc in cause.failed (ap Err same);
       sound = λ place at told. let same : fault ≡ Damaged place = cc in cause.sound place (ap Err same) told;
+      memory = λ at. let same : fault ≡ NoMemory = cc in cause.memory (ap Err same);
     })
 
 pub MovesPages-keeps : {T : Type 0} {old new : BufferView} (value : T) → KeepsPages old new → new.device.writes ≤ old.device.writes + 1 → MovesPages old new (Ok value)
 MovesPages-keeps value keeps few = record {
   keeps = keeps;
   few = few;
-  cause = record { later = keeps.later; failed = λ is. absurd (cc); sound = λ place is. absurd (cc) };
+  cause = record { later = keeps.later; failed = λ is. absurd (cc); sound = λ place is. absurd (cc); memory = λ is. absurd (cc) };
 }
 
 -- the order of the pages in memory was changed before
-pub MovesPages-same : {T : Type 0} {b new : BufferView} {frames : FrameOf} {result : Result T PageFault} → frames ≡ b.frames → MovesPages (record b { frames = frames }) new result → MovesPages b new result
-MovesPages-same now moves = record { keeps = KeepsPages-then (KeepsPages-same now) moves.keeps; few = moves.few; cause = moves.cause }
+pub MovesPages-same : {T : Type 0} {b new : BufferView} {frames : FrameOf} {room : ℕ} {result : Result T PageFault} → frames ≡ b.frames → room ≡ b.room → MovesPages (record b { frames = frames; room = room }) new result → MovesPages b new result
+MovesPages-same {b = b} {frames = frames} now same moves = record {
+  keeps = KeepsPages-then (subst (λ (n : ℕ). KeepsPages b (record b { frames = frames; room = n })) (sym same) (KeepsPages-same now)) moves.keeps;
+  few = moves.few;
+  cause = moves.cause;
+}
 
 -- the error of a call is passed on
 pub MovesPages-fails : {T U : Type 0} {old new : BufferView} {fault : PageFault} (result : Result U PageFault) → IsErrAnd result (λ why. why ≡ fault) → MovesPages {T = T} old new (Err fault) → MovesPages old new result
@@ -386,6 +377,7 @@ WritesPages-then {old = old} {mid = mid} {new = new} {result = result} one two =
     later = omega (arith, one.cause.later, two.cause.later);
     failed = λ is. let rose = two.cause.failed is in omega (arith, rose, one.cause.later);
     sound = λ place is told. two.cause.sound place is (one.loose.told.0 told);
+    memory = two.cause.memory;
   };
 }
 

@@ -3,12 +3,11 @@ use Rattle.std.proofs.Common.{◌≡◌, inl, inr, ℕ, ◌+◌, ◌≤◌, true
 use Rattle.std.proofs.Math.Path.{fun_ext}
 use Rattle.std.proofs.lemmas.Bool.{cases_Bool, cond-true, cond-false}
 use Rattle.std.proofs.lemmas.List.{length-append}
-use Rattle.lru.proofs.Splits.{Contains-cut, Contains-without}
+use Rattle.rss_buffer.proofs.Cuts.{Contains-cut, Contains-without}
 use Rattle.std.specs.List.{Contains}
 use Rattle.rss_base.specs.Paged.{Mapped, is_same, with_mapped, AreAmong, HasEach, WritesWaiting}
 use Rattle.rss_base.specs.declared.key.PageKey.{PageKey}
-use Rattle.rss_buffer.specs.declared.frames.Frame.{Frame}
-use Rattle.rss_buffer.specs.Frames.{FrameOf, with_frame, is_changed, waiting_in, Settles}
+use Rattle.rss_buffer.specs.Frames.{Frame, FrameOf, with_frame, is_changed, waiting_in, Settles}
 use Rattle.rss_buffer.specs.Buffered.{NoneChanged, unchanged}
 
 -- ---- after a change at one page

@@ -12,8 +12,7 @@ use Rattle.rss_base.proofs.Keys.{owner_of-slot_of, the_slot, the_number}
 use Rattle.rss_notes.specs.Marks.{Marked, told}
 use Rattle.rss_notes.proofs.Marking.{noted_mapped, mapped_space}
 use Rattle.rss_shadow.specs.Maps.{Maps}
-use Rattle.rss_buffer.specs.declared.frames.Frame.{Frame}
-use Rattle.rss_buffer.specs.Frames.{FrameOf, is_changed, waiting_in}
+use Rattle.rss_buffer.specs.Frames.{Frame, FrameOf, is_changed, waiting_in}
 use Rattle.rss_buffer.specs.Slots.{told_pages, held_in, fixed_by}
 use Rattle.rss_buffer.specs.Buffered.{BufferView, AreNotesOf, IsBuffer, AreFrames, held_of}
 use Rattle.rss_buffer.specs.Saving.{changed_by, AreSaveable}

@@ -2,6 +2,7 @@
 use Rattle.std.specs.Prelude.{◌≡◌, ◌≢◌, ℕ, ◌+◌, ◌≤◌, Bool, true, false, List, length, Option, Some, None, option_map, Result, IfErr, OnOk}
 use Rattle.rss_base.specs.Devices.{DeviceView, OnlyReads}
 use Rattle.rss_base.specs.DiskRule.{Disk, Pages, page, Told, IsTold, Leaves, LeavesOnly, WritesIn}
+use Rattle.rss_base.specs.Faults.{counted}
 use Rattle.rss_base.specs.Layout.{map_at, slots_at}
 use Rattle.rss_base.specs.PageMap.{owner_of, page_count, IsTable, IsMap}
 use Rattle.rss_base.specs.Paged.{Held, AreAmong, WritesWaiting, HasFixed, LeavesFixed, HasPageCause}
@@ -12,10 +13,9 @@ use Rattle.rss_base.specs.declared.fault.PageFault.TheVariants.{Device as Device
 use Rattle.rss_base.specs.declared.key.PageKey.{PageKey}
 use Rattle.rss_notes.specs.Notes.{NotesView}
 use Rattle.rss_shadow.specs.Maps.{Maps}
-use Rattle.rss_buffer.specs.declared.frames.Frame.{Frame}
+use Rattle.rss_buffer.specs.Frames.{Frame, FrameOf, with_frame, least_frames, waiting_in, Settles}
 use Rattle.rss_buffer.specs.declared.stage.Stage.{Stage}
 use Rattle.rss_buffer.specs.declared.stage.Stage.TheVariants.{Changing, Saved, Switched}
-use Rattle.rss_buffer.specs.Frames.{FrameOf, with_frame, waiting_in, Settles}
 use Rattle.rss_buffer.specs.Slots.{held_by, is_loose, fixed_by}
 
 -- What there is to see of a buffer within the crate.
@@ -28,6 +28,7 @@ use Rattle.rss_buffer.specs.Slots.{held_by, is_loose, fixed_by}
 -- log_pages, area: how many log pages there are, and the map area that the selected root names.
 -- stage: how far the saving has come.
 -- asks: how many reads of a page there were.
+-- room: how many pages there may be in memory at once.
 pub record BufferView : Type 1 where
   pub device : DeviceView
   pub first : ℕ
@@ -39,6 +40,7 @@ pub record BufferView : Type 1 where
   pub area : ℕ
   pub stage : Stage
   pub asks : ℕ
+  pub room : ℕ
 
 -- what each page holds
 abbrev pub held_of : BufferView → Held
@@ -100,6 +102,7 @@ pub record AreNotesOf (owners : List (Option PageKey)) (notes : NotesView) : Typ
       → notes.mapped key ≡ mapped_by owners key
 
 pub record IsBuffer (view : BufferView) : Type 0 where
+  pub least : least_frames ≤ view.room
   pub laid_out : AreLaidOut view.maps view.first view.log_pages view.device.size
   pub noted : AreNotesOf view.maps.current view.notes
   pub frames_hold : AreFrames view.maps view.frames
@@ -138,6 +141,7 @@ pub record KeepsPages (old new : BufferView) : Type 0 where
   pub area : new.area ≡ old.area
   pub stage : new.stage ≡ old.stage
   pub asks : new.asks ≡ old.asks
+  pub room : new.room ≡ old.room
   pub held : IsTold old.device.disk → held_of new ≡ held_of old
   pub leaves : LeavesFixed (old.settled ≡ true) (new.settled ≡ true) old.device.disk new.device.disk
       (fixed_by old.first old.maps.shadow old.device.disk.contents)
@@ -146,6 +150,10 @@ pub record KeepsPages (old new : BufferView) : Type 0 where
   pub unwritten : NoneChanged old.frames → OnlyReads old.device new.device
   pub writes : old.device.writes ≤ new.device.writes
   pub later : old.device.faults ≤ new.device.faults
+
+-- one more page was asked for
+abbrev pub asked_for : BufferView → BufferView
+asked_for view = record view { asks = counted view.asks }
 
 -- A call that makes one write at most, for room in memory.
 pub record MovesPages {T : Type 0} (old new : BufferView) (result : Result T PageFault) : Type 0 where

@@ -2,6 +2,7 @@
 use Rattle.rss_base.specs.declared.device.Device.{Ghosts}
 use Rattle.rss_notes.specs.Marks.{told}
 use Rattle.rss_buffer.specs.declared.buffer.Buffer.{Buffer}
+use Rattle.rss_frames.specs.Entries.{room}
 use Rattle.rss_buffer.specs.Frames.{frame_in}
 use Rattle.rss_buffer.specs.Buffered.{BufferView}
 
@@ -16,10 +17,11 @@ module _ {D : Type 0} {g : Ghosts D} where
     first = buffer.first_slot;
     maps = buffer.shadow;
     notes = told buffer.notes;
-    frames = frame_in buffer.frames.cache.entries;
+    frames = frame_in buffer.frames.cache;
     settled = buffer.settled;
     log_pages = buffer.log_pages;
     area = buffer.area;
     stage = buffer.stage;
     asks = buffer.asks;
+    room = room buffer.frames.cache;
   }

@@ -45,14 +45,15 @@ pub record AreSaveable (pages : PagesView) (saving : SavingView) : Type 0 where
   pub waiting : AreAmong saving.waiting pages.changed
   pub fixed : pages.fixed ≡ fixed_by (first_slot pages) pages.backing.shadow pages.disk.contents
 
--- What each call passes on: no page, no note, no slot and no log page changes, no page is asked for,
--- and none waits more.
+-- What each call passes on: no page, no note, no slot and no log page changes, there may be as many
+-- pages in memory as before, no page is asked for, and none waits more.
 pub record SavingStep (old new : PagesView) (before after : SavingView) : Type 0 where
   pub current : after.current ≡ before.current
   pub waiting : AreAmong after.waiting before.waiting
   pub held : IsTold old.disk → new.held ≡ old.held
   pub notes : new.notes ≡ old.notes
   pub log_pages : new.backing.log_pages ≡ old.backing.log_pages
+  pub frames : new.backing.frames ≡ old.backing.frames
   pub asks : new.asks ≡ old.asks
   pub told : IsTold old.disk ↔ IsTold new.disk
   pub later : old.faults ≤ new.faults
@@ -84,11 +85,11 @@ pub record IsAdopted (map : List (Option PageKey)) (old new : PagesView) : Type 
   pub writes : new.writes ≡ old.writes
   pub faults : new.faults ≡ old.faults
 
--- The pages of this root and this map, as after they were read from the device: nothing was changed,
--- noted or asked for as yet.
-pub record IsFresh (root : Root) (table : List (Option PageKey)) (writes : ℕ) (pages : PagesView) (saving : SavingView) : Type 0 where
+-- The pages of this root and this map, so many of them in memory at most, as after they were read
+-- from the device: nothing was changed, noted or asked for as yet.
+pub record IsFresh (root : Root) (table : List (Option PageKey)) (frames writes : ℕ) (pages : PagesView) (saving : SavingView) : Type 0 where
   pub current : saving.current ≡ table
-  pub backing : pages.backing ≡ record { log_pages = root.log_pages; area = root.area; shadow = table }
+  pub backing : pages.backing ≡ record { log_pages = root.log_pages; area = root.area; shadow = table; frames = frames }
   pub stage : saving.stage ≡ Changing
   pub none_wait : (key : PageKey) → saving.waiting key ≡ false
   pub none_noted : (key : PageKey) → pages.notes key ≡ None

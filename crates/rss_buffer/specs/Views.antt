@@ -24,7 +24,7 @@ pages_view view = record {
   faults = view.device.faults;
   fixed = fixed_by view.first view.maps.shadow view.device.disk.contents;
   settled = view.settled;
-  backing = record { log_pages = view.log_pages; area = view.area; shadow = view.maps.shadow };
+  backing = record { log_pages = view.log_pages; area = view.area; shadow = view.maps.shadow; frames = view.room };
 }
 
 -- what of them can be saved

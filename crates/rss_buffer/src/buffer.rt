@@ -9,6 +9,7 @@ ghost use Rattle.rss_base.specs.StoredPages.{StandInSlots};
 ghost use Rattle.rss_base.specs.declared.key.PageKey.{PageKey as Key};
 ghost use Rattle.rss_base.specs.declared.fault.OpenFault.TheVariants.{NoMemory as LacksMemory};
 ghost use Rattle.rss_notes.specs.Marks.{told};
+ghost use Rattle.rss_frames.specs.Entries.{room};
 ghost use Rattle.rss_buffer.specs.Frames.{frame_in};
 ghost use Rattle.rss_buffer.specs.Buffered.{HoldsMapAt, AreNotesOf, IsBuffer};
 ghost use Rattle.rss_buffer.specs.Saving.{IsFresh};
@@ -22,7 +23,6 @@ use rss_notes::Notes;
 use rss_pagemap::SlotTable;
 use rss_shadow::Shadow;
 use std::alloc::{AllocError, Global};
-use std::num::NonZeroUsize;
 
 /// The fewest pages that a buffer keeps in memory.
 pub const LEAST_FRAMES: u32 = 8;
@@ -54,12 +54,13 @@ pub struct Buffer<D: Device> {
       first = first_slot;
       maps = shadow;
       notes = told notes;
-      frames = frame_in frames.cache.entries;
+      frames = frame_in frames.cache;
       settled = settled;
       log_pages = log_pages;
       area = area;
       stage = stage;
       asks = asks;
+      room = room frames.cache;
     }) } by { Prim.hlevel (props, IsSegmentOf-prop) },
 }
 
@@ -87,7 +88,7 @@ impl<D: Device> Buffer<D> {
         ensures held { IfOk result (λ buffer. Told (D.view device).disk (λ pages.
             StandInSlots (slots_at root.now.slots root.now.log_pages) pages table
             (⟦<Buffer<D> as Pages>⟧.view buffer).held)) }
-        ensures fresh { IfOk result (λ buffer. IsFresh root.now table (D.view device).writes
+        ensures fresh { IfOk result (λ buffer. IsFresh root.now table frames (D.view device).writes
             (⟦<Buffer<D> as Pages>⟧.view buffer) (⟦<Buffer<D> as Saving>⟧.saving buffer)) }
         ensures back { IfErr result (λ e. (e.device ≡ device) × (e.fault ≡ LacksMemory)) }
     {
@@ -120,16 +121,17 @@ fn new_parts(
     table: SlotTable,
     frames: u32,
 ) -> Result<(Shadow, Notes, Frames, Run), AllocError>
-    requires some { 0 < frames }
+    requires least { LEAST_FRAMES ≤ frames }
     requires half { 2 * page_count table ≤ length table }
     ensures table { IfOk result (λ _. IsTable table) }
     ensures maps { IfOk result (λ parts. parts.0 ≡ record { current = table; shadow = table }) }
     ensures notes { IfOk result (λ parts. AreNotesOf table (told parts.1)) }
     ensures none { IfOk result (λ parts. (key : Key) → (told parts.1).notes key ≡ None) }
-    ensures frames { IfOk result (λ parts. parts.2.cache.entries ≡ []) }
+    ensures frames { IfOk result (λ parts. (key : Key) → frame_in parts.2.cache key ≡ None) }
+    ensures room { IfOk result (λ parts. room parts.2.cache ≡ frames) }
 {
     let notes = new_notes(alloc, &table)?;
-    let frames = new_frames(alloc, frames)?;
+    let frames = Frames::new(alloc, frames)?;
     let run = Run::new(alloc)?;
     Ok((Shadow::new(alloc, table)?, notes, frames, run))
 }
@@ -146,15 +148,4 @@ fn new_notes(alloc: Global, table: &SlotTable) -> Result<Notes, AllocError>
         }
     }
     Ok(notes)
-}
-
-/// So many frames, all empty.
-fn new_frames(alloc: Global, frames: u32) -> Result<Frames, AllocError>
-    requires { 0 < frames }
-    ensures { IfOk result (λ frames. frames.cache.entries ≡ []) }
-{
-    let Some(frames) = NonZeroUsize::new(frames as usize) else {
-        unreachable!()
-    };
-    Frames::new(alloc, frames)
 }

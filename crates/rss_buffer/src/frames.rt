@@ -1,159 +1,167 @@
 // The pages in memory.
-ghost use Rattle.std.specs.Prelude.{◌≡◌, ◌⊎◌, ◌↔◌, ◌+◌, ◌<◌, ◌≤◌, [], length, Some, None, false};
-ghost use Rattle.std.specs.Prelude.{is_some, IsTrue, IsSome, IfSome, IfNone, IsOk, IfOk, OnOk, OnErr};
-ghost use Rattle.std.specs.Prelude.{box_value};
-ghost use Rattle.std.specs.Option.{option_copied};
+ghost use Rattle.std.specs.Prelude.{◌≡◌, ◌≢◌, ◌⊎◌, ◌↔◌, ◌+◌, ◌<◌, ◌≤◌, [], length, Some, None, true, false};
+ghost use Rattle.std.specs.Prelude.{is_some, IsTrue, IsSome, IfSome, IfNone, IfOk, OnOk, OnErr};
+ghost use Rattle.rss_base.specs.Devices.{ReadsPages};
 ghost use Rattle.rss_base.specs.PageMap.{IsTable};
-ghost use Rattle.rss_buffer.specs.Frames.{frame_in, with_frame};
+ghost use Rattle.rss_base.specs.Sizes.{page_bytes};
+ghost use Rattle.rss_base.specs.declared.key.PageKey.{PageKey as Key};
+ghost use Rattle.rss_frames.specs.Entries.{entries, room};
+ghost use Rattle.rss_buffer.specs.Frames.{frame_in, with_frame, HasRoom, IsNewest, ReadsIn, CopiesFrame};
 ghost use Rattle.rss_buffer.specs.Buffered.{with_unchanged};
 ghost use Rattle.rss_buffer.specs.Gathered.{AreSettled, IsInFrame};
 
-use lru::LruCache;
-use rss_base::{PAGE_BYTES, Page, PageKey};
+use rss_base::{Device, Failed, Page, PageKey, copy_bytes};
+use rss_frames::{Frames as Cache, LentPages, TwoPages, pair};
 use rss_pagemap::SlotTable;
 use std::alloc::{AllocError, Global};
-use std::num::NonZeroUsize;
 
-/// A page in memory.
-#[derive(Drop)]
-pub(crate) struct Frame {
-    pub(crate) page: Page,
-    /// It isn't in its slot as yet.
-    pub(crate) changed: bool,
-}
-
-/// So many pages in memory as there are frames, by the recency of their use. Each is in a box of
-/// its own, so that the cache moves no page.
+/// So many pages in memory as there are frames, by the recency of their use.
 #[derive(Drop)]
 pub(crate) struct Frames {
-    pub(crate) cache: LruCache<PageKey, Box<Frame>>,
-    /// The box of a page that has left memory, for the next one that comes.
-    spare: Option<Box<Frame>>,
-    alloc: Global,
+    pub(crate) cache: Cache,
 }
 
 impl Frames {
-    pub(crate) fn new(alloc: Global, frames: NonZeroUsize) -> Result<Self, AllocError>
-        ensures { IfOk result (λ frames. frames.cache.entries ≡ []) }
+    pub(crate) fn new(alloc: Global, frames: u32) -> Result<Self, AllocError>
+        requires { 0 < frames }
+        ensures none { IfOk result (λ all. (key : Key) → frame_in all.cache key ≡ None) }
+        ensures room { IfOk result (λ all. room all.cache ≡ frames) }
     {
         Ok(Frames {
-            cache: LruCache::new(alloc, frames)?,
-            spare: None,
-            alloc,
+            cache: Cache::new(alloc, frames)?,
         })
     }
 
     /// Whether the page is in memory.
     pub(crate) fn has(&self, key: PageKey) -> bool
-        ensures { result ≡ is_some (frame_in self.now.cache.entries key) }
+        ensures { result ≡ is_some (frame_in self.now.cache key) }
     {
-        self.cache.contains(&key)
+        self.cache.has(key)
     }
 
     /// Whether each frame has a page.
     pub(crate) fn is_full(&self) -> bool
-        ensures { IsTrue result ↔ (self.now.cache.cap ≤ length self.now.cache.entries) }
+        ensures { IsTrue result ↔ (room self.now.cache ≤ length (entries self.now.cache)) }
     {
-        self.cache.len() >= self.cache.cap().get()
+        self.cache.is_full()
     }
 
     /// The page that wasn't used for the longest time, and whether it was changed.
     pub(crate) fn eldest(&self) -> Option<(PageKey, bool)>
         ensures there { IfSome result (λ eldest.
-            IsInFrame (frame_in self.now.cache.entries) eldest.0 eldest.1) }
-        ensures none { IfNone result (self.now.cache.entries ≡ []) }
-        ensures holds_some { 0 < self.now.cache.cap }
+            IsInFrame (frame_in self.now.cache) eldest.0 eldest.1) }
+        ensures none { IfNone result (entries self.now.cache ≡ []) }
+        ensures not_newest { IfSome result (λ eldest.
+            1 < length (entries self.now.cache) → IsNewest eldest.0 self.now.cache → ⊥) }
+        ensures holds_some { 0 < room self.now.cache }
     {
-        // `len` is called for its clause that the keys are distinct, which the proof cites.
+        // `len` is called for its clause that no page is there twice, and `room` for its clause
+        // that there is a frame. The proof cites both.
         let _len = self.cache.len();
-        let (key, frame) = self.cache.peek_lru()?;
-        Some((*key, frame.as_ref().changed))
+        let _room = self.cache.room();
+        self.cache.eldest()
     }
 
-    /// The frame of a page.
-    pub(crate) fn get(&self, key: PageKey) -> Option<&Frame>
-        ensures { option_copied result ≡ frame_in self.now.cache.entries key }
+    /// A page, and whether it was changed.
+    pub(crate) fn get(&self, key: PageKey) -> Option<(&Page, bool)>
+        ensures some { IfSome result (λ r.
+            frame_in self.now.cache key ≡ Some (record { page = r.0.now; changed = r.1 })) }
+        ensures none { IfNone result (frame_in self.now.cache key ≡ None) }
     {
-        Some(self.cache.peek(&key)?.as_ref())
+        self.cache.peek(key)
     }
 
     /// Makes the page the one that was used last, where it is in memory, and tells whether it is.
     pub(crate) fn touch(&mut self, key: PageKey) -> bool
-        ensures there { result ≡ is_some (frame_in self.old.cache.entries key) }
-        ensures same { frame_in self.new.cache.entries ≡ frame_in self.old.cache.entries }
-        ensures count { length self.new.cache.entries ≡ length self.old.cache.entries }
-        ensures room { self.new.cache.cap ≡ self.old.cache.cap }
+        ensures there { result ≡ is_some (frame_in self.old.cache key) }
+        ensures same { frame_in self.new.cache ≡ frame_in self.old.cache }
+        ensures newest { result ≡ true → IsNewest key self.new.cache }
+        ensures unused { result ≡ false → entries self.new.cache ≡ entries self.old.cache }
+        ensures room { room self.new.cache ≡ room self.old.cache }
     {
-        // `len` is called for its clause that the keys are distinct, which the proof cites.
-        let _len = self.cache.len();
-        self.cache.promote(&key)
+        self.cache.touch(key)
     }
 
-    /// A frame to fill, which no page has as yet. Its bytes and its mark are any.
-    pub(crate) fn blank(&mut self) -> Result<Box<Frame>, AllocError>
-        ensures { self.new.cache ≡ self.old.cache }
+    /// Puts a page into memory as one that was changed, in place of what is there of it.
+    pub(crate) fn put(&mut self, key: PageKey, page: &Page)
+        requires { HasRoom self.old.cache ⊎ IsSome (frame_in self.old.cache key) }
+        ensures put { frame_in self.new.cache ≡ with_frame (frame_in self.old.cache) key
+            (Some (record { page = page.now; changed = true })) }
+        ensures newest { IsNewest key self.new.cache }
+        ensures room { room self.new.cache ≡ room self.old.cache }
     {
-        if let Some(frame) = self.spare.take() {
-            return Ok(frame);
+        if let Some(bytes) = self.cache.get_mut(key) {
+            *bytes = *page;
+            return;
         }
-        let frame = Frame {
-            page: [0; PAGE_BYTES],
-            changed: false,
+        let Some(bytes) = self.cache.admit(key, true) else {
+            unreachable!()
         };
-        Ok(Box::new(self.alloc, frame)?)
+        *bytes = *page;
     }
 
-    /// Puts the frame of a page into memory, in place of what is there of it.
-    pub(crate) fn admit(&mut self, key: PageKey, frame: Box<Frame>) -> Result<(), AllocError>
-        requires { (length self.old.cache.entries < self.old.cache.cap)
-            ⊎ IsSome (frame_in self.old.cache.entries key) }
-        ensures ok { OnOk result
-            (frame_in self.new.cache.entries
-            ≡ with_frame (frame_in self.old.cache.entries) key (Some (box_value frame))) }
-        ensures err { OnErr result
-            (frame_in self.new.cache.entries ≡ frame_in self.old.cache.entries) }
-        ensures succeeds { IsSome (frame_in self.old.cache.entries key) → IsOk result }
-        ensures room { self.new.cache.cap ≡ self.old.cache.cap }
+    /// Reads a page that isn't in memory into a frame of its own.
+    pub(crate) fn read_in<D: Device>(
+        &mut self,
+        key: PageKey,
+        device: &mut D,
+        at: u64,
+    ) -> Result<(), Failed>
+        requires room { HasRoom self.old.cache }
+        requires absent { frame_in self.old.cache key ≡ None }
+        requires within { at < (D.view device.old).size }
+        ensures ok { OnOk result (ReadsIn key at (D.view device.old).disk
+            (frame_in self.old.cache) (frame_in self.new.cache)) }
+        ensures newest { OnOk result (IsNewest key self.new.cache) }
+        ensures err { OnErr result (frame_in self.new.cache ≡ frame_in self.old.cache) }
+        ensures room { room self.new.cache ≡ room self.old.cache }
+        ensures did { ReadsPages (D.view device.old) (D.view device.new) result }
     {
-        // `len` is called for its clause that the keys are distinct, which the proof cites.
-        let _len = self.cache.len();
-        self.cache.put(key, frame)?;
-        Ok(())
-    }
-
-    /// Puts a page into memory, in place of what is there of it.
-    pub(crate) fn put(&mut self, key: PageKey, page: &Page, changed: bool) -> Result<(), AllocError>
-        requires { (length self.old.cache.entries < self.old.cache.cap)
-            ⊎ IsSome (frame_in self.old.cache.entries key) }
-        ensures ok { OnOk result
-            (frame_in self.new.cache.entries
-            ≡ with_frame (frame_in self.old.cache.entries) key
-            (Some (record { page = page.now; changed = changed }))) }
-        ensures err { OnErr result
-            (frame_in self.new.cache.entries ≡ frame_in self.old.cache.entries) }
-        ensures succeeds { IsSome (frame_in self.old.cache.entries key) → IsOk result }
-        ensures room { self.new.cache.cap ≡ self.old.cache.cap }
-    {
-        // `len` is called for its clause that the keys are distinct, which the proof cites.
-        let _len = self.cache.len();
-        if let Some(frame) = self.cache.get_mut(&key) {
-            let frame = frame.as_mut();
-            frame.page = *page;
-            frame.changed = changed;
-            return Ok(());
+        let Some(page) = self.cache.admit(key, false) else {
+            unreachable!()
+        };
+        let result = device.read(at, page);
+        if result.is_err() {
+            self.cache.remove(key);
         }
-        let mut frame = self.blank()?;
-        frame.page = *page;
-        frame.changed = changed;
-        self.admit(key, frame)
+        result
+    }
+
+    /// Copies so many bytes of a page that is in memory into another one that is, and marks this one
+    /// as changed.
+    pub(crate) fn copy(
+        &mut self,
+        from: PageKey,
+        from_at: usize,
+        to: PageKey,
+        to_at: usize,
+        count: usize,
+    )
+        requires from { IsSome (frame_in self.old.cache from) }
+        requires to { IsSome (frame_in self.old.cache to) }
+        requires apart { from ≢ to }
+        requires from_within { from_at + count ≤ page_bytes }
+        requires to_within { to_at + count ≤ page_bytes }
+        ensures copied { CopiesFrame from from_at to to_at count (frame_in self.old.cache)
+            (frame_in self.new.cache) }
+        ensures room { room self.new.cache ≡ room self.old.cache }
+    {
+        let LentPages {
+            pages,
+            first,
+            second,
+        } = self.cache.lend_all(to, from);
+        let TwoPages { first, second } = pair(pages, first, second);
+        copy_bytes(second, from_at, first, to_at, count);
     }
 
     /// Takes the pages of so many slots, from this one on, as ones that were written there.
     pub(crate) fn settle(&mut self, owners: &SlotTable, slot: u32, count: u32)
         requires within { slot + count ≤ length owners.now }
         requires table { IsTable owners.now }
-        ensures { AreSettled owners.now slot count (frame_in self.old.cache.entries)
-            (frame_in self.new.cache.entries) }
+        ensures settled { AreSettled owners.now slot count (frame_in self.old.cache)
+            (frame_in self.new.cache) }
+        ensures room { room self.new.cache ≡ room self.old.cache }
     {
         for at in slot..slot + count {
             if let Some(key) = owners.owner(at) {
@@ -164,26 +172,21 @@ impl Frames {
 
     /// Takes the page, where it is in memory, as one that was written to its slot.
     fn settle_page(&mut self, key: PageKey)
-        ensures { frame_in self.new.cache.entries
-            ≡ with_unchanged (frame_in self.old.cache.entries) key }
+        ensures settled { frame_in self.new.cache ≡ with_unchanged (frame_in self.old.cache) key }
+        ensures room { room self.new.cache ≡ room self.old.cache }
     {
-        if let Some(frame) = self.cache.peek_mut(&key) {
-            frame.changed = false;
-        }
+        self.cache.settle(key);
     }
 
-    /// Drops the page from memory. Its box is kept for another one.
+    /// Drops the page from memory.
     pub(crate) fn remove(&mut self, key: PageKey)
-        ensures gone { frame_in self.new.cache.entries
-            ≡ with_frame (frame_in self.old.cache.entries) key None }
-        ensures fewer { IsSome (frame_in self.old.cache.entries key)
-            → length self.new.cache.entries < length self.old.cache.entries }
-        ensures free { IsSome (frame_in self.old.cache.entries key)
-            → length self.new.cache.entries < self.new.cache.cap }
-        ensures room { self.new.cache.cap ≡ self.old.cache.cap }
+        ensures gone { frame_in self.new.cache ≡ with_frame (frame_in self.old.cache) key None }
+        ensures free { IsSome (frame_in self.old.cache key) → HasRoom self.new.cache }
+        ensures room { room self.new.cache ≡ room self.old.cache }
     {
-        // `len` is called for its clause that the keys are distinct, which the proof cites.
+        // `len` is called for its clause that there are no more pages than frames, which the proof
+        // cites.
         let _len = self.cache.len();
-        self.spare = self.cache.pop(&key);
+        self.cache.remove(key);
     }
 }

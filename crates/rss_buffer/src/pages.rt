@@ -1,14 +1,18 @@
 // The pages of a buffer, one at a time.
-ghost use Rattle.std.specs.Prelude.{◌≡◌, ◌⊎◌, ◌+◌, ◌<◌, ◌≤◌, length, true, None, is_some, IsSome, OnOk};
+ghost use Rattle.std.specs.Prelude.{◌≡◌, ◌≢◌, ◌⊎◌, ◌+◌, ◌<◌, ◌≤◌, length, true, None, is_some, IsSome, OnOk};
 ghost use Rattle.rss_base.specs.StoredPages.{mapped_by};
 ghost use Rattle.rss_base.specs.declared.key.PageKey.{PageKey as Key};
-ghost use Rattle.rss_buffer.specs.Buffered.{MovesPages, WritesPages};
+ghost use Rattle.rss_base.specs.Sizes.{page_bytes};
+ghost use Rattle.rss_base.specs.Steps.{no_page, only, PagesStep, PagesCall, CopiesBytes};
+ghost use Rattle.rss_buffer.specs.Frames.{HasRoom, IsNewest};
+ghost use Rattle.rss_buffer.specs.Buffered.{asked_for, KeepsPages, MovesPages, WritesPages};
 ghost use Rattle.rss_buffer.specs.Gathered.{IsInFrame, IsUnchanged, IsWritten};
 
 use crate::{Buffer, Stage};
 use rss_base::{Device, PAGE_BYTES, Page, PageFault, PageKey, Pages, Space};
 
 impl<D: Device> Buffer<D> {
+    ghost use Rattle.rss_buffer.specs.Views.{pages_view};
     ghost use Rattle.rss_buffer.specs.Devices.{buffer_view};
 
     /// Writes the page of a slot there, where it is in memory and was changed, and in the same write
@@ -35,12 +39,13 @@ impl<D: Device> Buffer<D> {
     }
 
     /// Makes sure that a frame is free. The page that leaves is written to its slot first, where it
-    /// was changed.
+    /// was changed. It isn't the one that was used last.
     fn make_room(&mut self) -> Result<(), PageFault>
-        ensures room { OnOk result
-            (length self.new.frames.cache.entries < self.new.frames.cache.cap) }
+        ensures room { OnOk result (HasRoom self.new.frames.cache) }
         ensures none_more { (key : Key) → (buffer_view self.old).frames key ≡ None
             → (buffer_view self.new).frames key ≡ None }
+        ensures stays { (key : Key) → IsNewest key self.old.frames.cache
+            → IsSome ((buffer_view self.new).frames key) }
         ensures did { MovesPages (buffer_view self.old) (buffer_view self.new) result }
     {
         if !self.frames.is_full() {
@@ -76,8 +81,7 @@ impl<D: Device> Buffer<D> {
     /// Makes sure that a frame is free, where none has the page.
     fn make_room_for(&mut self, key: PageKey) -> Result<(), PageFault>
         ensures room { OnOk result
-            ((length self.new.frames.cache.entries < self.new.frames.cache.cap)
-            ⊎ IsSome ((buffer_view self.new).frames key)) }
+            (HasRoom self.new.frames.cache ⊎ IsSome ((buffer_view self.new).frames key)) }
         ensures did { MovesPages (buffer_view self.old) (buffer_view self.new) result }
     {
         if self.frames.has(key) {
@@ -86,10 +90,26 @@ impl<D: Device> Buffer<D> {
         self.make_room()
     }
 
+    /// Brings a page into memory that is asked for. The one that was used last before stays there.
+    fn ask(&mut self, key: PageKey) -> Result<(), PageFault>
+        requires { mapped_by self.old.shadow.current key ≡ true }
+        ensures newest { OnOk result (IsNewest key self.new.frames.cache) }
+        ensures stays { (other : Key) → IsNewest other self.old.frames.cache
+            → IsSome ((buffer_view self.new).frames other) }
+        ensures keeps { KeepsPages (asked_for (buffer_view self.old)) (buffer_view self.new) }
+        ensures did { PagesCall no_page 1 1
+            (pages_view (buffer_view self.old)) (pages_view (buffer_view self.new)) result }
+    {
+        self.asks = self.asks.saturating_add(1);
+        self.bring(key)
+    }
+
     /// Brings a page into memory.
     fn bring(&mut self, key: PageKey) -> Result<(), PageFault>
         requires { mapped_by self.old.shadow.current key ≡ true }
-        ensures there { OnOk result (IsSome ((buffer_view self.new).frames key)) }
+        ensures newest { OnOk result (IsNewest key self.new.frames.cache) }
+        ensures stays { (other : Key) → IsNewest other self.old.frames.cache
+            → IsSome ((buffer_view self.new).frames other) }
         ensures did { MovesPages (buffer_view self.old) (buffer_view self.new) result }
     {
         if self.frames.touch(key) {
@@ -102,23 +122,36 @@ impl<D: Device> Buffer<D> {
     fn read_in(&mut self, key: PageKey) -> Result<(), PageFault>
         requires mapped { mapped_by self.old.shadow.current key ≡ true }
         requires absent { (buffer_view self.old).frames key ≡ None }
-        ensures there { OnOk result (IsSome ((buffer_view self.new).frames key)) }
+        ensures newest { OnOk result (IsNewest key self.new.frames.cache) }
+        ensures stays { (other : Key) → IsNewest other self.old.frames.cache
+            → IsSome ((buffer_view self.new).frames other) }
         ensures did { MovesPages (buffer_view self.old) (buffer_view self.new) result }
     {
         self.make_room()?;
         let Some(slot) = self.shadow.slot_of(key) else {
             unreachable!()
         };
-        let Ok(mut frame) = self.frames.blank() else {
-            return Err(PageFault::NoMemory);
-        };
-        self.device
-            .read(self.first_slot + u64::from(slot), &mut frame.page)?;
-        frame.changed = false;
-        if self.frames.admit(key, frame).is_err() {
-            return Err(PageFault::NoMemory);
-        }
+        let place = self.first_slot + u64::from(slot);
+        self.frames.read_in(key, &mut self.device, place)?;
         Ok(())
+    }
+
+    /// Copies so many bytes of a page into another one, where both are in memory.
+    fn copy_there(&mut self, from: PageKey, from_at: usize, to: PageKey, to_at: usize, count: usize)
+        requires from { IsSome ((buffer_view self.old).frames from) }
+        requires to { IsSome ((buffer_view self.old).frames to) }
+        requires apart { from ≢ to }
+        requires from_within { from_at + count ≤ page_bytes }
+        requires to_within { to_at + count ≤ page_bytes }
+        ensures copied { CopiesBytes from from_at to to_at count
+            (pages_view (buffer_view self.old)) (pages_view (buffer_view self.new)) }
+        ensures did { PagesStep (only to) 0 0
+            (pages_view (buffer_view self.old)) (pages_view (buffer_view self.new)) }
+    {
+        self.frames.copy(from, from_at, to, to_at, count);
+        self.shadow.first_write(to);
+        self.notes.forget(to);
+        self.stage = Stage::Changing;
     }
 }
 
@@ -172,15 +205,14 @@ impl<D: Device> Pages for Buffer<D> {
     }
 
     fn load(&mut self, key: PageKey) -> Result<(), PageFault> {
-        self.asks = self.asks.saturating_add(1);
-        self.bring(key)
+        self.ask(key)
     }
 
     fn loaded(&self, key: PageKey) -> &Page {
-        let Some(frame) = self.frames.get(key) else {
+        let Some((page, _)) = self.frames.get(key) else {
             unreachable!()
         };
-        &frame.page
+        page
     }
 
     fn read(&mut self, key: PageKey, into: &mut Page) -> Result<(), PageFault> {
@@ -191,12 +223,24 @@ impl<D: Device> Pages for Buffer<D> {
 
     fn write(&mut self, key: PageKey, from: &Page) -> Result<(), PageFault> {
         self.make_room_for(key)?;
-        if self.frames.put(key, from, true).is_err() {
-            return Err(PageFault::NoMemory);
-        }
+        self.frames.put(key, from);
         self.shadow.first_write(key);
         self.notes.forget(key);
         self.stage = Stage::Changing;
+        Ok(())
+    }
+
+    fn copy(
+        &mut self,
+        from: PageKey,
+        from_at: usize,
+        to: PageKey,
+        to_at: usize,
+        count: usize,
+    ) -> Result<(), PageFault> {
+        self.ask(from)?;
+        self.ask(to)?;
+        self.copy_there(from, from_at, to, to_at, count);
         Ok(())
     }
 
@@ -208,10 +252,7 @@ impl<D: Device> Pages for Buffer<D> {
             space,
             number,
         };
-        if self.frames.put(key, &[0; PAGE_BYTES], true).is_err() {
-            self.shadow.give(key);
-            return Err(PageFault::NoMemory);
-        }
+        self.frames.put(key, &[0; PAGE_BYTES]);
         self.notes.map(key);
         self.stage = Stage::Changing;
         Ok(number)
@@ -219,9 +260,7 @@ impl<D: Device> Pages for Buffer<D> {
 
     fn take_at(&mut self, key: PageKey) -> Result<(), PageFault> {
         self.make_room()?;
-        if self.frames.put(key, &[0; PAGE_BYTES], true).is_err() {
-            return Err(PageFault::NoMemory);
-        }
+        self.frames.put(key, &[0; PAGE_BYTES]);
         self.shadow.take_at(key);
         self.notes.map(key);
         self.stage = Stage::Changing;

@@ -29,10 +29,10 @@ impl Run {
         requires { slot < length owners.now }
         ensures few { result ≤ run_pages }
         ensures within { slot + result ≤ length owners.now }
-        ensures gathered { IsGathered owners.now (frame_in frames.now.cache.entries) slot result
+        ensures gathered { IsGathered owners.now (frame_in frames.now.cache) slot result
             self.new.pages.items }
         ensures none { result ≡ 0
-            → IsWritten owners.now (frame_in frames.now.cache.entries) slot }
+            → IsWritten owners.now (frame_in frames.now.cache) slot }
     {
         let most = (owners.slots() - slot).min(RUN_PAGES as u32);
         for count in 0..most {
@@ -57,14 +57,14 @@ impl Run {
 fn changed_page<'f>(owners: &SlotTable, frames: &'f Frames, slot: u32) -> Option<&'f Page>
     requires { slot < length owners.now }
     ensures some { IfSome result (λ page.
-        IsChangedAt owners.now (frame_in frames.now.cache.entries) slot page.now) }
+        IsChangedAt owners.now (frame_in frames.now.cache) slot page.now) }
     ensures none { IfNone result
-        (IsWritten owners.now (frame_in frames.now.cache.entries) slot) }
+        (IsWritten owners.now (frame_in frames.now.cache) slot) }
 {
     let key = owners.owner(slot)?;
-    let frame = frames.get(key)?;
-    if !frame.changed {
+    let (page, changed) = frames.get(key)?;
+    if !changed {
         return None;
     }
-    Some(&frame.page)
+    Some(page)
 }

@@ -149,7 +149,7 @@ fn take<P: Pages>(pages: &mut P) -> Result<u32, Undone> {
 }
 
 /// Reads a page, where it is mapped.
-fn read<P: Pages>(pages: &mut P, key: PageKey) -> Result<Page, Undone> {
+pub(crate) fn read<P: Pages>(pages: &mut P, key: PageKey) -> Result<Page, Undone> {
     if !pages.has(key) {
         return Err(Undone::Refused("a page that isn't mapped"));
     }

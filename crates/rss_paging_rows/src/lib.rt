@@ -5,7 +5,11 @@
 #[cfg(test)]
 mod buffers;
 #[cfg(test)]
+mod caches;
+#[cfg(test)]
 mod caller;
+#[cfg(test)]
+mod copies;
 #[cfg(test)]
 mod finding;
 #[cfg(test)]

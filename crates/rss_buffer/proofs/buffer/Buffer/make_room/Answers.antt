@@ -1,6 +1,7 @@
-use Rattle.std.proofs.Common.{◌∙◌, is_some, ap, arith}
-use Rattle.rss_buffer.specs.Frames.{frame_in}
-use Rattle.rss_buffer.proofs.Turns.{none_from, none_more-removed, KeepsPages-rests, KeepsPages-then, KeepsPages-removed, IsBuffer-removed, MovesPages-keeps, cause_fails}
+use Rattle.std.proofs.Common.{◌≢◌, ◌∙◌, Some, None, is_some, ap, arith}
+use Rattle.rss_buffer.specs.Frames.{FrameOf, frame_in}
+use Rattle.rss_buffer.proofs.Lookups.{with_frame-other, none_from, newest_there}
+use Rattle.rss_buffer.proofs.Turns.{none_more-removed, KeepsPages-rests, KeepsPages-then, KeepsPages-removed, IsBuffer-removed, MovesPages-keeps, cause_fails}
 use Rattle.rss_buffer.proofs.buffer.Buffer.make_room.Goals as goal
 
 pub returns-then-not-is_full-clause-did : goal.returns-then-not-is_full-clause-did
@@ -16,15 +17,32 @@ returns-in_err-write_out-clause-did g c = record {
 pub invariant_of-self : goal.invariant_of-self
 invariant_of-self g c =
     let mid = c.write_out.new.self in
-    record { saved_area = mid.saved_area; holds = IsBuffer-removed mid.holds c.in-Some.key c.in_ok-write_out.ensures.written c.remove.ensures.gone }
+    record { saved_area = mid.saved_area; holds = rw c.remove.ensures.room (IsBuffer-removed mid.holds c.in-Some.key c.in_ok-write_out.ensures.written c.remove.ensures.gone) }
 
 pub returns-clause-none_more : goal.returns-clause-none_more
 returns-clause-none_more g c = λ key none.
-    let mid = frame_in c.write_out.new.self.frames.cache.entries in
-    none_more-removed mid (frame_in c.remove.new.self.cache.entries) c.in-Some.key key c.remove.ensures.gone
+    let mid = frame_in c.write_out.new.self.frames.cache in
+    none_more-removed mid (frame_in c.remove.new.self.cache) c.in-Some.key key c.remove.ensures.gone
     (none_from (mid key) (c.write_out.ensures.same_there key ∙ ap (λ o. is_some o) none))
 
 pub returns-clause-did : goal.returns-clause-did
 returns-clause-did g c =
     let mid = c.write_out.new.self in
-    MovesPages-keeps _ (KeepsPages-then c.write_out.ensures.did.keeps (KeepsPages-removed mid.holds c.in-Some.key c.in_ok-write_out.ensures.written c.remove.ensures.gone)) c.write_out.ensures.few
+    rw c.remove.ensures.room (MovesPages-keeps _ (KeepsPages-then c.write_out.ensures.did.keeps (KeepsPages-removed mid.holds c.in-Some.key c.in_ok-write_out.ensures.written c.remove.ensures.gone)) c.write_out.ensures.few)
+
+-- ---- the page that was used last stays
+
+pub returns-then-not-is_full-clause-stays : goal.returns-then-not-is_full-clause-stays
+returns-then-not-is_full-clause-stays g c = λ key newest. newest_there _ key newest
+
+pub returns-in_err-write_out-clause-stays : goal.returns-in_err-write_out-clause-stays
+returns-in_err-write_out-clause-stays g c = λ key newest. c.write_out.ensures.same_there key ∙ newest_there _ key newest
+
+pub returns-clause-stays : goal.returns-clause-stays
+returns-clause-stays g c = λ key newest.
+    let self = c.args.self.now in
+    let mid = frame_in c.write_out.new.self.frames.cache in
+    let apart : key ≢ c.in-Some.key = λ same. c.in-Some.ensures.not_newest (omega (arith, self.holds.least, c.is_full.ensures.0 c.if-not-is_full.false)) (newest ∙ ap Some same) in
+    ap (λ (f : FrameOf). is_some (f key)) c.remove.ensures.gone
+    ∙ ap (λ o. is_some o) (with_frame-other mid c.in-Some.key None key apart)
+    ∙ c.write_out.ensures.same_there key ∙ newest_there _ key newest

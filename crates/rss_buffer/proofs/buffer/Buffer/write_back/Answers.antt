@@ -51,10 +51,10 @@ invariant_of-self-2 g c =
     let place = ap (λ (n : ℕ). self.first_slot + n) c.from.ensures in
     let did = c.write_run.ensures.did in
     let writes = run_of {b = buffer_view self} run c.current-owners.ensures.current c.gather-count.ensures.gathered (omega (arith, c.if-count-eq0.false)) few c.first.ensures place did in
-    let settled : AreSettled self.shadow.current c.args.slot c.gather-count.result (frame_in self.frames.cache.entries) (frame_in c.settle.new.self.cache.entries) = rw (← c.current-owners.ensures.current) c.settle.ensures in
+    let settled : AreSettled self.shadow.current c.args.slot c.gather-count.result (frame_in self.frames.cache) (frame_in c.settle.new.self.cache) = rw (← c.current-owners.ensures.current) c.settle.ensures.settled in
     record {
       saved_area = self.saved_area;
-      holds = IsBuffer-written self.holds writes settled did.size (holds-run run c.first.ensures few place did.only.told.1 c.in_ok-write_run.ensures.written);
+      holds = rw c.settle.ensures.room (IsBuffer-written self.holds writes settled did.size (holds-run run c.first.ensures few place did.only.told.1 c.in_ok-write_run.ensures.written));
     }
 
 pub returns-clause-did : goal.returns-clause-did
@@ -65,10 +65,10 @@ returns-clause-did g c =
     let place = ap (λ (n : ℕ). self.first_slot + n) c.from.ensures in
     let did = c.write_run.ensures.did in
     let writes = run_of {b = buffer_view self} run c.current-owners.ensures.current c.gather-count.ensures.gathered (omega (arith, c.if-count-eq0.false)) few c.first.ensures place did in
-    let settled : AreSettled self.shadow.current c.args.slot c.gather-count.result (frame_in self.frames.cache.entries) (frame_in c.settle.new.self.cache.entries) = rw (← c.current-owners.ensures.current) c.settle.ensures in
+    let settled : AreSettled self.shadow.current c.args.slot c.gather-count.result (frame_in self.frames.cache) (frame_in c.settle.new.self.cache) = rw (← c.current-owners.ensures.current) c.settle.ensures.settled in
     let waits = first_waits self.holds writes in
     record {
-      keeps = KeepsPages-written self.holds writes settled (omega (arith, g.met.D.Device.limited self.device, c.write_run.ensures.counts)) did.cause.later;
+      keeps = rw c.settle.ensures.room (KeepsPages-written self.holds writes settled (omega (arith, g.met.D.Device.limited self.device, c.write_run.ensures.counts)) did.cause.later);
       loose = loose-run self.holds writes;
       settles = settles-one _ waits (first_settled self.holds writes settled) (waits-settled self.holds writes settled) did.writes;
       few = writes-one _ _ _ _ waits did.writes;

@@ -1,16 +1,15 @@
-use Rattle.std.proofs.Common.{◌-◌, length, sym, ap}
-use Rattle.rss_buffer.specs.declared.frames.Frame.{Frame}
-use Rattle.rss_buffer.proofs.Lookups.{frame_in-place, last_entry-none}
+use Rattle.rss_frames.specs.Entries.{entries}
+use Rattle.rss_buffer.proofs.Lookups.{eldest_there, eldest_none, eldest_apart}
 use Rattle.rss_buffer.proofs.frames.Frames.eldest.Goals as goal
 
-pub returns-in_err-key-clause-none : goal.returns-in_err-key-clause-none
-returns-in_err-key-clause-none c = rw c.from_residual.ensures (last_entry-none c.args.self.now.cache.entries (sym c.in_err-key.ensures))
-
 pub returns-clause-there : goal.returns-clause-there
-returns-clause-there c =
-    let entries = c.args.self.now.cache.entries in
-    record {
-      frame = c.in_ok-key.frame.now.value;
-      there = frame_in-place entries c.in_ok-key.key.now (length entries - 1) c.in_ok-key.frame.now c.len-len.ensures.valid.0 (sym c.in_ok-key.ensures);
-      mark = ap (λ (f : Frame). f.changed) (sym c.as_ref.ensures);
-    }
+returns-clause-there c = eldest_there (entries c.args.self.now.cache) c.eldest.result c.len-len.ensures.distinct c.eldest.ensures
+
+pub returns-clause-none : goal.returns-clause-none
+returns-clause-none c = eldest_none (entries c.args.self.now.cache) c.eldest.result c.eldest.ensures
+
+pub returns-clause-holds_some : goal.returns-clause-holds_some
+returns-clause-holds_some c = c.room-room.ensures.some
+
+pub returns-clause-not_newest : goal.returns-clause-not_newest
+returns-clause-not_newest c = eldest_apart (entries c.args.self.now.cache) c.eldest.result c.len-len.ensures.distinct c.eldest.ensures

@@ -1,12 +1,16 @@
-use Rattle.std.proofs.Common.{arith}
-use Rattle.rss_buffer.proofs.Lookups.{frame_in-remove_entry, IsSome-compared, length-remove_entry, compared}
+use Rattle.std.proofs.Common.{◌∙◌, length, ap, arith}
+use Rattle.rss_frames.specs.Entries.{entries, entry}
+use Rattle.rss_frames.proofs.Looked.{fewer_others}
+use Rattle.rss_buffer.proofs.Lookups.{in_shown, among_others, some_entry}
 use Rattle.rss_buffer.proofs.frames.Frames.remove.Goals as goal
 
 pub returns-clause-gone : goal.returns-clause-gone
-returns-clause-gone c = rw c.pop.ensures.entries (frame_in-remove_entry c.args.self.now.cache.entries c.args.key c.len-len.ensures.valid.0)
-
-pub returns-clause-fewer : goal.returns-clause-fewer
-returns-clause-fewer c = λ some. rw c.pop.ensures.entries (omega (arith, length-remove_entry (compared c.args.key) c.args.self.now.cache.entries (IsSome-compared c.args.self.now.cache.entries c.args.key some)))
+returns-clause-gone c = in_shown c.remove.ensures ∙ among_others c.args.key (entries c.args.self.now.cache)
 
 pub returns-clause-free : goal.returns-clause-free
-returns-clause-free c = λ some. rw c.pop.ensures.entries (omega (arith, rw c.pop.ensures.entries at (returns-clause-fewer c some), c.len-len.ensures.valid.1))
+returns-clause-free c = λ some.
+    let es = entries c.args.self.now.cache in
+    omega (arith, fewer_others c.args.key es (some_entry (entry c.args.key es) some), ap length c.remove.ensures.are, c.remove.ensures.room_is, c.len-len.ensures.most, c.len-len.ensures.len)
+
+pub returns-clause-room : goal.returns-clause-room
+returns-clause-room c = c.remove.ensures.room_is

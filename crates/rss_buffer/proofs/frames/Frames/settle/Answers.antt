@@ -13,9 +13,16 @@ loop-at-preserved c =
     let count = c.loop-at.at - slot in
     let at : slot + count ≡ c.loop-at.at = omega (arith, c.loop-at.auto.at) in
     let next : count + 1 ≡ c.loop-at.at + 1 - slot = omega (arith, at) in
-    let frames = frame_in c.args.self.now.cache.entries in
-    let frames_mid = frame_in c.loop-at.self.cache.entries in
-    subst (λ (n : ℕ). AreSettled owners slot n frames (frame_in c.match-owner.self.cache.entries)) next (elim c.match-owner.branch [
-      | in-Some w ↦ rw w.self-is (settled-more owners slot count frames frames_mid c.loop-at.invariant _ w.in-Some.key (ap (owner_of owners) at ∙ sym c.owner.ensures ∙ w.in-Some.is) w.settle_page.ensures)
-      | in_default w ↦ rw w.self-is (settled-past owners slot count frames frames_mid c.loop-at.invariant (ap (owner_of owners) at ∙ sym c.owner.ensures ∙ w.in_default.is))
-    ])
+    let frames = frame_in c.args.self.now.cache in
+    let frames_mid = frame_in c.loop-at.self.cache in
+    let so_far = c.loop-at.invariant in
+    record {
+      settled = subst (λ (n : ℕ). AreSettled owners slot n frames (frame_in c.match-owner.self.cache)) next (elim c.match-owner.branch [
+        | in-Some w ↦ rw w.self-is (settled-more owners slot count frames frames_mid so_far.settled _ w.in-Some.key (ap (owner_of owners) at ∙ sym c.owner.ensures ∙ w.in-Some.is) w.settle_page.ensures.settled)
+        | in_default w ↦ rw w.self-is (settled-past owners slot count frames frames_mid so_far.settled (ap (owner_of owners) at ∙ sym c.owner.ensures ∙ w.in_default.is))
+      ]);
+      room = elim c.match-owner.branch [
+        | in-Some w ↦ rw w.self-is (w.settle_page.ensures.room ∙ so_far.room)
+        | in_default w ↦ rw w.self-is so_far.room
+      ];
+    }

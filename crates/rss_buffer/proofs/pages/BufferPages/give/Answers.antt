@@ -14,13 +14,13 @@ invariant_of-self g c =
     let self = c.args.self.now in
     let re = Reslots-loses self.shadow c.give.new.self c.args.key self.holds.laid_out.table self.holds.laid_out.room c.give.ensures.loses in
     let change = changes_page (buffer_view self) None self.holds re c.remove.ensures.gone c.unmap.ensures (λ space. refl) in
-    record { saved_area = λ area is. absurd (cc); holds = IsBuffer-changes change self.holds (λ f is. absurd (cc)) }
+    record { saved_area = λ area is. absurd (cc); holds = rw c.remove.ensures.room (IsBuffer-changes change self.holds (λ f is. absurd (cc))) }
 
 pub returns-clause-given : goal.returns-clause-given
 returns-clause-given g c =
     let self = c.args.self.now in
     let re = Reslots-loses self.shadow c.give.new.self c.args.key self.holds.laid_out.table self.holds.laid_out.room c.give.ensures.loses in
-    gives_page (KeepsPages-rests (buffer_view self)) (changes_page (buffer_view self) None self.holds re c.remove.ensures.gone c.unmap.ensures (λ space. refl))
+    rw c.remove.ensures.room (gives_page (KeepsPages-rests (buffer_view self)) (changes_page (buffer_view self) None self.holds re c.remove.ensures.gone c.unmap.ensures (λ space. refl)))
 
 pub returns-clause-did : goal.returns-clause-did
 returns-clause-did g c =
@@ -28,4 +28,4 @@ returns-clause-did g c =
     let re = Reslots-loses self.shadow c.give.new.self c.args.key self.holds.laid_out.table self.holds.laid_out.room c.give.ensures.loses in
     let change = changes_page (buffer_view self) None self.holds re c.remove.ensures.gone c.unmap.ensures (λ space. refl) in
     let rests = KeepsPages-rests (buffer_view self) in
-    gave _ (passes_on change rests (omega arith)) (changed-off change rests) (gives_page rests change)
+    rw c.remove.ensures.room (gave _ (passes_on change rests (omega arith)) (changed-off change rests) (gives_page rests change))

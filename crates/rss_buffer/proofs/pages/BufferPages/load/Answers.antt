@@ -1,13 +1,13 @@
-use Rattle.std.proofs.Common.{rules}
-use Rattle.rss_buffer.proofs.Changed.{asked, looks}
-use Rattle.rss_buffer.proofs.Turns.{IsBuffer-beside}
+use Rattle.std.proofs.lemmas.Result.{on_ok_weaker}
+use Rattle.rss_buffer.proofs.Changed.{looks}
+use Rattle.rss_buffer.proofs.Lookups.{newest_there}
 use Rattle.rss_buffer.proofs.pages.BufferPages.load.Goals as goal
 
-pub invariant_of-self : goal.invariant_of-self
-invariant_of-self g c = record { saved_area = c.args.self.now.saved_area; holds = IsBuffer-beside c.args.self.now.holds c.args.self.now.holds.noted }
+pub returns-clause-there : goal.returns-clause-there
+returns-clause-there g c = on_ok_weaker c.ask.result (λ newest. newest_there _ c.args.key newest) c.ask.ensures.newest
+
+pub returns-clause-asks : goal.returns-clause-asks
+returns-clause-asks g c = c.ask.ensures.keeps.asks
 
 pub returns-clause-unwritten : goal.returns-clause-unwritten
-returns-clause-unwritten g c = looks c.args.self.now.holds c.bring.ensures.did.keeps
-
-pub returns-clause-did : goal.returns-clause-did
-returns-clause-did g c = asked c.bring.ensures.did (search rules) (search rules)
+returns-clause-unwritten g c = looks c.args.self.now.holds c.ask.ensures.keeps

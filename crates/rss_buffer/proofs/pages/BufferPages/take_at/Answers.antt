@@ -1,10 +1,9 @@
-use Rattle.std.proofs.Common.{◌∙◌, refl, ap, sym}
+use Rattle.std.proofs.Common.{◌∙◌, refl, ap}
 use Rattle.rss_base.specs.StoredPages.{mapped_by}
 use Rattle.rss_shadow.specs.Maps.{Maps}
-use Rattle.rss_base.proofs.Steps.{took, lacks_memory, fails_by}
+use Rattle.rss_base.proofs.Steps.{took, fails_by}
 use Rattle.rss_buffer.specs.Devices.{buffer_view}
 use Rattle.rss_shadow.proofs.Owned.{LacksPage-unmapped}
-use Rattle.rss_buffer.proofs.Turns.{ok_then, err_then, IsBuffer-same, KeepsPages-same, KeepsPages-then}
 use Rattle.rss_buffer.proofs.Changed.{Reslots-gained, Fits-changed, changes_page, IsBuffer-changes, passes_on, changed-off, takes_page, keeps_step}
 use Rattle.rss_buffer.proofs.pages.BufferPages.take_at.Goals as goal
 
@@ -12,49 +11,34 @@ pub take_at-requires-clause-lacking : goal.take_at-requires-clause-lacking
 take_at-requires-clause-lacking g c =
     LacksPage-unmapped c.make_room.new.self.shadow.current c.args.key (ap (λ (m : Maps). mapped_by m.current c.args.key) c.make_room.ensures.did.keeps.maps ∙ c.requires.unmapped)
 
--- ---- there is no room, or no memory
+-- ---- there is no room
 
 pub returns-in_err-make_room-clause-did : goal.returns-in_err-make_room-clause-did
 returns-in_err-make_room-clause-did g c =
     let room = c.in_err-make_room.ensures.did in
     fails_by _ c.from_residual.ensures.1 room.cause (keeps_step room.keeps room.few)
 
+-- ---- the page is mapped
+
 pub invariant_of-self : goal.invariant_of-self
 invariant_of-self g c =
     let mid = c.make_room.new.self in
-    let left = err_then c.put.result (sym c.is_err.ensures.value ∙ c.if-is_err.true) c.put.ensures.err in
-    record { saved_area = mid.saved_area; holds = IsBuffer-same mid.holds left }
-
-pub returns-then-is_err-clause-did : goal.returns-then-is_err-clause-did
-returns-then-is_err-clause-did g c =
-    let room = c.make_room.ensures.did in
-    let left = err_then c.put.result (sym c.is_err.ensures.value ∙ c.if-is_err.true) c.put.ensures.err in
-    lacks_memory (keeps_step (KeepsPages-then room.keeps (KeepsPages-same left)) room.few)
-
--- ---- the page is mapped
-
-pub invariant_of-self-2 : goal.invariant_of-self-2
-invariant_of-self-2 g c =
-    let mid = c.make_room.new.self in
     let gains = c.take_at.ensures.gains in
     let re = Reslots-gained mid.holds.laid_out.table c.make_room.ensures.did.keeps.maps c.requires.room c.requires.allowed c.requires.unmapped gains in
-    let now = ok_then c.put.result (sym c.is_err.ensures.value ∙ c.if-is_err.false) c.put.ensures.ok in
-    let change = changes_page (buffer_view mid) _ mid.holds re now c.map.ensures (λ space. space) in
-    record { saved_area = λ area is. absurd (cc); holds = IsBuffer-changes change mid.holds (Fits-changed mid.shadow.shadow gains.slot _ refl gains.free.shadow) }
+    let change = changes_page (buffer_view mid) _ mid.holds re c.put.ensures.put c.map.ensures (λ space. space) in
+    record { saved_area = λ area is. absurd (cc); holds = rw c.put.ensures.room (IsBuffer-changes change mid.holds (Fits-changed mid.shadow.shadow gains.slot _ refl gains.free.shadow)) }
 
 pub returns-clause-taken : goal.returns-clause-taken
 returns-clause-taken g c =
     let mid = c.make_room.new.self in
     let keeps = c.make_room.ensures.did.keeps in
     let re = Reslots-gained mid.holds.laid_out.table keeps.maps c.requires.room c.requires.allowed c.requires.unmapped c.take_at.ensures.gains in
-    let now = ok_then c.put.result (sym c.is_err.ensures.value ∙ c.if-is_err.false) c.put.ensures.ok in
-    takes_page keeps (changes_page (buffer_view mid) _ mid.holds re now c.map.ensures (λ space. space))
+    rw c.put.ensures.room (takes_page keeps (changes_page (buffer_view mid) _ mid.holds re c.put.ensures.put c.map.ensures (λ space. space)))
 
 pub returns-clause-did : goal.returns-clause-did
 returns-clause-did g c =
     let mid = c.make_room.new.self in
     let room = c.make_room.ensures.did in
     let re = Reslots-gained mid.holds.laid_out.table room.keeps.maps c.requires.room c.requires.allowed c.requires.unmapped c.take_at.ensures.gains in
-    let now = ok_then c.put.result (sym c.is_err.ensures.value ∙ c.if-is_err.false) c.put.ensures.ok in
-    let change = changes_page (buffer_view mid) _ mid.holds re now c.map.ensures (λ space. space) in
-    took _ (passes_on change room.keeps room.few) (changed-off change room.keeps) (takes_page room.keeps change)
+    let change = changes_page (buffer_view mid) _ mid.holds re c.put.ensures.put c.map.ensures (λ space. space) in
+    rw c.put.ensures.room (took _ (passes_on change room.keeps room.few) (changed-off change room.keeps) (takes_page room.keeps change))

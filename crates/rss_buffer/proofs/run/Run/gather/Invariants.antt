@@ -7,5 +7,5 @@ use Rattle.rss_buffer.proofs.run.Run.gather.Given as goal
 abbrev pub invariant-loop-count : goal.invariant-loop-count
 invariant-loop-count l = record {
   room : length l.self.pages.items ≡ run_pages;
-  gathered : IsGathered l.owners (frame_in l.frames.cache.entries) l.slot l.count l.self.pages.items;
+  gathered : IsGathered l.owners (frame_in l.frames.cache) l.slot l.count l.self.pages.items;
 }

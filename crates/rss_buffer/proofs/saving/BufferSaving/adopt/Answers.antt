@@ -31,6 +31,7 @@ returns-clause-did g c =
       held = λ told. refl;
       notes = refl;
       log_pages = refl;
+      frames = refl;
       asks = refl;
       told = (λ is. is, λ is. is);
       later = omega arith;

@@ -1,0 +1,10 @@
+use Rattle.std.proofs.Common.{rules}
+use Rattle.rss_buffer.proofs.Changed.{asked}
+use Rattle.rss_buffer.proofs.Turns.{IsBuffer-beside}
+use Rattle.rss_buffer.proofs.buffer.Buffer.ask.Goals as goal
+
+pub invariant_of-self : goal.invariant_of-self
+invariant_of-self g c = record { saved_area = c.args.self.now.saved_area; holds = IsBuffer-beside c.args.self.now.holds c.args.self.now.holds.noted }
+
+pub returns-clause-did : goal.returns-clause-did
+returns-clause-did g c = asked c.bring.ensures.did (search rules) (search rules)

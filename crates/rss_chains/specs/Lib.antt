@@ -1,0 +1,5 @@
+pub mod Lists
+pub mod Links
+pub mod Recency
+pub mod Table
+pub mod Chains

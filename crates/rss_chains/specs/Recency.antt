@@ -1,0 +1,7 @@
+-- What a layer above sees of an order of frames.
+use Rattle.std.specs.Prelude.{ℕ, List}
+
+-- so many frames, and those of them that are in the order, the one that was used last first
+pub record Recency : Type 0 where
+  pub frames : List ℕ
+  pub room : ℕ
