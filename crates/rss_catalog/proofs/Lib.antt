@@ -1,4 +1,5 @@
 pub mod Numbered
+pub mod Plain
 pub mod Listed
 pub mod Pieces
 pub mod Spelled

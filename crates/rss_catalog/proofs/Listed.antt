@@ -16,7 +16,8 @@ use Rattle.rss_base.specs.declared.relation.RelationEntry.{RelationEntry}
 use Rattle.rss_base.specs.declared.refusal.Kind.{Kind}
 use Rattle.rss_base.specs.declared.refusal.Kind.TheVariants.{Segment, Relation}
 use Rattle.rss_catalog.specs.Catalogs.{CatalogView, HasRelationIn, IsSafe, Lists}
-use Rattle.rss_catalog.specs.Checking.{AreOnce, relation_names}
+use Rattle.rss_catalog.specs.Checking.{AreOnce, relation_names, listing_of}
+use Rattle.rss_catalog.proofs.Plain.{plain_paths}
 use Rattle.rss_catalog.proofs.Numbered.{numbered_at, numbered_within, with_same, with_other, with_cases, used_has, numbered_map}
 
 -- ---- names
@@ -59,6 +60,8 @@ pub fits_with_segment : (listing : Listing) (number : ℕ) (name : Name) → Lis
 fits_with_segment listing number name fits low high is_name unlisted = record {
   segment_places = length-set listing.segments (number - 1) (Some name) ∙ fits.segment_places;
   relation_places = fits.relation_places;
+  paths = plain_paths _ (record { no_images = fits.plain.no_images; no_links = fits.plain.no_links });
+  plain = record { no_images = fits.plain.no_images; no_links = fits.plain.no_links };
   segment_names = λ k found is. elim (with_cases listing.segments number k (Some name) found low high is) [
     | inl here ↦ subst IsName (same_Some name found here.1) is_name
     | inr off ↦ fits.segment_names k found off.1
@@ -81,6 +84,8 @@ pub fits_without_segment : (listing : Listing) (number : ℕ) → ListingFits li
 fits_without_segment listing number fits low high none = record {
   segment_places = length-set listing.segments (number - 1) None ∙ fits.segment_places;
   relation_places = fits.relation_places;
+  paths = plain_paths _ (record { no_images = fits.plain.no_images; no_links = fits.plain.no_links });
+  plain = record { no_images = fits.plain.no_images; no_links = fits.plain.no_links };
   segment_names = λ k found is. elim (with_cases listing.segments number k None found low high is) [
     | inl here ↦ absurd (none-some found here.1)
     | inr off ↦ fits.segment_names k found off.1
@@ -102,6 +107,8 @@ pub fits_with_relation : (listing : Listing) (number : ℕ) (relation : Relation
 fits_with_relation listing number relation fits low high entry_fits only = record {
   segment_places = fits.segment_places;
   relation_places = length-set listing.relations (number - 1) (Some relation) ∙ fits.relation_places;
+  paths = plain_paths _ (record { no_images = fits.plain.no_images; no_links = fits.plain.no_links });
+  plain = record { no_images = fits.plain.no_images; no_links = fits.plain.no_links };
   segment_names = fits.segment_names;
   segments_once = fits.segments_once;
   relations_once = subst AreOnce (sym (names_put listing.relations number (Some relation)))
@@ -116,6 +123,8 @@ pub fits_without_relation : (listing : Listing) (number : ℕ) → ListingFits l
 fits_without_relation listing number fits low high = record {
   segment_places = fits.segment_places;
   relation_places = length-set listing.relations (number - 1) None ∙ fits.relation_places;
+  paths = plain_paths _ (record { no_images = fits.plain.no_images; no_links = fits.plain.no_links });
+  plain = record { no_images = fits.plain.no_images; no_links = fits.plain.no_links };
   segment_names = fits.segment_names;
   segments_once = fits.segments_once;
   relations_once = subst AreOnce (sym (names_put listing.relations number None))
@@ -177,16 +186,16 @@ safe_fit listing relation places fit =
     }
 
 -- the count of a relation was changed in its place
-pub counted_in_place : (names : List (Option Name)) (items : List (Option RelationEntry)) (pending : List Bool) (old : CatalogView) (number n page p live : ℕ) (read : RelationEntry) (d : Option RelationEntry) → record { listing = record { segments = names; relations = items }; pending = pending } ≡ old
+pub counted_in_place : (names : List (Option Name)) (items : List (Option RelationEntry)) (pending : List Bool) (old : CatalogView) (number n page p live : ℕ) (read : RelationEntry) (d : Option RelationEntry) → record { listing = listing_of names items; pending = pending } ≡ old
     → n ≡ number → p ≡ page → d ≡ get_or items (n - 1) d → d ≡ Some read → (relation : RelationEntry) → relation_at old.listing number ≡ Some relation
     → Lists (with_relation old.listing number (Some (with_count live relation))) page old
-    (record { listing = record { segments = names; relations = set items (n - 1) (Some (with_count live read)) }; pending = set pending p true })
+    (record { listing = listing_of names (set items (n - 1) (Some (with_count live read))); pending = set pending p true })
 counted_in_place names items pending old number n page p live read d was same_number same_page found is relation at =
     let there : numbered items number ≡ Some relation = ap (λ (v : CatalogView). numbered v.listing.relations number) was ∙ at in
     let within = numbered_within items number relation there in
     let same : relation ≡ read = same_Some relation read (sym there ∙ numbered_at items number within.0 within.1 ∙ ap (λ (k : ℕ). get_or items (k - 1) None) (sym same_number) ∙ get_or_default items (n - 1) None d (omega (arith, within, same_number)) ∙ sym found ∙ is) in
     record {
-      is = λ i. record { segments = ap (λ (v : CatalogView). v.listing.segments) was i; relations = set (ap (λ (v : CatalogView). v.listing.relations) was i) (same_number i - 1) (Some (with_count live ((sym same) i))) };
+      is = λ i. record { segments = ap (λ (v : CatalogView). v.listing.segments) was i; images = ap (λ (v : CatalogView). v.listing.images) was i; links = ap (λ (v : CatalogView). v.listing.links) was i; relations = set (ap (λ (v : CatalogView). v.listing.relations) was i) (same_number i - 1) (Some (with_count live ((sym same) i))) };
       pending = λ i. set (ap (λ (v : CatalogView). v.pending) was i) (same_page i) true;
     }
 

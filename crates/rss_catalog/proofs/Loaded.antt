@@ -13,7 +13,7 @@ use Rattle.rss_base.specs.DiskRule.{IsTold}
 use Rattle.rss_base.specs.Paged.{Mapped, Held, page_key}
 use Rattle.rss_base.specs.Steps.{PagesView, no_page}
 use Rattle.rss_base.specs.Looking.{LooksStep, ChecksPages}
-use Rattle.rss_base.specs.Listings.{Listing, ListingFits, HoldsListing, catalog_page, padded, segment_spelled, relation_spelled, relations_on}
+use Rattle.rss_base.specs.Listings.{Listing, ListingFits, IsPlain, HoldsListing, catalog_page, padded, segment_spelled, relation_spelled, relations_on}
 use Rattle.rss_base.specs.declared.name.Name.{Name}
 use Rattle.rss_base.specs.declared.relation.RelationEntry.{RelationEntry}
 use Rattle.rss_base.specs.declared.place.Place.{Place}
@@ -26,6 +26,8 @@ use Rattle.rss_base.proofs.Looking.{checks_then, checks_as, checks_within}
 use Rattle.rss_catalog.specs.Catalogs.{CatalogView, IsCatalogPlace, HasSystemPages, Loads, none_pending}
 use Rattle.rss_catalog.specs.Reading.{pieces, segment_of, relation_of, entry_of, fields_of, HasFewFields}
 use Rattle.rss_catalog.specs.Loading.{SpellsNone, IsFlawed, HasPage, LoadsSegments, LoadsRelations, on_page}
+use Rattle.rss_catalog.specs.Checking.{listing_of}
+use Rattle.rss_catalog.proofs.Plain.{zeros_past}
 use Rattle.rss_catalog.proofs.Pieces.{length-pieces}
 use Rattle.rss_catalog.proofs.Read.{segments_back, relations_back, relations_page_is}
 
@@ -133,7 +135,7 @@ no_relations old before items new now first page spelled low has is same here ot
     let eight = map relation_of (pieces 512 8 page) in
     let so = spelled_so old (before + 1) page listing has (omega arith) told holds in
     let it : take (length now - first) (drop first now) ≡ relations_on listing (before + 1) = last_read items eight now new first is same here ∙ ap (λ (bytes : List ℕ). map relation_of (pieces 512 8 bytes)) so ∙ relations_back listing (before + 1) fits (omega arith) (omega arith) in
-    other (so ∙ relations_page_is listing (before + 1) (omega arith) ∙ sym (form ∙ ap (λ (l : List (Option RelationEntry)). padded page_bytes (flat_map relation_spelled l)) it))
+    other (so ∙ relations_page_is listing (before + 1) (omega arith) (omega arith) ∙ sym (form ∙ ap (λ (l : List (Option RelationEntry)). padded page_bytes (flat_map relation_spelled l)) it))
 
 -- ---- the same pages, before and after a look
 
@@ -197,13 +199,12 @@ no_device {fault = fault} {place = place} is error = let same : Damaged place �
 -- ---- the other pages
 
 -- behind the pages of the relations there are zeros
-pub zeros_behind : (listing : Listing) (page : ℕ) → 1 ≤ page → length listing.relations ≤ 8 * (page - 1) → zero_page ≡ catalog_page listing page
-zeros_behind listing page low past =
-    sym (relations_page_is listing page low ∙ ap (λ (l : List (Option RelationEntry)). padded page_bytes (flat_map relation_spelled (take 8 l))) (drop_all (8 * (page - 1)) listing.relations past))
+pub zeros_behind : (listing : Listing) → IsPlain listing → (page : ℕ) → 6 < page → zero_page ≡ catalog_page listing page
+zeros_behind listing plain page past = sym (zeros_past listing plain page past)
 
 pub no_zeros : (old : PagesView) (number : ℕ) (page : List ℕ) → HasPage old number page → 7 ≤ number → number < system_pages → (page ≡ zero_page → ⊥) → SpellsNone old
 no_zeros old number page has low high other = λ told listing fits holds.
-    other (spelled_so old number page listing has high told holds ∙ sym (zeros_behind listing number (omega arith) (omega (arith, fits.relation_places))))
+    other (spelled_so old number page listing has high told holds ∙ sym (zeros_behind listing fits.plain number (omega arith)))
 
 pub zeros_more : {old mid : PagesView} (number : ℕ) → SamePages old mid → ((page : ℕ) → 7 ≤ page → page < number → HasPage old page zero_page) → HasPage mid number zero_page → (page : ℕ) → 7 ≤ page → page < number + 1 → HasPage old page zero_page
 zeros_more {old = old} number same before has page low high = elim (cases_eq page number) [
@@ -222,19 +223,19 @@ segments_after same so = record {
 
 -- all pages of a listing were found
 pub holds_all : (old : PagesView) (names : List (Option Name)) (items : List (Option RelationEntry)) → length items ≡ 48 → LoadsSegments old names → LoadsRelations old 6 items → ((page : ℕ) → 6 < page → page < system_pages → HasPage old page zero_page)
-    → (page : ℕ) → page < system_pages → HasPage old page (catalog_page (record { segments = names; relations = items }) page)
+    → (page : ℕ) → page < system_pages → HasPage old page (catalog_page (listing_of names items) page)
 holds_all old names items long segments relations zeros page low =
-    let listing : Listing = record { segments = names; relations = items } in
+    let listing : Listing = listing_of names items in
     elim (cases_eq page 0) [
       | inl here ↦ subst (λ (n : ℕ). HasPage old n (catalog_page listing n)) (sym here) segments.has
       | inr off ↦ elim (cases_lt 6 page) [
-        | inl past ↦ subst (λ (bytes : List ℕ). HasPage old page bytes) (zeros_behind listing page (omega arith) (omega (arith, long))) (zeros page past low)
-        | inr few ↦ subst (λ (bytes : List ℕ). HasPage old page bytes) (sym (relations_page_is listing page (omega (arith, off)))) (relations.has page (omega (arith, off)) few)
+        | inl past ↦ subst (λ (bytes : List ℕ). HasPage old page bytes) (zeros_behind listing (record { no_images = refl; no_links = refl }) page past) (zeros page past low)
+        | inr few ↦ subst (λ (bytes : List ℕ). HasPage old page bytes) (sym (relations_page_is listing page (omega (arith, off)) few)) (relations.has page (omega (arith, off)) few)
       ]
     ]
 
-pub loads_all : (old : PagesView) (names : List (Option Name)) (items : List (Option RelationEntry)) → LoadsSegments old names → LoadsRelations old 6 items → ((page : ℕ) → 6 < page → page < system_pages → HasPage old page zero_page) → ListingFits (record { segments = names; relations = items })
-    → Loads old (record { listing = record { segments = names; relations = items }; pending = none_pending })
+pub loads_all : (old : PagesView) (names : List (Option Name)) (items : List (Option RelationEntry)) → LoadsSegments old names → LoadsRelations old 6 items → ((page : ℕ) → 6 < page → page < system_pages → HasPage old page zero_page) → ListingFits (listing_of names items)
+    → Loads old (record { listing = listing_of names items; pending = none_pending })
 loads_all old names items segments relations zeros fits =
     let has = holds_all old names items relations.places segments relations zeros in
     record {
@@ -245,8 +246,8 @@ loads_all old names items segments relations zeros fits =
     }
 
 -- a listing that doesn't fit was found, so that none that fits is spelled
-pub no_listing_fits : (old : PagesView) (names : List (Option Name)) (items : List (Option RelationEntry)) → LoadsSegments old names → LoadsRelations old 6 items → (ListingFits (record { segments = names; relations = items }) → ⊥) → SpellsNone old
+pub no_listing_fits : (old : PagesView) (names : List (Option Name)) (items : List (Option RelationEntry)) → LoadsSegments old names → LoadsRelations old 6 items → (ListingFits (listing_of names items) → ⊥) → SpellsNone old
 no_listing_fits old names items segments relations other = λ told listing fits holds.
     let same_names = segments.only told listing fits holds in
     let same_items : items ≡ listing.relations = relations.only told listing fits holds ∙ take_all 48 listing.relations (omega (arith, fits.relation_places)) in
-    other (subst ListingFits (sym (λ i. record { segments = same_names i; relations = same_items i })) fits)
+    other (subst ListingFits (sym (λ i. record { segments = same_names i; relations = same_items i; images = sym fits.plain.no_images i; links = sym fits.plain.no_links i })) fits)

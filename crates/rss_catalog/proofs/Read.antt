@@ -1,7 +1,7 @@
 -- What pages that were looked at hold, and what the pages of a listing read as.
 use Rattle.std.proofs.Common.{◌≡◌, ◌⊎◌, ℕ, ◌+◌, ◌-◌, ◌*◌, ◌<◌, ◌≤◌, suc, zero, Bool, true, false, List, [], ◌∷◌, ◌++◌, length, take, drop, get_or, replicate, Option, Some, None, All, refl, sym, ◌∙◌, ap, subst, inl, inr, arith}
-use Rattle.std.specs.Prelude.{Result, Ok, Err, map, flat_map, min, ◌==◌, is_some}
-use Rattle.std.proofs.lemmas.Bool.{cases_eq, cases_lt, cond-false, ne_eqb}
+use Rattle.std.specs.Prelude.{Result, Ok, Err, map, flat_map, min, ◌==◌, nat_le, is_some}
+use Rattle.std.proofs.lemmas.Bool.{cases_eq, cases_lt, cond-true, cond-false, ne_eqb, le-leb}
 use Rattle.std.proofs.lemmas.Option.{none-some, same_Some}
 use Rattle.std.proofs.lemmas.List.{length-map, length-take, length-drop, take_all, take-take, drop-drop, append-nil, get_or_default, get_or-take, get_or-drop, same_lists, drop_all, length_push}
 use Rattle.rss_base.specs.Sizes.{page_bytes, zero_page, segments, relations_most}
@@ -56,8 +56,8 @@ segments_back listing fits =
     ∙ all_back segment_of segment_spelled items (λ k d low. segment_back (get_or items k d) (named_at listing fits k d low))
 
 -- the page of a number that isn't the first
-pub relations_page_is : (listing : Listing) (page : ℕ) → 1 ≤ page → catalog_page listing page ≡ padded page_bytes (flat_map relation_spelled (relations_on listing page))
-relations_page_is listing page low = ap (padded page_bytes) (cond-false (page == 0) (flat_map segment_spelled listing.segments) (flat_map relation_spelled (relations_on listing page)) (ne_eqb page 0 (λ is. omega arith)))
+pub relations_page_is : (listing : Listing) (page : ℕ) → 1 ≤ page → page ≤ 6 → catalog_page listing page ≡ padded page_bytes (flat_map relation_spelled (relations_on listing page))
+relations_page_is listing page low high = ap (padded page_bytes) (cond-false (page == 0) _ _ (ne_eqb page 0 (λ is. omega arith)) ∙ cond-true (nat_le page 6) _ _ (le-leb page 6 high))
 
 -- the relations of a page are some of the listing
 on_formed : (listing : Listing) → ListingFits listing → (page : ℕ) → (k : ℕ) (d : Option RelationEntry) → k < length (relations_on listing page) → AreFormed (get_or (relations_on listing page) k d)
@@ -71,7 +71,7 @@ pub relations_back : (listing : Listing) (page : ℕ) → ListingFits listing �
 relations_back listing page fits low high =
     let items = relations_on listing page in
     let long : length items ≡ 8 = length-take 8 (drop (8 * (page - 1)) listing.relations) ∙ omega (arith, length-drop (8 * (page - 1)) listing.relations, fits.relation_places) in
-    ap (λ (bytes : List ℕ). map relation_of (pieces 512 8 bytes)) (relations_page_is listing page low)
+    ap (λ (bytes : List ℕ). map relation_of (pieces 512 8 bytes)) (relations_page_is listing page low high)
     ∙ ap (map relation_of) (pieces_of relation_spelled 512 items (replicate (4096 - length (flat_map relation_spelled items)) 0) 8 None (λ k d within. relation_long (get_or items k d) (on_formed listing fits page k d within)) (omega (arith, long))
     ∙ ap (map relation_spelled) (take_all 8 items (omega (arith, long))))
     ∙ all_back relation_of relation_spelled items (λ k d within. relation_back (get_or items k d) (on_formed listing fits page k d within))

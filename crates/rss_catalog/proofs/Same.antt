@@ -9,6 +9,7 @@ use Rattle.rss_base.specs.Paged.{Held}
 use Rattle.rss_base.specs.Listings.{Listing, ListingFits, HoldsListing, catalog_page, relations_on, no_listing, padded, segment_spelled, relation_spelled}
 use Rattle.rss_base.specs.declared.relation.RelationEntry.{RelationEntry}
 use Rattle.rss_catalog.specs.Reading.{pieces, segment_of, relation_of}
+use Rattle.rss_catalog.proofs.Plain.{nones_spelled, padded_zeros, take_some, zeros_past}
 use Rattle.rss_catalog.proofs.Read.{segments_back, relations_back, relations_page_is}
 
 -- a page of one is a page of the other
@@ -32,40 +33,22 @@ same_listing held one other holds_one holds_other fits_one fits_other =
     let few : page ≤ 6 = omega (arith, fits_one.relation_places) in
     let on : relations_on one page ≡ relations_on other page = sym (relations_back one page fits_one (omega arith) few) ∙ ap (λ (bytes : List ℕ). map relation_of (pieces 512 8 bytes)) (pages page (omega (arith, few))) ∙ relations_back other page fits_other (omega arith) few in
     place_on one k d ∙ ap (λ (l : List (Option RelationEntry)). get_or l (k % 8) d) on ∙ sym (place_on other k d)) in
-    λ i. record { segments = names i; relations = relations i }
+    let images : one.images ≡ other.images = fits_one.plain.no_images ∙ sym fits_other.plain.no_images in
+    let links : one.links ≡ other.links = fits_one.plain.no_links ∙ sym fits_other.plain.no_links in
+    λ i. record { segments = names i; relations = relations i; images = images i; links = links i }
 
 -- ---- the pages of the empty listing
-
-nones_spelled : {A : Type 0} (spell : Option A → List ℕ) (width : ℕ) → spell None ≡ replicate width 0 → (count : ℕ) → flat_map spell (replicate count None) ≡ replicate (count * width) 0
-nones_spelled spell width none zero = ap (λ (n : ℕ). replicate n 0) (sym (zero-mul width))
-nones_spelled spell width none (suc k) =
-    (λ i. none i ++ nones_spelled spell width none k i) ∙ replicate-append-replicate width (k * width) 0 ∙ ap (λ (n : ℕ). replicate n 0) (omega arith)
-
-padded_zeros : (bytes : List ℕ) (count : ℕ) → bytes ≡ replicate count 0 → count ≤ 4096 → padded page_bytes bytes ≡ zero_page
-padded_zeros bytes count is few =
-    let room : count + (4096 - count) ≡ 4096 = omega (arith, few) in
-    ap (padded page_bytes) is ∙ ap (λ (n : ℕ). replicate count 0 ++ replicate (4096 - n) 0) (length-replicate {A = ℕ} count 0)
-    ∙ replicate-append-replicate count (4096 - count) 0 ∙ ap (λ (n : ℕ). replicate n 0) room
-
-least_left : (a b : ℕ) → a ≤ b → min a b ≡ a
-least_left a b few = omega (arith, few)
-
-least_right : (a b : ℕ) → b ≤ a → min a b ≡ b
-least_right a b few = omega (arith, few)
-
-take_some : (count : ℕ) → take 8 (replicate {A = Option RelationEntry} count None) ≡ replicate (min 8 count) None
-take_some count = elim (cases_lt 8 count) [
-  | inl more ↦ take-replicate 8 count None (omega arith) ∙ ap (λ (n : ℕ). replicate n None) (sym (least_left 8 count (omega arith)))
-  | inr few ↦ take_all 8 (replicate count None) (omega (arith, length-replicate {A = Option RelationEntry} count None)) ∙ ap (λ (n : ℕ). replicate n None) (sym (least_right 8 count few))
-]
 
 -- each page of the empty listing is zeros
 pub empty_pages : (page : ℕ) → page < system_pages → catalog_page no_listing page ≡ zero_page
 empty_pages page low = elim (cases_eq page 0) [
   | inl here ↦ ap (catalog_page no_listing) here ∙ padded_zeros (flat_map segment_spelled (replicate 8 None)) (8 * 16) (nones_spelled segment_spelled 16 refl 8) (omega arith)
-  | inr off ↦
-      let from = 8 * (page - 1) in
-      let rest : relations_on no_listing page ≡ replicate (min 8 (48 - from)) None = ap (take 8) (drop-replicate from 48 None) ∙ take_some (48 - from) in
-      relations_page_is no_listing page (omega (arith, off))
-      ∙ padded_zeros (flat_map relation_spelled (relations_on no_listing page)) (min 8 (48 - from) * 512) (ap (flat_map relation_spelled) rest ∙ nones_spelled relation_spelled 512 refl (min 8 (48 - from))) (omega arith)
+  | inr off ↦ elim (cases_lt 6 page) [
+    | inl past ↦ zeros_past no_listing (record { no_images = refl; no_links = refl }) page past
+    | inr few ↦
+        let from = 8 * (page - 1) in
+        let rest : relations_on no_listing page ≡ replicate (min 8 (48 - from)) None = ap (take 8) (drop-replicate from 48 None) ∙ take_some 8 (48 - from) in
+        relations_page_is no_listing page (omega (arith, off)) few
+        ∙ padded_zeros (flat_map relation_spelled (relations_on no_listing page)) (min 8 (48 - from) * 512) (ap (flat_map relation_spelled) rest ∙ nones_spelled relation_spelled 512 refl (min 8 (48 - from))) (omega arith)
+  ]
 ]

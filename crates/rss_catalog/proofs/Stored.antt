@@ -34,10 +34,10 @@ pub few_part : (items now : List (Option RelationEntry)) (from count : ℕ) → 
 few_part items now from count safe same = All-take HasFewFields count (drop from now) (All-drop HasFewFields from now (subst (λ (l : List (Option RelationEntry)). All HasFewFields l) (sym same) (few_all items safe)))
 
 -- the page of relations as it was put together
-pub page_is : (listing : Listing) (items now : List (Option RelationEntry)) (number first eight : ℕ) (page : List ℕ) → page ≡ padded page_bytes (flat_map relation_spelled (take (first + eight - first) (drop first now))) → now ≡ items → items ≡ listing.relations → first ≡ 8 * (number - 1) → eight ≡ 8 → 1 ≤ number → page ≡ catalog_page listing number
-page_is listing items now number first eight page is same those here many low =
+pub page_is : (listing : Listing) (items now : List (Option RelationEntry)) (number first eight : ℕ) (page : List ℕ) → page ≡ padded page_bytes (flat_map relation_spelled (take (first + eight - first) (drop first now))) → now ≡ items → items ≡ listing.relations → first ≡ 8 * (number - 1) → eight ≡ 8 → 1 ≤ number → number ≤ 6 → page ≡ catalog_page listing number
+page_is listing items now number first eight page is same those here many low high =
     let count : first + eight - first ≡ 8 = omega (arith, many) in
-    is ∙ (λ i. padded page_bytes (flat_map relation_spelled (take (count i) (drop (here i) ((same ∙ those) i))))) ∙ sym (relations_page_is listing number low)
+    is ∙ (λ i. padded page_bytes (flat_map relation_spelled (take (count i) (drop (here i) ((same ∙ those) i))))) ∙ sym (relations_page_is listing number low high)
 
 -- ---- the pages that were written
 

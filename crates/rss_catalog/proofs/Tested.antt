@@ -15,6 +15,7 @@ use Rattle.rss_base.specs.declared.relation.RelationEntry.{RelationEntry}
 use Rattle.rss_base.specs.declared.name.Name.{Name}
 use Rattle.rss_base.specs.declared.field.FieldDef.{FieldDef}
 use Rattle.rss_catalog.specs.Checking.{AreNames, AreOnce, IsTaken, FitsIn, MayStand, listing_of, relation_names}
+use Rattle.rss_catalog.proofs.Plain.{plain_paths}
 use Rattle.rss_catalog.proofs.Numbered.{numbered_at, numbered_within}
 
 -- ---- one name
@@ -239,6 +240,8 @@ pub listing_fits : (names : List (Option Name)) (items : List (Option RelationEn
 listing_fits names items count many most are_names once once_relations all each = record {
   segment_places = many;
   relation_places = most;
+  paths = plain_paths _ (record { no_images = refl; no_links = refl });
+  plain = record { no_images = refl; no_links = refl };
   segment_names = are_names;
   segments_once = once;
   relations_once = once_relations;

@@ -1,5 +1,6 @@
 -- What is asked of a listing, by parts.
-use Rattle.std.specs.Prelude.{◌≡◌, ℕ, List, [], Contains, map, option_map, Option, Some}
+use Rattle.std.specs.Prelude.{◌≡◌, ℕ, List, [], Contains, map, replicate, option_map, Option, Some, None}
+use Rattle.rss_base.specs.Sizes.{images_most, links_most}
 use Rattle.rss_base.specs.Names.{IsName}
 use Rattle.rss_base.specs.Listings.{Listing, numbered, EntryFits}
 use Rattle.rss_base.specs.declared.name.Name.{Name}
@@ -7,7 +8,12 @@ use Rattle.rss_base.specs.declared.relation.RelationEntry.{RelationEntry}
 
 -- these are listed
 abbrev pub listing_of : List (Option Name) → List (Option RelationEntry) → Listing
-listing_of names entries = record { segments = names; relations = entries }
+listing_of names entries = record {
+  segments = names;
+  relations = entries;
+  images = replicate images_most None;
+  links = replicate links_most None;
+}
 
 abbrev pub relation_names : List (Option RelationEntry) → List (Option Name)
 relation_names entries = map (option_map (λ entry. entry.name)) entries
@@ -26,7 +32,7 @@ IsTaken items item = (name : Name) × (item ≡ Some name) × Contains items (So
 
 -- the relation fits a listing of these segments
 abbrev pub FitsIn : List (Option Name) → RelationEntry → Type 0
-FitsIn names entry = EntryFits (record { segments = names; relations = [] }) entry
+FitsIn names entry = EntryFits (listing_of names []) entry
 
 -- so does the relation at a place, if there is one
 abbrev pub MayStand : List (Option Name) → Option RelationEntry → Type 0

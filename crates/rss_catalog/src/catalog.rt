@@ -1,9 +1,9 @@
 // The catalog, and the calls on it.
-ghost use Rattle.std.specs.Prelude.{◌≡◌, ◌↔◌, ℕ, ◌≤◌, ◌<◌, true, None, length, replicate, is_some, count_by, Some, Err, IsTrue, IfOk, IfSome, IfNone, OnOk, OnErr};
+ghost use Rattle.std.specs.Prelude.{◌≡◌, ◌⊎◌, ◌↔◌, ℕ, ◌≤◌, ◌<◌, true, None, length, replicate, is_some, count_by, Some, Err, IsTrue, IfOk, IfSome, IfNone, OnOk, OnErr};
 ghost use Rattle.rss_base.specs.DiskRule.{IsTold};
 ghost use Rattle.rss_base.specs.Looking.{ChecksPages};
 ghost use Rattle.rss_base.specs.Names.{IsName};
-ghost use Rattle.rss_base.specs.Sizes.{segments as segments_most, relations_most, system_pages};
+ghost use Rattle.rss_base.specs.Sizes.{segments as segments_most, relations_most, images_most, system_pages};
 ghost use Rattle.rss_base.specs.Steps.{PagesCall, no_page};
 ghost use Rattle.rss_base.specs.Listings.{Listing, numbered, names_of, segment_at, relation_at, IsNumberOf, IsUnlisted};
 ghost use Rattle.rss_base.specs.Listings.{IsLeastUnused, AreAllUsed, EntryFits, ListingFits, HoldsListing};
@@ -19,8 +19,8 @@ use crate::checking::flaw;
 use crate::encoding::{RELATIONS_OF_PAGE, relations_page, segments_page};
 use crate::loading::{check_zeros, damaged, key_of, load_relations, load_segments};
 use rss_base::{
-    Kind, Name, PAGE_BYTES, Page, PageFault, Pages, RELATIONS_MOST, RelationEntry, SEGMENTS,
-    SYSTEM_PAGES,
+    IMAGES_MOST, Kind, LINKS_MOST, Name, PAGE_BYTES, Page, PageFault, Pages, RELATIONS_MOST,
+    RelationEntry, SEGMENTS, SYSTEM_PAGES,
 };
 use std::alloc::{AllocError, Global};
 use std::marker::Model;
@@ -79,14 +79,12 @@ pub struct Catalog {
 
 impl Model for Catalog {
     ghost use Rattle.rss_catalog.specs.Catalogs.{CatalogView};
+    ghost use Rattle.rss_catalog.specs.Checking.{listing_of};
 
     ghost Value = { CatalogView };
 
     ghost view = { λ c. record {
-      listing = record {
-        segments = c.segments.items;
-        relations = c.relations.items;
-      };
+      listing = listing_of c.segments.items c.relations.items;
       pending = c.pending;
     } };
 }
@@ -245,7 +243,8 @@ impl Catalog {
 
     /// Takes a definition away.
     pub fn remove(&mut self, kind: Kind, number: u8)
-        requires { is_some (numbered (names_of kind self.old.listing) number) ≡ true }
+        requires kind { (kind ≡ Segment) ⊎ (kind ≡ Relation) }
+        requires used { is_some (numbered (names_of kind self.old.listing) number) ≡ true }
         ensures lists { Lists (without kind self.old.listing number) (page_of kind number)
             self.old self.new }
         ensures fits { (kind ≡ Segment → HasRelationIn self.old.listing number → ⊥)
@@ -291,12 +290,14 @@ impl Catalog {
     /// How many places a kind has.
     fn places(&self, kind: Kind) -> u8
         ensures places { result ≡ length (names_of kind self.now.listing) }
-        ensures few { result ≤ relations_most }
+        ensures few { result ≤ images_most }
     {
         match kind {
             Kind::Segment => self.segments.len() as u8,
             Kind::Relation => self.relations.len() as u8,
-            Kind::Image | Kind::Link | Kind::Field | Kind::Scan => 0,
+            Kind::Image => IMAGES_MOST,
+            Kind::Link => LINKS_MOST,
+            Kind::Field | Kind::Scan => 0,
         }
     }
 

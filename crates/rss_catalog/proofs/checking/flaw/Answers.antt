@@ -14,3 +14,7 @@ returns-then-not-may_stand-clause-some c = λ fits.
 pub returns-clause-none : goal.returns-clause-none
 returns-clause-none c = listing_fits c.args.segment_names.now c.args.relations.now c.loop-place.place c.requires.segment_places c.requires.relation_places (c.are_names.ensures.0 c.if-not-are_names.false) (c.are_once.ensures.0 c.if-not-are_once.false)
     (subst AreOnce c.names_of.ensures (c.are_once-2.ensures.0 c.if-not-are_once-2.false)) (omega arith) c.loop-place.invariant
+
+pub returns-then-not-are_once-2-clause-some : goal.returns-then-not-are_once-2-clause-some
+returns-then-not-are_once-2-clause-some c = λ fits.
+    false≢true (sym c.if-not-are_once-2.true ∙ c.are_once-2.ensures.1 (subst AreOnce (sym c.names_of.ensures) fits.relations_once))

@@ -2,6 +2,7 @@ use Rattle.std.proofs.Common.{◌∙◌, ap, length, replicate, sym, List, Optio
 use Rattle.std.proofs.lemmas.Option.{none-some}
 use Rattle.rss_base.specs.Listings.{numbered}
 use Rattle.rss_base.specs.declared.relation.RelationEntry.{RelationEntry}
+use Rattle.rss_catalog.specs.Checking.{listing_of}
 use Rattle.rss_catalog.proofs.Numbered.{none_numbered}
 use Rattle.rss_catalog.proofs.catalog.Catalog.empty.Goals as goal
 
@@ -16,4 +17,4 @@ invariant_of-result c =
     )
 
 pub returns : goal.returns
-returns c = λ i. record { listing = record { segments = c.in_ok-free_places.ensures i; relations = c.in_ok-free_places-2.ensures i }; pending = replicate 10 false }
+returns c = λ i. record { listing = listing_of (c.in_ok-free_places.ensures i) (c.in_ok-free_places-2.ensures i); pending = replicate 10 false }

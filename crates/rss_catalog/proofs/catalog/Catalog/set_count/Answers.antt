@@ -2,6 +2,7 @@ use Rattle.std.proofs.Common.{◌∙◌, ◌≡◌, ◌≤◌, ap, length, Some,
 use Rattle.std.proofs.lemmas.List.{length-set}
 use Rattle.rss_base.specs.Listings.{with_count, ListingFits}
 use Rattle.rss_catalog.specs.Catalogs.{CatalogView}
+use Rattle.rss_catalog.specs.Checking.{listing_of}
 use Rattle.rss_catalog.proofs.Listed.{safe_put, counted_in_place, fits_with_count, is_listed, within_listed, safe_count}
 use Rattle.rss_catalog.proofs.catalog.Catalog.set_count.Goals as goal
 
@@ -24,4 +25,4 @@ pub returns-clause-fits : goal.returns-clause-fits
 returns-clause-fits c = λ fits.
     let within = within_listed _ _ c.args.self.now c.args.number c.self.view_is c.requires in
     let here = is_listed c.self.inside.relations.items c.args.number c.from.result c.index_mut.result.now c.in-Some.relation c.from.ensures within c.index_mut.ensures.value c.in-Some.is in
-    rw c.from.ensures (fits_with_count (record { segments = c.self.inside.segments.items; relations = c.self.inside.relations.items }) c.args.number c.args.live c.in-Some.relation (subst ListingFits (ap (λ (v : CatalogView). v.listing) (sym c.self.view_is)) fits) here (omega arith))
+    rw c.from.ensures (fits_with_count (listing_of c.self.inside.segments.items c.self.inside.relations.items) c.args.number c.args.live c.in-Some.relation (subst ListingFits (ap (λ (v : CatalogView). v.listing) (sym c.self.view_is)) fits) here (omega arith))
