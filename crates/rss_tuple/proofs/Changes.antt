@@ -11,6 +11,7 @@ use Rattle.rss_base.specs.declared.key.PageKey.{PageKey}
 use Rattle.rss_base.specs.declared.key.Space.TheVariants.{Home, Overflow}
 use Rattle.rss_base.specs.declared.tid.Tid.{Tid}
 use Rattle.std.proofs.lemmas.List.Sums.{sum_by-set}
+use Rattle.rss_base.proofs.Steps.{all_held, all_mapped}
 use Rattle.rss_page.specs.Content.{Content, Empty, Here, Forward, body_length}
 use Rattle.rss_page.specs.Slotted.{entries, HasRoom, IsSlotted}
 use Rattle.rss_page.specs.Surveyed.{held_at}
@@ -19,11 +20,11 @@ use Rattle.rss_page.proofs.Sums.{bodies_fit}
 use Rattle.rss_tuple.specs.Directory.{Entries, contents_in, homes, overflows, body_in, body_by, bodies_of, is_same_tid, with_body}
 use Rattle.rss_tuple.specs.Heaps.{HasBody, AreLinked, AreHeaps}
 use Rattle.rss_tuple.specs.TupleSteps.{TuplesCall, tuples_in, only_tuple, pages_for}
-use Rattle.rss_tuple.specs.Calls.{MayInsert, HasTuple, HasSpare, PutsTuple}
+use Rattle.rss_tuple.specs.Calls.{MayInsert, HasTuple, HasSpare, MayReplace, PutsTuple}
 use Rattle.rss_tuple.specs.Puts.{Changed, MovesBody}
 use Rattle.rss_tuple.proofs.Links.{linked_now, body_same, not_empty}
 use Rattle.rss_tuple.proofs.Spots.{the_bytes}
-use Rattle.rss_tuple.proofs.Seen.{on_ok_then, content_after, some_there}
+use Rattle.rss_tuple.proofs.Seen.{on_ok_then, content_after, heaps_after, some_there}
 use Rattle.rss_tuple.proofs.Placed.{same_at}
 
 same_tuple : (s segment : ℕ) (t tid : Tid) → (s == segment) && is_same_tid t tid ≡ true → (s ≡ segment) × (t ≡ tid)
@@ -124,6 +125,16 @@ free_after {count = count} {segment = segment} {tid = tid} {old = old} step may 
 pub fits_unmapped : (held : Held) (key : PageKey) (slot count : ℕ) → held key ≡ None → count ≤ 2400 → HasRoom (contents_in (held key)) slot count
 fits_unmapped held key slot count none few = subst (λ (page : Option (List ℕ)). HasRoom (contents_in page) slot count) (sym none) (omega arith)
 
+-- ---- after a page was read
+
+pub has_after : {asks writes segment : ℕ} {tid : Tid} {old new : PagesView} → PagesStep no_page asks writes old new → HasTuple (tuples_in old) segment tid → HasTuple (tuples_in new) segment tid
+has_after {segment = segment} {tid = tid} step has = record {
+  heaps = heaps_after step has.heaps;
+  live = λ told.
+      let before = step.passes.leaves.told.1 told in
+      subst (λ (h : Held). IsSome (bodies_of h segment tid)) (sym (all_held step before)) (has.live before);
+}
+
 -- ---- the room
 
 -- a body that isn't longer fits where one stands
@@ -145,6 +156,16 @@ spare_after {old = old} {new = new} step mapped before after =
     let pages : mapped_pages new.slots new.mapped ≡ mapped_pages old.slots old.mapped = (λ i. mapped_pages (step.passes.slots i) (mapped i)) in
     let shadow : page_count new.backing.shadow ≡ page_count old.backing.shadow = ap (λ (b : Backing). page_count b.shadow) step.passes.backing in
     omega (arith, before, after, pages, shadow, step.passes.slots)
+
+pub replace_after : {asks writes segment count : ℕ} {tid : Tid} {old new : PagesView} → PagesStep no_page asks writes old new → AreCounted old → AreCounted new → MayReplace (tuples_in old) segment tid count → MayReplace (tuples_in new) segment tid count
+replace_after {segment = segment} {tid = tid} step before after may = record {
+  may = may.may;
+  there = has_after step may.there;
+  room = λ told bytes is longer.
+      let was = step.passes.leaves.told.1 told in
+      let spare = may.room was bytes (ap (λ (h : Held). bodies_of h segment tid) (sym (all_held step was)) ∙ is) longer in
+      omega (arith, spare, spare_after step (all_mapped step) before after);
+}
 
 -- the same where it stands in an overflow page
 pub spare_away : (view : PagesView) (segment : ℕ) (tid : Tid) (count page slot : ℕ) (key : PageKey) → key ≡ page_key segment Overflow page → HasSpare (tuples_in view) segment tid count → IsTold view.disk → AreHeaps view → homes view.held segment tid.page tid.slot ≡ Forward page slot → slot < 128 → (HasRoom (contents_in (view.held key)) slot count → ⊥) → 0 < view.spare

@@ -52,7 +52,7 @@ module _ (held now : Held) (segment number slot : ℕ) (content : Content) (same
   -- where all pages are sound, it may stand there
   pub page_stands : (is_good rule : List ℕ → Bool) (marks : List ℕ) → rule ≡ is_good → AreSeen (homes held segment) (overflows held segment) is_good marks (in_front number slot) → IsSound held segment is_good → MayStand now segment marks rule content
   page_stands is_good rule marks agrees seen sound = subst (λ (r : List ℕ → Bool). MayStand now segment marks r content) (sym agrees) (subst (λ (h : Held). MayStand h segment marks is_good content) (sym same) (subst (λ (c : Content). MayStand held segment marks is_good c) here (record {
-    slotted = λ page bytes is. (sound.formed (page_key segment Overflow page) bytes (refl, inr refl) is).formed.slotted;
+    formed = λ page bytes is. (sound.formed (page_key segment Overflow page) bytes (refl, inr refl) is).formed;
     holds = may_hold (homes held segment) (overflows held segment) is_good marks (in_front number slot) seen number slot (front_off number slot) sound.linked (λ body is. sound.good (tid_at number slot) body is);
   })))
 

@@ -20,7 +20,7 @@ use Rattle.rss_tuple.specs.Directory.{contents_in, contents, content_at, homes, 
 use Rattle.rss_tuple.specs.Heaps.{AreFormed, HasBody}
 use Rattle.rss_tuple.specs.TupleSteps.{IsLeast, NoneIs, pages_for}
 use Rattle.rss_tuple.specs.Placing.{Wanted, IsSpot, IsPlaced, FitsHome, FitsAway, NeverFitsAway, overflow_for, at_home, stays, moves, on_new}
-use Rattle.rss_tuple.specs.Edits.{IsRead, SetsEntry, FillsPage, KeepsEntries, Moves}
+use Rattle.rss_tuple.specs.Edits.{IsRead, IsCopied, SetsEntry, FillsPage, KeepsEntries, Moves}
 use Rattle.rss_tuple.specs.Puts.{Changed, TakesAway, PutsAway, Puts}
 use Rattle.rss_tuple.specs.Spots.{IsFoundSpot}
 use Rattle.rss_tuple.proofs.Seen.{some_there}
@@ -300,6 +300,9 @@ low_forward key bytes slot page to_slot formed low is =
 
 pub held_there : (key one : PageKey) (slot : ℕ) → key ≡ one → (held : Held) (content : Content) → content_at held key slot ≡ content → content_at held one slot ≡ content
 held_there key one slot at held content is = subst (λ (k : PageKey). content_at held k slot ≡ content) at is
+
+pub copied_key : {view : PagesView} {key one : PageKey} {bytes : List ℕ} → key ≡ one → IsCopied view key bytes → IsCopied view one bytes
+copied_key {view = view} {bytes = bytes} at copied = subst (λ (k : PageKey). IsCopied view k bytes) at copied
 
 pub read_key : {view : PagesView} {key one : PageKey} {bytes : List ℕ} → key ≡ one → IsRead view key bytes → IsRead view one bytes
 read_key {view = view} {bytes = bytes} at read = subst (λ (k : PageKey). IsRead view k bytes) at read

@@ -1,6 +1,6 @@
 -- What pages say, through calls that change none of them.
 use Rattle.std.proofs.Common.{◌≡◌, ℕ, ◌≤◌, true, List, Option, Some, None, get_or, refl, sym, ◌∙◌, ap, subst, arith}
-use Rattle.std.specs.Prelude.{is_some, Result, Ok, Err, IfOk, OnOk, IsErrAnd}
+use Rattle.std.specs.Prelude.{is_some, Result, Ok, Err, IfOk, IfErr, OnOk, OnErr, IsErrAnd}
 use Rattle.std.proofs.lemmas.List.{get_or_past}
 use Rattle.rss_base.specs.DiskRule.{IsTold}
 use Rattle.rss_base.specs.Paged.{Held}
@@ -8,9 +8,9 @@ use Rattle.rss_base.specs.Notes.{Noted}
 use Rattle.rss_base.specs.Steps.{PagesView, Keys, no_page, PagesStep, PagesCall}
 use Rattle.rss_base.specs.declared.place.Place.{Place}
 use Rattle.rss_base.specs.declared.fault.PageFault.{PageFault}
-use Rattle.rss_base.specs.declared.fault.PageFault.TheVariants.{Device as DeviceFailed, Damaged}
+use Rattle.rss_base.specs.declared.fault.PageFault.TheVariants.{Device as DeviceFailed, Damaged, NoMemory}
 use Rattle.rss_base.specs.declared.key.PageKey.{PageKey}
-use Rattle.rss_base.proofs.Steps.{all_mapped, all_held, all_notes, none_changed_more}
+use Rattle.rss_base.proofs.Steps.{done, all_mapped, all_held, all_notes, none_changed_more}
 use Rattle.rss_tuple.specs.Edits.{KeepsEntries}
 use Rattle.rss_page.specs.Content.{Empty}
 use Rattle.rss_page.proofs.Contents.{length-entries}
@@ -84,7 +84,13 @@ found_damaged {place = place} fault is step never = record {
   step = step;
   failed = λ failed. let same : Damaged place ≡ DeviceFailed = cc in absurd (cc);
   sound = λ other named told. never told;
+  memory = λ lacks. let same : Damaged place ≡ NoMemory = cc in absurd (cc);
 }
+
+-- a test of what was brought into memory, whose one error is damage
+pub tested : {T : Type 0} {touched : Keys} {asks writes : ℕ} {old new : PagesView} (place : Place) (result : Result T PageFault) → IfErr result (λ fault. fault ≡ Damaged place) → OnErr result (IsTold old.disk → ⊥) → PagesStep touched asks writes old new → PagesCall touched asks writes old new result
+tested place (Ok value) names never step = done value step
+tested place (Err fault) names never step = found_damaged fault names step never
 
 -- what follows from a fact about a success
 pub on_ok_then : {T E : Type 0} {P Q : Type 0} (result : Result T E) → (P → Q) → OnOk result P → OnOk result Q

@@ -1,6 +1,6 @@
 -- A page of which one entry was changed, among the others.
 use Rattle.std.proofs.Common.{◌≡◌, ◌≢◌, inl, inr, ℕ, ◌+◌, ◌≤◌, ◌<◌, true, false, List, Option, Some, None, length, set, get_or, replicate, refl, sym, ◌∙◌, ap, subst, arith, get_or-set_same, get_or-set_other}
-use Rattle.std.specs.Prelude.{is_some, Result, Err, IsErrAnd}
+use Rattle.std.specs.Prelude.{is_some, Result, Ok, Err, IsErrAnd}
 use Rattle.std.proofs.lemmas.Bool.{cases_Bool, cases_eq}
 use Rattle.std.proofs.lemmas.List.Sums.{sum_by-set}
 use Rattle.rss_base.specs.DiskRule.{IsTold}
@@ -15,13 +15,13 @@ use Rattle.rss_base.proofs.Keys.{is_same-true, is_same-itself}
 use Rattle.rss_base.proofs.Steps.{written_here, untouched, then_call, fails, all_held}
 use Rattle.std.proofs.lemmas.Bool.{cond-true}
 use Rattle.rss_page.specs.Content.{Content, Empty, Here, body_length}
-use Rattle.rss_page.specs.Slotted.{entries, HasRoom, Sets, IsHeapKey, IsWellFormed}
+use Rattle.rss_page.specs.Slotted.{entries, HasRoom, Sets, IsHeader, IsHeapKey, IsWellFormed}
 use Rattle.rss_page.specs.Surveyed.{held_at, IsVacant}
 use Rattle.rss_page.proofs.Blanks.{blank_bytes}
 use Rattle.rss_page.proofs.Contents.{length-entries}
 use Rattle.rss_tuple.specs.Directory.{contents_in, content_at}
 use Rattle.rss_tuple.specs.Heaps.{IsHeap, AreFormed}
-use Rattle.rss_tuple.specs.Edits.{IsRead, IsCopied, SetsEntry, FillsPage, Edits}
+use Rattle.rss_tuple.specs.Edits.{IsRead, IsCopied, HoldsAt, SetsEntry, FillsPage, Edits}
 use Rattle.rss_tuple.proofs.Seen.{not_ok, on_ok_then, content_after, found_damaged}
 
 -- ---- all pages, where one was changed
@@ -137,6 +137,19 @@ read_copied {key = key} {bytes = bytes} heap formed copied told = record {
 -- where it is found to be ill-formed, the device tells nothing
 pub ill_formed : {asks writes : ℕ} {old mid : PagesView} (key : PageKey) (bytes : List ℕ) (fault : PageFault) → PagesStep no_page asks writes old mid → IsHeapKey key → (IsTold old.disk → AreFormed old) → (IsTold mid.disk → mid.held key ≡ Some bytes) → (IsWellFormed key bytes → ⊥) → fault ≡ Damaged (PagePlace key) → PagesCall {T = Unit {0}} no_page asks writes old mid (Err fault)
 ill_formed key bytes fault step heap formed held ill is = found_damaged fault is step (λ told. ill (formed told key bytes heap (ap (λ (h : Held). h key) (sym (all_held step told)) ∙ held (step.passes.leaves.told.0 told))).formed)
+
+-- ---- a page that isn't what it should be
+
+pub damage_told : {T : Type 0} {fault : PageFault} {key one : PageKey} (result : Result T PageFault) → IsErrAnd result (λ why. why ≡ fault) → fault ≡ Damaged (PagePlace key) → key ≡ one → result ≡ Err (Damaged (PagePlace one))
+damage_told (Ok value) is named at = absurd is
+damage_told (Err e) is named at = ap Err (is ∙ named ∙ ap (λ (k : PageKey). Damaged (PagePlace k)) at)
+
+-- it isn't that of an entry that holds something
+pub holds_at : {key one : PageKey} {slot : ℕ} {bytes : List ℕ} {content : Content} → key ≡ one → IsHeader key bytes → held_at (entries bytes) slot ≡ content → content ≢ Empty → HoldsAt one slot bytes
+holds_at {bytes = bytes} at header is some = record {
+  header = subst (λ (k : PageKey). IsHeader k bytes) at header;
+  some = λ empty. some (sym is ∙ empty);
+}
 
 -- ---- a call that edits
 

@@ -25,7 +25,7 @@ use Rattle.rss_tuple.specs.Heaps.{CoversRoom, AreFormed}
 use Rattle.rss_tuple.specs.TupleSteps.{IsLeast, NoneIs}
 use Rattle.rss_tuple.specs.Placing.{Wanted, IsOpen, IsSpot}
 use Rattle.rss_tuple.specs.Edits.{IsRead, KeepsEntries}
-use Rattle.rss_tuple.specs.Spots.{HasSpot, HasNoSpot, IsRoom, ReadsSpot, IsFoundSpot}
+use Rattle.rss_tuple.specs.Spots.{HasSpot, HasNoSpot, IsPassedBy, IsRoom, ReadsSpot, IsFoundSpot}
 use Rattle.rss_tuple.proofs.Sets.{formed_but}
 
 pub noted_heap : (space : Space) → is_noted_space space ≡ true → (space ≡ Home) ⊎ (space ≡ Overflow)
@@ -187,6 +187,23 @@ low_number slots segment Home number is key = key.number
 low_number slots segment Overflow number is key = key.number
 low_number slots segment Image number is key = absurd (cc)
 low_number slots segment System number is key = absurd (cc)
+
+-- the room of a page that hasn't what is looked for
+pub passed_by : (view : PagesView) (key : PageKey) (held : List Content) (count : ℕ) (barred : List Tid) (number room : ℕ) → view.notes key ≡ Some room → IsRoom held room → HasNoSpot held count barred number → IsPassedBy view key count barred
+passed_by view key held count barred number room noted is none = record {
+  note = room;
+  noted = noted;
+  small = λ unbarred. elim (cases_lt count room) [
+    | inl more ↦
+        let no_tids : length barred ≡ 0 = ap length unbarred in
+        let taken : (slot : ℕ) → slot < 128 → held_at held slot ≡ Empty → ⊥ = λ slot low empty.
+        let at = is.free slot low empty in
+        none (omega arith) slot (record { low = low; empty = empty; allowed = λ has. omega (arith, has.1) }) in
+        let zero = is.full taken in
+        absurd (omega arith)
+    | inr few ↦ few
+  ];
+}
 
 -- the room that is noted covers the room
 pub covers : (contents : List Content) (room : ℕ) → IsRoom contents room → CoversRoom contents room

@@ -1,10 +1,12 @@
 -- What the calls on tuples may be given, and what those that put or choose ensure.
-use Rattle.std.specs.Prelude.{◌≡◌, ◌⊎◌, ℕ, ◌+◌, ◌*◌, ◌<◌, ◌≤◌, true, List, length, Option, Some, None, MatchOption, Result, Ok, Err, IfOk, IfSome, OnOk}
+use Rattle.std.specs.Prelude.{◌≡◌, ◌⊎◌, ℕ, ◌+◌, ◌*◌, ◌<◌, ◌≤◌, true, false, List, length, Option, Some, None, MatchOption, Result, Ok, Err, IfOk, IfSome, OnOk}
 use Rattle.rss_base.specs.DiskRule.{IsTold}
-use Rattle.rss_base.specs.Paged.{AreAmong}
+use Rattle.rss_base.specs.Paged.{AreAmong, page_key}
 use Rattle.rss_base.specs.Sizes.{segments, page_entries}
 use Rattle.rss_base.specs.Steps.{pages_in}
 use Rattle.rss_base.specs.declared.fault.PageFault.{PageFault}
+use Rattle.rss_base.specs.declared.fault.PageFault.TheVariants.{Damaged}
+use Rattle.rss_base.specs.declared.place.Place.TheVariants.{Page as PagePlace}
 use Rattle.rss_base.specs.declared.key.PageKey.{PageKey}
 use Rattle.rss_base.specs.declared.key.Space.TheVariants.{Home}
 use Rattle.rss_base.specs.declared.tid.Tid.{Tid}
@@ -59,6 +61,17 @@ pub record IsNoLonger (view : TuplesView) (segment : ℕ) (tid : Tid) (count : �
   pub bytes : List ℕ
   pub body : view.bodies segment tid ≡ Some bytes
   pub most : count ≤ length bytes
+
+-- ---- where no tuple can stand
+
+-- whatever the device tells: the home page of this identifier isn't mapped, or has no such slot
+abbrev pub IsNowhere : TuplesView → ℕ → Tid → Type 0
+IsNowhere view segment tid =
+    (view.pages.mapped (page_key segment Home tid.page) ≡ false) ⊎ (page_entries ≤ tid.slot)
+
+-- the home page of this identifier isn't what it should be
+abbrev pub damaged_home : {T : Type 0} → ℕ → Tid → Result T PageFault
+damaged_home segment tid = Err (Damaged (PagePlace (page_key segment Home tid.page)))
 
 -- ---- what they ensure
 

@@ -7,7 +7,7 @@ use Rattle.rss_base.specs.Steps.{PagesView, WritesPage, PagesCall, only}
 use Rattle.rss_base.specs.declared.fault.PageFault.{PageFault}
 use Rattle.rss_base.specs.declared.key.PageKey.{PageKey}
 use Rattle.rss_page.specs.Content.{Content, Empty, Here, Forward}
-use Rattle.rss_page.specs.Slotted.{entries, IsHeapKey, IsWellFormed}
+use Rattle.rss_page.specs.Slotted.{entries, IsHeader, IsHeapKey, IsWellFormed}
 use Rattle.rss_page.specs.Surveyed.{held_at}
 use Rattle.rss_tuple.specs.Directory.{Entries, content_at}
 use Rattle.rss_tuple.specs.Heaps.{IsHeap, AreFormed, HasBody}
@@ -22,6 +22,11 @@ pub record IsRead (view : PagesView) (key : PageKey) (bytes : List ℕ) : Type 0
 pub record IsCopied (view : PagesView) (key : PageKey) (bytes : List ℕ) : Type 0 where
   pub mapped : view.mapped key ≡ true
   pub held : IsTold view.disk → view.held key ≡ Some bytes
+
+-- these bytes begin with the header of this key, and the entry of the slot isn't empty
+pub record HoldsAt (key : PageKey) (slot : ℕ) (bytes : List ℕ) : Type 0 where
+  pub header : IsHeader key bytes
+  pub some : held_at (entries bytes) slot ≡ Empty → ⊥
 
 -- what a call may be given that reads a page, looks at an entry of one, or changes an entry of one that was read or copied
 pub record MayRead (view : PagesView) (key : PageKey) : Type 0 where
@@ -40,7 +45,7 @@ pub record MayEdit (view : PagesView) (key : PageKey) (slot : ℕ) (bytes : List
   pub formed : IsTold view.disk → AreFormed view
 
 pub record MayChange (view : PagesView) (key : PageKey) (slot : ℕ) (bytes : List ℕ) : Type 0 where
-  pub heap : IsHeapKey key
+  pub header : IsHeader key bytes
   pub copied : IsCopied view key bytes
   pub low : slot < page_entries
   pub formed : IsTold view.disk → AreFormed view

@@ -1,9 +1,10 @@
 -- What is found of a tuple in pages.
-use Rattle.std.specs.Prelude.{◌≡◌, ◌⊎◌, ℕ, ◌<◌, ◌≤◌, Bool, true, false, List, Option, None, Some, MatchOption}
+use Rattle.std.specs.Prelude.{◌≡◌, ◌⊎◌, ℕ, ◌<◌, ◌≤◌, Bool, true, false, List, length, Option, None, Some, MatchOption}
 use Rattle.rss_base.specs.Sizes.{page_entries}
 use Rattle.rss_base.specs.declared.tid.Tid.{Tid}
 use Rattle.rss_page.specs.Content.{Content, Empty, Here, Forward}
 use Rattle.rss_page.specs.Surveyed.{held_at}
+use Rattle.rss_tuple.specs.Calls.{IsBodyLength}
 use Rattle.rss_tuple.specs.TupleSteps.{TuplesView, IsLive, IsBelow, IsLeast, NoneIs}
 use Rattle.rss_tuple.specs.declared.reading.Found.{Found}
 use Rattle.rss_tuple.specs.declared.reading.Found.TheVariants.{Nothing, Body, Elsewhere}
@@ -20,11 +21,11 @@ IsFound Nothing content read = content ≡ Empty
 IsFound Body content read = content ≡ Here read
 IsFound (Elsewhere page slot) content read = content ≡ Forward page slot
 
--- it leads to one of the slots of a page
-abbrev pub IsLow : Found → Type 0
-IsLow Nothing = Unit {0}
-IsLow Body = Unit {0}
-IsLow (Elsewhere page slot) = slot < page_entries
+-- it may stand in a page: a body has as many bytes as that of a tuple may have, and a forward leads to one of the slots of a page
+abbrev pub IsInForm : Found → List ℕ → Type 0
+IsInForm Nothing read = Unit {0}
+IsInForm Body read = IsBodyLength (length read)
+IsInForm (Elsewhere page slot) read = slot < page_entries
 
 -- ---- the next tuple
 

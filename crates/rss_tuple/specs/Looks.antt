@@ -13,7 +13,7 @@ use Rattle.rss_base.specs.declared.fault.PageFault.TheVariants.{Device as Device
 use Rattle.rss_base.specs.declared.key.PageKey.{PageKey}
 use Rattle.rss_base.specs.declared.key.Space.TheVariants.{Overflow}
 use Rattle.rss_page.specs.Content.{Content, Empty, Here, Forward}
-use Rattle.rss_page.specs.Slotted.{IsSlotted}
+use Rattle.rss_page.specs.Slotted.{IsWellFormed}
 use Rattle.rss_page.specs.Surveyed.{held_at}
 use Rattle.rss_tuple.specs.Directory.{Entries, contents, overflows, body_by}
 use Rattle.rss_tuple.specs.Heaps.{body_most, IsHeap, HasBody}
@@ -111,8 +111,8 @@ pub record MayHold (overflow : Entries) (marks : List ℕ) (is_good : List ℕ �
 -- and the overflow pages are well-formed
 pub record MayStand (held : Held) (segment : ℕ) (marks : List ℕ) (is_good : List ℕ → Bool)
     (content : Content) : Type 0 where
-  pub slotted : (page : ℕ) (bytes : List ℕ) → held (page_key segment Overflow page) ≡ Some bytes
-      → IsSlotted bytes
+  pub formed : (page : ℕ) (bytes : List ℕ) → held (page_key segment Overflow page) ≡ Some bytes
+      → IsWellFormed (page_key segment Overflow page) bytes
   pub holds : MayHold (overflows held segment) marks is_good content
 
 -- ---- all entries that were looked at

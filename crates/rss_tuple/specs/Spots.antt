@@ -1,5 +1,5 @@
 -- What is found in a page of free entries and of room.
-use Rattle.std.specs.Prelude.{◌≡◌, ◌↔◌, ℕ, ◌+◌, ◌<◌, ◌≤◌, Bool, true, false, List, Option, MatchOption, Contains, slice_index_or}
+use Rattle.std.specs.Prelude.{◌≡◌, ◌↔◌, ℕ, ◌+◌, ◌<◌, ◌≤◌, Bool, true, false, List, [], Option, Some, MatchOption, Contains, slice_index_or}
 use Rattle.rss_base.specs.Sizes.{page_entries}
 use Rattle.rss_base.specs.DiskRule.{IsTold}
 use Rattle.rss_base.specs.Paged.{page_key}
@@ -41,6 +41,12 @@ pub record IsRoom (contents : List Content) (room : ℕ) : Type 0 where
   pub full : ((slot : ℕ) → slot < page_entries → held_at contents slot ≡ Empty → ⊥) → room ≡ 0
   pub free : (slot : ℕ) → slot < page_entries → held_at contents slot ≡ Empty → room + body_bytes contents ≡ bodies_room + 1
   pub most : room ≤ bodies_room + 1
+
+-- The next search for so many bytes passes by this page: it has a note, which is too small for them where no identifier is barred.
+pub record IsPassedBy (view : PagesView) (key : PageKey) (length : ℕ) (barred : List Tid) : Type 0 where
+  pub note : ℕ
+  pub noted : view.notes key ≡ Some note
+  pub small : barred ≡ [] → note ≤ length
 
 -- A page was read that has so many free bytes, and its first open slot is this one. With it comes what a walk over the page finds.
 pub record ReadsSpot (view : PagesView) (key : PageKey) (bytes : List ℕ)

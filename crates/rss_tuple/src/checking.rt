@@ -10,7 +10,7 @@ ghost use Rattle.rss_base.specs.declared.fault.PageFault.TheVariants.{Damaged as
 ghost use Rattle.rss_base.specs.declared.place.Place.{Place as AnyPlace};
 ghost use Rattle.rss_base.specs.declared.place.Place.TheVariants.{Room};
 ghost use Rattle.rss_page.specs.Content.{Here, Forward};
-ghost use Rattle.rss_page.specs.Slotted.{entries, IsSlotted};
+ghost use Rattle.rss_page.specs.Slotted.{entries, IsHeader, IsSlotted, IsWellFormed};
 ghost use Rattle.rss_page.specs.Surveyed.{held_at};
 ghost use Rattle.rss_tuple.specs.Calls.{IsSegment};
 ghost use Rattle.rss_tuple.specs.Directory.{contents, homes, overflows, body_in, body_by};
@@ -21,10 +21,11 @@ ghost use Rattle.rss_tuple.specs.Checked.{Rows, row_of, rows_on, tuples_of, page
 ghost use Rattle.rss_tuple.specs.Looks.{LooksCall, NamesDamage, Sees, AreShort, IsSoundAt, IsNotedAt, LooksAt};
 ghost use Rattle.rss_tuple.specs.Looks.{IsMarked, MarksGoal, AreMarked, AreAllMarked, IsSoundOverflow, AreSoundOverflows, HasGood, MayHold, MayStand, in_front, AreSeen};
 
+use crate::entries::entry_in;
 use crate::finding::{is_empty, room_of};
 use crate::keys::{damaged, home, overflow};
 use rss_base::{BODY_BYTES, PAGE_BYTES, Page, PageFault, PageKey, Pages, Place, Space, Tid};
-use rss_page::{ENTRIES, Entry, body, bytes_at, checked_entry, entry, survey};
+use rss_page::{ENTRIES, Entry, body, bytes_at, entry, survey};
 use std::alloc::Global;
 
 /// What sees each tuple of a segment once, in the order of their identifiers.
@@ -216,7 +217,8 @@ fn follow<P: Pages, V: Visitor>(
     show_moved(pages.loaded(key), segment, tid, to, visitor)
 }
 
-/// Shows the visitor the body that is to stand in an entry of an overflow page.
+/// Shows the visitor the body that is to stand in an entry of an overflow page. The page's header is
+/// tested.
 fn show_moved<V: Visitor>(
     page: &Page,
     segment: u8,
@@ -225,20 +227,18 @@ fn show_moved<V: Visitor>(
     visitor: &mut V,
 ) -> Result<(), PageFault>
     requires slot { to.slot < page_entries }
+    ensures header { OnOk result (IsHeader (page_key segment Overflow to.page) page.now) }
     ensures good { OnOk result (HasGood (V.is_good visitor.old)
         (held_at (entries page.now) to.slot)) }
     ensures saw { OnOk result (Sees V.is_good V.saw visitor.old visitor.new (row_of tid
         (body_in (held_at (entries page.now) to.slot)))) }
-    ensures flawed { OnErr result (IsSlotted page.now
+    ensures flawed { OnErr result (IsWellFormed (page_key segment Overflow to.page) page.now
         → HasGood (V.is_good visitor.old) (held_at (entries page.now) to.slot) → ⊥) }
     ensures names { IfErr result NamesDamage }
 {
-    match checked_entry(page, to.slot as u8) {
-        None => Err(damaged(overflow(segment, to.page))),
-        Some(Entry::Here { place, length }) => {
-            show(segment, tid, bytes_at(page, place, length), visitor)
-        }
-        Some(Entry::Empty | Entry::Forward { .. }) => Err(damaged(home(segment, tid.page))),
+    match entry_in(page, overflow(segment, to.page), to.slot as u8)? {
+        Entry::Here { place, length } => show(segment, tid, bytes_at(page, place, length), visitor),
+        Entry::Empty | Entry::Forward { .. } => Err(damaged(home(segment, tid.page))),
     }
 }
 

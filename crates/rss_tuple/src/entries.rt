@@ -1,5 +1,6 @@
 // One entry of a page that is changed.
-ghost use Rattle.std.specs.Prelude.{◌≡◌, ◌↔◌, ◌<◌, length, slice_index_or, true, false, IsTrue, IfOk, IfErr, OnOk, OnErr};
+ghost use Rattle.std.specs.Prelude.{◌≡◌, ◌↔◌, ◌<◌, length, slice_index_or, true, false, Err, IsTrue, IfOk, IfErr, OnOk, OnErr};
+ghost use Rattle.rss_base.specs.DiskRule.{IsTold};
 ghost use Rattle.rss_base.specs.Sizes.{page_entries};
 ghost use Rattle.rss_base.specs.PageMap.{IsKey};
 ghost use Rattle.rss_base.specs.Steps.{PagesCall, no_page, only};
@@ -7,10 +8,12 @@ ghost use Rattle.rss_base.specs.declared.key.Space.TheVariants.{Home};
 ghost use Rattle.rss_base.specs.declared.fault.PageFault.TheVariants.{Damaged as PageDamaged};
 ghost use Rattle.rss_base.specs.declared.place.Place.TheVariants.{Page as PagePlace};
 ghost use Rattle.rss_page.specs.Content.{Empty, Here, Forward};
-ghost use Rattle.rss_page.specs.Slotted.{content_of, entries, HasRoom, IsAllowed, IsBody, IsHeapKey, IsSlotted, IsWellFormed};
+ghost use Rattle.rss_page.specs.Slotted.{content_of, entries, HasRoom, IsAllowed, IsBody, IsHeader, IsHeapKey, IsSlotted, IsWellFormed};
 ghost use Rattle.rss_page.specs.Surveyed.{held_at, IsOwnPlace, IsSurvey, IsVacant};
 ghost use Rattle.rss_tuple.specs.Calls.{IsBodyLength};
-ghost use Rattle.rss_tuple.specs.Edits.{MayRead, NamesEntry, MayChange, MayEdit, Edits, FillsPage};
+ghost use Rattle.rss_tuple.specs.Directory.{content_at};
+ghost use Rattle.rss_tuple.specs.Heaps.{AreFormed, HasBody};
+ghost use Rattle.rss_tuple.specs.Edits.{MayRead, NamesEntry, IsCopied, HoldsAt, MayChange, MayEdit, Edits, FillsPage};
 
 use crate::keys::damaged;
 use rss_base::{Page, PageFault, PageKey, Pages, Tid};
@@ -19,10 +22,12 @@ use rss_page::{
     remove, survey,
 };
 
-/// Brings a page into memory that is to be mapped. A caller copies it from there, since a buffer to
-/// read it into would have to be zeroed before.
+/// Brings a page into memory that is to be mapped; where it isn't, it is damaged. A caller copies it
+/// from there, since a buffer to read it into would have to be zeroed before.
 pub(crate) fn load_there<P: Pages>(pages: &mut P, key: PageKey) -> Result<(), PageFault>
     requires { MayRead (P.view pages.old) key }
+    ensures absent { (P.view pages.old).mapped key ≡ false
+        → result ≡ Err (PageDamaged (PagePlace key)) }
     ensures mapped { OnOk result ((P.view pages.new).mapped key ≡ true) }
     ensures there { OnOk result ((P.view pages.new).in_memory key ≡ true) }
     ensures did { PagesCall no_page 1 1 (P.view pages.old) (P.view pages.new) result }
@@ -47,10 +52,11 @@ pub(crate) fn walk(page: &Page, key: PageKey) -> Result<Survey, PageFault>
     }
 }
 
-/// The entry of a slot, in a page that is to be well-formed. Of the others none is looked at, which
-/// takes less than a walk.
+/// The entry of a slot, in a page that is to be well-formed. Its header is tested, and of the other
+/// entries none is looked at, which takes less than a walk.
 pub(crate) fn entry_in(page: &Page, key: PageKey, slot: u8) -> Result<Entry, PageFault>
     requires { slot < page_entries }
+    ensures header { OnOk result (IsHeader key page.now) }
     ensures holds { IfOk result
         (λ found. held_at (entries page.now) slot ≡ content_of page.now found) }
     ensures allowed { IfOk result (IsAllowed (slice_index_or page.now 0 0)) }
@@ -172,17 +178,42 @@ pub(crate) fn clear_in<P: Pages>(
     Ok(())
 }
 
-/// Empties an entry of a page.
+/// Empties an entry of a page that was copied, where a body is to stand. Where the page isn't that of
+/// this key, or has no body there, it is damaged.
+fn clear_body<P: Pages>(
+    pages: &mut P,
+    key: PageKey,
+    page: &mut Page,
+    slot: u8,
+) -> Result<(), PageFault>
+    requires copied { IsCopied (P.view pages.old) key page.old }
+    requires heap { IsHeapKey key }
+    requires low { slot < page_entries }
+    requires formed { IsTold (P.view pages.old).disk → AreFormed (P.view pages.old) }
+    requires body { IsTold (P.view pages.old).disk
+        → HasBody (content_at (P.view pages.old).held key slot) }
+    ensures ill { (HoldsAt key slot page.old → ⊥)
+        → result ≡ Err (PageDamaged (PagePlace key)) }
+    ensures edits { Edits key slot Empty 1 (P.view pages.old) (P.view pages.new) result }
+{
+    match entry_in(page, key, slot)? {
+        Entry::Here { .. } => clear_in(pages, key, page, slot),
+        Entry::Empty | Entry::Forward { .. } => Err(damaged(key)),
+    }
+}
+
+/// Empties an entry of a page, where a body is to stand.
 pub(crate) fn clear<P: Pages>(pages: &mut P, key: PageKey, slot: u8) -> Result<(), PageFault>
     requires may { MayRead (P.view pages.old) key }
     requires low { slot < page_entries }
+    requires body { IsTold (P.view pages.old).disk
+        → HasBody (content_at (P.view pages.old).held key slot) }
     ensures there { OnOk result ((P.view pages.old).mapped key ≡ true) }
     ensures edits { Edits key slot Empty 2 (P.view pages.old) (P.view pages.new) result }
 {
     load_there(pages, key)?;
     let mut page = *pages.loaded(key);
-    entry_in(&page, key, slot)?;
-    clear_in(pages, key, &mut page, slot)
+    clear_body(pages, key, &mut page, slot)
 }
 
 /// Makes a page that was just taken one whose only body stands at this slot.

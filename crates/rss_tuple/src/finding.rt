@@ -1,5 +1,5 @@
 // The first page of a space with a free entry and enough free bytes.
-ghost use Rattle.std.specs.Prelude.{◌≡◌, ◌<◌, ◌≤◌, ◌↔◌, true, IsTrue, MatchOption, IfOk};
+ghost use Rattle.std.specs.Prelude.{◌≡◌, ◌<◌, ◌≤◌, ◌↔◌, true, None, IsTrue, MatchOption, IfOk};
 ghost use Rattle.rss_base.specs.DiskRule.{IsTold};
 ghost use Rattle.rss_base.specs.Sizes.{page_entries};
 ghost use Rattle.rss_base.specs.Notes.{is_noted_space};
@@ -12,7 +12,7 @@ ghost use Rattle.rss_tuple.specs.Heaps.{body_most, AreFormed};
 ghost use Rattle.rss_tuple.specs.Calls.{IsSegment};
 ghost use Rattle.rss_tuple.specs.Edits.{KeepsEntries};
 ghost use Rattle.rss_tuple.specs.Spots.{AreBarred, IsFirstOpen, NoneOpen, HasSpot, HasNoSpot};
-ghost use Rattle.rss_tuple.specs.Spots.{IsRoom, ReadsSpot, FindsSpot};
+ghost use Rattle.rss_tuple.specs.Spots.{IsRoom, IsPassedBy, ReadsSpot, FindsSpot};
 
 use crate::keys::damaged;
 use rss_base::{PAGE_ENTRIES, Page, PageFault, PageKey, Pages, Space, Tid};
@@ -107,6 +107,8 @@ fn try_page<P: Pages>(
     ensures found { IfOk result (λ found. MatchOption found (IsTold (P.view pages.old).disk
         → HasNoSpot (contents (P.view pages.old).held key) length barred.now key.number)
         (ReadsSpot (P.view pages.new) key into.new length barred.now)) }
+    ensures noted { IfOk result (λ found. found ≡ None
+        → IsPassedBy (P.view pages.new) key length barred.now) }
     ensures kept { KeepsEntries (P.view pages.old) (P.view pages.new) }
     ensures did { PagesCall (only key) 1 1 (P.view pages.old) (P.view pages.new) result }
 {

@@ -1,25 +1,27 @@
 // Tuples that are put, moved and taken away.
-ghost use Rattle.std.specs.Prelude.{◌≡◌, ◌+◌, ◌<◌, length, true, false, None, IfOk, IfSome, IfNone, OnOk};
+ghost use Rattle.std.specs.Prelude.{◌≡◌, ◌+◌, ◌<◌, length, true, false, None, IfOk, IfErr, IfSome, IfNone, OnOk, OnErr};
 ghost use Rattle.rss_base.specs.DiskRule.{IsTold};
 ghost use Rattle.rss_base.specs.Sizes.{page_entries};
 ghost use Rattle.rss_base.specs.Paged.{page_key};
 ghost use Rattle.rss_base.specs.Steps.{PagesCall, no_page, only, pages_in};
-ghost use Rattle.rss_base.specs.declared.key.Space.TheVariants.{Overflow};
+ghost use Rattle.rss_base.specs.declared.key.Space.TheVariants.{Home, Overflow};
+ghost use Rattle.rss_base.specs.declared.fault.PageFault.TheVariants.{Damaged as PageDamaged};
+ghost use Rattle.rss_base.specs.declared.place.Place.TheVariants.{Page as PagePlace};
 ghost use Rattle.rss_page.specs.Content.{Forward};
 ghost use Rattle.rss_page.specs.Slotted.{entries, IsSlotted};
 ghost use Rattle.rss_page.specs.Surveyed.{held_at, IsSurvey};
-ghost use Rattle.rss_tuple.specs.Directory.{contents, tid_at};
-ghost use Rattle.rss_tuple.specs.Heaps.{AreFormed, AreHeaps};
+ghost use Rattle.rss_tuple.specs.Directory.{contents, content_at, tid_at};
+ghost use Rattle.rss_tuple.specs.Heaps.{AreFormed, AreHeaps, HasBody};
 ghost use Rattle.rss_tuple.specs.TupleSteps.{tuples_in, pages_for};
 ghost use Rattle.rss_tuple.specs.Placing.{FitsHome, MayMove, TakesOnly, TakesOne};
-ghost use Rattle.rss_tuple.specs.Calls.{MayPut, MayInsert, HasTuple, HasSpare, MayReplace};
-ghost use Rattle.rss_tuple.specs.Edits.{IsRead, MayRead};
+ghost use Rattle.rss_tuple.specs.Calls.{MayPut, MayInsert, HasTuple, HasSpare, MayReplace, IsNowhere, damaged_home};
+ghost use Rattle.rss_tuple.specs.Edits.{IsRead, IsCopied, HoldsAt, MayRead};
 ghost use Rattle.rss_tuple.specs.Puts.{Changed, TakesAway, PutsAway, Puts, MovesBody, HomeRead, Stays};
 
 use crate::entries::{
     clear, clear_in, entry_in, fill, load_there, put_forward, put_here, put_over, take_here, walk,
 };
-use crate::finding::{Spot, find_page};
+use crate::finding::{Spot, find_page, is_empty};
 use crate::keys::{damaged, home, overflow};
 use rss_base::{PAGE_BYTES, Page, PageFault, PageKey, Pages, Space, Tid};
 use rss_page::{ENTRIES, Entry, Survey, entry, own_place};
@@ -41,6 +43,20 @@ fn put_on_new<P: Pages>(pages: &mut P, segment: u8, body: &[u8]) -> Result<u32, 
     let number = pages.take(segment, Space::Overflow)?;
     fill(pages, overflow(segment, number), 0, body)?;
     Ok(number)
+}
+
+/// Tests that a page is spare for a tuple's body. Where none is, the tuple's home page isn't what it
+/// should be.
+fn have_spare<P: Pages>(pages: &P, segment: u8, tid: Tid) -> Result<(), PageFault>
+    ensures spare { OnOk result (0 < (P.view pages.now).spare) }
+    ensures none { OnErr result ((P.view pages.now).spare ≡ 0) }
+    ensures damaged { IfErr result
+        (λ fault. fault ≡ PageDamaged (PagePlace (page_key segment Home tid.page))) }
+{
+    if pages.spare() == 0 {
+        return Err(damaged(home(segment, tid.page)));
+    }
+    Ok(())
 }
 
 /// Puts a body into the first overflow page with a free entry and the bytes, or into a new one, and
@@ -66,9 +82,7 @@ fn put_away<P: Pages>(pages: &mut P, segment: u8, tid: Tid, body: &[u8]) -> Resu
             Ok(to)
         }
         None => {
-            if pages.spare() == 0 {
-                return Err(damaged(home(segment, tid.page)));
-            }
+            have_spare(pages, segment, tid)?;
             let page = put_on_new(pages, segment, body)?;
             Ok(Tid { page, slot: 0 })
         }
@@ -139,22 +153,47 @@ pub(crate) fn remove<P: Pages>(pages: &mut P, segment: u8, tid: Tid) -> Result<(
     ensures takes { OnOk result (TakesOnly no_page (P.view pages.old) (P.view pages.new)) }
     ensures did { PagesCall (pages_for segment tid) 4 4 (P.view pages.old)
         (P.view pages.new) result }
+    ensures nowhere { IsNowhere (tuples_in (P.view pages.old)) segment tid
+        → result ≡ damaged_home segment tid }
 {
     let key = home(segment, tid.page);
     if tid.slot >= u16::from(ENTRIES) {
         return Err(damaged(key));
     }
-    let slot = tid.slot as u8;
     load_there(pages, key)?;
     let mut page = *pages.loaded(key);
-    match entry_in(&page, key, slot)? {
+    remove_from(pages, segment, tid, &mut page)
+}
+
+/// Takes a tuple away whose home page was copied. Where the page isn't that of this key, or has no
+/// tuple there, it is damaged.
+fn remove_from<P: Pages>(
+    pages: &mut P,
+    segment: u8,
+    tid: Tid,
+    page: &mut Page,
+) -> Result<(), PageFault>
+    requires copied { IsCopied (P.view pages.old) (page_key segment Home tid.page) page.old }
+    requires low { tid.slot < page_entries }
+    requires there { HasTuple (tuples_in (P.view pages.old)) segment tid }
+    ensures changed { OnOk result (IsTold (P.view pages.old).disk
+        → Changed segment tid None (P.view pages.old) (P.view pages.new)) }
+    ensures takes { OnOk result (TakesOnly no_page (P.view pages.old) (P.view pages.new)) }
+    ensures ill { (HoldsAt (page_key segment Home tid.page) tid.slot page.old → ⊥)
+        → result ≡ damaged_home segment tid }
+    ensures did { PagesCall (pages_for segment tid) 3 3 (P.view pages.old)
+        (P.view pages.new) result }
+{
+    let key = home(segment, tid.page);
+    let slot = tid.slot as u8;
+    match entry_in(page, key, slot)? {
         Entry::Empty => Err(damaged(key)),
-        Entry::Here { .. } => clear_in(pages, key, &mut page, slot),
+        Entry::Here { .. } => clear_in(pages, key, page, slot),
         Entry::Forward {
             page: to,
             slot: to_slot,
         } => {
-            clear_in(pages, key, &mut page, slot)?;
+            clear_in(pages, key, page, slot)?;
             clear(pages, overflow(segment, to), to_slot)
         }
     }
@@ -169,33 +208,57 @@ pub(crate) fn replace<P: Pages>(
     body: &[u8],
 ) -> Result<(), PageFault>
     requires { MayReplace (tuples_in (P.view pages.old)) segment tid (length body.now) }
-    ensures { MovesBody segment tid body.now ((P.view pages.old).slots + 7) (P.view pages.old)
-        (P.view pages.new) result }
+    ensures moves { MovesBody segment tid body.now ((P.view pages.old).slots + 7)
+        (P.view pages.old) (P.view pages.new) result }
+    ensures nowhere { IsNowhere (tuples_in (P.view pages.old)) segment tid
+        → result ≡ damaged_home segment tid }
 {
     let key = home(segment, tid.page);
     if tid.slot >= u16::from(ENTRIES) {
         return Err(damaged(key));
     }
-    let slot = tid.slot as u8;
     load_there(pages, key)?;
     let mut page = *pages.loaded(key);
-    entry_in(&page, key, slot)?;
-    if let Some(place) = own_place(&page, slot, body.len() as u16) {
-        return put_over(pages, key, &mut page, slot, place, body);
+    replace_in(pages, segment, tid, &mut page, body)
+}
+
+/// Puts another body in place of that of a tuple whose home page was copied. Where the page isn't
+/// that of this key, or has no tuple there, it is damaged.
+fn replace_in<P: Pages>(
+    pages: &mut P,
+    segment: u8,
+    tid: Tid,
+    page: &mut Page,
+    body: &[u8],
+) -> Result<(), PageFault>
+    requires copied { IsCopied (P.view pages.old) (page_key segment Home tid.page) page.old }
+    requires low { tid.slot < page_entries }
+    requires may { MayReplace (tuples_in (P.view pages.old)) segment tid (length body.now) }
+    ensures moves { MovesBody segment tid body.now ((P.view pages.old).slots + 6)
+        (P.view pages.old) (P.view pages.new) result }
+    ensures ill { (HoldsAt (page_key segment Home tid.page) tid.slot page.old → ⊥)
+        → result ≡ damaged_home segment tid }
+{
+    let key = home(segment, tid.page);
+    let slot = tid.slot as u8;
+    entry_in(page, key, slot)?;
+    if let Some(place) = own_place(page, slot, body.len() as u16) {
+        return put_over(pages, key, page, slot, place, body);
     }
-    let found = walk(&page, key)?;
-    match entry(&page, slot) {
+    let found = walk(page, key)?;
+    match entry(page, slot) {
         Entry::Empty => Err(damaged(key)),
-        Entry::Here { .. } => place(pages, segment, tid, &mut page, body, &found),
+        Entry::Here { .. } => place(pages, segment, tid, page, body, &found),
         Entry::Forward {
             page: to,
             slot: to_slot,
-        } => move_on(pages, segment, tid, &mut page, to, to_slot, body, &found),
+        } => move_on(pages, segment, tid, page, to, to_slot, body, &found),
     }
 }
 
 /// Whether a body of this length stays in the overflow page where it stands: it fits there, and not at
-/// home. Then the page is left in `away`, and what a walk over it finds is answered.
+/// home. Then the page is left in `away`, and what a walk over it finds is answered. Where no body
+/// stands there, the page is damaged.
 fn stays<P: Pages>(
     pages: &mut P,
     home: &Page,
@@ -211,6 +274,9 @@ fn stays<P: Pages>(
     requires slot { slot < page_entries }
     requires to_slot { to_slot < page_entries }
     requires may { MayRead (P.view pages.old) key }
+    requires body { IsTold (P.view pages.old).disk
+        → HasBody (content_at (P.view pages.old).held key to_slot) }
+    ensures holds { IfOk result (λ stays. IfSome stays (λ _. HoldsAt key to_slot away.new)) }
     ensures read { IfOk result (λ stays. IfSome stays
         (λ _. IsRead (P.view pages.new) key away.new)) }
     ensures found { IfOk result (λ stays. IfSome stays (IsSurvey away.new)) }
@@ -226,6 +292,9 @@ fn stays<P: Pages>(
     load_there(pages, key)?;
     *away = *pages.loaded(key);
     let there = walk(away, key)?;
+    if is_empty(away, to_slot) {
+        return Err(damaged(key));
+    }
     if there.has_room(away, to_slot, length) {
         Ok(Some(there))
     } else {

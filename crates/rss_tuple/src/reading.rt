@@ -1,20 +1,24 @@
 // A tuple that is read by its identifier.
-ghost use Rattle.std.specs.Prelude.{◌≡◌, ◌<◌, ◌≤◌, ℕ, List, length, IfSome, IfNone};
-ghost use Rattle.std.specs.Prelude.{IfOk, OnOk};
+ghost use Rattle.std.specs.Prelude.{◌≡◌, ◌<◌, ◌≤◌, ℕ, List, length, IsTrue};
+ghost use Rattle.std.specs.Prelude.{IfOk, IfErr, OnOk, OnErr};
 ghost use Rattle.rss_base.specs.DiskRule.{IsTold};
 ghost use Rattle.rss_base.specs.Sizes.{page_entries};
 ghost use Rattle.rss_base.specs.Steps.{PagesCall, no_page};
+ghost use Rattle.rss_base.specs.declared.fault.PageFault.TheVariants.{Damaged as PageDamaged};
+ghost use Rattle.rss_base.specs.declared.place.Place.TheVariants.{Page as PagePlace};
 ghost use Rattle.rss_page.specs.Content.{Here};
-ghost use Rattle.rss_page.specs.Slotted.{entries, IsSlotted};
+ghost use Rattle.rss_page.specs.Slotted.{entries, IsHeader, IsWellFormed};
 ghost use Rattle.rss_page.specs.Surveyed.{held_at};
 ghost use Rattle.rss_tuple.specs.Directory.{content_at, bodies_of};
 ghost use Rattle.rss_tuple.specs.Heaps.{body_most, AreHeaps, HasBody};
+ghost use Rattle.rss_tuple.specs.Calls.{IsBodyLength};
 ghost use Rattle.rss_tuple.specs.Edits.{NamesEntry};
-ghost use Rattle.rss_tuple.specs.Finding.{IsFetched, IsFound, IsLow};
+ghost use Rattle.rss_tuple.specs.Finding.{IsFetched, IsFound, IsInForm};
 
+use crate::entries::entry_in;
 use crate::keys::{damaged, home, overflow};
 use rss_base::{BODY_BYTES, Body, Page, PageFault, PageKey, Pages, Tid};
-use rss_page::{ENTRIES, Entry, bytes_at, checked_entry};
+use rss_page::{ENTRIES, Entry, bytes_at};
 
 /// What an entry holds.
 #[derive(Clone, Copy)]
@@ -37,6 +41,7 @@ pub(crate) fn fetch<P: Pages>(
     requires { IsTold (P.view pages.old).disk → AreHeaps (P.view pages.old) }
     ensures fetched { IfOk result (λ live. IsTold (P.view pages.old).disk
         → IsFetched (bodies_of (P.view pages.old).held segment tid) live into.new) }
+    ensures body { IfOk result (λ live. IsTrue live → IsBodyLength (length into.new)) }
     ensures did { PagesCall no_page 2 2 (P.view pages.old) (P.view pages.new) result }
 {
     if tid.slot >= u16::from(ENTRIES) {
@@ -52,13 +57,14 @@ pub(crate) fn fetch<P: Pages>(
     }
 }
 
-/// Copies the body that stands in an entry of an overflow page.
+/// Copies the body that stands in an entry of an overflow page. Where none does, the page is damaged.
 fn follow<P: Pages>(pages: &mut P, key: PageKey, slot: u8, into: &mut Body) -> Result<(), PageFault>
     requires may { NamesEntry (P.view pages.old) key slot }
     requires body { IsTold (P.view pages.old).disk
         → HasBody (content_at (P.view pages.old).held key slot) }
     ensures body { OnOk result (IsTold (P.view pages.old).disk
         → content_at (P.view pages.old).held key slot ≡ Here into.new) }
+    ensures some { OnOk result (IsBodyLength (length into.new)) }
     ensures did { PagesCall no_page 1 1 (P.view pages.old) (P.view pages.new) result }
 {
     match look(pages, key, slot, into)? {
@@ -77,42 +83,41 @@ fn look<P: Pages>(
     requires { NamesEntry (P.view pages.old) key slot }
     ensures found { IfOk result (λ found. IsTold (P.view pages.old).disk
         → IsFound found (content_at (P.view pages.old).held key slot) into.new) }
-    ensures low { IfOk result IsLow }
+    ensures formed { IfOk result (λ found. IsInForm found into.new) }
     ensures did { PagesCall no_page 1 1 (P.view pages.old) (P.view pages.new) result }
 {
     if !pages.has(key) {
         return Ok(Found::Nothing);
     }
     pages.load(key)?;
-    match look_in(pages.loaded(key), slot, into) {
-        Some(found) => Ok(found),
-        None => Err(damaged(key)),
-    }
+    look_in(pages.loaded(key), key, slot, into)
 }
 
-/// Finds out what an entry holds, where its bytes are in form. A body is copied.
-fn look_in(page: &Page, slot: u8, into: &mut Body) -> Option<Found>
+/// Finds out what an entry holds, in a page that is to be well-formed. A body is copied.
+fn look_in(page: &Page, key: PageKey, slot: u8, into: &mut Body) -> Result<Found, PageFault>
     requires { slot < page_entries }
-    ensures found { IfSome result
+    ensures header { OnOk result (IsHeader key page.now) }
+    ensures found { IfOk result
         (λ found. IsFound found (held_at (entries page.now) slot) into.new) }
-    ensures low { IfSome result IsLow }
-    ensures none { IfNone result (IsSlotted page.now
+    ensures formed { IfOk result (λ found. IsInForm found into.new) }
+    ensures damaged { IfErr result (λ fault. fault ≡ PageDamaged (PagePlace key)) }
+    ensures ill { OnErr result (IsWellFormed key page.now
         → ((body : List ℕ) → held_at (entries page.now) slot ≡ Here body
         → length body ≤ body_most) → ⊥) }
 {
-    match checked_entry(page, slot)? {
-        Entry::Empty => Some(Found::Nothing),
-        Entry::Forward { page: to, slot } => Some(Found::Elsewhere(to, slot)),
+    match entry_in(page, key, slot)? {
+        Entry::Empty => Ok(Found::Nothing),
+        Entry::Forward { page: to, slot } => Ok(Found::Elsewhere(to, slot)),
         Entry::Here { place, length } => {
             if usize::from(length) > BODY_BYTES {
-                return None;
+                return Err(damaged(key));
             }
             // A new one is zeroed, which costs more than all else here.
             if !into.as_slice().is_empty() {
                 *into = Body::new();
             }
             into.extend_from_slice(bytes_at(page, place, length));
-            Some(Found::Body)
+            Ok(Found::Body)
         }
     }
 }

@@ -1,5 +1,5 @@
 // Tuples by their segments and identifiers.
-ghost use Rattle.std.specs.Prelude.{◌≡◌, ◌+◌, ◌<◌, length, None, IfOk, OnOk};
+ghost use Rattle.std.specs.Prelude.{◌≡◌, ◌+◌, ◌<◌, length, None, IsTrue, IfOk, OnOk};
 ghost use Rattle.rss_base.specs.DiskRule.{IsTold};
 ghost use Rattle.rss_base.specs.Steps.{no_page};
 ghost use Rattle.rss_tuple.specs.Directory.{bodies_of, with_body};
@@ -7,8 +7,8 @@ ghost use Rattle.rss_tuple.specs.Heaps.{AreHeaps};
 ghost use Rattle.rss_tuple.specs.TupleSteps.{TuplesView, TuplesCall, no_tuple, only_tuple, pages_for};
 ghost use Rattle.rss_tuple.specs.Finding.{IsFetched, FindsNext};
 ghost use Rattle.rss_tuple.specs.Placing.{TakesOnly};
-ghost use Rattle.rss_tuple.specs.Calls.{IsSegment, MayPut, MayInsert, HasTuple, MayReplace};
-ghost use Rattle.rss_tuple.specs.Calls.{IsNoLonger};
+ghost use Rattle.rss_tuple.specs.Calls.{IsSegment, IsBodyLength, MayPut, MayInsert, HasTuple, MayReplace};
+ghost use Rattle.rss_tuple.specs.Calls.{IsNoLonger, IsNowhere, damaged_home};
 ghost use Rattle.rss_tuple.specs.Calls.{Chooses, PutsTuple, Inserts};
 
 use rss_base::{Body, PageFault, Tid};
@@ -50,6 +50,7 @@ pub trait Tuples {
         requires heaps { IsTold (view self.old).pages.disk → AreHeaps (view self.old).pages }
         ensures fetched { IfOk result (λ live. IsTold (view self.old).pages.disk
             → IsFetched ((view self.old).bodies segment tid) live into.new) }
+        ensures body { IfOk result (λ live. IsTrue live → IsBodyLength (length into.new)) }
         ensures did { TuplesCall no_page no_tuple 2 (view self.old) (view self.new) result };
 
     /// Puts another body in place of that of a tuple. Takes no page where the body isn't longer.
@@ -59,7 +60,9 @@ pub trait Tuples {
             (view self.old) (view self.new) result }
         ensures no_page { OnOk result (IsTold (view self.old).pages.disk
             → IsNoLonger (view self.old) segment tid (length body.now)
-            → TakesOnly no_page (view self.old).pages (view self.new).pages) };
+            → TakesOnly no_page (view self.old).pages (view self.new).pages) }
+        ensures nowhere { IsNowhere (view self.old) segment tid
+            → result ≡ damaged_home segment tid };
 
     /// Takes a tuple away. A page whose entries are all empty then is given back.
     fn remove(&mut self, segment: u8, tid: Tid) -> Result<(), PageFault>
@@ -68,6 +71,8 @@ pub trait Tuples {
             ≡ with_body (view self.old).bodies segment tid None) }
         ensures takes { OnOk result (TakesOnly no_page (view self.old).pages
             (view self.new).pages) }
+        ensures nowhere { IsNowhere (view self.old) segment tid
+            → result ≡ damaged_home segment tid }
         ensures did { TuplesCall (pages_for segment tid) (only_tuple segment tid) 4
             (view self.old) (view self.new) result };
 

@@ -1,20 +1,22 @@
 // The next tuple of a segment.
-ghost use Rattle.std.specs.Prelude.{◌≡◌, ◌↔◌, ◌<◌, ◌≤◌, true, MatchOption, IfOk};
+ghost use Rattle.std.specs.Prelude.{◌≡◌, ◌↔◌, ◌<◌, ◌≤◌, true, MatchOption, IfOk, IfErr, OnOk, OnErr};
 ghost use Rattle.rss_base.specs.DiskRule.{IsTold};
 ghost use Rattle.rss_base.specs.Sizes.{page_entries};
 ghost use Rattle.rss_base.specs.Steps.{PagesCall, no_page};
+ghost use Rattle.rss_base.specs.declared.fault.PageFault.TheVariants.{Damaged as PageDamaged};
+ghost use Rattle.rss_base.specs.declared.place.Place.TheVariants.{Page as PagePlace};
 ghost use Rattle.rss_base.specs.declared.tid.Tid.{Tid as Identifier};
-ghost use Rattle.rss_page.specs.Slotted.{entries};
+ghost use Rattle.rss_page.specs.Slotted.{entries, IsHeader, IsHeapKey};
 ghost use Rattle.rss_tuple.specs.Directory.{contents};
-ghost use Rattle.rss_tuple.specs.Heaps.{AreHeaps};
+ghost use Rattle.rss_tuple.specs.Heaps.{AreFormed, AreHeaps};
 ghost use Rattle.rss_tuple.specs.TupleSteps.{tuples_in};
 ghost use Rattle.rss_tuple.specs.Finding.{IsAfter, IsFrom, IsFirstTaken, NoneTaken, FindsNext};
 ghost use Rattle.rss_tuple.specs.Calls.{IsSegment};
 
 use crate::finding::is_empty;
-use crate::keys::home;
+use crate::keys::{damaged, home};
 use rss_base::{Page, PageFault, PageKey, Pages, Space, Tid};
-use rss_page::ENTRIES;
+use rss_page::{ENTRIES, has_header};
 
 /// The last slot of a page.
 const LAST_SLOT: u16 = ENTRIES as u16 - 1;
@@ -47,16 +49,32 @@ fn taken_from(page: &Page, from: u8) -> Option<u8>
     None
 }
 
+/// The same of a page that is to be well-formed. Its header is tested.
+fn taken_on(page: &Page, key: PageKey, from: u8) -> Result<Option<u8>, PageFault>
+    ensures header { OnOk result (IsHeader key page.now) }
+    ensures found { IfOk result (λ found. MatchOption found (NoneTaken (entries page.now) from)
+        (IsFirstTaken (entries page.now) from)) }
+    ensures damaged { IfErr result (λ fault. fault ≡ PageDamaged (PagePlace key)) }
+    ensures ill { OnErr result (IsHeader key page.now → ⊥) }
+{
+    if !has_header(page, key) {
+        return Err(damaged(key));
+    }
+    Ok(taken_from(page, from))
+}
+
 /// The same of a mapped page.
 fn taken_in<P: Pages>(pages: &mut P, key: PageKey, from: u8) -> Result<Option<u8>, PageFault>
-    requires { (P.view pages.old).mapped key ≡ true }
+    requires mapped { (P.view pages.old).mapped key ≡ true }
+    requires heap { IsHeapKey key }
+    requires formed { IsTold (P.view pages.old).disk → AreFormed (P.view pages.old) }
     ensures found { IfOk result (λ found. IsTold (P.view pages.old).disk
         → MatchOption found (NoneTaken (contents (P.view pages.old).held key) from)
         (IsFirstTaken (contents (P.view pages.old).held key) from)) }
     ensures did { PagesCall no_page 1 1 (P.view pages.old) (P.view pages.new) result }
 {
     pages.load(key)?;
-    Ok(taken_from(pages.loaded(key), from))
+    taken_on(pages.loaded(key), key, from)
 }
 
 /// Where to begin in a page: at the slot of `from`, where it is its page, else at the first one.

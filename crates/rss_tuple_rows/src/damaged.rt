@@ -1,8 +1,8 @@
 // Pages that aren't what they should be, where the device doesn't tell: each call answers with the
 // place.
 use crate::calls::{
-    Tried, Undone, choose, empty, fetch, insert, insert_at, key_of, put_home, put_overflow, remove,
-    replace, tid,
+    Tried, Undone, choose, empty, fetch, insert, insert_at, key_of, next_live, put_home,
+    put_overflow, remove, replace, tid,
 };
 use rss_asserts::assert_same;
 use rss_base::{Body, Page, PageFault, Pages, Place, Space, Tid};
@@ -29,11 +29,13 @@ fn overflow_page() -> Page {
     page
 }
 
-/// Entries: none, a body of nine bytes, a forward to slot 5 of overflow page 7, and one of a kind that
-/// there isn't.
+/// Entries: none, a body of nine bytes, one of 1,024 behind it, a forward to slot 5 of overflow page 7,
+/// and one of a kind that there isn't.
 const NOTHING: [u8; 8] = [0; 8];
 
 const BODY: [u8; 8] = [1, 0, 4, 16, 0, 9, 0, 0];
+
+const LONG_BODY: [u8; 8] = [1, 0, 4, 25, 4, 0, 0, 0];
 
 const FORWARD: [u8; 8] = [2, 5, 0, 0, 0, 0, 0, 7];
 
@@ -54,21 +56,28 @@ fn store_with(alloc: Global, home: &Page) -> Result<Tried, Fail> {
     Ok(store)
 }
 
+/// The same with a forward to slot 5 of overflow page 7, which isn't mapped, or has nothing there.
+fn store_with_forward(alloc: Global, first: [u8; 8], is_mapped: bool) -> Result<Tried, Fail> {
+    let mut store = store_with(alloc, &home_with(first, FORWARD))?;
+    if is_mapped {
+        put_overflow(&mut store, 7, &overflow_page())?;
+    }
+    Ok(store)
+}
+
 #[test]
 fn a_forward_that_leads_to_no_body_is_told(rt: HostRuntime) -> Result<(), Fail> {
-    let home = home_with(BODY, FORWARD);
     let want = damaged(Space::Overflow, 7);
     for is_mapped in [false, true] {
-        let mut store = store_with(rt.alloc(), &home)?;
-        if is_mapped {
-            put_overflow(&mut store, 7, &overflow_page())?;
-        }
+        let mut store = store_with_forward(rt.alloc(), BODY, is_mapped)?;
         assert_same(&fetched(&mut store), &Err(want), is_mapped)?;
+        assert_same(&remove(&mut store, AT), &Err(want), is_mapped)?;
+        let mut store = store_with_forward(rt.alloc(), BODY, is_mapped)?;
+        assert_same(&replace(&mut store, AT, &[7]), &Err(want), is_mapped)?;
+        // It fits in its home page beside 1,024 bytes no more.
+        let mut store = store_with_forward(rt.alloc(), LONG_BODY, is_mapped)?;
+        assert_same(&replace(&mut store, AT, &[7; 2033]), &Err(want), is_mapped)?;
     }
-    let mut store = store_with(rt.alloc(), &home)?;
-    assert_same(&replace(&mut store, AT, &[7]), &Err(want), "replace")?;
-    let mut store = store_with(rt.alloc(), &home)?;
-    assert_same(&remove(&mut store, AT), &Err(want), "remove")?;
     Ok(())
 }
 
@@ -91,13 +100,17 @@ fn a_page_that_isnt_well_formed_is_told(rt: HostRuntime) -> Result<(), Fail> {
 }
 
 #[test]
-fn a_page_of_another_number_is_told(rt: HostRuntime) -> Result<(), Fail> {
+fn a_page_of_another_number_or_of_zeros_is_told(rt: HostRuntime) -> Result<(), Fail> {
     let want = damaged(Space::Home, 3);
     let mut home = home_with(NOTHING, BODY);
     home[7] = 4;
-    let mut store = store_with(rt.alloc(), &home)?;
-    assert_same(&replace(&mut store, AT, &[7]), &Err(want), "replace")?;
-    assert_same(&remove(&mut store, AT), &Err(want), "remove")?;
+    for page in [home, [0; 4096]] {
+        let mut store = store_with(rt.alloc(), &page)?;
+        assert_same(&fetched(&mut store), &Err(want), "fetch")?;
+        assert_same(&next_live(&mut store, None), &Err(want), "next_live")?;
+        assert_same(&replace(&mut store, AT, &[7]), &Err(want), "replace")?;
+        assert_same(&remove(&mut store, AT), &Err(want), "remove")?;
+    }
     Ok(())
 }
 
@@ -148,7 +161,7 @@ fn no_tuple_where_one_should_be_is_told(rt: HostRuntime) -> Result<(), Fail> {
 
 #[test]
 fn a_body_that_wants_a_page_where_none_is_spare_is_told(rt: HostRuntime) -> Result<(), Fail> {
-    let mut store = store_with(rt.alloc(), &home_with([1, 0, 4, 25, 4, 0, 0, 0], BODY))?;
+    let mut store = store_with(rt.alloc(), &home_with(LONG_BODY, BODY))?;
     for number in 0..64u32 {
         if number != 3 && store.pages.spare() > 0 {
             put_home(&mut store, number, &home_with(BODY, NOTHING))?;

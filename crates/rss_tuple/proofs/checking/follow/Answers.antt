@@ -39,4 +39,4 @@ pub returns-clause-saw : goal.returns-clause-saw
 returns-clause-saw g c = on_ok_then c.show_moved.result (λ saw told. subst (λ (content : Content). Sees g.V.Visitor.is_good g.V.Visitor.saw c.args.visitor.now c.show_moved.new.visitor (row_of c.args.tid (body_in content))) (sym (entry_there g c told)) saw) c.show_moved.ensures.saw
 
 pub returns-clause-did : goal.returns-clause-did
-returns-clause-did g c = looks_ends c.show_moved.result c.show_moved.ensures.names (on_err_weaker c.show_moved.result (λ never told sound. never (sound.slotted c.args.to.page _ (page_there g c told)) (leads_to_good (g.P.Pages.view c.args.pages.now).held c.args.segment c.args.led.now (g.V.Visitor.is_good c.args.visitor.now) c.args.to.page c.args.to.slot sound _ (entry_there g c told))) c.show_moved.ensures.flawed) c.in_ok-bring.ensures.did.looks
+returns-clause-did g c = looks_ends c.show_moved.result c.show_moved.ensures.names (on_err_weaker c.show_moved.result (λ never told sound. never (sound.formed c.args.to.page _ (page_there g c told)) (leads_to_good (g.P.Pages.view c.args.pages.now).held c.args.segment c.args.led.now (g.V.Visitor.is_good c.args.visitor.now) c.args.to.page c.args.to.slot sound _ (entry_there g c told))) c.show_moved.ensures.flawed) c.in_ok-bring.ensures.did.looks

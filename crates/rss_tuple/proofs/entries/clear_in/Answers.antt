@@ -9,7 +9,7 @@ returns-then-is_vacant g c =
     let gave = c.in_ok-give.ensures in
     record {
       sets = λ told.
-          let read = read_copied c.requires.heap c.requires.formed c.requires.copied told in
+          let read = read_copied c.requires.header.space c.requires.formed c.requires.copied told in
           sets_given c.args.key c.args.slot Empty c.args.page.now c.remove.new.page _ _ read c.requires.low (c.remove.ensures.becomes read.formed.slotted)
           (c.is_vacant.ensures.vacant c.if-is_vacant.true) gave.given gave.did.step (c.requires.formed told) told;
       did = widens (λ key there. there) (omega arith) (omega arith) (done _ gave.did.step);
@@ -23,7 +23,7 @@ returns g c =
     let wrote = c.in_ok-write.ensures in
     record {
       sets = λ told.
-          let read = read_copied c.requires.heap c.requires.formed c.requires.copied told in
+          let read = read_copied c.requires.header.space c.requires.formed c.requires.copied told in
           sets_written c.args.key c.args.slot Empty c.args.page.now c.remove.new.page _ _ read c.requires.low (c.remove.ensures.becomes read.formed.slotted)
           (λ vacant. let never : c.is_vacant.result ≡ true = c.is_vacant.ensures.exact (c.remove.ensures.becomes read.formed.slotted).slotted vacant in let not : c.is_vacant.result ≡ false = c.if-is_vacant.false in absurd (cc))
           (λ body is. absurd (cc))

@@ -13,7 +13,7 @@ returns g c =
     let wrote = c.in_ok-write.ensures in
     record {
       sets = λ told.
-          let read = read_copied may.heap may.formed may.copied told in
+          let read = read_copied may.header.space may.formed may.copied told in
           let sets = (c.overwrite.ensures read.formed.slotted (c.requires.own.beside read.formed.slotted)).becomes in
           let here = entry_set c.args.page.now c.overwrite.new.page c.args.slot (Here c.args.body.now) may.low sets.holds in
           sets_written c.args.key c.args.slot (Here c.args.body.now) c.args.page.now c.overwrite.new.page _ _ read may.low sets

@@ -1,9 +1,12 @@
 use Rattle.std.proofs.Common.{◌≡◌, ◌∙◌, rules, true, false, sym, ap}
-use Rattle.rss_base.specs.Paged.{Held, Mapped}
+use Rattle.rss_base.specs.Paged.{Held, Mapped, is_same}
+use Rattle.rss_base.specs.Notes.{Noted}
+use Rattle.rss_base.proofs.Keys.{is_same-itself}
+use Rattle.std.proofs.lemmas.Bool.{cond-true}
 use Rattle.rss_base.proofs.Steps.{untouched, then, done, all_mapped, all_held, none_changed_more}
 use Rattle.rss_tuple.specs.Edits.{IsRead}
 use Rattle.rss_tuple.proofs.Seen.{formed_after, found_damaged, kept_after}
-use Rattle.rss_tuple.proofs.Spots.{noted_heap, covers, noted_kept}
+use Rattle.rss_tuple.proofs.Spots.{noted_heap, covers, noted_kept, passed_by}
 use Rattle.rss_tuple.proofs.finding.try_page.Goals as goal
 
 pub returns-in_err-load-clause-kept : goal.returns-in_err-load-clause-kept
@@ -27,6 +30,11 @@ returns-in-Some-spot_in-clause-kept g c = kept_after c.in_ok-load.ensures.did.st
 
 pub returns-in-Some-spot_in-clause-did : goal.returns-in-Some-spot_in-clause-did
 returns-in-Some-spot_in-clause-did g c = done _ (untouched c.in_ok-load.ensures.did.step)
+
+pub returns-clause-noted : goal.returns-clause-noted
+returns-clause-noted g c = λ none.
+    let noted = ap (λ (n : Noted). n c.args.key) c.note.ensures.noted.notes ∙ cond-true (is_same c.args.key c.args.key) _ _ (is_same-itself c.args.key) in
+    passed_by _ c.args.key _ c.args.length c.args.barred.now c.args.key.number c.room_of-room.result noted c.room_of-room.ensures (rw c.in_default-spot_in.is at c.spot_in.ensures)
 
 pub returns-clause-kept : goal.returns-clause-kept
 returns-clause-kept g c =

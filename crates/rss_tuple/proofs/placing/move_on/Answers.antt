@@ -1,4 +1,4 @@
-use Rattle.std.proofs.Common.{◌≡◌, ◌∙◌, inl, inr, ◌+◌, ◌<◌, ◌≤◌, ℕ, List, Option, ap, subst, arith, length}
+use Rattle.std.proofs.Common.{◌≡◌, ◌∙◌, inl, inr, ◌+◌, ◌<◌, ◌≤◌, ℕ, List, Option, sym, ap, subst, arith, length}
 use Rattle.rss_base.specs.DiskRule.{IsTold}
 use Rattle.rss_base.specs.Paged.{Held, page_key}
 use Rattle.rss_base.specs.Steps.{PagesView}
@@ -9,7 +9,8 @@ use Rattle.rss_base.proofs.Steps.{untouched, within, then, then_call, widens, al
 use Rattle.rss_page.specs.Content.{Forward}
 use Rattle.rss_page.specs.Slotted.{entries, HasRoom}
 use Rattle.rss_page.specs.Surveyed.{held_at}
-use Rattle.rss_tuple.specs.Directory.{contents_in, content_at, homes}
+use Rattle.rss_tuple.specs.Directory.{contents_in, content_at, homes, overflows}
+use Rattle.rss_tuple.specs.Heaps.{HasBody}
 use Rattle.rss_tuple.specs.Edits.{IsRead}
 use Rattle.rss_tuple.proofs.Links.{not_empty}
 use Rattle.rss_tuple.proofs.Seen.{on_ok, on_ok_then, formed_after}
@@ -18,10 +19,17 @@ use Rattle.rss_tuple.proofs.Taken.{takes_step, takes_none, one_before, one_more}
 use Rattle.rss_tuple.proofs.Changes.{spare_after, spare_away}
 use Rattle.rss_tuple.proofs.Moved.{moved_stays, moved_away, never_away, still_there, moves_fails, moves_after}
 use Rattle.rss_tuple.proofs.placing.move_on.Goals as goal
+use Rattle.rss_tuple.proofs.placing.move_on.Goals.{In_ok-place-in-None}
 
 -- where the home entry leads
 leads : (view : PagesView) (segment : ℕ) (tid : Tid) (page : List ℕ) (to to_slot : ℕ) → IsRead view (page_key segment Home tid.page) page → held_at (entries page) tid.slot ≡ Forward to to_slot → IsTold view.disk → homes view.held segment tid.page tid.slot ≡ Forward to to_slot
 leads view segment tid page to to_slot read is told = ap (λ (p : Option (List ℕ)). held_at (contents_in p) tid.slot) (read.held told) ∙ is
+
+pub stays-requires-clause-body : goal.stays-requires-clause-body
+stays-requires-clause-body g c = λ told.
+    let view = g.P.Pages.view c.args.pages.now in
+    let lead = leads view c.args.segment c.args.tid c.args.page.now c.args.to c.args.to_slot c.requires.home.read c.requires.leads told in
+    subst (λ (k : PageKey). HasBody (content_at view.held k c.args.to_slot)) (sym c.overflow-key.ensures) (((c.requires.heaps told).linked c.args.segment).leads c.args.tid.page c.args.tid.slot c.args.to c.args.to_slot lead)
 
 pub stays-requires-clause-may : goal.stays-requires-clause-may
 stays-requires-clause-may g c =
@@ -106,24 +114,33 @@ returns-in_err-place-in-None g c =
     moves_fails _ c.from_residual-in_err-place-in-None.ensures.1 (λ key there. there) (omega arith) (omega arith) (then_call {asks_then = most} {writes_then = most} (untouched c.in_ok-there.ensures.did.step) (widens (λ key there. there) fewer fewer c.in_err-place-in-None.ensures.did))
 
 -- the body that is left stands where it stood
-pub clear-requires-clause-may : goal.clear-requires-clause-may
-clear-requires-clause-may g c =
+left : (g : _) (c : In_ok-place-in-None g) → IsTold (g.P.Pages.view c.place.new.pages).disk → HasBody (overflows (g.P.Pages.view c.place.new.pages).held c.args.segment c.args.to c.args.to_slot)
+left g c next =
     let old = g.P.Pages.view c.args.pages.now in
     let step = c.in_ok-there.ensures.did.step in
+    let placed = c.in_ok-place-in-None.ensures in
+    let mid = placed.did.step.passes.leaves.told.1 next in
+    let told = step.passes.leaves.told.1 mid in
+    let lead = leads old c.args.segment c.args.tid c.args.page.now c.args.to c.args.to_slot c.requires.home.read c.requires.leads told in
+    let body = ((c.requires.heaps told).linked c.args.segment).leads c.args.tid.page c.args.tid.slot c.args.to c.args.to_slot lead in
+    let puts = puts_before c.args.segment c.args.tid c.args.body.now old (g.P.Pages.view c.stays.new.pages) (g.P.Pages.view c.place.new.pages) (all_mapped step) (all_held step told) (placed.puts mid) in
+    still_there c.args.segment c.args.tid c.args.body.now c.args.to c.args.to_slot _ _ body puts
+
+pub clear-requires-clause-may : goal.clear-requires-clause-may
+clear-requires-clause-may g c =
     let placed = c.in_ok-place-in-None.ensures in
     let one = page_key c.args.segment Overflow c.args.to in
     record {
       heap = inr (ap (λ (k : PageKey). k.space) c.overflow-key.ensures);
       mapped = λ next.
-          let mid = placed.did.step.passes.leaves.told.1 next in
-          let told = step.passes.leaves.told.1 mid in
-          let lead = leads old c.args.segment c.args.tid c.args.page.now c.args.to c.args.to_slot c.requires.home.read c.requires.leads told in
-          let body = ((c.requires.heaps told).linked c.args.segment).leads c.args.tid.page c.args.tid.slot c.args.to c.args.to_slot lead in
-          let puts = puts_before c.args.segment c.args.tid c.args.body.now old (g.P.Pages.view c.stays.new.pages) (g.P.Pages.view c.place.new.pages) (all_mapped step) (all_held step told) (placed.puts mid) in
           mapped_there (g.P.Pages.view c.place.new.pages) c.overflow-key.result one c.args.to_slot c.overflow-key.ensures (g.met.P.Pages.holds c.place.new.pages next one)
-          (not_empty (content_at (g.P.Pages.view c.place.new.pages).held one c.args.to_slot) (still_there c.args.segment c.args.tid c.args.body.now c.args.to c.args.to_slot _ _ body puts));
+          (not_empty (content_at (g.P.Pages.view c.place.new.pages).held one c.args.to_slot) (left g (goal.at.clear-requires-clause-may g c).In_ok-place-in-None next));
       formed = λ told. (placed.puts (placed.did.step.passes.leaves.told.1 told)).formed;
     }
+
+pub clear-requires-clause-body : goal.clear-requires-clause-body
+clear-requires-clause-body g c = λ next.
+    subst (λ (k : PageKey). HasBody (content_at (g.P.Pages.view c.place.new.pages).held k c.args.to_slot)) (sym c.overflow-key.ensures) (left g (goal.at.clear-requires-clause-body g c).In_ok-place-in-None next)
 
 pub returns-in_ok-place-in-None : goal.returns-in_ok-place-in-None
 returns-in_ok-place-in-None g c =

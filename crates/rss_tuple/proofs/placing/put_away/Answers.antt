@@ -1,6 +1,8 @@
 use Rattle.std.proofs.Common.{length, refl, inl, sym, arith}
 use Rattle.rss_base.proofs.Steps.{then, then_call, among, widens, done, fails, is_in}
 use Rattle.rss_tuple.specs.Directory.{tid_at}
+use Rattle.rss_tuple.proofs.Seen.{found_damaged}
+use Rattle.rss_tuple.proofs.Changes.{spare_after}
 use Rattle.rss_tuple.proofs.Spots.{spot_room}
 use Rattle.rss_tuple.proofs.Placed.{step_at, puts_found, puts_taken, read_key}
 use Rattle.rss_tuple.proofs.Taken.{takes_step, takes_same}
@@ -44,6 +46,12 @@ returns-in_ok-put_here-in-Some-clause-one g c =
 
 pub returns-in_ok-put_here-in-Some-clause-did : goal.returns-in_ok-put_here-in-Some-clause-did
 returns-in_ok-put_here-in-Some-clause-did g c = widens (λ key there. there) (omega arith) (omega arith) (done _ (then c.find_page.ensures.did.step (among (is_in c.overflow-key.result c.overflow-key.ensures) c.in_ok-put_here-in-Some.ensures.did.step)))
+
+pub returns-in_err-have_spare-in-None-clause-did : goal.returns-in_err-have_spare-in-None-clause-did
+returns-in_err-have_spare-in-None-clause-did g c =
+    let step = c.find_page.ensures.did.step in
+    fails _ c.from_residual-in_err-have_spare-in-None.ensures.1 (λ key there. there) (omega arith) (omega arith) (found_damaged {T = Unit {0}} _ c.in_err-have_spare-in-None.ensures.damaged step (λ told.
+    omega (arith, c.requires.room told, c.in_err-have_spare-in-None.ensures.none, spare_after step c.find_page.ensures.kept.mapped (g.met.P.Pages.are_counted c.args.pages.now) (g.met.P.Pages.are_counted c.find_page.new.pages))))
 
 pub returns-in_err-page-in-None-clause-did : goal.returns-in_err-page-in-None-clause-did
 returns-in_err-page-in-None-clause-did g c =

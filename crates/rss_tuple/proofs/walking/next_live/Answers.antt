@@ -4,6 +4,7 @@ use Rattle.rss_base.specs.declared.key.Space.TheVariants.{Home}
 use Rattle.rss_base.proofs.Steps.{within, done}
 use Rattle.rss_page.specs.Content.{Content}
 use Rattle.rss_tuple.specs.Finding.{IsFirstTaken, NoneTaken}
+use Rattle.rss_tuple.proofs.Seen.{formed_after}
 use Rattle.rss_tuple.proofs.Walks.{walked_none, none_next, found_next, walked_more, walk_call, walk_fails, contents_before, low_home}
 use Rattle.rss_tuple.proofs.walking.next_live.Goals as goal
 use Rattle.rss_tuple.proofs.walking.next_live.Goals.{In-Some}
@@ -16,6 +17,9 @@ low g c = low_home (g.P.Pages.view c.args.pages.now) (g.P.Pages.view c.loop-numb
 
 pub slot_in-low-requires : goal.slot_in-low-requires
 slot_in-low-requires g c = c.loop-number.invariant.low
+
+pub taken_in-requires-clause-formed : goal.taken_in-requires-clause-formed
+taken_in-requires-clause-formed g c = formed_after c.loop-number.invariant.step (λ told. (c.requires.heaps told).formed)
 
 pub overflow_add-from : goal.overflow_add-from
 overflow_add-from g c =
