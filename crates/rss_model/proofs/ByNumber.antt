@@ -2,6 +2,7 @@
 use Rattle.std.proofs.Common.{◌≡◌, ℕ, zero, suc, ◌<◌, ◌≤◌, true, false, List, [], ◌∷◌, length, get_or, refl, sym, ◌∙◌, ap, arith}
 use Rattle.std.specs.Prelude.{Option, Some, None, is_some, option_map, nat_le, count_by, sum_by}
 use Rattle.std.specs.FinMap as map
+use Rattle.std.specs.List.{list_all}
 use Rattle.std.specs.FinMap.{FinMap, entries as map_entries, len-entries}
 use Rattle.std.proofs.lemmas.Bool.{true≢false, leb-true, le-leb, false_from_ne_true}
 use Rattle.std.proofs.lemmas.List.{length-map}
@@ -17,9 +18,8 @@ use Rattle.rss_model.specs.Tables.{Definitions, Tables, segment_of}
 use Rattle.rss_model.specs.Meter.{is_in_segment, relations_in}
 use Rattle.rss_model.specs.Store.{Defines}
 use Rattle.rss_model.proofs.Counts.{one_if}
-use Rattle.rss_model.proofs.Frees.{none_kept, in_segment, stands_defined}
+use Rattle.rss_model.proofs.Frees.{kept_passes, none_kept, in_segment, stands_in, stands_defined, is_listed}
 use Rattle.rss_model.proofs.Listed.{IsListOf, of_name, sum_listed, at_place, segments_listed, listed, stands_within, number_within}
-use Rattle.rss_model.proofs.Redefined.{none_stands}
 use Rattle.rss_model.proofs.Spelled.{named_relation}
 
 -- ---- how many are defined
@@ -70,6 +70,15 @@ module _ {X : Type 0} (items : List (Option Name)) (m : FinMap name_cmp X) (list
       each full (suc k) low high = ap is_some (at_place items k) ∙ full_some items k (omega (arith, full, len_listed items m list)) (omega (arith, high))
 
 -- ---- the tests
+
+-- no relation stands in a segment that has none
+none_stands : (tables : Tables) (segment : Name) → length (relations_in tables segment) ≡ 0 → (relation : Name) → segment_of tables relation ≡ Some segment → ⊥
+none_stands tables segment none relation stands =
+    true≢false (sym (kept_passes (is_in_segment tables segment) (λ name. false) (map.keys tables.definitions.relations) relation (by (relations_in tables segment) none) (is_listed tables segment relation stands) (stands_in tables segment relation stands)))
+  where
+    by : (names : List Name) → length names ≡ 0 → list_all (λ (name : Name). false) names ≡ true
+    by [] is = refl
+    by (name ∷ names) is = absurd (omega (arith, is))
 
 module _ {listing : Listing} {definitions : Definitions} (fits : ListingFits listing) (defines : Defines listing definitions) where
   pub segment_named : (name : Name) (number : ℕ) → IsNumberOf SegmentKind listing name number → is_some (map.get definitions.segments name) ≡ true

@@ -1,10 +1,10 @@
 -- What the items hold once one of them is put.
-use Rattle.std.proofs.Common.{◌≡◌, ◌≢◌, inl, inr, true, false, cond, refl, sym, ◌∙◌, ap}
+use Rattle.std.proofs.Common.{◌≡◌, ◌≢◌, true, false, cond, refl, ◌∙◌, ap}
 use Rattle.std.specs.Prelude.{Option, Some, None}
-use Rattle.std.proofs.lemmas.Bool.{cases_Bool, cond-true, cond-false}
+use Rattle.std.proofs.lemmas.Bool.{cond-true, cond-false}
 use Rattle.std.specs.Ordering.{eq_by_cmp, is_eq}
 use Rattle.std.specs.Cmp.{IsTotalOrder, Equal-is, tied_itself}
-use Rattle.std.specs.FinMap.{IsAntisymmetric, get-insert, get-remove, same_map}
+use Rattle.std.specs.FinMap.{IsAntisymmetric, get-insert, get-remove}
 use Rattle.std.specs.declared.cmp.Ordering.{Ordering}
 use Rattle.rss_base.specs.declared.item.Item.{Item}
 use Rattle.rss_model.specs.Items.{Content, item_cmp}
@@ -37,10 +37,3 @@ content_here contents item held = content_put contents item held item ∙ cond-t
 
 pub content_elsewhere : (contents : Contents) (item : Item) (held : Option Content) (q : Item) → q ≢ item → content (put contents item held) q ≡ content contents q
 content_elsewhere contents item held q other = content_put contents item held q ∙ cond-false _ _ _ (not_tied item_total item_apart q item other)
-
--- an item that holds again what it held
-pub put_back : (contents : Contents) (item : Item) (held old : Option Content) → old ≡ content contents item → put (put contents item held) item old ≡ contents
-put_back contents item held old was = same_map item_total item_apart _ _ (λ q. content_put (put contents item held) item old q ∙ elim (cases_Bool (eq_by_cmp item_cmp q item)) [
-  | inl same ↦ cond-true _ old _ same ∙ was ∙ ap (content contents) (sym (same_item_of q item same))
-  | inr apart ↦ cond-false _ old _ apart ∙ content_put contents item held q ∙ cond-false _ held _ apart
-])

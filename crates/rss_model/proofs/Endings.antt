@@ -6,7 +6,7 @@ use Rattle.rss_base.specs.DiskRule.{IsTold, Passes, Continues}
 use Rattle.rss_base.specs.Answers.{page_error}
 use Rattle.rss_base.specs.Paged.{AreAmong, HasPageCause}
 use Rattle.rss_base.specs.declared.call.Call.{Call}
-use Rattle.rss_base.specs.declared.call.Call.TheVariants.{Begin, End, Insert, Fetch, Update, Delete, MakeSegment, MakeRelation, DropSegment, DropRelation}
+use Rattle.rss_base.specs.declared.call.Call.TheVariants.{Begin, Save, Restore, End, Abort, Insert, Fetch, Update, Delete, Connect, Disconnect, Parent, OpenRelation, OpenImage, OpenLink, Next, CloseScan, Lock, Checkpoint, MakeSegment, MakeRelation, MakeImage, MakeLink, DropSegment, DropRelation, DropImage, DropLink}
 use Rattle.rss_base.specs.declared.answer.Reply.{Reply}
 use Rattle.rss_base.specs.declared.answer.Reply.TheVariants.{Ok as Done}
 use Rattle.rss_base.specs.declared.key.PageKey.{PageKey}
@@ -19,14 +19,14 @@ use Rattle.rss_base.proofs.Moments.{started, widened}
 use Rattle.rss_model.specs.Turns.{IsStopped}
 use Rattle.rss_model.specs.Machine.{State}
 use Rattle.rss_model.specs.Tables.{Definitions}
-use Rattle.rss_model.specs.Meter.{Meter, IsCheckpointed}
+use Rattle.rss_model.specs.Callers.{is_definition}
 use Rattle.rss_model.specs.Defining.{defined, with_definitions, DefinesNames}
-use Rattle.rss_model.specs.Steps.{refusal, redefined}
-use Rattle.rss_model.specs.Steps.Step.{refuses, defines}
+use Rattle.rss_model.specs.Steps.{refusal, left_by, redefined}
+use Rattle.rss_model.specs.Steps.StepBy.{refuses, defines}
 use Rattle.rss_model.specs.Store.{OpensTo, OpensToEither}
 use Rattle.rss_model.specs.ReplyText.{IsShort}
 use Rattle.rss_model.specs.Costs.{RisesAtMost, most_asks, most_writes, LeavesChanged, changes_after}
-use Rattle.rss_model.specs.Calls.{EngineView, GoesOn, IsAnswer, IsUnanswered, IsOutcome, IsCallOf}
+use Rattle.rss_model.specs.Calls.{EngineView, GoesOn, IsAnswer, IsOutcome, IsCallOf}
 
 -- a count that rises by so many at most, rises by no more than it may
 pub within_most : (most : Option ℕ) (n before now : ℕ) → IfSome most (λ m. n ≤ m) → now ≤ before + n → RisesAtMost most before now
@@ -56,36 +56,20 @@ idles view call = costs_nothing call refl refl refl (λ told. told) (λ told. st
 
 -- a call that is refused changes nothing, and pages that were changed wait as before
 pub refused_leaves : (call : Call) (why : Refusal) → LeavesChanged call (Err why)
-refused_leaves (Begin t) why = tt
 refused_leaves (End t) why = tt
-refused_leaves (Insert t relation values) why = tt
-refused_leaves (Fetch t relation tid) why = tt
-refused_leaves (Update t relation tid values) why = tt
-refused_leaves (Delete t relation tid) why = tt
-refused_leaves (MakeSegment name) why = tt
-refused_leaves (MakeRelation name segment fields) why = tt
-refused_leaves (DropSegment name) why = tt
-refused_leaves (DropRelation name) why = tt
+refused_leaves call why = tt
 
 pub refused_since : (call : Call) (why : Refusal) (since : ℕ) → changes_after call (Err why) since ≡ since
-refused_since (Begin t) why since = refl
 refused_since (End t) why since = refl
-refused_since (Insert t relation values) why since = refl
-refused_since (Fetch t relation tid) why since = refl
-refused_since (Update t relation tid values) why since = refl
-refused_since (Delete t relation tid) why since = refl
-refused_since (MakeSegment name) why since = refl
-refused_since (MakeRelation name segment fields) why since = refl
-refused_since (DropSegment name) why since = refl
-refused_since (DropRelation name) why since = refl
+refused_since call why since = refl
 
 -- By a refusal, which leaves the engine as it was but for its pages in memory.
 pub refused_by : {old new : EngineView} {call : Call} {why : Refusal} → new.is_up → IsShort (Err why) → AreAmong new.changed old.changed → new.since ≡ old.since
-    → (IsTold old.disk → (state : State) → old.shows state → (refusal state call ≡ Some why) × new.shows state × Passes old.disk new.disk (λ pages. OpensTo pages state.size state.base)) → IsAnswer old new call (Err why)
+    → (IsTold old.disk → (state : State) → old.shows state → (refusal state call ≡ Some why) × new.shows (left_by state call why) × Passes old.disk new.disk (λ pages. OpensTo pages state.size state.base)) → IsAnswer old new call (Err why)
 refused_by {call = call} {why = why} up short among since stays = record {
   answered = λ told state shown.
       let so = stays told state shown in
-      record { next = state; shows = so.1; answered = record { step = refuses call why so.0; moments = widened so.2 (λ image opens. inl opens) } };
+      record { next = left_by state call why; shows = so.1; answered = record { step = refuses call why so.0; moments = widened so.2 (λ image opens. inl opens) } };
   up = up;
   short = short;
   changed = λ key is. inl (among key is, refused_leaves call why);
@@ -94,48 +78,50 @@ refused_by {call = call} {why = why} up short among since stays = record {
 
 -- ---- definitions
 
--- a call that defines
-abbrev pub IsDefinition : Call → Type 0
-IsDefinition (Begin t) = ⊥
-IsDefinition (End t) = ⊥
-IsDefinition (Insert t relation values) = ⊥
-IsDefinition (Fetch t relation tid) = ⊥
-IsDefinition (Update t relation tid values) = ⊥
-IsDefinition (Delete t relation tid) = ⊥
-IsDefinition (MakeSegment name) = Unit {0}
-IsDefinition (MakeRelation name segment fields) = Unit {0}
-IsDefinition (DropSegment name) = Unit {0}
-IsDefinition (DropRelation name) = Unit {0}
-
 -- once one was made, no change waits for a commit
-pub definition_since : (call : Call) (since : ℕ) → IsDefinition call → changes_after call (Ok Done) since ≡ 0
-definition_since (Begin t) since is = absurd is
-definition_since (End t) since is = absurd is
-definition_since (Insert t relation values) since is = absurd is
-definition_since (Fetch t relation tid) since is = absurd is
-definition_since (Update t relation tid values) since is = absurd is
-definition_since (Delete t relation tid) since is = absurd is
+pub definition_since : (call : Call) (since : ℕ) → is_definition call ≡ true → changes_after call (Ok Done) since ≡ 0
+definition_since (Begin t) since is = absurd (cc)
+definition_since (Save t) since is = absurd (cc)
+definition_since (Restore t save) since is = absurd (cc)
+definition_since (End t) since is = absurd (cc)
+definition_since (Abort t) since is = absurd (cc)
+definition_since (Insert t relation values) since is = absurd (cc)
+definition_since (Fetch t relation tid) since is = absurd (cc)
+definition_since (Update t relation tid values) since is = absurd (cc)
+definition_since (Delete t relation tid) since is = absurd (cc)
+definition_since (Connect t link child parent spot) since is = absurd (cc)
+definition_since (Disconnect t link child) since is = absurd (cc)
+definition_since (Parent t link child) since is = absurd (cc)
+definition_since (OpenRelation t relation) since is = absurd (cc)
+definition_since (OpenImage t image start) since is = absurd (cc)
+definition_since (OpenLink t link parent) since is = absurd (cc)
+definition_since (Next t scan) since is = absurd (cc)
+definition_since (CloseScan t scan) since is = absurd (cc)
+definition_since (Lock t item exclusive) since is = absurd (cc)
+definition_since (Checkpoint) since is = absurd (cc)
 definition_since (MakeSegment name) since is = refl
 definition_since (MakeRelation name segment fields) since is = refl
+definition_since (MakeImage name relation unique fields) since is = refl
+definition_since (MakeLink name parent child) since is = refl
 definition_since (DropSegment name) since is = refl
 definition_since (DropRelation name) since is = refl
+definition_since (DropImage name) since is = refl
+definition_since (DropLink name) since is = refl
 
 -- A definition was made over a state of the machine, which was at rest: it was not refused, and it is committed.
 pub record IsDefined (old new : EngineView) (state : State) (call : Call) : Type 0 where
   pub definitions : Definitions
-  pub meter : Meter
   pub passed : refusal state call ≡ None
   pub so : defined call state.base.definitions ≡ Some definitions
-  pub counted : IsCheckpointed state.size.slots (with_definitions definitions state.base) state.meter.over meter
-  pub shows : new.shows (redefined definitions meter state)
+  pub shows : new.shows (redefined definitions state)
   pub moments : Passes old.disk new.disk (OpensToEither state.size state.base (with_definitions definitions state.base))
 
 -- By a definition, after which no page waits for a commit.
-pub defined_by : {old new : EngineView} {call : Call} → IsDefinition call → DefinesNames call → new.is_up → ((key : PageKey) → new.changed key ≡ true → ⊥) → new.since ≡ 0 → (IsTold old.disk → (state : State) → old.shows state → IsDefined old new state call) → IsAnswer old new call (Ok Done)
+pub defined_by : {old new : EngineView} {call : Call} → is_definition call ≡ true → DefinesNames call → new.is_up → ((key : PageKey) → new.changed key ≡ true → ⊥) → new.since ≡ 0 → (IsTold old.disk → (state : State) → old.shows state → IsDefined old new state call) → IsAnswer old new call (Ok Done)
 defined_by {old = old} {call = call} is names up none since made = record {
   answered = λ told state shown.
       let so = made told state shown in
-      record { next = redefined so.definitions so.meter state; shows = so.shows; answered = record { step = defines call so.definitions so.meter so.passed names so.so so.counted; moments = so.moments } };
+      record { next = redefined so.definitions state; shows = so.shows; answered = record { step = defines call so.definitions so.passed names so.so; moments = so.moments } };
   up = up;
   short = omega arith;
   changed = λ key waits. absurd (none key waits);
@@ -149,21 +135,20 @@ pub comes_to : {old new : EngineView} {call : Call} {result : Result Reply CallE
 comes_to is_up goes outcome = record { goes = goes; outcome = λ was. outcome; down = λ not. absurd (not is_up) }
 
 -- by a refusal, where the call is told so at once: nothing was done
-pub refused_at_once : {view : EngineView} {call : Call} {why : Refusal} → view.is_up → IsShort (Err why) → ((state : State) → view.shows state → refusal state call ≡ Some why) → IsCallOf view view call (Err (Refused why))
-refused_at_once {view = view} {call = call} {why = why} up short refused = comes_to up (idles view call) (refused_by up short (λ key is. is) refl (λ told state shown. (refused state shown, shown, started _ _)))
+pub refused_at_once : {view : EngineView} {call : Call} {why : Refusal} → view.is_up → IsShort (Err why) → ((state : State) → view.shows state → (refusal state call ≡ Some why) × view.shows (left_by state call why)) → IsCallOf view view call (Err (Refused why))
+refused_at_once {view = view} {call = call} {why = why} up short refused = comes_to up (idles view call) (refused_by up short (λ key is. is) refl (λ told state shown. ((refused state shown).0, (refused state shown).1, started _ _)))
 
--- By an error of its pages, each of which leaves the engine down but one of memory.
-pub failed : {old new : EngineView} {call : Call} {T : Type 0} {fault : PageFault} (result : Result Reply CallError) → IsErrAnd result (λ why. why ≡ page_error fault) → old.is_up → GoesOn old new call → HasPageCause {T = T} old.disk old.faults new.faults (Err fault) → ((fault ≡ PageNoMemory → ⊥) → new.is_up → ⊥)
-    → (fault ≡ PageDevice → IsTold old.disk → (state : State) → old.shows state → IsStopped old.disk new.disk state call) → (fault ≡ PageNoMemory → IsUnanswered old new call) → IsCallOf old new call result
-failed {old = old} {new = new} {call = call} {T = T} {fault = fault} result is is_up goes cause goes_down stopped unmade =
+-- By an error of its pages, each of which leaves the engine down.
+pub failed : {old new : EngineView} {call : Call} {T : Type 0} {fault : PageFault} (result : Result Reply CallError) → IsErrAnd result (λ why. why ≡ page_error fault) → old.is_up → GoesOn old new call → HasPageCause {T = T} old.disk old.faults new.faults (Err fault) → (new.is_up → ⊥)
+    → (fault ≡ PageDevice → IsTold old.disk → (state : State) → old.shows state → IsStopped old.disk new.disk state call) → IsCallOf old new call result
+failed {old = old} {new = new} {call = call} {T = T} {fault = fault} result is is_up goes cause down stopped =
     let why = err_from_is_err_and result is in
-    subst (IsCallOf old new call) (sym (why.1 ∙ ap Err why.2)) (comes_to is_up goes (by_fault fault cause goes_down stopped unmade))
+    subst (IsCallOf old new call) (sym (why.1 ∙ ap Err why.2)) (comes_to is_up goes (by_fault fault cause stopped))
   where
-    by_fault : (fault : PageFault) → HasPageCause {T = T} old.disk old.faults new.faults (Err fault) → ((fault ≡ PageNoMemory → ⊥) → new.is_up → ⊥) → (fault ≡ PageDevice → IsTold old.disk → (state : State) → old.shows state → IsStopped old.disk new.disk state call) → (fault ≡ PageNoMemory → IsUnanswered old new call)
-        → IsOutcome old new call (Err (page_error fault))
-    by_fault PageDevice cause goes_down stopped unmade = record { stopped = stopped refl; down = goes_down (λ e. absurd (cc)); cause = cause.failed refl }
-    by_fault (PageDamaged place) cause goes_down stopped unmade = record { sound = cause.sound place refl; down = goes_down (λ e. absurd (cc)) }
-    by_fault PageNoMemory cause goes_down stopped unmade = unmade refl
+    by_fault : (fault : PageFault) → HasPageCause {T = T} old.disk old.faults new.faults (Err fault) → (fault ≡ PageDevice → IsTold old.disk → (state : State) → old.shows state → IsStopped old.disk new.disk state call) → IsOutcome old new call (Err (page_error fault))
+    by_fault PageDevice cause stopped = record { stopped = stopped refl; down = down; cause = cause.failed refl }
+    by_fault (PageDamaged place) cause stopped = record { sound = cause.sound place refl; down = down }
+    by_fault PageNoMemory cause stopped = absurd (cause.memory refl)
 
 -- since it was down
 pub was_down : {view : EngineView} (call : Call) → (view.is_up → ⊥) → IsCallOf view view call (Err Down)

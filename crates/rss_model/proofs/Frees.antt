@@ -1,31 +1,35 @@
 -- Identifiers for new tuples: the machine's test of them, and what it says.
-use Rattle.std.proofs.Common.{◌≡◌, ◌⊎◌, inl, inr, ℕ, ◌<◌, Bool, true, false, List, [], ◌∷◌, get_or, refl, sym, ◌∙◌, ap, arith}
-use Rattle.std.specs.Prelude.{Option, Some, None, is_some, is_none, option_map, unwrap_or, filter, ◌==◌, ◌&&◌, not}
+use Rattle.std.proofs.Common.{◌≡◌, ◌≢◌, ◌⊎◌, inl, inr, ℕ, ◌<◌, Bool, true, false, List, [], ◌∷◌, get_or, refl, sym, ◌∙◌, ap, arith}
+use Rattle.std.specs.Prelude.{Option, Some, None, is_some, is_none, option_map, unwrap_or, filter, not, ◌&&◌, ◌==◌}
 use Rattle.std.specs.Ordering.{eq_by_cmp}
 use Rattle.std.specs.Cmp.{Equal-is}
 use Rattle.std.specs.FinMap as map
 use Rattle.std.specs.FinMap.{contains_key-keys}
-use Rattle.std.specs.List.{range_with_len, list_any, list_all, AllPass}
-use Rattle.std.proofs.lemmas.List.Sums.{list_all-from_AllPass, AllPass-from_list_all}
-use Rattle.std.proofs.lemmas.Bool.{cases_Bool, true≢false, and_parts, and_from, or_cases, cond-true, cond-false, eqb-true, eq-eqb, and_cases, and_left, and_right, not-true, not-false, not_from_true, not_from_false, false_from_ne_true}
+use Rattle.std.specs.List.{range_with_len, list_any, list_all}
+use Rattle.std.proofs.lemmas.Bool.{true≢false, cases_Bool, and_parts, and_from, or_cases, cond-true, cond-false, false_from_ne_true, not-true, ne_eqb, eq-eqb}
 use Rattle.std.proofs.lemmas.List.Folds.{list_any_at, Any-from_list_any}
 use Rattle.std.proofs.lemmas.List.FromFn.{get_or-range_with_len, length-range_with_len}
 use Rattle.rss_base.specs.declared.name.Name.{Name}
 use Rattle.rss_base.specs.declared.tid.Tid.{Tid}
-use Rattle.rss_base.specs.declared.item.Item.{Item}
-use Rattle.rss_base.specs.declared.item.Item.TheVariants.{Segment, Relation, Tuple, Chain, Key}
+use Rattle.rss_base.specs.declared.item.Item.TheVariants.{Tuple}
 use Rattle.rss_base.specs.Sizes.{page_entries}
 use Rattle.rss_model.specs.Items.{name_cmp}
 use Rattle.rss_model.specs.Tables.{RelationDef, Tables, content, fields_of, segment_of}
 use Rattle.rss_base.specs.TupleTypes.{kinds}
-use Rattle.rss_model.specs.Changes.{Change}
 use Rattle.rss_model.specs.Fits.{IsIdentifier}
 use Rattle.rss_model.specs.Meter.{is_in_segment, relations_in}
 use Rattle.rss_model.specs.Machine.{State, now}
-use Rattle.rss_model.specs.Steps.{IsFree, is_tuple_at, relations_beside, is_free, some_free}
+use Rattle.rss_base.specs.declared.item.Item.{Item}
+use Rattle.rss_base.specs.declared.need.Mode.{Mode}
+use Rattle.rss_model.specs.Items.{is_item}
+use Rattle.rss_model.specs.Locks.{Claim, claim, Locks, held, is_held_by_another}
+use Rattle.rss_model.specs.Steps.{IsFree, is_free, FreeIsFound}
+use Rattle.rss_model.specs.Refusals.{is_clear, some_free}
 use Rattle.rss_model.proofs.Codes.{name_apart}
-use Rattle.rss_model.proofs.Contents.{tied}
-use Rattle.rss_model.proofs.Codes.{name_total}
+use Rattle.rss_model.proofs.Contents.{tied, same_item_of}
+use Rattle.rss_model.proofs.Codes.{name_total, item_total, item_apart}
+use Rattle.rss_model.proofs.Locking.{claim_total, claim_apart, in_entries, any_in, in_any}
+use Rattle.rss_model.proofs.SeenAlike.{got_in}
 
 -- ---- tests of ranges and of filtered lists
 
@@ -93,25 +97,49 @@ is_listed tables segment name is = sym (contains_key-keys tables.definitions.rel
 
 -- ---- one identifier
 
-pub at_itself : (relation : Name) (tid : Tid) → is_tuple_at tid (Tuple relation tid) ≡ true
-at_itself relation tid = and_from (tid.page == tid.page) (tid.slot == tid.slot) (eq-eqb tid.page tid.page refl) (eq-eqb tid.slot tid.slot refl)
-
-pub tuple_at : (tid : Tid) (item : Item) → is_tuple_at tid item ≡ true → (relation : Name) × (item ≡ Tuple relation tid)
-tuple_at tid (Tuple relation other) is =
-    let parts = and_parts (other.page == tid.page) (other.slot == tid.slot) is in
-    let page = eqb-true other.page tid.page parts.0 in
-    let slot = eqb-true other.slot tid.slot parts.1 in
-    (relation, λ i. Tuple relation (record { page = page i; slot = slot i }))
-tuple_at tid (Segment name) is = absurd (cc)
-tuple_at tid (Relation name) is = absurd (cc)
-tuple_at tid (Chain link parent) is = absurd (cc)
-tuple_at tid (Key image values) is = absurd (cc)
-
 is_none-of : {A : Type 0} (o : Option A) → is_none o ≡ true → o ≡ None
 is_none-of None is = refl
 is_none-of (Some a) is = absurd (cc)
 
+-- ---- who holds an item
+
+module _ (locks : Locks) (t : ℕ) (item : Item) where
+  abbrev others_hold : Claim × Mode → Bool
+  others_hold lock = not (lock.0.by == t) && is_item lock.0.item item
+
+  -- where the test fails, no other transaction holds it
+  held_by_none : is_held_by_another locks t item ≡ false → (u : ℕ) → u ≢ t → held locks u item ≡ None
+  held_by_none none u apart = by (held locks u item) refl
+    where
+      by : (found : Option Mode) → held locks u item ≡ found → found ≡ None
+      by None is = refl
+      by (Some mode) is =
+          let passes : others_hold (claim u item, mode) ≡ true = and_from (not (u == t)) (is_item item item) (ap not (ne_eqb u t apart)) (tied item_total item_apart item) in
+          absurd (true≢false (sym (in_any others_hold (map.entries locks) (claim u item, mode) (in_entries claim_apart locks (claim u item) mode is) passes) ∙ none))
+
+  -- and it fails where none does
+  not_held : ((u : ℕ) → u ≢ t → held locks u item ≡ None) → is_held_by_another locks t item ≡ false
+  not_held none = false_from_ne_true _ (λ any.
+      let at = any_in others_hold (map.entries locks) any in
+      let lock : Claim × Mode = at.0 in
+      let parts = and_parts (not (lock.0.by == t)) (is_item lock.0.item item) at.2 in
+      let same : lock.0.item ≡ item = same_item_of lock.0.item item parts.1 in
+      let there : map.get locks lock.0 ≡ Some lock.1 = got_in claim_total claim_apart locks lock.0 lock.1 at.1 in
+      let its : held locks lock.0.by item ≡ Some lock.1 = ap (held locks lock.0.by) (sym same) ∙ there in
+      let apart : lock.0.by ≢ t = λ is. true≢false (sym parts.0 ∙ ap not (eq-eqb lock.0.by t is)) in
+      let clash : Some lock.1 ≡ None = sym its ∙ none lock.0.by apart in
+      cc)
+
 -- ---- the test
+
+module _ (state : State) (t : ℕ) (tid : Tid) (other : Name) where
+  clear : content (now state).contents (Tuple other tid) ≡ None → ((u : ℕ) → u ≢ t → held state.locks u (Tuple other tid) ≡ None) → is_clear state t tid other ≡ true
+  clear absent alone = and_from (is_none (content (now state).contents (Tuple other tid))) (not (is_held_by_another state.locks t (Tuple other tid))) (ap is_none absent) (ap not (not_held state.locks t (Tuple other tid) alone))
+
+  cleared : is_clear state t tid other ≡ true → (content (now state).contents (Tuple other tid) ≡ None) × ((u : ℕ) → u ≢ t → held state.locks u (Tuple other tid) ≡ None)
+  cleared is =
+      let parts = and_parts (is_none (content (now state).contents (Tuple other tid))) (not (is_held_by_another state.locks t (Tuple other tid))) is in
+      (is_none-of _ parts.0, held_by_none state.locks t (Tuple other tid) (not-true _ parts.1))
 
 module _ (state : State) (t : ℕ) (relation : Name) where
   -- a free identifier passes it, whether the relation is defined or not
@@ -120,76 +148,42 @@ module _ (state : State) (t : ℕ) (relation : Name) where
   some_free_is tid free =
       any_below (λ page. list_any (λ slot. is_free state t relation (record { page = page; slot = slot })) (range_with_len 0 page_entries)) state.size.slots tid.page free.within.page
       (any_below (λ slot. is_free state t relation (record { page = tid.page; slot = slot })) page_entries tid.slot free.within.slot
-      (and_from _ _ (none_beside (segment_of state.base relation) refl) (list_all-from_AllPass alone_in state.changes each)))
+      (none_beside (segment_of state.base relation) refl))
     where
-      absent : Name → Bool
-      absent other = is_none (content (now state).contents (Tuple other tid))
-
-      alone_in : Change → Bool
-      alone_in change = not (is_tuple_at tid change.item && not (change.by == t))
-
-      none_beside : (segment : Option Name) → segment_of state.base relation ≡ segment → list_all absent (unwrap_or (option_map (relations_in state.base) segment) []) ≡ true
+      none_beside : (segment : Option Name) → segment_of state.base relation ≡ segment → list_all (is_clear state t tid) (unwrap_or (option_map (relations_in state.base) segment) []) ≡ true
       none_beside None is = refl
-      none_beside (Some segment) is = all_kept (is_in_segment state.base segment) absent (map.keys state.base.definitions.relations) (λ other within. ap is_none (free.absent other (in_segment state.base segment other within ∙ sym is)))
-
-      alone_at : (change : Change) → ((other : Name) → change.item ≡ Tuple other tid → change.by ≡ t) → alone_in change ≡ true
-      alone_at change alone = elim (cases_Bool (is_tuple_at tid change.item)) [
-        | inl at ↦
-            let other = tuple_at tid change.item at in
-            not_from_false _ (and_right (is_tuple_at tid change.item) (not (change.by == t)) (not_from_true (change.by == t) (eq-eqb change.by t (alone other.0 other.1))))
-        | inr off ↦ not_from_false _ (and_left (is_tuple_at tid change.item) (not (change.by == t)) off)
-      ]
-
-      each : AllPass alone_in state.changes
-      each k d lt = alone_at (get_or state.changes k d) (λ other is. free.alone other k d lt is)
-
--- an identifier is free
-pub record FreeTid (state : State) (t : ℕ) (relation : Name) : Type 0 where
-  pub tid : Tid
-  pub free : IsFree state t relation tid
+      none_beside (Some segment) is = all_kept (is_in_segment state.base segment) (is_clear state t tid) (map.keys state.base.definitions.relations) (λ other within.
+          let same = in_segment state.base segment other within ∙ sym is in
+          clear state t tid other (free.absent other same) (λ u apart. free.alone other u same apart))
 
 -- of a relation that is defined, what the test finds is free
 module _ (state : State) (t : ℕ) (relation : Name) (tid : Tid) (within : IsIdentifier state.size.slots tid) (segment : Name) (stands : segment_of state.base relation ≡ Some segment) (passes : is_free state t relation tid ≡ true) where
-  parts : (list_all (λ other. is_none (content (now state).contents (Tuple other tid))) (relations_beside state relation) ≡ true) × (list_all (λ change. not (is_tuple_at tid change.item && not (change.by == t))) state.changes ≡ true)
-  parts = and_parts _ _ passes
+  beside : list_all (is_clear state t tid) (relations_in state.base segment) ≡ true
+  beside = ap (λ (o : Option Name). list_all (is_clear state t tid) (unwrap_or (option_map (relations_in state.base) o) [])) (sym stands) ∙ passes
 
-  beside : list_all (λ other. is_none (content (now state).contents (Tuple other tid))) (relations_in state.base segment) ≡ true
-  beside = ap (λ (o : Option Name). list_all (λ other. is_none (content (now state).contents (Tuple other tid))) (unwrap_or (option_map (relations_in state.base) o) [])) (sym stands) ∙ parts.0
+  each_cleared : (other : Name) → segment_of state.base other ≡ segment_of state.base relation → is_clear state t tid other ≡ true
+  each_cleared other same = kept_passes (is_in_segment state.base segment) (is_clear state t tid) (map.keys state.base.definitions.relations) other beside
+      (is_listed state.base segment other (same ∙ stands)) (stands_in state.base segment other (same ∙ stands))
 
-  by_it : (change : Change) (other : Name) → not (is_tuple_at tid change.item && not (change.by == t)) ≡ true → change.item ≡ Tuple other tid → change.by ≡ t
-  by_it change other pass is =
-      let at : is_tuple_at tid change.item ≡ true = ap (is_tuple_at tid) is ∙ at_itself other tid in
-      eqb-true change.by t (elim (and_cases (is_tuple_at tid change.item) (not (change.by == t)) (not-true _ pass)) [
-        | inl off ↦ absurd (true≢false (sym at ∙ off))
-        | inr same ↦ not-false (change.by == t) same
-      ])
-
-  pub is_free_here : IsFree state t relation tid
+  is_free_here : IsFree state t relation tid
   is_free_here = record {
     within = within;
-    absent = λ other same. is_none-of _ (kept_passes (is_in_segment state.base segment) (λ name. is_none (content (now state).contents (Tuple name tid))) (map.keys state.base.definitions.relations) other beside
-        (is_listed state.base segment other (same ∙ stands)) (stands_in state.base segment other (same ∙ stands)));
-    alone = λ other k d lt is. by_it (get_or state.changes k d) other (AllPass-from_list_all (λ change. not (is_tuple_at tid change.item && not (change.by == t))) state.changes parts.1 k d lt) is;
+    absent = λ other same. (cleared state t tid other (each_cleared other same)).0;
+    alone = λ other u same apart. (cleared state t tid other (each_cleared other same)).1 u apart;
   }
 
 -- where the test passes, there is one
-pub free_there : (state : State) (t : ℕ) (relation : Name) → is_some (fields_of state.base relation) ≡ true → some_free state t relation ≡ true → FreeTid state t relation
+pub free_there : (state : State) (t : ℕ) (relation : Name) → is_some (fields_of state.base relation) ≡ true → some_free state t relation ≡ true → (tid : Tid) × IsFree state t relation tid
 unfolding some_free
 free_there state t relation defined some =
     let page = some_below (λ page. list_any (λ slot. is_free state t relation (record { page = page; slot = slot })) (range_with_len 0 page_entries)) state.size.slots some in
     let slot = some_below (λ slot. is_free state t relation (record { page = page.0; slot = slot })) page_entries page.2 in
     let stands = segment_there (map.get state.base.definitions.relations relation) defined in
-    record {
-      tid = record { page = page.0; slot = slot.0 };
-      free = is_free_here state t relation (record { page = page.0; slot = slot.0 }) (record { page = page.1; slot = slot.1 }) stands.0 stands.1 slot.2;
-    }
+    (record { page = page.0; slot = slot.0 }, is_free_here state t relation (record { page = page.0; slot = slot.0 }) (record { page = page.1; slot = slot.1 }) stands.0 stands.1 slot.2)
   where
     segment_there : (found : Option RelationDef) → is_some (option_map (λ relation. kinds relation.fields) found) ≡ true → (segment : Name) × (option_map (λ relation. relation.segment) found ≡ Some segment)
     segment_there None is = absurd (cc)
     segment_there (Some relation) is = (relation.segment, refl)
 
--- where none is free, it fails
-pub none_free : (state : State) (t : ℕ) (relation : Name) → is_some (fields_of state.base relation) ≡ true → ((tid : Tid) → IsFree state t relation tid → ⊥) → some_free state t relation ≡ false
-none_free state t relation defined none = false_from_ne_true _ (λ some.
-    let there = free_there state t relation defined some in
-    none there.tid there.free)
+pub free_found : FreeIsFound
+free_found state t relation defined = (free_there state t relation defined, λ free. some_free_is state t relation free.0 free.1)

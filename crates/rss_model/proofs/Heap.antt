@@ -1,9 +1,8 @@
 -- How many pages have identifiers of tuples, and what a page's entries say of its bodies.
 use Rattle.std.proofs.Common.{◌≡◌, ℕ, Bool, false, List, [], ◌∷◌, length, refl, sym, ◌∙◌, ap, arith}
-use Rattle.std.specs.Prelude.{None, count_by, sum_by, map as list_map}
+use Rattle.std.specs.Prelude.{None, count_by, map as list_map}
 use Rattle.std.specs.FinMap as map
 use Rattle.std.specs.FinMap.{len-entries, len-empty}
-use Rattle.std.specs.List.{range_with_len}
 use Rattle.std.proofs.lemmas.List.Sums.{sum_by-cons}
 use Rattle.std.proofs.lemmas.Option.{none-some}
 use Rattle.rss_base.specs.declared.name.Name.{Name}
@@ -11,8 +10,6 @@ use Rattle.rss_page.specs.Content.{Content as Entry, Empty, Here, Forward}
 use Rattle.rss_tuple.specs.Directory.{Entries, body_in, body_by}
 use Rattle.rss_tuple.specs.Heaps.{AreLinked}
 use Rattle.rss_model.specs.Items.{name_cmp}
-use Rattle.rss_model.specs.Meter.{is_heap_page, heap_pages}
-use Rattle.rss_model.specs.Store.{no_tables}
 use Rattle.rss_model.proofs.Counts.{one_if}
 
 -- ---- counts
@@ -32,10 +29,6 @@ nothing (a ∷ list) is = absurd (omega arith)
 
 pub no_keys : (X : Type 0) → map.keys (map.empty {X = X} {R = name_cmp}) ≡ []
 no_keys X = ap (λ (es : List (Name × X)). list_map (λ e. e.0) es) (nothing _ (sym (len-entries map.empty) ∙ len-empty name_cmp X))
-
-pub no_heap_pages : (slots : ℕ) → heap_pages slots no_tables ≡ 0
-unfolding heap_pages
-no_heap_pages slots = ap (sum_by (λ segment. count_by (is_heap_page no_tables segment) (range_with_len 0 slots))) (no_keys (Unit {0}))
 
 -- ---- entries and bodies
 

@@ -25,12 +25,15 @@ use Rattle.rss_model.specs.Items.{Values, name_cmp}
 use Rattle.rss_model.specs.Tables.{RelationDef, Definitions, Tables, content, segment_of}
 use Rattle.rss_model.specs.Fits.{Fits}
 use Rattle.rss_model.specs.Meter.{is_heap_page, heap_pages}
-use Rattle.rss_model.specs.Store.{Defines, IsListed, SpellsTables, body_of}
+use Rattle.rss_model.specs.Store.{plain_body as body_of, Defines, IsListed, SpellsTables}
 use Rattle.rss_model.proofs.Codes.{name_total, name_apart}
 use Rattle.rss_model.proofs.Heap.{count_same, count_none, no_keys, empty_entry}
-use Rattle.rss_model.proofs.HeapPages.{same_bool, has_tuples_at, has_tuples_of, heap_page_of, heap_page_at, pages_in, sum_gone}
+use Rattle.rss_model.proofs.HeapPages.{same_bool, has_tuples_at, has_tuples_of, heap_page_of, heap_page_at, pages_in}
+use Rattle.rss_model.proofs.MapSums.{removed_sum}
 use Rattle.rss_model.proofs.Named.{gone, gone_other}
-use Rattle.rss_model.proofs.Putting.{same_parts, some_of}
+use Rattle.rss_model.proofs.PlainStores.{contents_spelled}
+use Rattle.rss_model.proofs.LogLists.{some_of}
+use Rattle.rss_model.proofs.Putting.{same_parts}
 
 -- ---- numbers and places
 
@@ -99,7 +102,7 @@ sum_listed {X = X} f [] m list = ap (λ (n : FinMap name_cmp X). sum_by f (map.k
 sum_listed f (None ∷ items) m list = omega (arith, sum_by-cons (of_name f) None items, sum_listed f items m (rest_of items m list))
 sum_listed f (Some first ∷ items) m list =
     let there = some_of (map.get m first) (list.each zero first refl) in
-    let gone : sum_by f (map.keys m) ≡ sum_by f (map.keys (map.remove m first)) + f first = sum_gone f m first there.0 there.1 in
+    let gone : sum_by f (map.keys m) ≡ f first + sum_by f (map.keys (map.remove m first)) = removed_sum f (λ e. e.0) m first there.0 there.1 in
     omega (arith, gone, sum_by-cons (of_name f) (Some first) items, sum_listed f items (map.remove m first) (rest_without items m first list))
 
 -- a sum over numbers from one on
@@ -160,10 +163,10 @@ module _ {held : Held} {listing : Listing} {tables : Tables} {slots : ℕ} (spel
       let tid : Tid = record { page = page; slot = some.0 } in
       let held_there = some_of (content tables.contents (Tuple on.relation tid)) some.2 in
       let of = fit.tuples on.relation tid held_there.0 held_there.1 in
-      let item = spells.contents.only (Tuple on.relation tid) some.2 in
+      let item = (contents_spelled spells).only (Tuple on.relation tid) some.2 in
       let same : on.relation ≡ item.relation.name = (same_parts on.relation item.relation.name tid item.tid item.is).0 in
       let here : content tables.contents (Tuple item.relation.name tid) ≡ Some (Values of.values) = ap (λ (name : Name). content tables.contents (Tuple name tid)) (sym same) ∙ held_there.1 ∙ ap Some of.tuple in
-      let stands = spells.contents.stands item.number item.relation tid of.values item.at here in
+      let stands = (contents_spelled spells).stands item.number item.relation tid of.values item.at here in
       let within : item.relation.segment ≡ n = number_within tables spells.listed spells.defines item.number item.relation item.at n segment named (ap (segment_of tables) (sym same) ∙ on.stands) in
       let body : bodies_of held n tid ≡ Some (body_of item.number of.values) = ap (λ (k : ℕ). bodies_of held k tid) (sym within) ∙ stands in
       by (held (page_key n Home page)) refl some.0 (body_of item.number of.values) body
@@ -182,7 +185,7 @@ module _ {held : Held} {listing : Listing} {tables : Tables} {slots : ℕ} (spel
       no_body : is_heap_page tables segment page ≡ false → (slot : ℕ) → slot < 128 → (body : Option (List ℕ)) → bodies_of held n (tid slot) ≡ body → body ≡ None
       no_body none slot low None stands = refl
       no_body none slot low (Some body) stands =
-          let of = spells.contents.bodies_are n (tid slot) body stands in
+          let of = (contents_spelled spells).bodies_are n (tid slot) body stands in
           let stood : segment_of tables of.relation.name ≡ Some segment = stands_within tables spells.listed spells.defines of.number of.relation of.at segment (ap (segment_at listing) of.within ∙ named) in
           let has = has_tuples_at tables.contents of.relation.name (tid slot) low (ap is_some of.holds) in
           absurd (true≢false (sym (heap_page_at tables segment page (record { relation = of.relation.name; stands = stood; has = has })) ∙ none))
@@ -202,7 +205,7 @@ module _ {held : Held} {listing : Listing} {tables : Tables} {slots : ℕ} (spel
   none_unlisted : (n : ℕ) → segment_at listing n ≡ None → (page : ℕ) → is_some (held (page_key n Home page)) ≡ false
   none_unlisted n unnamed page = false_from_ne_true _ (λ there. elim (spells.only (page_key n Home page) there) [
     | inl system ↦ absurd (cc)
-    | inr segment ↦ absurd (true≢false (sym segment.0 ∙ ap is_some unnamed))
+    | inr segment ↦ absurd (true≢false (sym segment ∙ ap is_some unnamed))
   ])
 
   module _ (mapped : Mapped) (holds : (key : PageKey) → is_some (held key) ≡ mapped key) where

@@ -3,7 +3,7 @@ use Rattle.std.proofs.Common.{◌≡◌, ℕ, zero, suc, ◌+◌, ◌-◌, ◌*�
 use Rattle.std.specs.Prelude.{Option, Some, None, All, flat_map, nat_le, ◌&&◌, ◌==◌, min}
 use Rattle.std.specs.List.{list_all}
 use Rattle.std.specs.Int.{w32, to_be_bytes, from_be_bytes}
-use Rattle.std.proofs.lemmas.Bool.{and_parts, leb-true, cond-false, ne_eqb}
+use Rattle.std.proofs.lemmas.Bool.{and_parts, leb-true, le-leb, cond-true, cond-false, ne_eqb}
 use Rattle.std.proofs.lemmas.List.{get_or-map, length-replicate, length-take, length-drop, length-map, take-append-drop, drop-drop, get_or_default}
 use Rattle.std.proofs.lemmas.List.Elements.{All-take, All-drop}
 use Rattle.std.proofs.lemmas.Nat.{from_be_bytes-to_be_bytes_4}
@@ -12,7 +12,7 @@ use Rattle.rss_base.specs.Sizes.{page_bytes, system_pages}
 use Rattle.rss_base.specs.Paged.{Held}
 use Rattle.rss_base.specs.Names.{IsName}
 use Rattle.rss_base.specs.TupleTypes.{kinds, most_fields, is_kind, AreFields}
-use Rattle.rss_base.specs.Listings.{Listing, ListingFits, HoldsListing, catalog_page, padded, segment_spelled, kind_spelled, field_spelled, relation_spelled, relations_on, relation_bytes}
+use Rattle.rss_base.specs.Listings.{Listing, ListingFits, HoldsListing, catalog_page, padded, segment_spelled, kind_spelled, field_spelled, relation_spelled, relations_on, relation_bytes, relation_pages}
 use Rattle.rss_base.specs.declared.name.Name.{Name}
 use Rattle.rss_base.specs.declared.field.FieldDef.{FieldDef}
 use Rattle.rss_base.specs.declared.value.FieldKind.{FieldKind}
@@ -20,6 +20,7 @@ use Rattle.rss_base.specs.declared.value.FieldKind.TheVariants.{Int as IntField,
 use Rattle.rss_base.specs.declared.relation.RelationEntry.{RelationEntry}
 use Rattle.rss_model.proofs.Listed.{at_place}
 use Rattle.rss_model.proofs.Spelled.{front_parts}
+use Rattle.rss_model.proofs.Codes.{same_name}
 
 -- ---- lists whose items are spelled by as many bytes each
 
@@ -49,9 +50,6 @@ module _ {A : Type 0} (spell : A → List ℕ) (width : ℕ) (Fit : A → Type 0
 
 name_length : (name : Name) → IsName name → length name.bytes ≡ 16
 name_length name is = omega (arith, ap length is.bytes, is.few, length-append is.rest (replicate (15 - length is.rest) 0), length-replicate {A = ℕ} (15 - length is.rest) 0)
-
-same_name : (a b : Name) → a.bytes ≡ b.bytes → a ≡ b
-same_name a b same = λ i. record { bytes = same i }
 
 -- zeros begin with no letter
 no_letter : (n first : ℕ) (rest : List ℕ) → 97 ≤ first → first ∷ rest ≡ replicate n 0 → ⊥
@@ -201,8 +199,9 @@ module _ (listing : Listing) (fits : ListingFits listing) where
       record { name = entry.name; fields = entry.fields; live = entry.live }
 
 -- what a page of relations spells
-page_is : (listing : Listing) (j : ℕ) → catalog_page listing (suc j) ≡ padded page_bytes (flat_map relation_spelled (take 8 (drop (8 * j) listing.relations)))
-page_is listing j = ap (padded page_bytes) (cond-false (suc j == 0) (flat_map segment_spelled listing.segments) (flat_map relation_spelled (relations_on listing (suc j))) (ne_eqb (suc j) 0 (λ e. absurd (omega (arith, e))))
+page_is : (listing : Listing) (j : ℕ) → j < 6 → catalog_page listing (suc j) ≡ padded page_bytes (flat_map relation_spelled (take 8 (drop (8 * j) listing.relations)))
+page_is listing j low = ap (padded page_bytes) (cond-false (suc j == 0) (flat_map segment_spelled listing.segments) _ (ne_eqb (suc j) 0 (λ e. absurd (omega (arith, e))))
+    ∙ cond-true (nat_le (suc j) relation_pages) (flat_map relation_spelled (relations_on listing (suc j))) _ (le-leb (suc j) 6 (omega (arith, low)))
     ∙ ap (λ (k : ℕ). flat_map relation_spelled (take 8 (drop (8 * k) listing.relations))) (less j))
   where
     less : (j : ℕ) → suc j - 1 ≡ j
@@ -224,7 +223,7 @@ module _ (held : Held) {a b : Listing} (fit : ListingFits a) (fits : ListingFits
       let long : length x ≡ length y = length-take 8 (drop (8 * j) a.relations) ∙ ap (λ (n : ℕ). min 8 n) (length-drop (8 * j) a.relations ∙ ap (λ (n : ℕ). n - 8 * j) (fit.relation_places ∙ sym fits.relation_places) ∙ sym (length-drop (8 * j) b.relations)) ∙ sym (length-take 8 (drop (8 * j) b.relations)) in
       spelled_same relation_spelled 512 IsRelation relation_length relation_same x y (replicate (page_bytes - length (flat_map relation_spelled x)) 0) (replicate (page_bytes - length (flat_map relation_spelled y)) 0)
       long (All-take IsRelation 8 (drop (8 * j) a.relations) (All-drop IsRelation (8 * j) a.relations (listed_relations a fit))) (All-take IsRelation 8 (drop (8 * j) b.relations) (All-drop IsRelation (8 * j) b.relations (listed_relations b fits)))
-      (sym (page_is a j) ∙ page_same (suc j) (omega (arith, low)) ∙ page_is b j)
+      (sym (page_is a j low) ∙ page_same (suc j) (omega (arith, low)) ∙ page_is b j low)
 
   same_relations : a.relations ≡ b.relations
   same_relations = by_eights 6 a.relations b.relations fit.relation_places fits.relation_places same_eighth
@@ -234,4 +233,6 @@ module _ (held : Held) {a b : Listing} (fit : ListingFits a) (fits : ListingFits
   listing_once =
       let segments = same_segments in
       let relations = same_relations in
-      λ i. record { segments = segments i; relations = relations i }
+      let images : a.images ≡ b.images = fit.plain.no_images ∙ sym fits.plain.no_images in
+      let links : a.links ≡ b.links = fit.plain.no_links ∙ sym fits.plain.no_links in
+      λ i. record { segments = segments i; relations = relations i; images = images i; links = links i }

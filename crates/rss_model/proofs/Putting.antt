@@ -7,19 +7,25 @@ use Rattle.std.proofs.lemmas.Option.{same_Some}
 use Rattle.rss_base.specs.declared.name.Name.{Name}
 use Rattle.rss_base.specs.declared.tid.Tid.{Tid}
 use Rattle.rss_base.specs.declared.value.Value.{Value}
+use Rattle.rss_base.specs.declared.item.Item.{Item}
 use Rattle.rss_base.specs.declared.item.Item.TheVariants.{Tuple}
+use Rattle.rss_model.specs.Images.{KeysFit}
+use Rattle.rss_model.specs.Chains.{LinksFit}
+use Rattle.rss_model.proofs.LogLists.{some_of}
 use Rattle.rss_model.specs.Items.{Content, Values, item_cmp}
 use Rattle.rss_model.specs.Tables.{Tables, content, put, segment_of, tuple_count}
-use Rattle.rss_model.specs.Fits.{Fits, IsIdentifier, IsTupleOf, IsLive, tuple_limit}
+use Rattle.rss_model.specs.Fits.{HasContent, Fits, IsIdentifier, IsTupleOf, IsLive, tuple_limit}
 use Rattle.rss_model.proofs.Contents.{same_item_of, content_put}
 
 pub same_parts : (a b : Name) (s t : Tid) → Tuple a s ≡ Tuple b t → (a ≡ b) × (s ≡ t)
 same_parts a b s t is = (cc, cc)
 
--- what is there
-pub some_of : {A : Type 0} (o : Option A) → is_some o ≡ true → (held : A) × (o ≡ Some held)
-some_of None is = absurd (cc)
-some_of (Some held) is = (held, refl)
+pub values_of : (o : Option (List Value)) (values : List Value) → option_map Values o ≡ Some (Values values) → o ≡ Some values
+values_of None values is = absurd (cc (is))
+values_of (Some v) values is = ap Some (unwrap (same_Some _ _ is))
+  where
+    unwrap : {v w : List Value} → Values v ≡ Values w → v ≡ w
+    unwrap e = cc (e)
 
 -- A tuple is put, or none: what is put fits, no other relation of the segment has one there, and there are no more than may be.
 module _ {slots : ℕ} {tables : Tables} (fit : Fits slots tables) (relation : Name) (tid : Tid) (next : Option (List Value)) (tuple : (values : List Value) → next ≡ Some values → IsTupleOf tables relation (Values values)) (within : IsIdentifier slots tid)
@@ -58,8 +64,18 @@ module _ {slots : ℕ} {tables : Tables} (fit : Fits slots tables) (relation : N
   lone_at : (other : Name) (t : Tid) → t ≡ tid → segment_of tables other ≡ segment_of tables relation → IsLive tables other t → other ≡ relation
   lone_at other t same segment lives = lone other segment (subst (IsLive tables other) same lives)
 
-  pub fits_put : Fits slots with_tuple
-  fits_put = record {
+  tuple_has : (item : Item) → item ≡ Tuple relation tid → HasContent item
+  tuple_has item same = subst HasContent (sym same) (tt {0})
+
+  -- what else is there is a tuple or a chain, as before
+  only_put : (item : Item) → is_some (content with_tuple.contents item) ≡ true → HasContent item
+  only_put item is = elim (cases_Bool (eq_by_cmp item_cmp item (Tuple relation tid))) [
+    | inl same ↦ tuple_has item (same_item_of _ _ same)
+    | inr apart ↦ fit.only item (sym (ap is_some (content_put tables.contents (Tuple relation tid) (option_map Values next) item ∙ cond-false _ _ _ apart)) ∙ is)
+  ]
+
+  pub fits_put : KeysFit with_tuple → LinksFit with_tuple → Fits slots with_tuple
+  fits_put keys_fit links_fit = record {
     definitions = fit.definitions;
     tuples = λ other t held is. elim (found other t held is) [
       | inl new ↦ now_of other held new.0 new.2
@@ -80,4 +96,7 @@ module _ {slots : ℕ} {tables : Tables} (fit : Fits slots tables) (relation : N
       ]
     ];
     few = few;
+    keys = keys_fit;
+    links = links_fit;
+    only = only_put;
   }

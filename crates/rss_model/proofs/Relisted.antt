@@ -8,7 +8,8 @@ use Rattle.std.proofs.lemmas.Option.{none-some, same_Some}
 use Rattle.rss_base.specs.Paged.{Held, page_key}
 use Rattle.rss_base.specs.Listings.{Listing, ListingFits, IsLeastUnused, IsNumberOf, numbered, with_number, segment_at, relation_at, with_segment, with_relation}
 use Rattle.rss_base.specs.declared.key.PageKey.{PageKey}
-use Rattle.rss_base.specs.declared.key.Space.TheVariants.{Home, Overflow}
+use Rattle.rss_base.specs.declared.key.Space.{Space}
+use Rattle.rss_base.specs.declared.key.Space.TheVariants.{Home, Overflow, Image, System}
 use Rattle.rss_base.specs.declared.name.Name.{Name}
 use Rattle.rss_base.specs.declared.tid.Tid.{Tid}
 use Rattle.rss_base.specs.declared.item.Item.TheVariants.{Tuple}
@@ -22,13 +23,14 @@ use Rattle.rss_tuple.specs.Heaps.{IsLed}
 use Rattle.rss_model.specs.Tables.{Contents, Tables, content, tuple_count}
 use Rattle.rss_model.specs.Fits.{Fits}
 use Rattle.rss_model.specs.Defining.{with_definitions}
-use Rattle.rss_model.specs.Store.{Defines, HasNumber, SpellsContents, SpellsTables, definition_of}
+use Rattle.rss_model.specs.Store.{Defines, HasNumber, IsStorePage, SpellsTables, definition_of}
 use Rattle.rss_model.proofs.Counts.{none_counted, count_of_none}
 use Rattle.rss_model.proofs.Heap.{empty_entry}
 use Rattle.rss_model.proofs.Listed.{at_place}
 use Rattle.rss_model.proofs.Named.{made, made_here, made_other, made_still, gone, gone_other}
-use Rattle.rss_model.proofs.Putting.{some_of}
-use Rattle.rss_model.proofs.Redefined.{live_defined}
+use Rattle.rss_model.proofs.PlainStores.{PlainContents, plain_defines, spelled_contents, plain_images, contents_spelled, tables_plain, none_imaged}
+use Rattle.rss_model.proofs.LogLists.{some_of}
+use Rattle.rss_model.proofs.Redefining.{live_defined}
 use Rattle.rss_model.proofs.Spelled.{named_relation}
 
 -- ---- one number of a listing
@@ -86,7 +88,7 @@ abbrev pub IsTupleThere : Contents → RelationEntry → Tid → Type 0
 IsTupleThere contents relation tid = is_some (content contents (Tuple relation.name tid)) ≡ true
 
 module _ (a b : Listing) (bodies : Bodies) (contents : Contents) where
-  contents_relisted : ((k : ℕ) (relation : RelationEntry) (tid : Tid) → relation_at a k ≡ Some relation → IsTupleThere contents relation tid → relation_at b k ≡ Some relation) → ((k : ℕ) (relation : RelationEntry) (tid : Tid) → relation_at b k ≡ Some relation → IsTupleThere contents relation tid → relation_at a k ≡ Some relation) → SpellsContents a bodies contents → SpellsContents b bodies contents
+  contents_relisted : ((k : ℕ) (relation : RelationEntry) (tid : Tid) → relation_at a k ≡ Some relation → IsTupleThere contents relation tid → relation_at b k ≡ Some relation) → ((k : ℕ) (relation : RelationEntry) (tid : Tid) → relation_at b k ≡ Some relation → IsTupleThere contents relation tid → relation_at a k ≡ Some relation) → PlainContents a bodies contents → PlainContents b bodies contents
   contents_relisted into back old = record {
     stands = λ number relation tid values at holds. old.stands number relation tid values (back number relation tid at (ap is_some holds)) holds;
     bodies_are = λ segment tid body is.
@@ -114,8 +116,7 @@ module _ {held : Held} {listing : Listing} {tables : Tables} (spells : SpellsTab
     segments = λ q. (to q, from q);
     relations = λ k relation segment l. spells.defines.relations k relation segment (record { at = l.at; within = sym (still relation.segment (spells.listed.relations k relation l.at).segment) ∙ l.within });
     only_relations = spells.defines.only_relations;
-    no_images = spells.defines.no_images;
-    no_links = spells.defines.no_links;
+    paths = plain_defines fits.plain (record { no_images = (tables_plain spells).no_images; no_links = (tables_plain spells).no_links });
   }
     where
       to : (q : Name) → is_some (map.get (map.insert tables.definitions.segments name tt) q) ≡ true → HasNumber SegmentKind listed_now q
@@ -136,17 +137,25 @@ module _ {held : Held} {listing : Listing} {tables : Tables} (spells : SpellsTab
   segment_made_spells = record {
     only = λ key there. elim (spells.only key there) [
       | inl system ↦ inl system
-      | inr heap ↦ inr (ap is_some (still key.segment heap.0) ∙ heap.0, heap.1)
+      | inr heap ↦ inr (ap is_some (still key.segment heap) ∙ heap)
     ];
     formed = spells.formed;
     linked = spells.linked;
     listed = fits;
     defines = segment_made_defines;
     counts = spells.counts;
-    contents = contents_relisted listing listed_now (bodies_of held) tables.contents (λ k relation tid at there. at) (λ k relation tid at there. at) spells.contents;
+    contents = spelled_contents fits.plain (contents_relisted listing listed_now (bodies_of held) tables.contents (λ k relation tid at there. at) (λ k relation tid at there. at) (contents_spelled spells));
+    images = plain_images fits.plain (none_imaged spells);
   }
 
 -- ---- a segment is dropped
+
+-- a page of the system space, of an image, or of the heap
+pub page_kind : (key : PageKey) (space : Space) → key.space ≡ space → (key.space ≡ System) ⊎ ((key.space ≡ Image) ⊎ IsHeapKey key)
+page_kind key System is = inl is
+page_kind key Image is = inr (inl is)
+page_kind key Home is = inr (inr (inl is))
+page_kind key Overflow is = inr (inr (inr is))
 
 module _ {held : Held} {listing : Listing} {tables : Tables} (spells : SpellsTables held listing tables) (number : ℕ) (name : Name) (at : segment_at listing number ≡ Some name) (none : (k : ℕ) (relation : RelationEntry) → relation_at listing k ≡ Some relation → relation.segment ≡ number → ⊥)
     (fits : ListingFits (with_segment listing number None)) where
@@ -162,7 +171,7 @@ module _ {held : Held} {listing : Listing} {tables : Tables} (spells : SpellsTab
   -- it has no pages
   no_body : (tid : Tid) (body : Option (List ℕ)) → bodies_of held number tid ≡ body → body ≡ None
   no_body tid None is = refl
-  no_body tid (Some body) is = let of = spells.contents.bodies_are number tid body is in absurd (none of.number of.relation of.at of.within)
+  no_body tid (Some body) is = let of = (contents_spelled spells).bodies_are number tid body is in absurd (none of.number of.relation of.at of.within)
 
   no_home : (page : ℕ) (bytes : List ℕ) → held (page_key number Home page) ≡ Some bytes → ⊥
   no_home page bytes is = (spells.formed (page_key number Home page) bytes (inl refl) is).some (λ slot.
@@ -206,8 +215,7 @@ module _ {held : Held} {listing : Listing} {tables : Tables} (spells : SpellsTab
     segments = λ q. (to q, from q);
     relations = λ k relation segment l. spells.defines.relations k relation segment (record { at = l.at; within = sym (others relation.segment (none k relation l.at)) ∙ l.within });
     only_relations = spells.defines.only_relations;
-    no_images = spells.defines.no_images;
-    no_links = spells.defines.no_links;
+    paths = plain_defines fits.plain (record { no_images = (tables_plain spells).no_images; no_links = (tables_plain spells).no_links });
   }
     where
       to : (q : Name) → is_some (map.get (map.remove tables.definitions.segments name) q) ≡ true → HasNumber SegmentKind listed_less q
@@ -222,18 +230,22 @@ module _ {held : Held} {listing : Listing} {tables : Tables} (spells : SpellsTab
           let had : segment_at listing n ≡ Some q = sym (others n other) ∙ has in
           ap is_some (gone_other tables.definitions.segments name q (λ same. other (spells.listed.segments_once n number q had (at ∙ ap Some (sym same))))) ∙ (spells.defines.segments q).1 (n, had)
 
+  page_stays : (key : PageKey) → is_some (held key) ≡ true → (key.space ≡ System) ⊎ ((key.space ≡ Image) ⊎ IsHeapKey key) → IsStorePage listing key → IsStorePage listed_less key
+  page_stays key there (inl system) on = inl system
+  page_stays key there (inr (inl image)) on = absurd (none_imaged spells key image there)
+  page_stays key there (inr (inr heap)) (inl system) = inl system
+  page_stays key there (inr (inr heap)) (inr segment) = inr (ap is_some (others key.segment (no_page key there heap)) ∙ segment)
+
   pub segment_gone_spells : SpellsTables held listed_less (with_definitions (record tables.definitions { segments = map.remove tables.definitions.segments name }) tables)
   segment_gone_spells = record {
-    only = λ key there. elim (spells.only key there) [
-      | inl system ↦ inl system
-      | inr heap ↦ inr (ap is_some (others key.segment (no_page key there heap.1)) ∙ heap.0, heap.1)
-    ];
+    only = λ key there. page_stays key there (page_kind key key.space refl) (spells.only key there);
     formed = spells.formed;
     linked = spells.linked;
     listed = fits;
     defines = segment_gone_defines;
     counts = spells.counts;
-    contents = contents_relisted listing listed_less (bodies_of held) tables.contents (λ k relation tid at there. at) (λ k relation tid at there. at) spells.contents;
+    contents = spelled_contents fits.plain (contents_relisted listing listed_less (bodies_of held) tables.contents (λ k relation tid at there. at) (λ k relation tid at there. at) (contents_spelled spells));
+    images = plain_images fits.plain (none_imaged spells);
   }
 
 -- ---- a relation is made
@@ -277,8 +289,7 @@ module _ {held : Held} {listing : Listing} {tables : Tables} {slots : ℕ} (spel
           made_other tables.definitions.relations new.name (definition_of segment new) relation.name (λ same. true≢false (sym (ap is_some had) ∙ ap (λ (n : Name). is_some (map.get tables.definitions.relations n)) same ∙ fresh)) ∙ had
     ];
     only_relations = only;
-    no_images = spells.defines.no_images;
-    no_links = spells.defines.no_links;
+    paths = plain_defines fits.plain (record { no_images = (tables_plain spells).no_images; no_links = (tables_plain spells).no_links });
   }
     where
       only : (q : Name) → is_some (map.get (map.insert tables.definitions.relations new.name (definition_of segment new)) q) ≡ true → HasNumber RelationKind listed_more q
@@ -300,10 +311,11 @@ module _ {held : Held} {listing : Listing} {tables : Tables} {slots : ℕ} (spel
       | inl same ↦ ap (λ (r : RelationEntry). tuple_count tables.contents r.name) (sym same) ∙ count_of_none tables.contents new.name (λ tid. none_from _ (no_tuple tid)) ∙ sym empty ∙ ap (λ (r : RelationEntry). r.live) same
       | inr was ↦ spells.counts k relation was
     ];
-    contents = contents_relisted listing listed_more (bodies_of held) tables.contents (λ k relation tid at there. other_kept k (was_another k relation at) ∙ at) (λ k relation tid at there. elim (now_or_old k relation at) [
+    contents = spelled_contents fits.plain (contents_relisted listing listed_more (bodies_of held) tables.contents (λ k relation tid at there. other_kept k (was_another k relation at) ∙ at) (λ k relation tid at there. elim (now_or_old k relation at) [
       | inl same ↦ absurd (no_tuple tid (ap (λ (r : RelationEntry). is_some (content tables.contents (Tuple r.name tid))) same ∙ there))
       | inr was ↦ was
-    ]) spells.contents;
+    ]) (contents_spelled spells));
+    images = plain_images fits.plain (none_imaged spells);
   }
     where
       none_from : {A : Type 0} (o : Option A) → (is_some o ≡ true → ⊥) → o ≡ None
@@ -340,8 +352,7 @@ module _ {held : Held} {listing : Listing} {tables : Tables} (spells : SpellsTab
         let had = named_relation listing q (spells.defines.only_relations q (ap is_some (sym was.1) ∙ there)) in
         let other : had.number ≢ number = λ same. was.0 (sym had.named ∙ ap (λ (r : RelationEntry). r.name) (same_Some _ _ (sym had.at ∙ ap (relation_at listing) same ∙ at))) in
         (had.number, number_of listed_fewer had.number had.relation (rest_kept had.number other ∙ had.at) ∙ ap Some had.named);
-    no_images = spells.defines.no_images;
-    no_links = spells.defines.no_links;
+    paths = plain_defines fits.plain (record { no_images = (tables_plain spells).no_images; no_links = (tables_plain spells).no_links });
   }
 
   pub relation_gone_spells : SpellsTables held listed_fewer (with_definitions (record tables.definitions { relations = map.remove tables.definitions.relations old.name }) tables)
@@ -352,7 +363,8 @@ module _ {held : Held} {listing : Listing} {tables : Tables} (spells : SpellsTab
     listed = fits;
     defines = relation_gone_defines;
     counts = λ k relation is. spells.counts k relation (had_it k relation is).1;
-    contents = contents_relisted listing listed_fewer (bodies_of held) tables.contents (λ k relation tid is there.
+    contents = spelled_contents fits.plain (contents_relisted listing listed_fewer (bodies_of held) tables.contents (λ k relation tid is there.
         let other : k ≢ number = λ same. let one : relation ≡ old = same_Some _ _ (sym is ∙ ap (relation_at listing) same ∙ at) in true≢false (sym there ∙ ap (λ (r : RelationEntry). is_some (content tables.contents (Tuple r.name tid))) one ∙ ap is_some (none_counted tables.contents old.name empty tid)) in
-        rest_kept k other ∙ is) (λ k relation tid is there. (had_it k relation is).1) spells.contents;
+        rest_kept k other ∙ is) (λ k relation tid is there. (had_it k relation is).1) (contents_spelled spells));
+    images = plain_images fits.plain (none_imaged spells);
   }

@@ -22,11 +22,12 @@ use Rattle.rss_tuple.specs.Directory.{bodies_of}
 use Rattle.rss_model.specs.Items.{Content, Values}
 use Rattle.rss_model.specs.Tables.{RelationDef, Definitions, Tables, content, fields_of}
 use Rattle.rss_model.specs.Fits.{Fits}
-use Rattle.rss_model.specs.Store.{Defines, SpellsTables, definition_of, body_of}
+use Rattle.rss_model.specs.Store.{plain_body as body_of, Defines, SpellsTables, definition_of}
 use Rattle.rss_model.proofs.Codes.{item_total, item_apart, name_total, name_apart}
 use Rattle.rss_model.proofs.Lengths.{first_fits}
 use Rattle.rss_model.proofs.Listed.{at_place, listed}
-use Rattle.rss_model.proofs.Putting.{some_of}
+use Rattle.rss_model.proofs.PlainStores.{contents_spelled, plain_defined}
+use Rattle.rss_model.proofs.LogLists.{some_of}
 
 -- ---- the bytes of tuples
 
@@ -119,8 +120,8 @@ module _ {listing : Listing} (fits : ListingFits listing) where
   defines_once {a = a} {b = b} one other =
       let segments : a.segments ≡ b.segments = same_map name_total name_apart _ _ (λ q. same_options _ _ (segments_too one other q) (segments_too other one q)) in
       let relations : a.relations ≡ b.relations = same_map name_total name_apart _ _ (λ q. same_options _ _ (relations_too one other q) (relations_too other one q)) in
-      let images : a.images ≡ b.images = one.no_images ∙ sym other.no_images in
-      let links : a.links ≡ b.links = one.no_links ∙ sym other.no_links in
+      let images : a.images ≡ b.images = (plain_defined fits.plain one).no_images ∙ sym (plain_defined fits.plain other).no_images in
+      let links : a.links ≡ b.links = (plain_defined fits.plain one).no_links ∙ sym (plain_defined fits.plain other).no_links in
       λ i. record { segments = segments i; relations = relations i; images = images i; links = links i }
 
 -- ---- tuples
@@ -145,11 +146,11 @@ same_values a b same = cc
 
 pub spelled : {held : Held} {listing : Listing} {tables : Tables} {slots : ℕ} → SpellsTables held listing tables → Fits slots tables → (item : Item) (c : Content) → content tables.contents item ≡ Some c → IsSpelled held listing tables item c
 spelled {held = held} {listing = listing} {tables = tables} spells fit item c is =
-    let on = spells.contents.only item (ap is_some is) in
+    let on = (contents_spelled spells).only item (ap is_some is) in
     let here : content tables.contents (Tuple on.relation.name on.tid) ≡ Some c = ap (content tables.contents) (sym on.is) ∙ is in
     let of = fit.tuples on.relation.name on.tid c here in
-    let stands = spells.contents.stands on.number on.relation on.tid of.values on.at (here ∙ ap Some of.tuple) in
-    let body = spells.contents.bodies_are on.relation.segment on.tid (body_of on.number of.values) stands in
+    let stands = (contents_spelled spells).stands on.number on.relation on.tid of.values on.at (here ∙ ap Some of.tuple) in
+    let body = (contents_spelled spells).bodies_are on.relation.segment on.tid (body_of on.number of.values) stands in
     let number : on.number ≡ body.number = first_same on.number body.number (tuple_bytes of.values) (tuple_bytes body.values) body.is in
     let relation : body.relation ≡ on.relation = same_Some _ _ (sym body.at ∙ ap (relation_at listing) (sym number) ∙ on.at) in
     let values : body.values ≡ of.values = same_values _ _ (same_Some _ _ (sym body.holds ∙ ap (λ (r : RelationEntry). content tables.contents (Tuple r.name on.tid)) relation ∙ here ∙ ap Some of.tuple)) in
@@ -175,7 +176,7 @@ module _ {held : Held} {listing : Listing} {a b : Tables} {m n : ℕ} (one : Spe
   content_too : (item : Item) (c : Content) → content a.contents item ≡ Some c → content b.contents item ≡ Some c
   content_too item c is =
       let mine = spelled one fit item c is in
-      let body = other.contents.bodies_are mine.relation.segment mine.tid (body_of mine.number mine.values) mine.stands in
+      let body = (contents_spelled other).bodies_are mine.relation.segment mine.tid (body_of mine.number mine.values) mine.stands in
       let parts = parts_of mine.number body.number (tuple_bytes mine.values) (tuple_bytes body.values) body.is in
       let relation : body.relation ≡ mine.relation = same_Some _ _ (sym body.at ∙ ap (relation_at listing) (sym parts.0) ∙ mine.at) in
       let holds : content b.contents (Tuple mine.relation.name mine.tid) ≡ Some (Values body.values) = ap (λ (r : RelationEntry). content b.contents (Tuple r.name mine.tid)) (sym relation) ∙ body.holds in

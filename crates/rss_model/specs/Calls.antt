@@ -1,11 +1,10 @@
 -- A call on an engine, whichever call it is: what it leaves, by its result.
-use Rattle.std.specs.Prelude.{◌≡◌, ◌⊎◌, ℕ, ◌≤◌, true, List, length, Result, Ok, Err, IsErrOf, ⊤}
+use Rattle.std.specs.Prelude.{◌≡◌, ◌⊎◌, ℕ, ◌≤◌, true, List, length, Result, Ok, Err, IsErrOf}
 use Rattle.rss_base.specs.DiskRule.{Disk, IsTold, Continues}
 use Rattle.rss_base.specs.Faults.{Rises}
 use Rattle.rss_base.specs.Paged.{Mapped, AreAmong, HasEach}
 use Rattle.rss_base.specs.declared.key.PageKey.{PageKey}
 use Rattle.rss_base.specs.declared.call.Call.{Call}
-use Rattle.rss_base.specs.declared.call.Call.TheVariants.{Begin, End, Insert, Fetch, Update, Delete, MakeSegment, MakeRelation, DropSegment, DropRelation}
 use Rattle.rss_base.specs.declared.answer.Reply.{Reply}
 use Rattle.rss_base.specs.declared.answer.CallError.{CallError}
 use Rattle.rss_base.specs.declared.answer.CallError.TheVariants.{Refused, Damaged, Device, NoMemory, Down}
@@ -88,27 +87,14 @@ pub record IsDamaged (old new : EngineView) : Type 0 where
   pub sound : IsTold old.disk → ⊥
   pub down : new.is_up → ⊥
 
--- a call that changes nothing, whatever comes of it
-abbrev pub OnlyLooks : Call → Type 0
-OnlyLooks (Begin transaction) = ⊥
-OnlyLooks (End transaction) = ⊥
-OnlyLooks (Insert transaction relation tuple) = ⊥
-OnlyLooks (Fetch transaction relation tid) = ⊤
-OnlyLooks (Update transaction relation tid tuple) = ⊥
-OnlyLooks (Delete transaction relation tid) = ⊥
-OnlyLooks (MakeSegment name) = ⊥
-OnlyLooks (MakeRelation name segment fields) = ⊥
-OnlyLooks (DropSegment name) = ⊥
-OnlyLooks (DropRelation name) = ⊥
-
--- By want of memory: a stop leaves the committed tables. The engine stays up where the call only looks, and where it is up nothing has changed.
-pub record IsUnanswered (old new : EngineView) (call : Call) : Type 0 where
+-- By want of memory, which a call finds before it changes anything: the engine is up and in the same states, and no page changed. A stop leaves the committed tables.
+pub record IsUnanswered (old new : EngineView) : Type 0 where
   pub unmade : IsTold old.disk → (state : State) → old.shows state
       → IsUnmade old.disk new.disk state
-  pub up : OnlyLooks call → new.is_up
-  pub same : new.is_up → IsTold old.disk → (state : State) → old.shows state → new.shows state
-  pub changed : new.is_up → AreAmong new.changed old.changed
-  pub since : new.is_up → new.since ≡ old.since
+  pub up : new.is_up
+  pub same : IsTold old.disk → (state : State) → old.shows state → new.shows state
+  pub changed : AreAmong new.changed old.changed
+  pub since : new.since ≡ old.since
 
 -- an engine that is up is never found down
 abbrev pub IsOutcome : EngineView → EngineView → Call → Result Reply CallError → Type 0
@@ -116,7 +102,7 @@ IsOutcome old new call (Ok reply) = IsAnswer old new call (Ok reply)
 IsOutcome old new call (Err (Refused why)) = IsAnswer old new call (Err why)
 IsOutcome old new call (Err Device) = IsFault old new call
 IsOutcome old new call (Err (Damaged place)) = IsDamaged old new
-IsOutcome old new call (Err NoMemory) = IsUnanswered old new call
+IsOutcome old new call (Err NoMemory) = IsUnanswered old new
 IsOutcome old new call (Err Down) = ⊥
 
 -- A call, by its result. An engine that is down answers nothing more.

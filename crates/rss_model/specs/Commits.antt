@@ -1,11 +1,12 @@
 -- What a run of the machine commits.
-use Rattle.std.specs.Prelude.{◌≡◌, List, Option, Some, None, Ok, All, ⊤}
+use Rattle.std.specs.Prelude.{◌≡◌, true, List, Option, Some, None, Ok, All, ⊤}
 use Rattle.rss_base.specs.declared.call.Call.{Call}
-use Rattle.rss_base.specs.declared.call.Call.TheVariants.{Begin, End, Insert, Fetch, Update, Delete, MakeSegment, MakeRelation, DropSegment, DropRelation}
+use Rattle.rss_base.specs.declared.call.Call.TheVariants.{End}
 use Rattle.rss_base.specs.declared.answer.Reply.TheVariants.{Ok as Done}
 use Rattle.rss_model.specs.Tables.{Definitions, Tables}
 use Rattle.rss_model.specs.Changes.{own}
 use Rattle.rss_model.specs.Machine.{State, with_changes}
+use Rattle.rss_model.specs.Callers.{is_definition}
 use Rattle.rss_model.specs.Defining.{defined, with_definitions}
 use Rattle.rss_model.specs.Steps.{Answer, Step}
 use Rattle.rss_model.specs.Runs.{Turn, Run}
@@ -23,16 +24,8 @@ committed old call answer = old.base
 
 -- the calls that commit, where they are answered
 abbrev pub MayCommit : Call → Type 0
-MayCommit (Begin t) = ⊥
 MayCommit (End t) = ⊤
-MayCommit (Insert t relation values) = ⊥
-MayCommit (Fetch t relation tid) = ⊥
-MayCommit (Update t relation tid values) = ⊥
-MayCommit (Delete t relation tid) = ⊥
-MayCommit (MakeSegment name) = ⊤
-MayCommit (MakeRelation name segment fields) = ⊤
-MayCommit (DropSegment name) = ⊤
-MayCommit (DropRelation name) = ⊤
+MayCommit call = is_definition call ≡ true
 
 -- the turn committed nothing
 abbrev pub CommitsNothing : Turn → Type 0

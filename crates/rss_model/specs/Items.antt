@@ -1,6 +1,6 @@
 -- Items: what can be locked, which of them have a content, and their order.
-use Rattle.std.specs.Prelude.{ℕ, pos, negsuc, List, [], ◌∷◌, ◌++◌, length, Some, None}
-use Rattle.std.specs.Ordering.{nat_cmp}
+use Rattle.std.specs.Prelude.{ℕ, Bool, false, pos, negsuc, List, [], ◌∷◌, ◌++◌, length, Option, Some, None}
+use Rattle.std.specs.Ordering.{nat_cmp, eq_by_cmp}
 use Rattle.std.specs.Cmp.Lexicographic.{slice_cmp}
 use Rattle.std.specs.declared.cmp.Ordering.{Ordering}
 use Rattle.rss_base.specs.declared.name.Name.{Name}
@@ -39,3 +39,33 @@ item_cmp a b = slice_cmp nat_cmp (item_code a) (item_code b)
 
 abbrev pub name_cmp : Name → Name → Ordering
 name_cmp a b = slice_cmp nat_cmp a.bytes b.bytes
+
+abbrev pub is_item : Item → Item → Bool
+is_item a b = eq_by_cmp item_cmp a b
+
+abbrev pub is_name : Name → Name → Bool
+is_name a b = eq_by_cmp name_cmp a b
+
+-- the item is a tuple of this relation
+abbrev pub is_tuple_of : Name → Item → Bool
+is_tuple_of relation (Segment name) = false
+is_tuple_of relation (Relation name) = false
+is_tuple_of relation (Tuple name tid) = is_name relation name
+is_tuple_of relation (Chain link parent) = false
+is_tuple_of relation (Key image values) = false
+
+-- the item is a chain of this link
+abbrev pub is_chain_of : Name → Item → Bool
+is_chain_of link (Segment name) = false
+is_chain_of link (Relation name) = false
+is_chain_of link (Tuple relation tid) = false
+is_chain_of link (Chain name parent) = is_name link name
+is_chain_of link (Key image values) = false
+
+-- the parent of a chain, where there is one
+abbrev pub parent_of : Item → Option Tid
+parent_of (Segment name) = None
+parent_of (Relation name) = None
+parent_of (Tuple relation tid) = None
+parent_of (Chain link parent) = parent
+parent_of (Key image values) = None

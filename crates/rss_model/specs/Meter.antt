@@ -1,24 +1,49 @@
--- The meter: what the rule reads that keeps room for all pages.
-use Rattle.std.specs.Prelude.{◌≡◌, ℕ, ◌+◌, ◌*◌, ◌<◌, ◌≤◌, Bool, is_some, List, length, filter, count_by, sum_by, Option, Some, option_map, unwrap_or, false}
+-- The meter: what the rules read that keep room for all pages and for the log.
+use Rattle.std.specs.Prelude.{◌≡◌, ℕ, ◌+◌, ◌-◌, ◌*◌, ◌/◌, ◌<◌, ◌≤◌, ◌==◌, Bool, false, is_some, min, if◌then◌else◌, List, [], ◌∷◌, length, filter, count_by, sum_by, Option, Some, None, option_map, unwrap_or}
 use Rattle.std.specs.List.{list_any, range_with_len}
 use Rattle.std.specs.Ordering.{eq_by_cmp}
 use Rattle.std.specs.FinMap as map
-use Rattle.rss_base.specs.Sizes.{page_entries, system_pages}
-use Rattle.rss_base.specs.TupleTypes.{tuple_bytes}
+use Rattle.rss_base.specs.Sizes.{page_entries, system_pages, piece_bytes, largest_checkpoint}
+use Rattle.rss_base.specs.TupleTypes.{tuple_bytes, key_width}
+use Rattle.rss_base.specs.Nodes.{node_least}
+use Rattle.rss_base.specs.Prefixes.{block_size, Member, Child, Parent}
 use Rattle.rss_base.specs.declared.name.Name.{Name}
 use Rattle.rss_base.specs.declared.tid.Tid.{Tid}
+use Rattle.rss_base.specs.declared.item.Item.{Item}
 use Rattle.rss_base.specs.declared.item.Item.TheVariants.{Tuple}
 use Rattle.rss_page.specs.Slotted.{bodies_room}
-use Rattle.rss_model.specs.Items.{Content, Values, Tuples, name_cmp}
-use Rattle.rss_model.specs.Tables.{Contents, Tables, content, segment_of}
+use Rattle.rss_model.specs.Items.{Content, Values, Tuples, name_cmp, is_name, is_tuple_of}
+use Rattle.rss_model.specs.Tables.{LinkDef, ImageDef, Definitions, Contents, Tables, content, fields_in, segment_of, tuple_count}
+use Rattle.rss_model.specs.Images.{key_kinds}
+use Rattle.rss_model.specs.Chains.{is_parent_relation}
 use Rattle.rss_model.specs.Changes.{Change}
 
+-- the position of a change's record in the log, and the transaction that made it
+pub record Stamp : Type 0 where
+  pub by : ℕ
+  pub at : ℕ
+
+-- Of a relation: how many tuples it had at the last checkpoint; how many changes of its tuples survived there; and how many were made since then, undone ones included.
+pub record Traffic : Type 0 where
+  pub entries : ℕ
+  pub surviving : ℕ
+  pub since : ℕ
+
 -- heap: how many pages had identifiers of tuples at the last checkpoint, and how many overflow pages there were.
+-- surviving: how many changes of open transactions survived there.
 -- since: how many changes were made since then, undone ones included.
+-- traffic: the same of each relation.
+-- stamps: those of the changes that survive now, the newest first.
+-- head, end: the first position of the log that is kept, and the next one to be written.
 -- over: how many overflow pages there are.
 pub record Meter : Type 0 where
   pub heap : ℕ
+  pub surviving : ℕ
   pub since : ℕ
+  pub traffic : Name → Traffic
+  pub stamps : List Stamp
+  pub head : ℕ
+  pub end : ℕ
   pub over : ℕ
 
 -- ---- pages that hold tuples
@@ -51,57 +76,178 @@ heap_pages slots tables =
 
 -- ---- pages that overfill
 
--- how many bytes a tuple takes on its page: its relation's number, and its values
-abbrev pub body_size : Content → ℕ
-body_size (Values values) = 1 + length (tuple_bytes values)
-body_size (Tuples tids) = 0
+-- how many bytes the block of a link has in a tuple of a relation
+abbrev pub block_of_link : Name → LinkDef → ℕ
+block_of_link relation link =
+    if is_name relation link.child then size_below link.parent
+    else (if is_parent_relation link relation then block_size Parent else 0)
+  where
+    size_below : Option Name → ℕ
+    size_below None = block_size Member
+    size_below (Some parent) = block_size Child
 
-abbrev pub held_size : Option Content → ℕ
-held_size held = unwrap_or (option_map body_size held) 0
+-- how many bytes the blocks of all its links have
+abbrev pub blocks_size : Definitions → Name → ℕ
+blocks_size definitions relation = sum_by (block_of_link relation) (map.values definitions.links)
+
+-- how many bytes the values of a tuple take
+abbrev pub values_size : Content → ℕ
+values_size (Values values) = length (tuple_bytes values)
+values_size (Tuples tids) = 0
+
+-- how many bytes a tuple takes on its page: its relation's number, its blocks, and its values
+abbrev pub body_size : Definitions → Name → Content → ℕ
+body_size definitions relation held = 1 + blocks_size definitions relation + values_size held
+
+abbrev pub held_size : Definitions → Name → Option Content → ℕ
+held_size definitions relation held = unwrap_or (option_map (body_size definitions relation) held) 0
 
 -- how many bytes the tuples of a relation take that have an identifier on this page
-unfoldable pub bytes_of : Contents → ℕ → Name → ℕ
-bytes_of contents page relation =
-    sum_by (λ slot. held_size (content contents (Tuple relation (record { page = page; slot = slot }))))
+unfoldable pub bytes_of : Tables → ℕ → Name → ℕ
+bytes_of tables page relation =
+    sum_by (λ slot. held_size tables.definitions relation
+    (content tables.contents (Tuple relation (record { page = page; slot = slot }))))
     (range_with_len 0 page_entries)
 
 -- how many bytes all tuples of a segment take that do
 abbrev pub bytes_on : Tables → Name → ℕ → ℕ
-bytes_on tables segment page =
-    sum_by (bytes_of tables.contents page) (relations_in tables segment)
+bytes_on tables segment page = sum_by (bytes_of tables page) (relations_in tables segment)
 
--- A change makes a tuple that is new or longer, and the page of its identifier has no room for all of its tuples in these tables.
-pub record Overfills (tables : Tables) (change : Change) : Type 0 where
+-- What an item held becomes new or longer, and in these tables, which have it so, the page of its identifier has no room for all of its tuples.
+pub record Overfills (tables : Tables) (item : Item) (old new : Option Content) : Type 0 where
   pub relation : Name
   pub tid : Tid
   pub segment : Name
-  pub item : change.item ≡ Tuple relation tid
-  pub grows : held_size change.old < held_size change.new
+  pub is : item ≡ Tuple relation tid
+  pub grows : held_size tables.definitions relation old < held_size tables.definitions relation new
   pub stands : segment_of tables relation ≡ Some segment
-  pub over : bodies_room < bytes_on tables segment tid.page
+  pub beyond : bodies_room < bytes_on tables segment tid.page
 
--- ---- what steps do to the meter
+-- After an item has become new in these tables, there is one overflow page more at most, and only where it overfills its page.
+pub record MayLead (tables : Tables) (item : Item) (old new : Option Content) (before after : ℕ) : Type 0 where
+  pub one : after ≤ before + 1
+  pub only : (Overfills tables item old new → ⊥) → after ≤ before
 
--- A checkpoint is taken, where there are so many overflow pages.
-pub record IsCheckpointed (slots : ℕ) (tables : Tables) (over : ℕ) (new : Meter) : Type 0 where
-  pub heap : new.heap ≡ heap_pages slots tables + over
-  pub since : new.since ≡ 0
-  pub same_over : new.over ≡ over
+-- ---- records of the log
 
--- One change more is made, after which these are the tables. It may lead to an overflow page more only where it overfills a page.
-pub record IsCounted (tables : Tables) (change : Change) (old new : Meter) : Type 0 where
-  pub heap : new.heap ≡ old.heap
-  pub since : new.since ≡ old.since + 1
-  pub one_over : new.over ≤ old.over + 1
-  pub only_over : (Overfills tables change → ⊥) → new.over ≤ old.over
+-- how many bytes the record of a change has: that of a tuple has the values that it tells, and that of a chain three identifiers
+abbrev pub told_size : Option Content → ℕ
+told_size None = 0
+told_size (Some held) = 2 + values_size held
 
--- How many slots may be needed: two for each page of the heap and each of the catalog. Each change may take two pages, and a way back from it two more.
-abbrev pub room_of : ℕ → ℕ → ℕ
-room_of heap since = 2 * (heap + 4 * since + system_pages)
+abbrev pub change_size : Change → ℕ
+change_size change = size_for change.item
+  where
+    size_for : Item → ℕ
+    size_for (Tuple relation tid) = 12 + told_size change.old + told_size change.new
+    size_for other = 24
 
-abbrev pub room_number : Meter → ℕ
-room_number meter = room_of meter.heap meter.since
+abbrev pub restore_size : ℕ
+restore_size = 13
 
--- how many may be once one more change is made
-abbrev pub needed_slots : Meter → ℕ
-needed_slots meter = room_of meter.heap (meter.since + 1)
+-- of an End or an Abort record
+abbrev pub end_size : ℕ
+end_size = 5
+
+-- by how many transactions it names
+abbrev pub checkpoint_size : ℕ → ℕ
+checkpoint_size named = 2 + 12 * named
+
+-- how many transactions have changes among these
+abbrev pub changers : List Stamp → ℕ
+changers [] = 0
+changers (stamp ∷ stamps) =
+    if list_any (λ other. other.by == stamp.by) stamps then changers stamps else 1 + changers stamps
+
+-- how many bytes are owed: for each change that survives a Restore record, for each transaction that has one an End or Abort record, and the largest Checkpoint record
+abbrev pub owed : List Stamp → ℕ
+owed stamps = restore_size * length stamps + end_size * changers stamps + largest_checkpoint
+
+-- how many bytes a log of so many pages has room for
+abbrev pub free_between : ℕ → ℕ → ℕ → ℕ
+free_between log_pages head end = (head / piece_bytes + log_pages + 1) * piece_bytes - 1 - end
+
+abbrev pub log_room : ℕ → Meter → ℕ
+log_room log_pages meter = free_between log_pages meter.head meter.end
+
+-- the least position of these, or this one where there is none
+abbrev pub least_position : ℕ → List Stamp → ℕ
+least_position end [] = end
+least_position end (stamp ∷ stamps) = min stamp.at (least_position end stamps)
+
+-- ---- the room number
+
+-- how many pages an image may have: by its entries at the last checkpoint, and the changes that may add to them
+abbrev pub image_pages : ℕ → Traffic → ℕ
+image_pages width traffic =
+    (traffic.entries + traffic.surviving + 2 * traffic.since) / (node_least width - 1) + 2
+
+abbrev pub pages_of_image : Definitions → Meter → ImageDef → ℕ
+pages_of_image definitions meter image =
+    image_pages (key_width (key_kinds (fields_in definitions image.relation) image.fields))
+    (meter.traffic image.relation)
+
+-- How many slots may be needed: two for each page of the heap, of the images and of the catalog. Each change may take two pages, and a way back from it two more.
+abbrev pub room_number : Definitions → Meter → ℕ
+room_number definitions meter =
+    2 * (meter.heap + 2 * meter.surviving + 4 * meter.since
+    + sum_by (pages_of_image definitions meter) (map.values definitions.images) + system_pages)
+
+-- ---- what is done to the meter
+
+-- the change of an item counts for its relation
+abbrev pub counts_for : Item → Name → Bool
+counts_for item relation = is_tuple_of relation item
+
+-- one change more
+abbrev pub with_traffic : Item → (Name → Traffic) → Name → Traffic
+with_traffic item traffic relation =
+    if counts_for item relation then record { entries = (traffic relation).entries; surviving = (traffic relation).surviving; since = (traffic relation).since + 1 }
+    else traffic relation
+
+abbrev pub counted : Change → ℕ → Meter → Meter
+counted change over meter = record meter {
+  since = meter.since + 1;
+  traffic = with_traffic change.item meter.traffic;
+  stamps = record { by = change.by; at = meter.end } ∷ meter.stamps;
+  end = meter.end + change_size change;
+  over = over;
+}
+
+-- so many bytes more in the log, and these changes survive
+abbrev pub with_record : ℕ → List Stamp → ℕ → Meter → Meter
+with_record size stamps over meter = record meter { stamps = stamps; end = meter.end + size; over = over }
+
+-- how many changes of a relation's tuples there are among these
+abbrev pub changes_of : List Change → Name → ℕ
+changes_of changes relation = count_by (λ change. counts_for change.item relation) changes
+
+-- A checkpoint of these tables, with these changes surviving in them. Its record stands in the log from the end on, and the log is kept from the first surviving change on.
+abbrev pub checkpointed : ℕ → Tables → List Change → Meter → Meter
+checkpointed slots tables changes meter = record {
+  heap = heap_pages slots tables + meter.over;
+  surviving = length changes;
+  since = 0;
+  traffic = λ relation. record {
+    entries = tuple_count tables.contents relation;
+    surviving = changes_of changes relation;
+    since = 0;
+  };
+  stamps = meter.stamps;
+  head = least_position meter.end meter.stamps;
+  end = meter.end + checkpoint_size (changers meter.stamps);
+  over = meter.over;
+}
+
+-- the meter where these tables are opened, with so many overflow pages and a log of these positions
+abbrev pub at_rest : ℕ → Tables → ℕ → ℕ → ℕ → Meter
+at_rest slots tables over head end = record {
+  heap = heap_pages slots tables + over;
+  surviving = 0;
+  since = 0;
+  traffic = λ relation. record { entries = tuple_count tables.contents relation; surviving = 0; since = 0 };
+  stamps = [];
+  head = head;
+  end = end;
+  over = over;
+}

@@ -2,7 +2,7 @@
 use Rattle.std.specs.Prelude.{◌≡◌, ◌≢◌, ℕ, ◌^◌, ◌<◌, ◌≤◌, List, [], ◌∷◌, ◌++◌, length, All, true, codes, decimal, FitsSigned, ⊤}
 use Rattle.std.specs.Int.{w64}
 use Rattle.rss_base.specs.Sizes.{page_entries, slots_most}
-use Rattle.rss_base.specs.TupleTypes.{most_fields, is_allowed_text, is_kind}
+use Rattle.rss_base.specs.TupleTypes.{most_fields, is_kind}
 use Rattle.rss_base.specs.declared.name.Name.{Name}
 use Rattle.rss_base.specs.declared.tid.Tid.{Tid}
 use Rattle.rss_base.specs.declared.value.Value.{Value}
@@ -91,10 +91,11 @@ pub record IsTid (word : List ℕ) (tid : Tid) : Type 0 where
   pub page : tid.page < slots_most
   pub slot : tid.slot < page_entries
 
--- an INT has 64 signed bits, and a TEXT no characters but those that are allowed
+-- An INT has 64 signed bits. A TEXT may have any bytes: whether they are a text that fits its field
+-- says the call.
 abbrev pub IsProper : Value → Type 0
 IsProper (Int z) = FitsSigned w64 z
-IsProper (Text bytes) = is_allowed_text bytes ≡ true
+IsProper (Text bytes) = ⊤
 
 pub record IsValue (word : List ℕ) (value : Value) : Type 0 where
   pub spelled : word ≡ value_text value

@@ -1,250 +1,271 @@
 -- A step of the relation machine: which reply a call may get, and the state that follows.
-use Rattle.std.specs.Prelude.{◌≡◌, ℕ, ◌+◌, ◌==◌, ◌&&◌, Bool, false, not, nat_le, nat_lt, List, [], ◌∷◌, Option, Some, None, is_some, is_none, option_map, unwrap_or, Result, Ok, Err, All, count_by}
-use Rattle.std.specs.List.{list_any, list_all, range_with_len}
+use Rattle.std.specs.Prelude.{◌≡◌, ◌↔◌, ℕ, ◌+◌, ◌<◌, Bool, true, false, if◌then◌else◌, List, [], ◌∷◌, ◌++◌, length, take, slice_index, Option, Some, None, is_some, Ok, Err}
 use Rattle.std.specs.FinMap as map
 use Rattle.rss_base.specs.declared.name.Name.{Name}
 use Rattle.rss_base.specs.declared.tid.Tid.{Tid}
 use Rattle.rss_base.specs.declared.value.Value.{Value}
-use Rattle.rss_base.specs.declared.value.FieldKind.{FieldKind}
+use Rattle.rss_base.specs.declared.spot.Spot.{Spot}
 use Rattle.rss_base.specs.declared.item.Item.{Item}
-use Rattle.rss_base.specs.declared.item.Item.TheVariants.{Segment as SegmentItem, Relation as RelationItem, Tuple as TupleItem, Chain as ChainItem, Key as KeyItem}
+use Rattle.rss_base.specs.declared.item.Item.TheVariants.{Tuple as TupleItem}
+use Rattle.rss_base.specs.declared.need.Mode.TheVariants.{X}
 use Rattle.rss_base.specs.declared.call.Call.{Call}
-use Rattle.rss_base.specs.declared.call.Call.TheVariants.{Begin, End, Insert, Fetch, Update, Delete, MakeSegment, MakeRelation, DropSegment, DropRelation}
-use Rattle.rss_base.specs.declared.answer.Reply.{Reply}
-use Rattle.rss_base.specs.declared.answer.Reply.TheVariants.{Ok as Done, Tid as Identifier, Tuple as TupleReply}
-use Rattle.rss_base.specs.declared.refusal.Kind.TheVariants.{Relation as RelationKind}
+use Rattle.rss_base.specs.declared.call.Call.TheVariants.{Begin, Save, Restore, End, Abort, Insert, Fetch, Update, Delete, Connect, Disconnect, Parent, OpenRelation, OpenImage, OpenLink, Next, CloseScan, Lock, Checkpoint}
+use Rattle.rss_base.specs.declared.answer.Reply.TheVariants.{Ok as Done, Tid as Identifier, Number, Tuple as TupleReply, Row, End as AtEnd, Nothing}
 use Rattle.rss_base.specs.declared.refusal.Refusal.{Refusal}
-use Rattle.rss_base.specs.declared.refusal.LimitKind.TheVariants.{Tuples as TupleLimit, Identifiers as IdentifierLimit}
-use Rattle.rss_base.specs.declared.refusal.Refusal.TheVariants.{NoTransaction, AlreadyOpen, TooMany, NoSuch, Limit, BadTuple, NoTuple, Full}
-use Rattle.rss_base.specs.Sizes.{page_entries}
-use Rattle.rss_base.specs.TupleTypes.{misfit}
-use Rattle.rss_model.specs.Items.{Values}
-use Rattle.rss_model.specs.Tables.{Definitions, content, fields_of, segment_of, tuple_count}
-use Rattle.rss_model.specs.Fits.{tuple_limit, IsIdentifier}
-use Rattle.rss_model.specs.Changes.{Change, is_delete_of, own, others}
-use Rattle.rss_model.specs.Meter.{Meter, IsCheckpointed, IsCounted, needed_slots, relations_in}
+use Rattle.rss_base.specs.declared.refusal.Refusal.TheVariants.{NoTuple, Duplicate, Connected, NotConnected}
+use Rattle.rss_model.specs.Items.{Values, parent_of}
+use Rattle.rss_model.specs.Tables.{Definitions, Tables, content, fields_of, segment_of}
+use Rattle.rss_model.specs.Chains.{chain_with}
+use Rattle.rss_model.specs.Images.{Entry}
+use Rattle.rss_model.specs.Fits.{IsIdentifier}
+use Rattle.rss_model.specs.Changes.{Change, maker, own, others, theirs, kept_to, cut_off, undo}
+use Rattle.rss_model.specs.Locks.{held, with_lock, granted, released}
+use Rattle.rss_model.specs.Scans.{Path, RelationPath, ImagePath, LinkPath, Scan, number_limit, scan_of, closed, new_scan, next_of_scan, path_relation}
+use Rattle.rss_model.specs.Meter.{Meter, Stamp, MayLead, restore_size, end_size, counted, with_record, checkpointed}
 use Rattle.rss_model.specs.Machine.{State, with_changes, now}
-use Rattle.rss_model.specs.Defining.{refused_unless, refused_if, definition_tests, defined, with_definitions, DefinesNames}
+use Rattle.rss_model.specs.Callers.{caller}
+use Rattle.rss_model.specs.Needs.{need, needs}
+use Rattle.rss_model.specs.Rules.{meter_for, saved_now}
+use Rattle.rss_model.specs.Defining.{defined, with_definitions, DefinesNames, LocksGranule}
+pub use Rattle.rss_model.specs.Refusals.{Answer, transaction_limit, is_open, misfit_of, first_of, tuple_change, insertion, deletion, replacement, connection, disconnection, unless_open, unless_defined, admission, value_admission, used_tuples, if_used_up, relations_beside, is_free, unless_free, unless_live, if_full, tests, refusal}
+unfoldable pub use Rattle.rss_model.specs.Refusals.{some_free}
 
--- A call is answered by a reply or refused.
-abbrev pub Answer : Type 0
-Answer = Result Reply Refusal
+-- ---- what stays of a refused call
 
--- at most so many transactions are open
-abbrev pub transaction_limit : ℕ
-transaction_limit = 1
+-- the answer rests on what the call's list locks
+abbrev pub keeps_locks : Refusal → Bool
+keeps_locks (NoTuple relation tid) = true
+keeps_locks (Duplicate image tid) = true
+keeps_locks (Connected link) = true
+keeps_locks (NotConnected link) = true
+keeps_locks why = false
 
-abbrev pub is_open : State → ℕ → Bool
-is_open state transaction = is_some (map.get state.marks transaction)
+-- the caller holds all of the call's list
+abbrev pub locked_by : Option ℕ → Call → State → State
+locked_by None call state = state
+locked_by (Some t) call state =
+    record state { locks = granted t (needs (now state) call) state.locks }
 
-abbrev pub misfit_of : Option (List FieldKind) → List Value → Option Refusal
-misfit_of None values = None
-misfit_of (Some fields) values = option_map BadTuple (misfit fields values)
+abbrev pub locked : Call → State → State
+locked call state = locked_by (caller call) call state
 
--- the first refusal that applies
-abbrev pub first_of : List (Option Refusal) → Option Refusal
-first_of [] = None
-first_of (None ∷ rest) = first_of rest
-first_of (Some why ∷ rest) = Some why
-
--- ---- the tests of a call, in their order
-
--- how many tuples of a relation there are or may come back: those now, and those that an open transaction deleted
-abbrev pub used_tuples : State → Name → ℕ
-used_tuples state relation =
-    tuple_count (now state).contents relation + count_by (is_delete_of relation) state.changes
-
-abbrev pub unless_open : State → ℕ → Option Refusal
-unless_open state t = refused_unless (is_open state t) NoTransaction
-
-abbrev pub unless_defined : State → Name → Option Refusal
-unless_defined state relation =
-    refused_unless (is_some (fields_of state.base relation)) (NoSuch RelationKind)
-
--- what a call on a relation is refused for first
-abbrev pub admission : State → ℕ → Name → Option Refusal
-admission state t relation = first_of (unless_open state t ∷ unless_defined state relation ∷ [])
-
--- and what one that gives a tuple to it is
-abbrev pub value_admission : State → ℕ → Name → List Value → Option Refusal
-value_admission state t relation values =
-    first_of (unless_open state t ∷ unless_defined state relation
-    ∷ misfit_of (fields_of state.base relation) values ∷ [])
-
-abbrev pub if_used_up : State → Name → Option Refusal
-if_used_up state relation =
-    refused_if (nat_le tuple_limit (used_tuples state relation)) (Limit TupleLimit)
-
--- the item is the tuple with this identifier, in some relation
-abbrev pub is_tuple_at : Tid → Item → Bool
-is_tuple_at tid (SegmentItem name) = false
-is_tuple_at tid (RelationItem name) = false
-is_tuple_at tid (TupleItem relation other) = (other.page == tid.page) && (other.slot == tid.slot)
-is_tuple_at tid (ChainItem link parent) = false
-is_tuple_at tid (KeyItem image values) = false
-
--- the relations of a relation's segment
-abbrev pub relations_beside : State → Name → List Name
-relations_beside state relation =
-    unwrap_or (option_map (relations_in state.base) (segment_of state.base relation)) []
-
--- a new tuple of a transaction may have this identifier, as far as what is there goes
-abbrev pub is_free : State → ℕ → Name → Tid → Bool
-is_free state t relation tid =
-    list_all (λ other. is_none (content (now state).contents (TupleItem other tid)))
-    (relations_beside state relation)
-    && list_all (λ change. not (is_tuple_at tid change.item && not (change.by == t))) state.changes
-
--- it may have some identifier
-unfoldable pub some_free : State → ℕ → Name → Bool
-some_free state t relation =
-    list_any (λ page. list_any (λ slot. is_free state t relation (record { page = page; slot = slot }))
-    (range_with_len 0 page_entries)) (range_with_len 0 state.size.slots)
-
-abbrev pub unless_free : State → ℕ → Name → Option Refusal
-unless_free state t relation = refused_unless (some_free state t relation) (Limit IdentifierLimit)
-
-abbrev pub if_full : State → Option Refusal
-if_full state =
-    refused_if (nat_lt state.size.slots (needed_slots state.meter))
-    (Full state.size.slots (needed_slots state.meter))
-
-abbrev pub unless_live : State → Name → Tid → Option Refusal
-unless_live state relation tid =
-    refused_unless (is_some (content (now state).contents (TupleItem relation tid)))
-    (NoTuple relation tid)
-
-abbrev pub tests : State → Call → List (Option Refusal)
-tests state (Begin t) =
-    refused_if (is_open state t) AlreadyOpen
-    ∷ refused_if (nat_le transaction_limit (map.len state.marks)) TooMany
-    ∷ []
-tests state (End t) = unless_open state t ∷ []
-tests state (Insert t relation values) =
-    unless_open state t
-    ∷ unless_defined state relation
-    ∷ misfit_of (fields_of state.base relation) values
-    ∷ if_used_up state relation
-    ∷ unless_free state t relation
-    ∷ if_full state
-    ∷ []
-tests state (Fetch t relation tid) =
-    unless_open state t
-    ∷ unless_defined state relation
-    ∷ unless_live state relation tid
-    ∷ []
-tests state (Update t relation tid values) =
-    unless_open state t
-    ∷ unless_defined state relation
-    ∷ misfit_of (fields_of state.base relation) values
-    ∷ unless_live state relation tid
-    ∷ if_full state
-    ∷ []
-tests state (Delete t relation tid) =
-    unless_open state t
-    ∷ unless_defined state relation
-    ∷ unless_live state relation tid
-    ∷ if_full state
-    ∷ []
-tests state (MakeSegment name) = definition_tests state (MakeSegment name)
-tests state (MakeRelation name segment fields) = definition_tests state (MakeRelation name segment fields)
-tests state (DropSegment name) = definition_tests state (DropSegment name)
-tests state (DropRelation name) = definition_tests state (DropRelation name)
-
-abbrev pub refusal : State → Call → Option Refusal
-refusal state call = first_of (tests state call)
+abbrev pub left_by : State → Call → Refusal → State
+left_by state call why = if keeps_locks why then locked call state else state
 
 -- ---- what a call does
 
--- A new tuple of a transaction may have this identifier: no tuple of the segment has it, and no other open transaction changed one that did.
+-- A new tuple of a transaction may have this identifier: no tuple of the segment has it, and no other transaction holds one that might.
 pub record IsFree (state : State) (t : ℕ) (relation : Name) (tid : Tid) : Type 0 where
   pub within : IsIdentifier state.size.slots tid
   pub absent : (other : Name) → segment_of state.base other ≡ segment_of state.base relation
       → content (now state).contents (TupleItem other tid) ≡ None
-  pub alone : (other : Name)
-      → All (λ change. change.item ≡ TupleItem other tid → change.by ≡ t) state.changes
+  pub alone : (other : Name) (u : ℕ) → segment_of state.base other ≡ segment_of state.base relation
+      → (u ≡ t → ⊥) → held state.locks u (TupleItem other tid) ≡ None
 
-abbrev pub begun : ℕ → State → State
-begun t state = record state { marks = map.insert state.marks t [] }
-
--- one change more, and the meter afterwards
-abbrev pub changed : Change → Meter → State → State
-changed change meter state = record state { changes = change ∷ state.changes; meter = meter }
-
--- what the meter may be after one change more
-abbrev pub IsMeterOf : State → Change → Meter → Type 0
-IsMeterOf state change meter =
-    IsCounted (with_changes state.base (change ∷ state.changes)) change state.meter meter
-
--- what a tuple holds is changed
-abbrev pub tuple_change : ℕ → Name → Tid → Option (List Value) → Option (List Value) → Change
-tuple_change t relation tid old new = record {
-  by = t;
-  item = TupleItem relation tid;
-  old = option_map Values old;
-  new = option_map Values new;
-}
-
-abbrev pub insertion : ℕ → Name → Tid → List Value → Change
-insertion t relation tid values = tuple_change t relation tid None (Some values)
-
-abbrev pub deletion : ℕ → Name → Tid → List Value → Change
-deletion t relation tid values = tuple_change t relation tid (Some values) None
-
-abbrev pub replacement : ℕ → Name → Tid → List Value → List Value → Change
-replacement t relation tid old new = tuple_change t relation tid (Some old) (Some new)
+-- the test for a free identifier finds one exactly where there is one
+abbrev pub FreeIsFound : Type 0
+FreeIsFound = (state : State) (t : ℕ) (relation : Name) → is_some (fields_of state.base relation) ≡ true
+    → (some_free state t relation ≡ true) ↔ ((tid : Tid) × IsFree state t relation tid)
 
 -- the tuple with this identifier has these values
 abbrev pub HasValues : State → Name → Tid → List Value → Type 0
 HasValues state relation tid values =
     content (now state).contents (TupleItem relation tid) ≡ Some (Values values)
 
--- the end of a transaction that made these changes is a checkpoint, where there is one
-abbrev pub IsMeterAfter : List Change → State → Meter → Type 0
-IsMeterAfter [] state meter = meter ≡ state.meter
-IsMeterAfter (change ∷ changes) state meter =
-    IsCheckpointed state.size.slots (now state) state.meter.over meter
+-- ---- changes
 
--- what the transaction changed is committed
-abbrev pub ended : ℕ → Meter → State → State
-ended t meter state = record state {
-  base = with_changes state.base (own t state.changes);
-  changes = others t state.changes;
-  marks = map.remove state.marks t;
-  meter = meter;
+-- one change more, from a checkpoint on where the rules say so, and so many overflow pages
+abbrev pub changed : Change → ℕ → State → State
+changed change over state = record state {
+  changes = change ∷ state.changes;
+  meter = counted change over (meter_for state change);
 }
 
--- these are the committed definitions
-abbrev pub redefined : Definitions → Meter → State → State
-redefined definitions meter state =
-    record state { base = with_definitions definitions state.base; meter = meter }
+-- how many there may be after it
+abbrev pub IsOver : State → Change → ℕ → Type 0
+IsOver state change over =
+    MayLead (with_changes state.base (change ∷ state.changes)) change.item change.old change.new
+    state.meter.over over
 
--- The machine leaves open which meter follows, but for what it must be. A definition is a commit of its own.
-pub data Step (old : State) : Call → Answer → State → Type 0 where
-  refuses : (call : Call) (why : Refusal) → refusal old call ≡ Some why → Step old call (Err why) old
-  begins : (t : ℕ) → refusal old (Begin t) ≡ None → Step old (Begin t) (Ok Done) (begun t old)
-  inserts : (t : ℕ) (relation : Name) (values : List Value) (tid : Tid) (meter : Meter)
-      → refusal old (Insert t relation values) ≡ None → IsFree old t relation tid
-      → IsMeterOf old (insertion t relation tid values) meter
-      → Step old (Insert t relation values) (Ok (Identifier tid))
-      (changed (insertion t relation tid values) meter old)
+-- a new tuple is its maker's alone
+abbrev pub holding : ℕ → Item → State → State
+holding t item state = record state { locks = with_lock t (need item X) state.locks }
+
+-- ---- ways back
+
+-- From so many overflow pages there may be so many others, once these changes are undone in these tables, the newest first.
+pub data MayUndo : Tables → List Change → ℕ → ℕ → Type 0 where
+  none : {tables : Tables} {over : ℕ} → MayUndo tables [] over over
+  more : {tables : Tables} {change : Change} {changes : List Change} {over mid next : ℕ}
+      → MayLead (record tables { contents = undo tables.contents change }) change.item change.new change.old over mid
+      → MayUndo (record tables { contents = undo tables.contents change }) changes mid next
+      → MayUndo tables (change ∷ changes) over next
+
+abbrev pub stamp_by : Stamp → ℕ
+stamp_by stamp = stamp.by
+
+-- a record of this size where there are any changes
+abbrev pub size_for : List Change → ℕ → ℕ
+size_for [] size = 0
+size_for (change ∷ changes) size = size
+
+-- how many changes of a transaction a save point leaves
+abbrev pub left_at : List ℕ → ℕ → ℕ
+left_at marks save = slice_index (0 ∷ marks) save
+
+-- what the way back to a save point undoes, the newest first
+abbrev pub undone_to : State → ℕ → ℕ → List Change
+undone_to state t left = cut_off maker t left state.changes
+
+-- ---- states
+
+abbrev pub begun : ℕ → State → State
+begun t state = record state { marks = map.insert state.marks t [] }
+
+abbrev pub own_count : State → ℕ → ℕ
+own_count state t = length (own t state.changes)
+
+abbrev pub with_save : ℕ → List ℕ → State → State
+with_save t marks state =
+    record state { marks = map.insert state.marks t (marks ++ own_count state t ∷ []) }
+
+-- back to a save point: later ones go, and this one stays
+abbrev pub restored : ℕ → ℕ → List ℕ → ℕ → State → State
+restored t save marks over state = record state {
+  changes = kept_to maker t (left_at marks save) state.changes;
+  marks = map.insert state.marks t (take save marks);
+  meter = with_record (size_for (undone_to state t (left_at marks save)) restore_size)
+      (kept_to stamp_by t (left_at marks save) state.meter.stamps) over state.meter;
+}
+
+-- a transaction goes, with all that is its own
+abbrev pub gone : ℕ → ℕ → State → State
+gone t over state = record state {
+  changes = others t state.changes;
+  marks = map.remove state.marks t;
+  locks = released t state.locks;
+  scans = closed t state.scans;
+  meter = with_record (size_for (own t state.changes) end_size) (theirs stamp_by t state.meter.stamps) over state.meter;
+}
+
+-- what it changed is committed
+abbrev pub committing : ℕ → State → State
+committing t state = record (gone t state.meter.over state) { base = with_changes state.base (own t state.changes) }
+
+-- the end of a transaction that made these changes is a checkpoint, where there is one, as yet
+abbrev pub meter_after : List Change → State → Meter
+meter_after [] state = state.meter
+meter_after (change ∷ changes) state = saved_now state
+
+abbrev pub ended : ℕ → State → State
+ended t state =
+    record (committing t state) { meter = meter_after (own t state.changes) (committing t state) }
+
+-- ---- scans
+
+-- along which path a call opens a scan
+abbrev pub path_of : Call → Option Path
+path_of (OpenRelation t relation) = Some (RelationPath relation)
+path_of (OpenImage t image start) = Some (ImagePath image start)
+path_of (OpenLink t link parent) = Some (LinkPath link parent)
+path_of call = None
+
+abbrev pub with_scan : ℕ → Scan → State → State
+with_scan number scan state = record state { scans = map.insert state.scans number scan }
+
+-- the scan has given this
+abbrev pub with_given : Scan → Entry → Scan
+with_given scan given = record scan { last = Some given }
+
+-- it goes on to what it gives next, and the tuple of that has these values
+pub record GivesNext (state : State) (scan : Scan) (given : Entry) (values : List Value) : Type 0 where
+  pub next : next_of_scan (now state) scan ≡ Some given
+  pub relation : Name
+  pub along : path_relation state.base scan.path ≡ Some relation
+  pub has : HasValues state relation given.tid values
+
+-- ---- definitions
+
+-- the definitions and the committed tables with them, behind a checkpoint
+abbrev pub redefined : Definitions → State → State
+redefined definitions state = record state {
+  base = with_definitions definitions state.base;
+  meter = checkpointed state.size.slots (with_definitions definitions state.base) state.changes state.meter;
+}
+
+-- A step, where this tells what a call is refused for. The machine leaves open which free identifier, which number of a scan and how many overflow pages come.
+pub data StepBy (judge : State → Call → Option Refusal) (old : State) : Call → Answer → State → Type 0 where
+  refuses : (call : Call) (why : Refusal) → judge old call ≡ Some why
+      → StepBy judge old call (Err why) (left_by old call why)
+  begins : (t : ℕ) → judge old (Begin t) ≡ None → StepBy judge old (Begin t) (Ok Done) (begun t old)
+  saves : (t : ℕ) (marks : List ℕ) → judge old (Save t) ≡ None → map.get old.marks t ≡ Some marks
+      → StepBy judge old (Save t) (Ok (Number (length marks + 1))) (with_save t marks old)
+  restores : (t save : ℕ) (marks : List ℕ) (over : ℕ)
+      → judge old (Restore t save) ≡ None → map.get old.marks t ≡ Some marks
+      → MayUndo (now old) (undone_to old t (left_at marks save)) old.meter.over over
+      → StepBy judge old (Restore t save) (Ok Done) (restored t save marks over old)
+  ends : (t : ℕ) → judge old (End t) ≡ None → StepBy judge old (End t) (Ok Done) (ended t old)
+  aborts : (t over : ℕ) → judge old (Abort t) ≡ None
+      → MayUndo (now old) (own t old.changes) old.meter.over over
+      → StepBy judge old (Abort t) (Ok Done) (gone t over old)
+  inserts : (t : ℕ) (relation : Name) (values : List Value) (tid : Tid) (over : ℕ)
+      → judge old (Insert t relation values) ≡ None → IsFree old t relation tid
+      → IsOver old (insertion t relation tid values) over
+      → StepBy judge old (Insert t relation values) (Ok (Identifier tid))
+      (changed (insertion t relation tid values) over
+      (holding t (TupleItem relation tid) (locked (Insert t relation values) old)))
   fetches : (t : ℕ) (relation : Name) (tid : Tid) (values : List Value)
-      → refusal old (Fetch t relation tid) ≡ None → HasValues old relation tid values
-      → Step old (Fetch t relation tid) (Ok (TupleReply values)) old
-  updates : (t : ℕ) (relation : Name) (tid : Tid) (was values : List Value) (meter : Meter)
-      → refusal old (Update t relation tid values) ≡ None → HasValues old relation tid was
-      → IsMeterOf old (replacement t relation tid was values) meter
-      → Step old (Update t relation tid values) (Ok Done)
-      (changed (replacement t relation tid was values) meter old)
-  deletes : (t : ℕ) (relation : Name) (tid : Tid) (was : List Value) (meter : Meter)
-      → refusal old (Delete t relation tid) ≡ None → HasValues old relation tid was
-      → IsMeterOf old (deletion t relation tid was) meter
-      → Step old (Delete t relation tid) (Ok Done)
-      (changed (deletion t relation tid was) meter old)
-  ends : (t : ℕ) (meter : Meter) → refusal old (End t) ≡ None → IsMeterAfter (own t old.changes) old meter
-      → Step old (End t) (Ok Done) (ended t meter old)
-  defines : (call : Call) (definitions : Definitions) (meter : Meter)
-      → refusal old call ≡ None → DefinesNames call
+      → judge old (Fetch t relation tid) ≡ None → HasValues old relation tid values
+      → StepBy judge old (Fetch t relation tid) (Ok (TupleReply values)) (locked (Fetch t relation tid) old)
+  updates : (t : ℕ) (relation : Name) (tid : Tid) (was values : List Value) (over : ℕ)
+      → judge old (Update t relation tid values) ≡ None → HasValues old relation tid was
+      → IsOver old (replacement t relation tid was values) over
+      → StepBy judge old (Update t relation tid values) (Ok Done)
+      (changed (replacement t relation tid was values) over (locked (Update t relation tid values) old))
+  deletes : (t : ℕ) (relation : Name) (tid : Tid) (was : List Value) (over : ℕ)
+      → judge old (Delete t relation tid) ≡ None → HasValues old relation tid was
+      → IsOver old (deletion t relation tid was) over
+      → StepBy judge old (Delete t relation tid) (Ok Done)
+      (changed (deletion t relation tid was) over (locked (Delete t relation tid) old))
+  connects : (t : ℕ) (link : Name) (child : Tid) (parent : Option Tid) (spot : Spot) (over : ℕ)
+      → judge old (Connect t link child parent spot) ≡ None
+      → IsOver old (connection old t link child parent spot) over
+      → StepBy judge old (Connect t link child parent spot) (Ok Done)
+      (changed (connection old t link child parent spot) over (locked (Connect t link child parent spot) old))
+  disconnects : (t : ℕ) (link : Name) (child : Tid) (item : Item) (over : ℕ)
+      → judge old (Disconnect t link child) ≡ None → chain_with (now old).contents link child ≡ Some item
+      → IsOver old (disconnection old t item child) over
+      → StepBy judge old (Disconnect t link child) (Ok Done)
+      (changed (disconnection old t item child) over (locked (Disconnect t link child) old))
+  finds : (t : ℕ) (link : Name) (child parent : Tid) (item : Item)
+      → judge old (Parent t link child) ≡ None
+      → chain_with (now old).contents link child ≡ Some item → parent_of item ≡ Some parent
+      → StepBy judge old (Parent t link child) (Ok (Identifier parent)) (locked (Parent t link child) old)
+  finds_none : (t : ℕ) (link : Name) (child : Tid) → judge old (Parent t link child) ≡ None
+      → chain_with (now old).contents link child ≡ None
+      → StepBy judge old (Parent t link child) (Ok Nothing) (locked (Parent t link child) old)
+  opens : (call : Call) (t number : ℕ) (path : Path) → judge old call ≡ None
+      → caller call ≡ Some t → path_of call ≡ Some path
+      → number < number_limit → map.get old.scans number ≡ None
+      → StepBy judge old call (Ok (Number number)) (with_scan number (new_scan t path) (locked call old))
+  gives : (t number : ℕ) (scan : Scan) (given : Entry) (values : List Value)
+      → judge old (Next t number) ≡ None → scan_of old.scans t number ≡ Some scan
+      → GivesNext old scan given values
+      → StepBy judge old (Next t number) (Ok (Row given.tid values)) (with_scan number (with_given scan given) old)
+  stops : (t number : ℕ) (scan : Scan)
+      → judge old (Next t number) ≡ None → scan_of old.scans t number ≡ Some scan
+      → next_of_scan (now old) scan ≡ None
+      → StepBy judge old (Next t number) (Ok AtEnd) old
+  closes : (t number : ℕ) → judge old (CloseScan t number) ≡ None
+      → StepBy judge old (CloseScan t number) (Ok Done) (record old { scans = map.remove old.scans number })
+  locks : (t : ℕ) (item : Item) (exclusive : Bool) → judge old (Lock t item exclusive) ≡ None
+      → LocksGranule (Lock t item exclusive)
+      → StepBy judge old (Lock t item exclusive) (Ok Done) (locked (Lock t item exclusive) old)
+  checkpoints : judge old Checkpoint ≡ None
+      → StepBy judge old Checkpoint (Ok Done) (record old { meter = saved_now old })
+  defines : (call : Call) (definitions : Definitions) → judge old call ≡ None → DefinesNames call
       → defined call old.base.definitions ≡ Some definitions
-      → IsCheckpointed old.size.slots (with_definitions definitions old.base) old.meter.over meter
-      → Step old call (Ok Done) (redefined definitions meter old)
+      → StepBy judge old call (Ok Done) (redefined definitions old)
+
+abbrev pub Step : State → Call → Answer → State → Type 0
+Step = StepBy refusal

@@ -1,15 +1,14 @@
 -- Tables: what is defined, and what the items hold.
-use Rattle.std.specs.Prelude.{ℕ, Bool, false, List, Option, Some, None, option_map, ⊤}
-use Rattle.std.specs.Ordering.{eq_by_cmp}
+use Rattle.std.specs.Prelude.{ℕ, Bool, List, [], Option, Some, None, option_map, unwrap_or, ⊤}
 use Rattle.std.specs.FinMap as map
 use Rattle.std.specs.FinMap.{FinMap}
 use Rattle.rss_base.specs.declared.name.Name.{Name}
 use Rattle.rss_base.specs.declared.item.Item.{Item}
-use Rattle.rss_base.specs.declared.item.Item.TheVariants.{Segment, Relation, Tuple, Chain, Key}
 use Rattle.rss_base.specs.declared.field.FieldDef.{FieldDef}
 use Rattle.rss_base.specs.declared.value.FieldKind.{FieldKind}
 use Rattle.rss_base.specs.TupleTypes.{kinds}
 use Rattle.rss_model.specs.Items.{Content, item_cmp, name_cmp}
+pub use Rattle.rss_model.specs.Items.{is_tuple_of}
 
 -- ---- what is defined
 
@@ -62,17 +61,14 @@ abbrev pub fields_of : Tables → Name → Option (List FieldKind)
 fields_of tables name =
     option_map (λ relation. kinds relation.fields) (map.get tables.definitions.relations name)
 
+-- the same with the fields' names, of which there are none where nothing is defined
+abbrev pub fields_in : Definitions → Name → List FieldDef
+fields_in definitions name =
+    unwrap_or (option_map (λ relation. relation.fields) (map.get definitions.relations name)) []
+
 abbrev pub segment_of : Tables → Name → Option Name
 segment_of tables name =
     option_map (λ relation. relation.segment) (map.get tables.definitions.relations name)
-
--- the item is a tuple of this relation
-abbrev pub is_tuple_of : Name → Item → Bool
-is_tuple_of relation (Segment name) = false
-is_tuple_of relation (Relation name) = false
-is_tuple_of relation (Tuple name tid) = eq_by_cmp name_cmp relation name
-is_tuple_of relation (Chain link parent) = false
-is_tuple_of relation (Key image values) = false
 
 -- how many tuples a relation has
 unfoldable pub tuple_count : Contents → Name → ℕ

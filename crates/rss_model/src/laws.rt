@@ -1,7 +1,19 @@
-// The laws of the machine.
+// The laws of the machine, and of the log.
+ghost use Rattle.std.specs.Prelude.{length, not, ◌≡◌, ◌++◌, ◌<◌, ◌≤◌, ℕ, List, [], ◌∷◌};
+ghost use Rattle.std.specs.List.{AllByRecursion};
+ghost use Rattle.rss_model.specs.Tables.{Contents, content};
+ghost use Rattle.rss_model.specs.Changes.{Change, after, own, others};
+ghost use Rattle.rss_model.specs.Records.{Placed, Listed, Changed, Restore, End, Abort, Rise, changes_in, is_by, is_cut};
+ghost use Rattle.rss_model.specs.Restart.{OnlyBy};
+ghost use Rattle.rss_model.specs.Recovers.{NamesLists, Recovers, Restarts};
+ghost use Rattle.rss_model.specs.Ties.{Undoes, Log, records, lists, pushed, saved, checkpointed, cut_own, StandsAt, Ties};
+ghost use Rattle.rss_model.specs.Store.{OpensOnce, OpeningsAreMetered, OpeningsHaveRoom, RestartRecovers, StoresFit, StoresHaveRoom};
 ghost use Rattle.rss_model.specs.Changes.{UndoTurnsBack};
 ghost use Rattle.rss_model.specs.Commits.{CommitsOnly, OpenLeavesNoTrace};
-ghost use Rattle.rss_model.specs.Kept.{StepsKeep, RestKeeps, KeptFit, StoresFit};
+ghost use Rattle.rss_model.specs.Kept.{SavingNeedsNoMore, StepsKeep, RestKeeps, StepsLeaveSize, KeptFit, EachFits, MixturesFit, FirstFindsBase, LastLeavesNow, OwnersAreAlone, StepsKeepRoom};
+ghost use Rattle.rss_model.specs.Locks.{JoinDisagrees};
+ghost use Rattle.rss_model.specs.Steps.{FreeIsFound};
+ghost use Rattle.rss_model.specs.Serial.{IsSerial};
 
 /// Only the end of a transaction and a call that defines change the committed tables. The end
 /// brings in that transaction's own changes and no others, so a transaction that never ends leaves
@@ -11,16 +23,110 @@ pub fn what_commits()
     ensures no_trace { OpenLeavesNoTrace }
 {}
 
-/// The tables of a store fit. A state that begins with it keeps to `Kept`, and so does each that a
-/// step leads to; so the tables fit at each time.
+/// Pages open to one size and one set of tables at most.
+pub fn stores_open_once()
+    ensures { OpensOnce }
+{}
+
+/// The tables of a store fit.
 pub fn tables_fit()
-    ensures stores { StoresFit }
-    ensures rest { RestKeeps }
+    ensures { StoresFit }
+{}
+
+/// Each page of a store has room in two slots. A store that was opened has room for all pages and
+/// for what its log is owed, and its meter says what every step keeps.
+pub fn stores_have_room()
+    ensures stores { StoresHaveRoom }
+    ensures openings { OpeningsHaveRoom }
+    ensures metered { OpeningsAreMetered }
+{}
+
+/// Whatever step the machine makes, it keeps what is said to be kept, and so does a machine where
+/// nothing is open. The store's size stays.
+pub fn steps_keep()
     ensures steps { StepsKeep }
-    ensures kept { KeptFit }
+    ensures rest { RestKeeps }
+    ensures size { StepsLeaveSize }
+{}
+
+/// The committed tables, those now, and each mixture between them fit. An item is changed by one
+/// transaction alone, from what is committed to what is there now.
+pub fn kept_tables()
+    ensures fit { KeptFit }
+    ensures each { EachFits }
+    ensures mixtures { MixturesFit }
+    ensures first { FirstFindsBase }
+    ensures last { LastLeavesNow }
+    ensures owners { OwnersAreAlone }
+{}
+
+/// Each step leaves room for all pages: a way back always has it.
+pub fn room_is_kept()
+    ensures { StepsKeepRoom }
+{}
+
+/// From where nothing is open, a run commits what its transactions commit one after another, in
+/// the order of their ends, with the replies that they got.
+pub fn runs_are_serial()
+    ensures { IsSerial }
+{}
+
+/// An insert is refused for want of a free identifier exactly where there is none.
+pub fn free_identifiers()
+    ensures { FreeIsFound }
 {}
 
 /// A change that is undone leaves what there was before it.
 pub fn undo_turns_back()
     ensures { UndoTurnsBack }
+{}
+
+/// A checkpoint never makes a change need more slots than it needs without one.
+pub fn room_rule()
+    ensures { SavingNeedsNoMore }
+{}
+
+/// A mode that was joined disagrees with what one of its parts disagrees with.
+pub fn joined_locks()
+    ensures { JoinDisagrees }
+{}
+
+/// Undoing on the checkpoint's tables what is lost, and then redoing what survives, gives the
+/// tables that are recovered, and each step finds the content that its change tells.
+pub fn restart_recovers()
+    ensures { (from until : ℕ) (tables base : Contents) (older newer : List Placed) → Rise from (older ++ newer) until → Recovers tables older newer base → Restarts tables older newer base }
+{}
+
+/// Where an engine's log is tied to the machine, what is on the disk recovers the machine's
+/// committed tables, whatever is in memory alone.
+pub fn ties_recover()
+    ensures { (base : Contents) (changes : List Change) (tables : Contents) (log : Log) → Ties base changes tables log → Recovers tables log.older log.written base }
+{}
+
+/// Each kind of step keeps the tie.
+pub fn ties_are_kept()
+    ensures change { (base : Contents) (changes : List Change) (tables : Contents) (log : Log) → Ties base changes tables log → (c : Change) (size : ℕ) → 0 < size → c.old ≡ content (after base changes) c.item → OnlyBy c.by c.item changes
+        → Ties base (c ∷ changes) tables (pushed log (Changed c) size) }
+    ensures restore { (base : Contents) (changes : List Change) (tables : Contents) (log : Log) → Ties base changes tables log → (t n first size : ℕ) → 0 < size → StandsAt t n first (lists log)
+        → Ties base (cut_own t n changes) tables (pushed log (Restore t first) size) }
+    ensures abort { (base : Contents) (changes : List Change) (tables : Contents) (log : Log) → Ties base changes tables log → (t size : ℕ) → 0 < size
+        → Ties base (others t changes) tables (pushed log (Abort t) size) }
+    ensures end { (base : Contents) (changes : List Change) (tables : Contents) (log : Log) → Ties base changes tables log → (t size : ℕ) → 0 < size
+        → Ties (after base (own t changes)) (others t changes) tables (saved (pushed log (End t) size)) }
+    ensures checkpoint { (base : Contents) (changes : List Change) (tables : Contents) (log : Log) → Ties base changes tables log → (head size : ℕ) (dropped kept : List Placed) (named : List (ℕ × ℕ)) → 0 < size → records log ≡ dropped ++ kept → Rise log.head dropped head → Rise head kept log.end → AllByRecursion (λ l. head ≤ l.at) (lists log) → NamesLists named (lists log)
+        → Ties base changes (after base changes) (checkpointed log head kept named size) }
+{}
+
+/// What an abort, the way back to a save point and an end make of the tables of now.
+pub fn tables_of_now()
+    ensures abort { (base : Contents) (changes : List Change) (tables : Contents) (log : Log) → Ties base changes tables log → (t : ℕ) → Undoes base (λ l. not (is_by t l)) (lists log) }
+    ensures restore { (base : Contents) (changes : List Change) (tables : Contents) (log : Log) → Ties base changes tables log → (t first : ℕ) → Undoes base (λ l. not (is_cut t first l)) (lists log) }
+    ensures place { (t n : ℕ) (ls : List Listed) → n < length (own t (changes_in ls)) → (first : ℕ) × StandsAt t n first ls }
+    ensures end { (base : Contents) (changes : List Change) (tables : Contents) (log : Log) → Ties base changes tables log → (t : ℕ) → after (after base (own t changes)) (others t changes) ≡ after base changes }
+{}
+
+/// The same of a store: what restart does on the tables of its checkpoint gives those that are
+/// recovered.
+pub fn restart_of_a_store()
+    ensures { RestartRecovers }
 {}

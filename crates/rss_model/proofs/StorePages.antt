@@ -1,0 +1,187 @@
+-- The pages of a store: how many there are, and that each has room in two slots.
+use Rattle.std.proofs.Common.{◌≡◌, ◌⊎◌, inl, inr, ⊎_elim, ℕ, zero, suc, ◌+◌, ◌*◌, ◌<◌, ◌≤◌, Bool, true, false, cond, List, [], ◌∷◌, length, Option, Some, None, refl, sym, ◌∙◌, ap, subst, arith}
+use Rattle.std.specs.Prelude.{IfSome, is_some, option_map, count_by, sum_by, map as list_map}
+use Rattle.std.specs.List.{range_with_len}
+use Rattle.std.proofs.lemmas.Bool.{cases_lt, false_from_ne_true}
+use Rattle.std.proofs.lemmas.List.{get_or_past}
+use Rattle.std.proofs.lemmas.List.Sums.{sum_by-cons}
+use Rattle.std.proofs.lemmas.Option.{none-some}
+use Rattle.rss_base.specs.DiskRule.{Pages, page}
+use Rattle.rss_base.specs.Layout.{map_at, slots_at}
+use Rattle.rss_base.specs.Listings.{Listing, HoldsListing, segment_at}
+use Rattle.rss_base.specs.PageMap.{IsKey, IsMap, owner_of, page_count}
+use Rattle.rss_base.specs.Paged.{Mapped, Held, page_key, mapped_in, mapped_of, mapped_pages}
+use Rattle.rss_base.specs.Sizes.{system_pages}
+use Rattle.rss_base.specs.StoredPages.{slot_of, mapped_by, held_at}
+use Rattle.rss_base.specs.declared.key.PageKey.{PageKey}
+use Rattle.rss_base.specs.declared.key.Space.TheVariants.{Home, Overflow, Image, System}
+use Rattle.rss_base.specs.declared.root.Root.{Root}
+use Rattle.rss_base.proofs.Counts.{mapped_pages-owners}
+use Rattle.rss_page.specs.Slotted.{IsHeapKey}
+use Rattle.rss_model.specs.Tables.{Tables, tuple_count}
+use Rattle.rss_model.specs.Changes.{Change, maker}
+use Rattle.rss_model.specs.Fits.{ArePlain}
+use Rattle.rss_model.specs.Kept.{AreStamps, IsMetered}
+use Rattle.rss_model.specs.Steps.{stamp_by}
+use Rattle.rss_model.specs.Machine.{StoreSize, State, IsAtRest, with_changes, now}
+use Rattle.rss_model.specs.Meanings.{Logged, as_entries}
+use Rattle.rss_model.specs.Meter.{Meter, heap_pages, changes_of, room_number, owed, log_room, free_between}
+use Rattle.rss_model.specs.Recovers.{lists_at}
+use Rattle.rss_model.specs.Store.{IsStorePage, SpellsTables, Stored, first_record, meter_of, overflow_pages, is_change, IsStore, StoresHaveRoom, OpeningsHaveRoom, OpeningsAreMetered}
+use Rattle.rss_model.proofs.Listed.{heap_is}
+use Rattle.rss_model.proofs.PlainStores.{tables_plain, none_imaged, plain_room}
+use Rattle.rss_model.proofs.Relisted.{page_kind}
+
+-- ---- how many pages are mapped
+
+abbrev count_of : Bool → ℕ
+count_of b = cond b 1 0
+
+all_zero : (f : ℕ → ℕ) (a n : ℕ) → ((j : ℕ) → f j ≡ 0) → sum_by f (range_with_len a n) ≡ 0
+all_zero f a zero none = refl
+all_zero f a (suc n) none = omega (arith, none a, all_zero f (a + 1) n none, sum_by-cons f a (range_with_len (a + 1) n))
+
+all_one : (f : ℕ → ℕ) (a n : ℕ) → ((j : ℕ) → j < a + n → f j ≡ 1) → sum_by f (range_with_len a n) ≡ n
+all_one f a zero each = refl
+all_one f a (suc n) each = omega (arith, each a (omega arith), all_one f (a + 1) n (λ j lt. each j (omega (arith, lt))), sum_by-cons f a (range_with_len (a + 1) n))
+
+module _ (mapped : Mapped) (only : (key : PageKey) → mapped key ≡ true → (key.space ≡ System) ⊎ IsHeapKey key) where
+  no_image : (segment number : ℕ) → mapped (page_key segment Image number) ≡ false
+  no_image segment number = false_from_ne_true (mapped (page_key segment Image number)) (λ is. elim (only (page_key segment Image number) is) [
+    | inl system ↦ absurd (cc)
+    | inr heap ↦ ⊎_elim (λ home. absurd (cc)) (λ over. absurd (cc)) heap
+  ])
+
+  -- those of the system space, and the home and overflow pages
+  pub pages_are : (slots : ℕ) → ((number : ℕ) → number < system_pages → mapped (page_key 0 System number) ≡ true) → mapped_pages slots mapped ≡ mapped_of mapped Home slots + mapped_of mapped Overflow slots + system_pages
+  unfolding mapped_pages
+  pages_are slots system =
+      let images : mapped_of mapped Image slots ≡ 0 = all_zero (mapped_in mapped Image slots) 1 8 (λ segment. all_zero (λ n. count_of (mapped (page_key segment Image n))) 0 slots (λ n. ap count_of (no_image segment n))) in
+      let systems : mapped_in mapped System 10 0 ≡ 10 = all_one (λ n. count_of (mapped (page_key 0 System n))) 0 10 (λ n lt. ap count_of (system n lt)) in
+      omega (arith, images, systems)
+
+is_some_mapped : (f : ℕ → List ℕ) (o : Option ℕ) → is_some (option_map f o) ≡ is_some o
+is_some_mapped f None = refl
+is_some_mapped f (Some slot) = refl
+
+-- exactly the pages of the map are held
+pub held_mapped : (first : ℕ) (pages : Pages) (owners : List (Option PageKey)) (key : PageKey) → is_some (held_at first pages owners key) ≡ mapped_by owners key
+held_mapped first pages owners key = is_some_mapped (λ slot. page pages (first + slot)) (slot_of owners key)
+
+-- ---- the pages of a store
+
+-- a page of a store without images
+pub plain_page : {held : Held} {listing : Listing} {tables : Tables} → SpellsTables held listing tables → (key : PageKey) → is_some (held key) ≡ true → (key.space ≡ System) ⊎ ((is_some (segment_at listing key.segment) ≡ true) × IsHeapKey key)
+plain_page {held = held} {listing = listing} spells key there = by (page_kind key key.space refl) (spells.only key there)
+  where
+    by : (key.space ≡ System) ⊎ ((key.space ≡ Image) ⊎ IsHeapKey key) → IsStorePage listing key → (key.space ≡ System) ⊎ ((is_some (segment_at listing key.segment) ≡ true) × IsHeapKey key)
+    by (inl system) on = inl system
+    by (inr (inl image)) on = absurd (none_imaged spells key image there)
+    by (inr (inr heap)) (inl system) = inl system
+    by (inr (inr heap)) (inr segment) = inr (segment, heap)
+
+plain_kind : (listing : Listing) (key : PageKey) → (key.space ≡ System) ⊎ ((is_some (segment_at listing key.segment) ≡ true) × IsHeapKey key) → (key.space ≡ System) ⊎ IsHeapKey key
+plain_kind listing key (inl system) = inl system
+plain_kind listing key (inr heap) = inr heap.1
+
+-- a map has only pages that there may be
+map_allowed : {slots : ℕ} {pages : Pages} {first : ℕ} {owners : List (Option PageKey)} → IsMap slots pages first owners → (s : ℕ) (key : PageKey) → owner_of owners s ≡ Some key → IsKey slots key
+map_allowed {slots = slots} {owners = owners} map s key owned = elim (cases_lt s (length owners)) [
+  | inl low ↦ subst (λ (o : Option PageKey). IfSome o (IsKey slots)) owned (map.begins.entries s low).allowed
+  | inr past ↦ absurd (none-some key (sym (get_or_past owners s None past) ∙ owned))
+]
+
+-- they are the home and overflow pages, and those of the system space
+pub pages_counted : (root : Root) (owners : List (Option PageKey)) (pages : Pages) → IsMap root.slots pages (map_at root.slots root.area) owners → {listing : Listing} {tables : Tables} → HoldsListing (held_at (slots_at root.slots root.log_pages) pages owners) listing → SpellsTables (held_at (slots_at root.slots root.log_pages) pages owners) listing tables
+    → page_count owners ≡ mapped_of (mapped_by owners) Home root.slots + mapped_of (mapped_by owners) Overflow root.slots + system_pages
+pages_counted root owners pages map {listing = listing} {tables = tables} listed spells =
+    sym (mapped_pages-owners root.slots owners (mapped_by owners) (λ slot key owned. map_allowed map slot key owned) map.begins.distinct (λ key. refl))
+    ∙ pages_are (mapped_by owners) (λ key is. plain_kind listing key (plain_page spells key (held_mapped first pages owners key ∙ is))) root.slots
+    (λ n low. sym (held_mapped first pages owners (page_key 0 System n)) ∙ ap is_some (listed n low))
+  where
+    first : ℕ
+    first = slots_at root.slots root.log_pages
+
+-- so the rule of room asks for each page twice
+module _ (is : Stored) (plain : ArePlain is.saved.definitions) (older : is.older ≡ []) (newer : is.newer ≡ first_record ∷ []) where
+  pub meter_is : room_number is.saved.definitions (meter_of is) ≡ 2 * (mapped_of (mapped_by is.owners) Home is.root.slots + mapped_of (mapped_by is.owners) Overflow is.root.slots + system_pages)
+  meter_is =
+      let none : (meter_of is).surviving ≡ 0 = ap (λ (l : List Logged). length (lists_at (as_entries l))) older in
+      let since : (meter_of is).since ≡ 0 = ap (λ (l : List Logged). count_by (λ m. is_change m.is) l) newer in
+      omega (arith, plain_room plain (meter_of is), none, since)
+
+  pub room_least : 2 * page_count is.owners ≤ is.root.slots → page_count is.owners ≡ mapped_of (mapped_by is.owners) Home is.root.slots + mapped_of (mapped_by is.owners) Overflow is.root.slots + system_pages → room_number is.saved.definitions (meter_of is) ≤ is.root.slots
+  room_least room count = omega (arith, meter_is, room, count)
+
+-- each page has room in two slots
+pub store_room : {pages : Pages} {is : Stored} → IsStore pages is → 2 * page_count is.owners ≤ is.root.slots
+store_room {pages = pages} {is = is} store =
+    let count = pages_counted is.root is.owners pages store.map store.system store.spells in
+    omega (arith, store.room, meter_is is (tables_plain store.spells) store.log.older store.log.newer, count)
+
+pub stores_have_room : StoresHaveRoom
+stores_have_room pages stored store = store_room store
+
+-- ---- a store that was opened
+
+pub openings_have_room : OpeningsHaveRoom
+openings_have_room pages size tables state opens at =
+    let is : Stored = opens.stored in
+    let store = opens.store in
+    let same : tables ≡ is.saved = opens.holds ∙ store.log.tables in
+    let plain : ArePlain tables.definitions = subst (λ (t : Tables). ArePlain t.definitions) (sym same) (tables_plain store.spells) in
+    let slots : size.slots ≡ is.root.slots = ap (λ (s : StoreSize). s.slots) opens.same_size in
+    let over : state.meter.over ≡ overflow_pages is = at.over is store in
+    let held = heap_is store.spells store.fit (mapped_by is.owners) (held_mapped (slots_at is.root.slots is.root.log_pages) pages is.owners) in
+    let heap = (λ i. heap_pages (slots i) (same i)) ∙ held in
+    record {
+      pages = omega (
+        arith,
+        plain_room plain state.meter,
+        store.room,
+        meter_is is (tables_plain store.spells) store.log.older store.log.newer,
+        slots,
+        over,
+        heap,
+        ap (λ (m : Meter). m.heap) at.rest.meter,
+        ap (λ (m : Meter). m.surviving) at.rest.meter,
+        ap (λ (m : Meter). m.since) at.rest.meter,
+      );
+      log = log_of size.log_pages state.meter (ap (λ (m : Meter). m.stamps) at.rest.meter) (at.head is store ∙ store.log.first.head) (at.end is store ∙ store.log.first.end);
+    }
+  where
+    log_of : (log_pages : ℕ) (meter : Meter) → meter.stamps ≡ [] → meter.head ≡ 0 → meter.end ≡ 2 → owed meter.stamps ≤ log_room log_pages meter
+    log_of log_pages meter none head end = omega (arith, ap owed none, ap (λ (h : ℕ). free_between log_pages h meter.end) head, ap (free_between log_pages 0) end)
+
+module _ (size : StoreSize) (tables : Tables) (state : State) (rest : IsAtRest size tables state) where
+  none_stamped : state.meter.stamps ≡ []
+  none_stamped = ap (λ (m : Meter). m.stamps) rest.meter
+
+  now_is : now state ≡ tables
+  now_is = ap (with_changes state.base) rest.idle.none_changed ∙ rest.idle.committed
+
+  pages_now : heap_pages state.size.slots (now state) ≡ heap_pages size.slots tables
+  pages_now = λ i. heap_pages (rest.idle.same_size i).slots (now_is i)
+
+  rest_metered : state.meter.head ≤ state.meter.end → room_number tables.definitions state.meter ≤ size.slots → IsMetered state
+  rest_metered rises room = record {
+    makers = ap (list_map stamp_by) none_stamped ∙ sym (ap (list_map maker) rest.idle.none_changed);
+    positions = subst (AreStamps state.meter.head state.meter.end) (sym none_stamped) rises;
+    heap = omega (arith, pages_now, ap (λ (l : List Change). length l) rest.idle.none_changed, ap (λ (m : Meter). m.heap) rest.meter, ap (λ (m : Meter). m.surviving) rest.meter, ap (λ (m : Meter). m.since) rest.meter);
+    tuples = λ relation. omega (
+      arith,
+      ap (λ (t : Tables). tuple_count t.contents relation) now_is,
+      ap (λ (l : List Change). changes_of l relation) rest.idle.none_changed,
+      ap (λ (m : Meter). (m.traffic relation).entries) rest.meter,
+      ap (λ (m : Meter). (m.traffic relation).surviving) rest.meter,
+      ap (λ (m : Meter). (m.traffic relation).since) rest.meter,
+    );
+    room = omega (arith, room, ap (λ (t : Tables). room_number t.definitions state.meter) rest.idle.committed, ap (λ (s : StoreSize). s.slots) rest.idle.same_size);
+  }
+
+pub openings_are_metered : OpeningsAreMetered
+openings_are_metered pages size tables state opens at =
+    let first = opens.store.log.first in
+    rest_metered size tables state at.rest
+    (omega (arith, at.head opens.stored opens.store, first.head))
+    (openings_have_room pages size tables state opens at).pages
