@@ -20,42 +20,49 @@ use Rattle.rss_model.specs.ReplyText.{IsShort, answer_line}
 use Rattle.rss_model.specs.Steps.{refusal}
 use Rattle.rss_model.specs.Calls.{EngineView, GoesOn, IsCallOf}
 use Rattle.rss_model.proofs.Endings.{costs_nothing, refused_by, refused_at_once, comes_to}
+use Rattle.rss_base.specs.Steps.{PagesView}
+use Rattle.rss_base.specs.declared.root.Root.{Root}
 use Rattle.rss_rsi.specs.Lookups.{LooksOn}
+use Rattle.rss_rsi.specs.Ready.{engine_view, IsIn}
+use Rattle.rss_rsi.specs.declared.session.Session.{Session}
+use Rattle.rss_rsi.proofs.Engines.{in_left}
 
 -- by a test of the session, at once
-pub refused_test : {view : EngineView} {call : Call} {why : Refusal} (result : Result Reply CallError) → IsErrAnd result (λ e. e ≡ Refused why) → view.is_up → IsShort (Err why) → ((state : State) → view.shows state → refusal state call ≡ Some why) → IsCallOf view view call result
-refused_test {view = view} {call = call} result is up short refused =
+pub refused_test : {pages : PagesView} {number : ℕ} {root : Root} {session : Session} {up : Type 0} {call : Call} {why : Refusal} (result : Result Reply CallError) → IsErrAnd result (λ e. e ≡ Refused why) → up → IsShort (Err why) → ((state : State) → IsIn pages number root session state → refusal state call ≡ Some why) → IsCallOf (engine_view pages number root session up) (engine_view pages number root session up) call result
+refused_test {pages = pages} {number = number} {root = root} {session = session} {up = up} {call = call} result is is_up short refused =
+    let view = engine_view pages number root session up in
     let why = err_from_is_err_and result is in
-    subst (IsCallOf view view call) (sym (why.1 ∙ ap Err why.2)) (refused_at_once up short refused)
+    subst (IsCallOf view view call) (sym (why.1 ∙ ap Err why.2)) (refused_at_once is_up short (λ state shown. let why_so = refused state shown in (why_so, in_left call shown why_so)))
 
 -- by a test that says so where the device tells its contents
-pub refused_told : {view : EngineView} {call : Call} {why : Refusal} (result : Result Reply CallError) → IsErrAnd result (λ e. e ≡ Refused why) → view.is_up → IsShort (Err why) → (IsTold view.disk → (state : State) → view.shows state → refusal state call ≡ Some why) → IsCallOf view view call result
-refused_told {view = view} {call = call} result is up short refused =
+pub refused_told : {pages : PagesView} {number : ℕ} {root : Root} {session : Session} {up : Type 0} {call : Call} {why : Refusal} (result : Result Reply CallError) → IsErrAnd result (λ e. e ≡ Refused why) → up → IsShort (Err why) → (IsTold pages.disk → (state : State) → IsIn pages number root session state → refusal state call ≡ Some why) → IsCallOf (engine_view pages number root session up) (engine_view pages number root session up) call result
+refused_told {pages = pages} {number = number} {root = root} {session = session} {up = up} {call = call} result is is_up short refused =
+    let view = engine_view pages number root session up in
     let why = err_from_is_err_and result is in
     subst (IsCallOf view view call) (sym (why.1 ∙ ap Err why.2))
-    (comes_to up (costs_nothing call refl refl refl (λ told. told) (λ told. started view.disk _) (omega arith)) (refused_by up short (λ key is. is) refl (λ told state shown. (refused told state shown, shown, started _ _))))
+    (comes_to is_up (costs_nothing call refl refl refl (λ told. told) (λ told. started pages.disk _) (omega arith)) (refused_by is_up short (λ key is. is) refl (λ told state shown. let why_so = refused told state shown in (why_so, in_left call shown why_so, started _ _))))
 
 -- by what a look found, or a test after it
-pub refused_looked : {old new : EngineView} {call : Call} {why : Refusal} → old.is_up → new.is_up → LooksOn old new → GoesOn old new call → IsShort (Err why) → (IsTold old.disk → (state : State) → old.shows state → refusal state call ≡ Some why) → IsCallOf old new call (Err (Refused why))
-refused_looked was_up is_up on goes short refused = comes_to was_up goes (refused_by is_up short on.changed on.since (λ told state shown. (refused told state shown, on.shows told state shown, on.moments told state shown)))
+pub refused_looked : {old : EngineView} {pages : PagesView} {number : ℕ} {root : Root} {session : Session} {up_now : Type 0} {call : Call} {why : Refusal} → old.is_up → up_now → LooksOn old (engine_view pages number root session up_now) → GoesOn old (engine_view pages number root session up_now) call → IsShort (Err why) → (IsTold old.disk → (state : State) → old.shows state → refusal state call ≡ Some why) → IsCallOf old (engine_view pages number root session up_now) call (Err (Refused why))
+refused_looked {call = call} was_up is_up on goes short refused = comes_to was_up goes (refused_by is_up short on.changed on.since (λ told state shown. let why_so = refused told state shown in (why_so, in_left call (on.shows told state shown) why_so, on.moments told state shown)))
 
 -- by an error that was made of it
-pub refused_so : {old new : EngineView} {call : Call} {why : Refusal} (error : CallError) → error ≡ Refused why → old.is_up → new.is_up → LooksOn old new → GoesOn old new call → IsShort (Err why) → (IsTold old.disk → (state : State) → old.shows state → refusal state call ≡ Some why) → IsCallOf old new call (Err error)
-refused_so {old = old} {new = new} {call = call} error is was_up is_up on goes short refused = subst (λ (e : CallError). IsCallOf old new call (Err e)) (sym is) (refused_looked was_up is_up on goes short refused)
+pub refused_so : {old : EngineView} {pages : PagesView} {number : ℕ} {root : Root} {session : Session} {up_now : Type 0} {call : Call} {why : Refusal} (error : CallError) → error ≡ Refused why → old.is_up → up_now → LooksOn old (engine_view pages number root session up_now) → GoesOn old (engine_view pages number root session up_now) call → IsShort (Err why) → (IsTold old.disk → (state : State) → old.shows state → refusal state call ≡ Some why) → IsCallOf old (engine_view pages number root session up_now) call (Err error)
+refused_so {old = old} {pages = pages} {number = number} {root = root} {session = session} {up_now = up_now} {call = call} error is was_up is_up on goes short refused = subst (λ (e : CallError). IsCallOf old (engine_view pages number root session up_now) call (Err e)) (sym is) (refused_looked was_up is_up on goes short refused)
 
-pub refused_later : {old new : EngineView} {call : Call} {why : Refusal} (result : Result Reply CallError) → IsErrAnd result (λ e. e ≡ Refused why) → old.is_up → new.is_up → LooksOn old new → GoesOn old new call → IsShort (Err why) → (IsTold old.disk → (state : State) → old.shows state → refusal state call ≡ Some why) → IsCallOf old new call result
-refused_later {old = old} {new = new} {call = call} result is was_up is_up on goes short refused =
+pub refused_later : {old : EngineView} {pages : PagesView} {number : ℕ} {root : Root} {session : Session} {up_now : Type 0} {call : Call} {why : Refusal} (result : Result Reply CallError) → IsErrAnd result (λ e. e ≡ Refused why) → old.is_up → up_now → LooksOn old (engine_view pages number root session up_now) → GoesOn old (engine_view pages number root session up_now) call → IsShort (Err why) → (IsTold old.disk → (state : State) → old.shows state → refusal state call ≡ Some why) → IsCallOf old (engine_view pages number root session up_now) call result
+refused_later {old = old} {pages = pages} {number = number} {root = root} {session = session} {up_now = up_now} {call = call} result is was_up is_up on goes short refused =
     let why = err_from_is_err_and result is in
-    subst (IsCallOf old new call) (sym (why.1 ∙ ap Err why.2)) (refused_looked was_up is_up on goes short refused)
+    subst (IsCallOf old (engine_view pages number root session up_now) call) (sym (why.1 ∙ ap Err why.2)) (refused_looked was_up is_up on goes short refused)
 
 -- by want of memory, where nothing was done but a look
 pub unanswered_looked : {old new : EngineView} (call : Call) → old.is_up → new.is_up → LooksOn old new → GoesOn old new call → IsCallOf old new call (Err NoMemory)
 unanswered_looked call was_up is_up on goes = comes_to was_up goes (record {
   unmade = on.moments;
-  up = λ looks. is_up;
-  same = λ up told state shown. on.shows told state shown;
-  changed = λ up. on.changed;
-  since = λ up. on.since;
+  up = is_up;
+  same = on.shows;
+  changed = on.changed;
+  since = on.since;
 })
 
 -- ---- the line of a tuple that is not there

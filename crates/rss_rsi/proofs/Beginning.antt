@@ -5,6 +5,8 @@ use Rattle.std.proofs.lemmas.Result.{err_from_is_err_and}
 use Rattle.rss_base.specs.Steps.{PagesView}
 use Rattle.rss_base.specs.declared.call.Call.TheVariants.{Begin}
 use Rattle.rss_base.specs.declared.answer.Reply.{Reply}
+use Rattle.rss_base.specs.declared.answer.Reply.TheVariants.{Ok as Done}
+use Rattle.rss_model.specs.Costs.{LeavesChanged, changes_after}
 use Rattle.rss_base.specs.declared.answer.CallError.{CallError}
 use Rattle.rss_base.specs.declared.answer.CallError.TheVariants.{Refused}
 use Rattle.rss_base.specs.declared.refusal.Refusal.{Refusal}
@@ -15,11 +17,20 @@ use Rattle.rss_model.specs.Machine.{State}
 use Rattle.rss_model.specs.Steps.{begun}
 use Rattle.rss_model.specs.Calls.{LeadsTo, ShowsState, IsCallOf}
 use Rattle.rss_model.proofs.Endings.{comes_to, costs_nothing}
-use Rattle.rss_model.proofs.Keeping.{steps_keep}
+use Rattle.rss_model.proofs.StepKeeping.{steps_keep}
 use Rattle.rss_rsi.specs.Ready.{engine_view, changed_with, IsIn}
 use Rattle.rss_rsi.specs.Sessions.{Answers}
 use Rattle.rss_rsi.specs.declared.session.Session.{Session}
 use Rattle.rss_rsi.proofs.Engines.{in_session}
+
+-- whatever it is answered by, no page waits less
+pub begin_leaves : (t : ℕ) (reply : Reply) → LeavesChanged (Begin t) (Ok reply)
+begin_leaves t Done = refl
+begin_leaves t reply = tt
+
+pub begin_since : (t : ℕ) (reply : Reply) (since : ℕ) → changes_after (Begin t) (Ok reply) since ≡ since
+begin_since t Done since = refl
+begin_since t reply since = refl
 
 module _ {pages : PagesView} {number : ℕ} {root : Root} {old new : Session} {t : ℕ} {state : State} (same_catalog : new.catalog ≡ old.catalog) (shown : IsIn pages number root old state) where
   pub begin_leads : {reply : Reply} → Answers old new (Begin t) (Ok reply) (begun t) → LeadsTo (IsIn pages number root new) pages.disk pages.disk state (Begin t) (Ok reply)

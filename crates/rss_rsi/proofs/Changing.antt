@@ -14,12 +14,13 @@ use Rattle.rss_base.specs.declared.answer.CallError.{CallError}
 use Rattle.rss_base.specs.declared.fault.PageFault.{PageFault}
 use Rattle.rss_base.proofs.Moments.{widened}
 use Rattle.rss_base.proofs.Steps.{cause_of}
+use Rattle.rss_model.specs.Callers.{is_built}
 use Rattle.rss_model.specs.Defining.{DefinesNames}
 use Rattle.rss_model.specs.Machine.{State}
 use Rattle.rss_model.specs.ReplyText.{IsShort}
 use Rattle.rss_model.specs.Steps.{Answer}
 use Rattle.rss_model.specs.Costs.{ChangesPage, LeavesChanged, changes_after}
-use Rattle.rss_model.specs.Calls.{OnlyLooks, GoesOn, ShowsState, IsAnswer, IsCallOf}
+use Rattle.rss_model.specs.Calls.{GoesOn, ShowsState, IsAnswer, IsCallOf}
 use Rattle.rss_model.proofs.Endings.{failed}
 use Rattle.rss_model.proofs.Totals.{stops}
 use Rattle.rss_rsi.specs.Ready.{engine_view, changed_with, IsReady, IsIn}
@@ -56,15 +57,8 @@ module _ {pages : PagesView} {number : ℕ} {root : Root} {session : Session} (r
         ∥∥₁_elim (shown before) ∥∥₁_prop (λ one. let follow = follows before one.state one.shows in ∣ record { state = follow.next; shows = follow.shows } ∣₁)
 
   -- a change that failed leaves the engine down
-  pub fails_change : {segment : ℕ} {new : PagesView} {asks writes : ℕ} {up up_now : Type 0} {call : Call} {T : Type 0} {fault : PageFault} (result : Result Reply CallError) → IsErrAnd result (λ why. why ≡ page_error fault) → up → (up_now → ⊥) → (OnlyLooks call → ⊥) → DefinesNames call → PagesCall {T = T} (pages_of segment) asks writes pages new (Err fault)
+  pub fails_change : {segment : ℕ} {new : PagesView} {asks writes : ℕ} {up up_now : Type 0} {call : Call} {T : Type 0} {fault : PageFault} (result : Result Reply CallError) → IsErrAnd result (λ why. why ≡ page_error fault) → up → (up_now → ⊥) → is_built call ≡ true → DefinesNames call → PagesCall {T = T} (pages_of segment) asks writes pages new (Err fault)
       → GoesOn (engine_view pages number root session up) (engine_view new number root session up_now) call
       → IsCallOf (engine_view pages number root session up) (engine_view new number root session up_now) call result
-  fails_change {call = call} result is was_up down more names did goes = failed result is was_up goes (cause_of did) (λ _ up. down up)
-      (λ fault told state shown. stops shown.kept call names (calls_open ready told shown did.step))
-      (λ fault. record {
-        unmade = λ told state shown. calls_open ready told shown did.step;
-        up = λ looks. absurd (more looks);
-        same = λ up. absurd (down up);
-        changed = λ up. absurd (down up);
-        since = λ up. absurd (down up);
-      })
+  fails_change {call = call} result is was_up down built names did goes = failed result is was_up goes (cause_of did) down
+      (λ fault told state shown. stops shown.kept call built names (calls_open ready told shown did.step))

@@ -16,7 +16,7 @@ use Rattle.rss_base.specs.declared.key.PageKey.{PageKey}
 use Rattle.rss_base.specs.declared.key.Space.TheVariants.{System}
 use Rattle.rss_base.specs.declared.place.Place.{Place}
 use Rattle.rss_base.specs.declared.fault.PageFault.{PageFault}
-use Rattle.rss_base.specs.declared.fault.PageFault.TheVariants.{Device as DeviceFailed, Damaged}
+use Rattle.rss_base.specs.declared.fault.PageFault.TheVariants.{Device as DeviceFailed, Damaged, NoMemory}
 use Rattle.rss_base.proofs.Counts.{mapped_pages-owners}
 use Rattle.rss_base.proofs.Moments.{widened, then, now, continues, continues_then, rises_since}
 use Rattle.rss_root.specs.Roots.{IsPhase}
@@ -29,11 +29,12 @@ use Rattle.rss_catalog.specs.Catalogs.{CatalogView, pending_pages, StoresListing
 use Rattle.rss_buffer.proofs.SavingSteps.{none_changed}
 use Rattle.rss_model.specs.Fits.{Fits}
 use Rattle.rss_model.specs.Tables.{Tables}
-use Rattle.rss_model.specs.Store.{HasFirstLog, SpellsTables, stored, IsStore}
-use Rattle.rss_rsi.specs.Ready.{CanCommit, IsStoreUnder, SavesAll, CommitsPages, changed_with, is_pending, other_area}
+use Rattle.rss_model.specs.Store.{HasFirstLog, SpellsTables, first_stored as stored, IsStore}
+use Rattle.rss_access.specs.Written.{is_pending}
+use Rattle.rss_rsi.specs.Ready.{CanCommit, IsStoreUnder, SavesAll, CommitsPages, changed_with, other_area}
 use Rattle.rss_rsi.proofs.Holding.{store_holds, holds_store, same_store}
 use Rattle.rss_rsi.proofs.Pending.{or_left, or_right}
-use Rattle.rss_rsi.proofs.Writing.{spells_same, heaps_same, held_off_system, notes_off_system, pending_is, not_pending, all_written}
+use Rattle.rss_access.proofs.Writing.{spells_same, heaps_same, held_off_system, notes_off_system, pending_is, not_pending, all_written}
 
 -- ---- while the pages are saved
 
@@ -214,14 +215,15 @@ module _ {old mid : PagesView} {catalog : CatalogView} {count : ℕ} (step : Pag
         later = step.passes.later;
         failed = λ device. did.failed (let same : Err fault ≡ Err DeviceFailed = sym so ∙ device in cc);
         sound = λ place damaged. did.sound place (let same : Err fault ≡ Err (Damaged place) = sym so ∙ damaged in cc);
+        memory = λ lacks. did.memory (let same : Err fault ≡ Err NoMemory = sym so ∙ lacks in cc);
       }
 
   module _ {new : PagesView} {saving saving_now : SavingView} (saveable : AreSaveable mid saving) (saves : SavingStep mid new saving saving_now) (saveable_now : AreSaveable new saving_now) where
     stored_slots : new.slots ≡ old.slots
     stored_slots = slots_now saveable saves saveable_now ∙ step.passes.slots
 
-    commits : {T : Type 0} (result : Result T PageFault) → old.settled ≡ true → (IsTold mid.disk → Continues mid.disk new.disk) → (IsErrOf result DeviceFailed → Rises old.faults new.faults) → ((place : Place) → result ≡ Err (Damaged place) → ⊥) → CommitsPages old new result
-    commits result settled history failed sound = record {
+    commits : {T : Type 0} (result : Result T PageFault) → old.settled ≡ true → (IsTold mid.disk → Continues mid.disk new.disk) → (IsErrOf result DeviceFailed → Rises old.faults new.faults) → ((place : Place) → result ≡ Err (Damaged place) → ⊥) → (IsErrOf result NoMemory → ⊥) → CommitsPages old new result
+    commits result settled history failed sound memory = record {
       asks = omega (arith, saves.asks, step.passes.asks_low, step.passes.asks_high);
       slots = stored_slots;
       told = (λ told. saves.told.0 (step.passes.leaves.told.0 told), λ told. step.passes.leaves.told.1 (saves.told.1 told));
@@ -229,6 +231,7 @@ module _ {old mid : PagesView} {catalog : CatalogView} {count : ℕ} (step : Pag
       later = omega (arith, step.passes.later, saves.later);
       failed = failed;
       sound = λ place is told. sound place is;
+      memory = memory;
     }
 
     -- the pages could not be saved, or the root not be switched
@@ -236,11 +239,11 @@ module _ {old mid : PagesView} {catalog : CatalogView} {count : ℕ} (step : Pag
     unsaved result is device settled history rises =
         let why = err_from_is_err_and result is in
         let so : result ≡ Err DeviceFailed = why.1 ∙ ap Err (why.2 ∙ device) in
-        commits result settled history (λ failed. rises_since step.passes.later rises) (λ place damaged. let same = sym so ∙ damaged in absurd (cc))
+        commits result settled history (λ failed. rises_since step.passes.later rises) (λ place damaged. let same = sym so ∙ damaged in absurd (cc)) (λ lacks. let same : Err DeviceFailed ≡ Err NoMemory = sym so ∙ lacks in absurd (cc))
 
     -- all was done
     pub saved_so : {T : Type 0} (value : T) → old.settled ≡ true → (IsTold mid.disk → Continues mid.disk new.disk) → CommitsPages old new (Ok value)
-    saved_so value settled history = commits (Ok value) settled history (λ failed. absurd (cc)) (λ place damaged. absurd (cc))
+    saved_so value settled history = commits (Ok value) settled history (λ failed. absurd (cc)) (λ place damaged. absurd (cc)) (λ lacks. absurd (cc))
 
     waits : (keys : List PageKey) → HasEach keys (changed_with old catalog) → HasEach keys saving.waiting
     waits keys has key waiting = has key (elim (step.changed_off key (saveable.waiting key waiting)) [

@@ -1,6 +1,6 @@
 -- What a save of a store leaves of what holds between two calls.
 use Rattle.std.proofs.Common.{◌≡◌, ◌⊎◌, inl, inr, ⊎_elim, ℕ, ◌+◌, ◌-◌, ◌*◌, ◌≤◌, Bool, true, false, List, length, refl, sym, ◌∙◌, ap, subst, arith}
-use Rattle.std.specs.Prelude.{Some, Result, Err, IsErrAnd, IsErrOf, count_by, slice_index_or}
+use Rattle.std.specs.Prelude.{Some, Result, Err, IsErrAnd, count_by, slice_index_or}
 use Rattle.std.proofs.lemmas.Result.{err_from_is_err_and}
 use Rattle.rss_base.specs.Answers.{page_error}
 use Rattle.rss_base.specs.DiskRule.{Pages, IsTold, Passes}
@@ -19,17 +19,18 @@ use Rattle.rss_base.proofs.Moments.{widened}
 use Rattle.rss_catalog.specs.Catalogs.{IsPending}
 use Rattle.rss_model.specs.Kept.{Kept}
 use Rattle.rss_model.specs.Machine.{State, now}
-use Rattle.rss_model.specs.Store.{HasFirstLog, SpellsTables, stored, size_of, IsStore, OpensTo}
+use Rattle.rss_model.specs.Store.{HasFirstLog, SpellsTables, first_stored as stored, size_of, IsStore, OpensTo}
 use Rattle.rss_model.specs.Tables.{Tables}
-use Rattle.rss_rsi.specs.Ready.{heap_now, changed_with, AreSaved, AreWritten, IsReady, IsIn, IsStoreUnder, SavesAll, CommitsPages, other_area}
+use Rattle.rss_access.specs.Written.{heap_now, AreWritten}
+use Rattle.rss_rsi.specs.Ready.{changed_with, AreSaved, IsReady, IsIn, IsStoreUnder, SavesAll, CommitsPages, other_area}
 use Rattle.rss_rsi.specs.Saves.{StoreParts, CanSave, Spell, PassesSave, HasSaved, SaveEnds, SavesStore}
 use Rattle.rss_rsi.specs.Sessions.{Counts}
 use Rattle.rss_rsi.specs.declared.session.Session.{Session}
 use Rattle.rss_rsi.proofs.Checkpoints.{other_formed, first_log}
 use Rattle.rss_rsi.proofs.Counted.{HasEnded}
-use Rattle.rss_rsi.proofs.Counting.{pages_are}
+use Rattle.rss_model.proofs.StorePages.{pages_are}
 use Rattle.rss_rsi.proofs.Pending.{none_waits, nothing_waits}
-use Rattle.rss_rsi.proofs.Writing.{spells_same}
+use Rattle.rss_access.proofs.Writing.{spells_same}
 
 -- ---- how a save ends
 
@@ -39,11 +40,6 @@ LeavesEither old new =
     IsTold old.pages.disk → (saved : Listing) (before after : Tables) → Spell old saved before after
     → Passes old.pages.disk new.pages.disk (λ image. IsStore image (stored old.number old.root old.pages.backing.shadow saved before)
     ⊎ IsStoreUnder (3 - old.number) (other_area old.root) old.session.catalog.listing after image)
-
-abbrev LeavesBefore : StoreParts → StoreParts → Type 0
-LeavesBefore old new =
-    IsTold old.pages.disk → (saved : Listing) (before after : Tables) → Spell old saved before after
-    → Passes old.pages.disk new.pages.disk (λ image. IsStore image (stored old.number old.root old.pages.backing.shadow saved before))
 
 module _ (old new : StoreParts) where
   opens_before : (image : Pages) (saved : Listing) (before : Tables) → IsStore image (stored old.number old.root old.pages.backing.shadow saved before) → OpensTo image (size_of old.root) before
@@ -64,15 +60,15 @@ module _ (old new : StoreParts) where
   }
 
   -- by an error of its pages
-  pub save_failed : {T : Type 0} {fault : PageFault} (result : Result (Unit {0}) CallError) → IsErrAnd result (λ why. why ≡ page_error fault) → PassesSave old new → CommitsPages {T = T} old.pages new.pages (Err fault) → (IsErrOf {T = T} (Err fault) PageNoMemory → LeavesBefore old new) → SavesStore old new result
-  save_failed {T = T} {fault = fault} result is on did unmade =
+  pub save_failed : {T : Type 0} {fault : PageFault} (result : Result (Unit {0}) CallError) → IsErrAnd result (λ why. why ≡ page_error fault) → PassesSave old new → CommitsPages {T = T} old.pages new.pages (Err fault) → SavesStore old new result
+  save_failed {T = T} {fault = fault} result is on did =
       let why = err_from_is_err_and result is in
-      subst (SavesStore old new) (sym (why.1 ∙ ap Err why.2)) (record { on = on; ends = by_fault fault did unmade })
+      subst (SavesStore old new) (sym (why.1 ∙ ap Err why.2)) (record { on = on; ends = by_fault fault did })
     where
-      by_fault : (fault : PageFault) → CommitsPages {T = T} old.pages new.pages (Err fault) → (IsErrOf {T = T} (Err fault) PageNoMemory → LeavesBefore old new) → SaveEnds old new (Err (page_error fault))
-      by_fault PageDevice did unmade = did.failed refl
-      by_fault (PageDamaged place) did unmade = did.sound place refl
-      by_fault PageNoMemory did unmade = λ told saved before after spell. widened (unmade refl told saved before after spell) (λ image store. opens_before image saved before store)
+      by_fault : (fault : PageFault) → CommitsPages {T = T} old.pages new.pages (Err fault) → SaveEnds old new (Err (page_error fault))
+      by_fault PageDevice did = did.failed refl
+      by_fault (PageDamaged place) did = did.sound place refl
+      by_fault PageNoMemory did = did.memory refl
 
 -- ---- where all is saved
 

@@ -1,5 +1,5 @@
 -- The counts of the states that follow a change of a tuple, and the end of a transaction.
-use Rattle.std.proofs.Common.{◌≡◌, ◌≢◌, inl, inr, ℕ, ◌+◌, ◌-◌, ◌<◌, ◌≤◌, Bool, true, false, List, [], ◌∷◌, length, get_or, refl, sym, ◌∙◌, ap, subst, arith}
+use Rattle.std.proofs.Common.{◌≡◌, ◌≢◌, inl, inr, ℕ, ◌+◌, ◌-◌, ◌≤◌, Bool, true, false, List, [], ◌∷◌, length, get_or, refl, sym, ◌∙◌, ap, subst, arith}
 use Rattle.std.specs.Prelude.{Option, Some, None, is_some, is_none, ◌&&◌, count_by}
 use Rattle.std.proofs.lemmas.List.{get_or-set_same, get_or-set_other}
 use Rattle.std.proofs.lemmas.List.Sums.{sum_by-cons}
@@ -14,18 +14,19 @@ use Rattle.rss_model.specs.Items.{Content, Values}
 use Rattle.rss_model.specs.Tables.{Tables, content, tuple_count, is_tuple_of}
 use Rattle.rss_model.specs.Changes.{Change, is_delete_of, own, others}
 use Rattle.rss_model.specs.Machine.{State, with_changes, now}
-use Rattle.rss_model.specs.Meter.{Meter}
+use Rattle.rss_model.specs.Meter.{Meter, heap_pages}
+use Rattle.rss_model.specs.Rules.{saved_now}
 use Rattle.rss_model.specs.Kept.{Kept}
 use Rattle.rss_model.specs.Store.{Defines}
-use Rattle.rss_model.specs.Steps.{HasValues, IsMeterOf, insertion, replacement, deletion, changed, ended}
+use Rattle.rss_model.specs.Steps.{HasValues, insertion, replacement, deletion, changed, committing, meter_after, ended}
 use Rattle.rss_model.proofs.Codes.{name_total, name_apart}
 use Rattle.rss_model.proofs.Contents.{tied, not_tied}
-use Rattle.rss_model.proofs.Counts.{one_if, counts_same, counts_put, none_counted}
+use Rattle.rss_model.proofs.Counts.{one_if, counts_same, counts_put}
 use Rattle.rss_model.proofs.Keeping.{own_all, others_none}
 use Rattle.rss_model.proofs.Relisted.{number_within_list}
 use Rattle.rss_rsi.specs.Sessions.{marks_of, none_deleted, Counts, ChangesOnce, CountsTuples, SameTuples, deleted_at}
 use Rattle.rss_rsi.specs.declared.session.Session.{Session}
-use Rattle.rss_rsi.proofs.Numbered.{names_apart, counted_or_old, counted_defines}
+use Rattle.rss_access.proofs.Numbered.{names_apart, counted_or_old, counted_defines}
 use Rattle.rss_rsi.proofs.Refusals.{none_at, open_here, no_marks}
 
 -- ---- changes of tuples that delete none, and one
@@ -64,19 +65,20 @@ deletes_same relation change changes none = omega (arith, deletes_more relation 
 
 -- ---- a change of a tuple
 
-module _ {old new : Session} {state : State} (counts : Counts old state) (once : ChangesOnce old new) (number : ℕ) (entry : RelationEntry) (at : relation_at old.catalog.listing number ≡ Some entry) (change : Change) (meter : Meter) (metered : IsMeterOf state change meter) (off : (other : Name) → other ≢ entry.name → (is_tuple_of other change.item ≡ false) × (is_delete_of other change ≡ false)) where
+module _ {old new : Session} {state : State} (counts : Counts old state) (once : ChangesOnce old new) (number : ℕ) (entry : RelationEntry) (at : relation_at old.catalog.listing number ≡ Some entry) (change : Change) (over : ℕ) (off : (other : Name) → other ≢ entry.name → (is_tuple_of other change.item ≡ false) × (is_delete_of other change ≡ false)) where
   -- where it makes a tuple more or less
-  counted_after : {live deleted : ℕ} → CountsTuples number entry live deleted old new → tuple_count (now (changed change meter state)).contents entry.name ≡ live → one_if (is_delete_of entry.name change) + deleted_at old number ≡ deleted → Counts new (changed change meter state)
+  counted_after : {live deleted : ℕ} → CountsTuples number entry live deleted old new → tuple_count (now (changed change over state)).contents entry.name ≡ live → one_if (is_delete_of entry.name change) + deleted_at old number ≡ deleted → Counts new (changed change over state)
   counted_after {live = live} {deleted = deleted} counted lives deletes = record {
     slots = counts.slots ∙ sym once.slots;
     listed = counted.fits counts.listed;
-    defines = subst (λ (l : Listing). Defines l state.base.definitions) (sym counted.lists.is) (counted_defines old.catalog.listing number live entry at counts.defines);
+    defines = subst (λ (l : Listing). Defines l state.base.definitions) (sym counted.lists.is) (counted_defines old.catalog.listing number live entry at counts.listed.plain counts.defines);
     marks = counts.marks ∙ ap marks_of (sym once.transaction);
-    heap = metered.heap ∙ counts.heap ∙ sym once.heap;
-    since = omega (arith, metered.since, counts.since, once.since);
+    heap = counts.heap ∙ sym once.heap;
+    since = omega (arith, counts.since, once.since);
+    surviving = counts.surviving;
     changes = omega (arith, counts.changes, once.since);
     live = λ k relation is. elim (counted_or_old old.catalog.listing number live entry at k relation (ap (λ (l : Listing). relation_at l k) (sym counted.lists.is) ∙ is)) [
-      | inl here ↦ ap (λ (r : RelationEntry). tuple_count (now (changed change meter state)).contents r.name) (sym here.1) ∙ lives ∙ ap (λ (r : RelationEntry). r.live) here.1
+      | inl here ↦ ap (λ (r : RelationEntry). tuple_count (now (changed change over state)).contents r.name) (sym here.1) ∙ lives ∙ ap (λ (r : RelationEntry). r.live) here.1
       | inr was ↦
           let apart = names_apart counts.listed k number relation entry was.1 at was.0 in
           counts_same (now state).contents change.item change.new relation.name (off relation.name apart).0 ∙ counts.live k relation was.1
@@ -113,39 +115,40 @@ module _ {old new : Session} {state : State} (counts : Counts old state) (once :
 
 -- ---- tuples that are inserted, updated and deleted
 
-module _ {old new : Session} {state : State} (counts : Counts old state) (once : ChangesOnce old new) (number : ℕ) (entry : RelationEntry) (at : relation_at old.catalog.listing number ≡ Some entry) (t : ℕ) (relation : Name) (named : entry.name ≡ relation) (tid : Tid) (meter : Meter) where
+module _ {old new : Session} {state : State} (counts : Counts old state) (once : ChangesOnce old new) (number : ℕ) (entry : RelationEntry) (at : relation_at old.catalog.listing number ≡ Some entry) (t : ℕ) (relation : Name) (named : entry.name ≡ relation) (tid : Tid) (over : ℕ) where
   on : is_tuple_of entry.name (TupleItem relation tid) ≡ true
   on = ap (λ (n : Name). is_tuple_of n (TupleItem relation tid)) named ∙ of_its_own relation tid
 
   off_it : (other : Name) → other ≢ entry.name → is_tuple_of other (TupleItem relation tid) ≡ false
   off_it other apart = of_no_other other relation tid (λ same. apart (same ∙ sym named))
 
-  pub inserted_counts : (values : List Value) → IsMeterOf state (insertion t relation tid values) meter → content (now state).contents (TupleItem relation tid) ≡ None → CountsTuples number entry (entry.live + 1) (deleted_at old number) old new → Counts new (changed (insertion t relation tid values) meter state)
-  inserted_counts values metered absent counted =
+  pub inserted_counts : (values : List Value) → content (now state).contents (TupleItem relation tid) ≡ None → CountsTuples number entry (entry.live + 1) (deleted_at old number) old new → Counts new (changed (insertion t relation tid values) over state)
+  inserted_counts values absent counted =
       let put = counts_put (now state).contents (TupleItem relation tid) (Some (Values values)) entry.name on in
-      counted_after counts once number entry at (insertion t relation tid values) meter metered
+      counted_after counts once number entry at (insertion t relation tid values) over
       (λ other apart. (off_it other apart, no_insert (is_tuple_of other (TupleItem relation tid)) (Some (Values values)))) counted
       (omega (arith, put, ap (λ (o : Option Content). one_if (is_some o)) absent, counts.live number entry at))
       (omega (arith, ap one_if (no_insert (is_tuple_of entry.name (TupleItem relation tid)) (Some (Values values)))))
 
-  pub deleted_counts : (was : List Value) → IsMeterOf state (deletion t relation tid was) meter → HasValues state relation tid was → CountsTuples number entry (entry.live - 1) (deleted_at old number + 1) old new → Counts new (changed (deletion t relation tid was) meter state)
-  deleted_counts was metered has counted =
+  pub deleted_counts : (was : List Value) → HasValues state relation tid was → CountsTuples number entry (entry.live - 1) (deleted_at old number + 1) old new → Counts new (changed (deletion t relation tid was) over state)
+  deleted_counts was has counted =
       let put = counts_put (now state).contents (TupleItem relation tid) None entry.name on in
-      counted_after counts once number entry at (deletion t relation tid was) meter metered
+      counted_after counts once number entry at (deletion t relation tid was) over
       (λ other apart. (off_it other apart, is_delete (is_tuple_of other (TupleItem relation tid)) (Values was) ∙ off_it other apart)) counted
       (omega (arith, put, ap (λ (o : Option Content). one_if (is_some o)) has, counts.live number entry at))
       (omega (arith, ap one_if (is_delete (is_tuple_of entry.name (TupleItem relation tid)) (Values was) ∙ on)))
 
 -- a change that makes no tuple more or less
-module _ {old new : Session} {state : State} (counts : Counts old state) (once : ChangesOnce old new) (t : ℕ) (relation : Name) (tid : Tid) (meter : Meter) where
-  pub updated_counts : (was values : List Value) → IsMeterOf state (replacement t relation tid was values) meter → HasValues state relation tid was → SameTuples old new → Counts new (changed (replacement t relation tid was values) meter state)
-  updated_counts was values metered has same = record {
+module _ {old new : Session} {state : State} (counts : Counts old state) (once : ChangesOnce old new) (t : ℕ) (relation : Name) (tid : Tid) (over : ℕ) where
+  pub updated_counts : (was values : List Value) → HasValues state relation tid was → SameTuples old new → Counts new (changed (replacement t relation tid was values) over state)
+  updated_counts was values has same = record {
     slots = counts.slots ∙ sym once.slots;
     listed = subst (λ c. ListingFits c.listing) (sym same.catalog) counts.listed;
     defines = subst (λ c. Defines c.listing state.base.definitions) (sym same.catalog) counts.defines;
     marks = counts.marks ∙ ap marks_of (sym once.transaction);
-    heap = metered.heap ∙ counts.heap ∙ sym once.heap;
-    since = omega (arith, metered.since, counts.since, once.since);
+    heap = counts.heap ∙ sym once.heap;
+    since = omega (arith, counts.since, once.since);
+    surviving = counts.surviving;
     changes = omega (arith, counts.changes, once.since);
     live = λ k r is. as_many r.name ∙ counts.live k r (ap (λ c. relation_at c.listing k) (sym same.catalog) ∙ is);
     deleted = λ k r is.
@@ -154,7 +157,7 @@ module _ {old new : Session} {state : State} (counts : Counts old state) (once :
         ∙ ap (λ (d : List ℕ). get_or d (k - 1) 0) (sym same.deleted);
   }
     where
-      as_many : (name : Name) → tuple_count (now (changed (replacement t relation tid was values) meter state)).contents name ≡ tuple_count (now state).contents name
+      as_many : (name : Name) → tuple_count (now (changed (replacement t relation tid was values) over state)).contents name ≡ tuple_count (now state).contents name
       as_many name = elim (cases_Bool (is_tuple_of name (TupleItem relation tid))) [
         | inl mine ↦
             let put = counts_put (now state).contents (TupleItem relation tid) (Some (Values values)) name mine in
@@ -162,16 +165,15 @@ module _ {old new : Session} {state : State} (counts : Counts old state) (once :
         | inr off ↦ counts_same (now state).contents (TupleItem relation tid) (Some (Values values)) name off
       ]
 
--- a relation with a tuple has some
-pub some_live : {session : Session} {state : State} → Counts session state → (number : ℕ) (entry : RelationEntry) → relation_at session.catalog.listing number ≡ Some entry → (tid : Tid) (values : List Value) → HasValues state entry.name tid values → 0 < entry.live
-some_live {state = state} counts number entry at tid values has = some entry.live (λ none.
-    let gone : None ≡ Some (Values values) = sym (none_counted (now state).contents entry.name (counts.live number entry at ∙ none) tid) ∙ has in
-    absurd (cc))
-  where
-    some : (n : ℕ) → (n ≡ 0 → ⊥) → 0 < n
-    some n not = omega (arith, not)
-
 -- ---- the end of a transaction
+
+-- the overflow pages stay
+pub ended_over : (t : ℕ) (state : State) → (ended t state).meter.over ≡ state.meter.over
+ended_over t state = by (own t state.changes)
+  where
+    by : (changes : List Change) → (meter_after changes (committing t state)).over ≡ state.meter.over
+    by [] = refl
+    by (change ∷ changes) = refl
 
 -- All is committed and counted anew: the catalog's pages may be written, and it lists what it listed.
 pub record HasEnded (heap : ℕ) (old new : Session) : Type 0 where
@@ -194,20 +196,29 @@ module _ {session : Session} {state : State} (kept : Kept state) (counts : Count
   pub ended_committed : with_changes state.base (own t state.changes) ≡ now state
   ended_committed = ap (with_changes state.base) own_alone
 
-  pub ended_same : (meter : Meter) → now (ended t meter state) ≡ now state
-  ended_same meter = ap (with_changes (with_changes state.base (own t state.changes))) others_alone ∙ ended_committed
+  pub ended_same : now (ended t state) ≡ now state
+  ended_same = ap (with_changes (with_changes state.base (own t state.changes))) others_alone ∙ ended_committed
 
-  pub ended_counts : {heap : ℕ} {later : Session} (meter : Meter) → meter.heap ≡ heap → meter.since ≡ 0 → HasEnded heap session later → Counts later (ended t meter state)
-  ended_counts meter heap since ends = record {
+  -- a checkpoint is taken
+  pub ended_meter : length (own t state.changes) ≢ 0 → (ended t state).meter ≡ saved_now (committing t state)
+  ended_meter some = by (own t state.changes) some
+    where
+      by : (changes : List Change) → length changes ≢ 0 → meter_after changes (committing t state) ≡ saved_now (committing t state)
+      by [] some = absurd (some refl)
+      by (change ∷ changes) some = refl
+
+  pub ended_counts : {heap : ℕ} {later : Session} → length (own t state.changes) ≢ 0 → heap_pages state.size.slots (now state) + state.meter.over ≡ heap → HasEnded heap session later → Counts later (ended t state)
+  ended_counts some heap ends = record {
     slots = counts.slots ∙ sym ends.slots;
     listed = subst ListingFits (sym ends.listing) counts.listed;
     defines = subst (λ (l : Listing). Defines l state.base.definitions) (sym ends.listing) counts.defines;
     marks = no_marks counts t is ∙ ap marks_of (sym ends.transaction);
-    heap = heap ∙ sym ends.heap_now;
-    since = since ∙ sym ends.since;
+    heap = ap (λ (m : Meter). m.heap) (ended_meter some) ∙ ap (λ (tables : Tables). heap_pages state.size.slots tables + state.meter.over) ended_same ∙ heap ∙ sym ends.heap_now;
+    since = ap (λ (m : Meter). m.since) (ended_meter some) ∙ sym ends.since;
+    surviving = ap (λ (m : Meter). m.surviving) (ended_meter some) ∙ ap (λ (l : List Change). length l) others_alone;
     changes = ap (λ (l : List Change). length l) others_alone ∙ sym ends.since;
     live = λ k r listed.
-        ap (λ (tables : Tables). tuple_count tables.contents r.name) (ended_same meter)
+        ap (λ (tables : Tables). tuple_count tables.contents r.name) ended_same
         ∙ counts.live k r (ap (λ (l : Listing). relation_at l k) (sym ends.listing) ∙ listed);
     deleted = λ k r listed.
         ap (count_by (is_delete_of r.name)) others_alone

@@ -1,6 +1,6 @@
 -- What the calls that define are refused for in the states that a session counts, and what they make of it.
 use Rattle.std.proofs.Common.{◌≡◌, ◌≢◌, ℕ, ◌+◌, ◌-◌, ◌<◌, ◌≤◌, zero, suc, Bool, true, false, cond, List, [], ◌∷◌, length, get_or, take, drop, MatchBool, length-drop, refl, sym, ◌∙◌, ap, subst, arith}
-use Rattle.std.specs.Prelude.{flat_map, Option, Some, None, is_some, IfSome, IfNone, Ok, Err, Result, IsErrAnd, option_map, ◌||◌, ◌&&◌}
+use Rattle.std.specs.Prelude.{nat_le, flat_map, Option, Some, None, is_some, IfSome, IfNone, Ok, Err, Result, IsErrAnd, option_map, ◌||◌, ◌&&◌}
 use Rattle.std.proofs.lemmas.Bool.{true≢false, le-leb, lt-leb, or_from, ne_eqb}
 use Rattle.std.specs.List.{list_any, list_all, HoldsAt, AllWithin}
 use Rattle.std.specs.Ordering.{eq_by_cmp}
@@ -8,7 +8,7 @@ use Rattle.std.proofs.lemmas.List.{length-map, take_all}
 use Rattle.std.proofs.lemmas.List.Folds.{list_all-map, list_any_at, list_any_none}
 use Rattle.rss_base.specs.Sizes.{page_bytes, relations_most, system_pages}
 use Rattle.rss_base.specs.TupleTypes.{kinds, width, most_width, most_fields, are_kinds, is_kind, field_names}
-use Rattle.rss_base.specs.Listings.{Listing, ListingFits, IsNumberOf, IsUnlisted, AreAllUsed, relation_at, with_number, with_segment, padded, segment_spelled, relation_spelled, relations_on, catalog_page}
+use Rattle.rss_base.specs.Listings.{Listing, ListingFits, IsNumberOf, IsUnlisted, AreAllUsed, relation_at, with_number, with_segment, padded, segment_spelled, relation_spelled, relations_on, image_spelled, images_on, link_spelled, relation_pages, image_pages, catalog_page}
 use Rattle.rss_base.specs.declared.name.Name.{Name}
 use Rattle.rss_base.specs.declared.value.FieldKind.TheVariants.{Int}
 use Rattle.rss_base.specs.declared.field.FieldDef.{FieldDef}
@@ -30,6 +30,7 @@ use Rattle.rss_model.specs.ReplyText.{IsShort}
 use Rattle.rss_model.proofs.ByNumber.{segment_named, segment_unnamed, relation_named, relation_unnamed, segments_full, segments_left, relations_full, relations_left, segment_used, segment_unused}
 use Rattle.rss_model.proofs.Codes.{name_total, name_apart}
 use Rattle.rss_model.proofs.Contents.{tied, not_tied}
+use Rattle.rss_model.proofs.PlainStores.{plain_defined}
 use Rattle.rss_model.proofs.Tests.{goes_on, passes_if, passes_unless, none_open, one_open, make_segment_taken, make_segment_many, make_segment_passes, drop_segment_lacks, drop_segment_full, drop_segment_passes, drop_relation_lacks, drop_relation_full, drop_relation_passes, make_relation_lacks, make_relation_taken, make_relation_many, make_relation_passes}
 use Rattle.rss_rsi.specs.Sessions.{marks_of, Counts, Relists, Redefines, Defining}
 use Rattle.rss_rsi.specs.FieldTests.{fields_tests}
@@ -113,7 +114,7 @@ module _ {session : Session} {state : State} (counts : Counts session state) (cl
     relation_full some = drop_relation_full state (least counts closed) name (relation_named counts.listed counts.defines name number is) (le-leb 1 (tuple_count state.base.contents name) (omega (arith, as_many, some)))
 
     pub relation_drops : entry.live ≡ 0 → refusal state (DropRelation name) ≡ None
-    relation_drops empty = drop_relation_passes state (least counts closed) name (relation_named counts.listed counts.defines name number is) (lt-leb 1 (tuple_count state.base.contents name) (omega (arith, as_many, empty)))
+    relation_drops empty = drop_relation_passes state (least counts closed) name (plain_defined counts.listed.plain counts.defines) (relation_named counts.listed counts.defines name number is) (lt-leb 1 (tuple_count state.base.contents name) (omega (arith, as_many, empty)))
 
   module _ (name within : Name) (fields : List FieldDef) (segment : ℕ) (there : IsNumberOf SegmentKind session.catalog.listing within segment) where
     pub relation_taken : (is_relation state name || has_twice (field_names fields)) ≡ true → refusal state (MakeRelation name within fields) ≡ Some NameTaken
@@ -175,8 +176,11 @@ redefines {call = call} {old = old} page low relists lists others fits closed bu
 pub segment_pages : (listing : Listing) (number : ℕ) (segment : Option Name) (k : ℕ) → k ≢ 0 → catalog_page (with_segment listing number segment) k ≡ catalog_page listing k
 segment_pages listing number segment k other = without (with_number listing.segments number segment) ∙ sym (without listing.segments)
   where
-    without : (segments : List (Option Name)) → catalog_page (record listing { segments = segments }) k ≡ padded page_bytes (flat_map relation_spelled (relations_on listing k))
-    without segments = ap (λ (b : Bool). padded page_bytes (cond b (flat_map segment_spelled segments) (flat_map relation_spelled (relations_on listing k)))) (ne_eqb k 0 other)
+    rest : List ℕ
+    rest = cond (nat_le k relation_pages) (flat_map relation_spelled (relations_on listing k)) (cond (nat_le k (relation_pages + image_pages)) (flat_map image_spelled (images_on listing k)) (flat_map link_spelled listing.links))
+
+    without : (segments : List (Option Name)) → catalog_page (record listing { segments = segments }) k ≡ padded page_bytes rest
+    without segments = ap (λ (b : Bool). padded page_bytes (cond b (flat_map segment_spelled segments) rest)) (ne_eqb k 0 other)
 
 -- the page of a relation is one of the system space
 pub relation_page : (number : ℕ) → number ≤ relations_most → page_of RelationKind number < system_pages

@@ -20,27 +20,29 @@ use Rattle.rss_base.proofs.Moments.{started}
 use Rattle.rss_catalog.specs.Catalogs.{IsPending, none_pending}
 use Rattle.rss_model.specs.Changes.{Change, own, others}
 use Rattle.rss_model.specs.Costs.{RisesAtMost, most_asks, most_writes, commit_writes, definition_writes}
-use Rattle.rss_model.specs.Calls.{OnlyLooks, GoesOn, LeadsTo, IsOutcome, IsCallOf}
+use Rattle.rss_model.specs.Calls.{GoesOn, LeadsTo, IsOutcome, IsCallOf}
 use Rattle.rss_model.specs.Defining.{with_definitions, DefinesNames}
 use Rattle.rss_model.specs.Fits.{Fits}
 use Rattle.rss_model.specs.Machine.{StoreSize, State, with_changes, now}
-use Rattle.rss_model.specs.Meter.{Meter, IsCheckpointed, heap_pages}
-use Rattle.rss_model.specs.Steps.{IsMeterAfter, ended, refusal}
-use Rattle.rss_model.specs.Steps.Step.{ends}
-use Rattle.rss_model.specs.Store.{SpellsTables, size_of, OpensTo, OpensToEither}
+use Rattle.rss_model.specs.Meter.{heap_pages}
+use Rattle.rss_model.specs.Callers.{is_definition}
+use Rattle.rss_model.specs.Steps.{ended, refusal}
+use Rattle.rss_model.specs.Steps.StepBy.{ends}
+use Rattle.rss_model.specs.Store.{SpellsTables, size_of, OpensToEither}
 use Rattle.rss_model.specs.Tables.{Tables}
 use Rattle.rss_model.specs.Turns.{IsStopped}
-use Rattle.rss_model.proofs.Endings.{IsDefinition, IsDefined, comes_to}
-use Rattle.rss_model.proofs.Keeping.{kept_fit, steps_keep}
+use Rattle.rss_model.proofs.Endings.{IsDefined, comes_to}
+use Rattle.rss_model.proofs.StepKeeping.{kept_fit, steps_keep}
 use Rattle.rss_model.proofs.Listed.{heap_is}
 use Rattle.rss_model.proofs.Totals.{end_stops, definition_stops}
-use Rattle.rss_rsi.specs.Ready.{engine_view, heap_now, changed_with, AreWritten, IsReady, IsIn}
+use Rattle.rss_access.specs.Written.{heap_now, AreWritten}
+use Rattle.rss_rsi.specs.Ready.{engine_view, changed_with, IsReady, IsIn}
 use Rattle.rss_rsi.specs.Saves.{StoreParts, CanSave, Spell, PassesSave, HasSaved, SaveEnds}
 use Rattle.rss_rsi.specs.Sessions.{Answers, Relists, Redefines}
 use Rattle.rss_rsi.specs.Sessions.Relists.{segment, relation, drop_segment, drop_relation}
 use Rattle.rss_rsi.specs.declared.session.Session.{Session}
 use Rattle.rss_rsi.proofs.Committing.{half, in_saved, has_ended}
-use Rattle.rss_rsi.proofs.Counted.{own_alone, ended_committed, ended_same, ended_counts}
+use Rattle.rss_rsi.proofs.Counted.{own_alone, ended_committed, ended_same, ended_over, ended_counts}
 use Rattle.rss_rsi.proofs.Engines.{in_session}
 use Rattle.rss_rsi.proofs.Pending.{trues, few_pending, one_pending, waits_now, none_waits, only_pending}
 use Rattle.rss_rsi.proofs.Refusals.{may_end, nothing}
@@ -49,16 +51,16 @@ use Rattle.rss_rsi.proofs.Relisting.{IsRelisted, now_relisted, redefined_fits, r
 -- ---- where nothing was changed
 
 -- the transaction is closed
-pub close_leads : {pages : PagesView} {number : ℕ} {root : Root} {session session_now : Session} {state : State} {t : ℕ} → IsIn pages number root session state → session.since ≡ 0 → session_now.catalog ≡ session.catalog → Answers session session_now (End t) (Ok Done) (λ s. ended t s.meter s)
+pub close_leads : {pages : PagesView} {number : ℕ} {root : Root} {session session_now : Session} {state : State} {t : ℕ} → IsIn pages number root session state → session.since ≡ 0 → session_now.catalog ≡ session.catalog → Answers session session_now (End t) (Ok Done) (λ s. ended t s)
     → LeadsTo (IsIn pages number root session_now) pages.disk pages.disk state (End t) (Ok Done)
 close_leads {pages = pages} {session = session} {state = state} {t = t} shown rests catalog answers =
     let none : state.changes ≡ [] = nothing state.changes (shown.counts.changes ∙ rests) in
-    let next = ended t state.meter state in
+    let next = ended t state in
     let step = answers.step state shown.counts in
     record {
       next = next;
       shows = in_session catalog shown refl (ap (λ (l : List Change). with_changes state.base (own t l)) none)
-          (ap (λ (l : List Change). with_changes (with_changes state.base (own t l)) (others t l)) none ∙ ap (with_changes state.base) (sym none)) refl (answers.counts state shown.counts) (steps_keep state next (End t) (Ok Done) step shown.kept);
+          (ap (λ (l : List Change). with_changes (with_changes state.base (own t l)) (others t l)) none ∙ ap (with_changes state.base) (sym none)) (ended_over t state) (answers.counts state shown.counts) (steps_keep state next (End t) (Ok Done) step shown.kept);
       answered = record { step = step; moments = started _ _ };
     }
 
@@ -112,48 +114,28 @@ module _ {old new : StoreParts} (before : Session) (up up_now : Type 0) (on : Pa
   }
 
   -- a save that failed leaves the engine down
-  pub fails_saving : (result : Result Reply CallError) (why : CallError) → result ≡ Err why → up → (up_now → ⊥) → (OnlyLooks call → ⊥) → GoesOn (engine_view old.pages old.number old.root before up) (engine_view new.pages new.number new.root new.session up_now) call → SaveEnds old new (Err why)
+  pub fails_saving : (result : Result Reply CallError) (why : CallError) → result ≡ Err why → up → (up_now → ⊥) → GoesOn (engine_view old.pages old.number old.root before up) (engine_view new.pages new.number new.root new.session up_now) call → SaveEnds old new (Err why)
       → (IsTold old.pages.disk → (state : State) → IsIn old.pages old.number old.root before state → MayStop old new state call)
       → IsCallOf (engine_view old.pages old.number old.root before up) (engine_view new.pages new.number new.root new.session up_now) call result
-  fails_saving result why is was_up down more goes how may = subst (IsCallOf (engine_view old.pages old.number old.root before up) (engine_view new.pages new.number new.root new.session up_now) call) (sym is) (comes_to was_up goes (by_error why how))
+  fails_saving result why is was_up down goes how may = subst (IsCallOf (engine_view old.pages old.number old.root before up) (engine_view new.pages new.number new.root new.session up_now) call) (sym is) (comes_to was_up goes (by_error why how))
     where
       by_error : (why : CallError) → SaveEnds old new (Err why) → IsOutcome (engine_view old.pages old.number old.root before up) (engine_view new.pages new.number new.root new.session up_now) call (Err why)
       by_error Device rises = record { stopped = λ told state shown. (may told state shown).stopped; down = down; cause = rises }
       by_error (Damaged place) sound = record { sound = sound; down = down }
-      by_error NoMemory unmade = record {
-        unmade = λ told state shown.
-            let stop = may told state shown in
-            subst (λ (size : StoreSize). Passes old.pages.disk new.pages.disk (λ image. OpensTo image size state.base)) (sym stop.commits.size) (unmade told stop.commits.saved state.base stop.after stop.commits.spell);
-        up = λ looks. absurd (more looks);
-        same = λ now. absurd (down now);
-        changed = λ now. absurd (down now);
-        since = λ now. absurd (down now);
-      }
+      by_error NoMemory none = absurd none
       by_error (Refused w) none = absurd none
       by_error Down none = absurd none
 
--- the meter of a checkpoint at which there are so many home and overflow pages
-abbrev pub saved_meter : State → ℕ → Meter
-saved_meter state heap = record { heap = heap; since = 0; over = state.meter.over }
-
--- it is that of the tables that the pages spell
+-- a checkpoint counts as many home and overflow pages as the pages that spell its tables have
 pub is_checkpoint : (pages : PagesView) {listing : Listing} {tables : Tables} (state : State) → SpellsTables pages.held listing tables → Fits pages.slots tables → ((key : PageKey) → is_some (pages.held key) ≡ pages.mapped key) → state.size.slots ≡ pages.slots → state.meter.over ≡ mapped_of pages.mapped Overflow pages.slots
-    → IsCheckpointed state.size.slots tables state.meter.over (saved_meter state (heap_now pages))
-is_checkpoint pages {tables = tables} state spells fit holds slots over = record {
-  heap = omega (arith, heap_is spells fit pages.mapped holds, over, ap (λ (n : ℕ). heap_pages n tables) slots);
-  since = refl;
-  same_over = refl;
-}
+    → heap_pages state.size.slots tables + state.meter.over ≡ heap_now pages
+is_checkpoint pages {tables = tables} state spells fit holds slots over = omega (arith, heap_is spells fit pages.mapped holds, over, ap (λ (n : ℕ). heap_pages n tables) slots)
 
 -- ---- the end of a transaction
 
 commits_some : (slots pages since : ℕ) → since ≢ 0 → commit_writes slots pages since ≡ pages + 6 + map_pages slots + 2
 commits_some slots pages zero some = absurd (some refl)
 commits_some slots pages (suc more) some = refl
-
-meter_after : (state : State) {meter : Meter} (changes : List Change) → length changes ≢ 0 → IsCheckpointed state.size.slots (now state) state.meter.over meter → IsMeterAfter changes state meter
-meter_after state [] some is = absurd (some refl)
-meter_after state (change ∷ changes) some is = is
 
 module _ {old : StoreParts} (ready : IsReady old.pages old.number old.root old.session) (same : old.session.slots ≡ old.root.slots) where
   abbrev can : CanSave old
@@ -198,24 +180,24 @@ module _ {old : StoreParts} (ready : IsReady old.pages old.number old.root old.s
       -- to the state in which all is committed
       pub end_leads : HasSaved old new → old.session.since ≢ 0 → ((key : PageKey) → is_some (old.pages.held key) ≡ old.pages.mapped key) → LeadsTo (IsIn new.pages new.number new.root new.session) old.pages.disk new.pages.disk state (End t) (Ok Done)
       end_leads saved some holds =
-          let meter = saved_meter state (heap_now old.pages) in
           let own_are : length (own t state.changes) ≢ 0 = λ none. some (sym shown.counts.changes ∙ ap (λ (l : List Change). length l) (sym (own_alone shown.kept shown.counts t is)) ∙ none) in
-          let step = ends t meter (may_end shown.counts t is) (meter_after state (own t state.changes) own_are (is_checkpoint old.pages state shown.spells fit_now holds size_same shown.over)) in
+          let step = ends t (may_end shown.counts t is) in
+          let heap = is_checkpoint old.pages state shown.spells fit_now holds size_same shown.over in
           record {
-            next = ended t meter state;
-            shows = in_saved can same on saved told end_commits.spell shown.size (ended_counts shown.kept shown.counts t is meter refl refl (has_ended can same on saved)) (steps_keep state (ended t meter state) (End t) (Ok Done) step shown.kept) shown.over refl
-                (ended_same shown.kept shown.counts t is meter ∙ sym (ended_committed shown.kept shown.counts t is));
+            next = ended t state;
+            shows = in_saved can same on saved told end_commits.spell shown.size (ended_counts shown.kept shown.counts t is own_are heap (has_ended can same on saved)) (steps_keep state (ended t state) (End t) (Ok Done) step shown.kept) (ended_over t state ∙ shown.over) refl
+                (ended_same shown.kept shown.counts t is ∙ sym (ended_committed shown.kept shown.counts t is));
             answered = record { step = step; moments = commit_moments on end_commits told };
           }
 
 -- ---- a definition
 
 -- only such a call relists anything
-pub relists_defines : {old new : Listing} {call : Call} → Relists old call new → (IsDefinition call × (most_asks call ≡ Some 0)) × (OnlyLooks call → ⊥)
-relists_defines (segment name number fresh least) = ((tt, refl), λ looks. looks)
-relists_defines (relation name in_segment fields at number within fresh least) = ((tt, refl), λ looks. looks)
-relists_defines (drop_segment name number at none) = ((tt, refl), λ looks. looks)
-relists_defines (drop_relation number entry at empty) = ((tt, refl), λ looks. looks)
+pub relists_defines : {old new : Listing} {call : Call} → Relists old call new → (is_definition call ≡ true) × (most_asks call ≡ Some 0)
+relists_defines (segment name number fresh least) = (refl, refl)
+relists_defines (relation name in_segment fields at number within fresh least) = (refl, refl)
+relists_defines (drop_segment name number at none) = (refl, refl)
+relists_defines (drop_relation number entry at empty) = (refl, refl)
 
 relists_writes : {old new : Listing} {call : Call} → Relists old call new → (slots pages since before after : ℕ) → after ≤ before + definition_writes slots → RisesAtMost (most_writes slots pages since call) before after
 relists_writes (segment name number fresh least) slots pages since before after rises = rises
@@ -295,15 +277,12 @@ module _ {old : StoreParts} {before : Session} {call : Call} (ready : IsReady ol
       -- to the state in which it is defined
       pub is_defined : (up up_now : Type 0) → HasSaved old new → ((key : PageKey) → is_some (old.pages.held key) ≡ old.pages.mapped key) → IsDefined (engine_view old.pages old.number old.root before up) (engine_view new.pages new.number new.root new.session up_now) state call
       is_defined up up_now saved holds =
-          let meter = saved_meter state (heap_now old.pages) in
-          let counted = is_checkpoint old.pages state relists_now.spells fits_after holds size_here shown.over in
+          let heap = is_checkpoint old.pages state relists_now.spells fits_after holds size_here shown.over in
           record {
             definitions = relists_now.definitions;
-            meter = meter;
             passed = passed;
             so = relists_now.so;
-            counted = counted;
-            shows = in_saved can_define slots_same on saved told define_commits.spell shown.size (redefined_counts shown.kept shown.counts redefines relists_now passed names meter refl refl (has_ended can_define slots_same on saved)) (redefined_kept shown.kept shown.counts redefines relists_now passed names meter counted) shown.over refl
-                (redefined_now shown.kept shown.counts redefines relists_now passed names meter);
+            shows = in_saved can_define slots_same on saved told define_commits.spell shown.size (redefined_counts shown.kept shown.counts redefines relists_now passed names heap (has_ended can_define slots_same on saved)) (redefined_kept shown.kept shown.counts redefines relists_now passed names) shown.over refl
+                (redefined_now shown.kept shown.counts redefines relists_now passed names);
             moments = commit_moments on define_commits told;
           }

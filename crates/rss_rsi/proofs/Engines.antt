@@ -1,6 +1,6 @@
 -- What a call on the pages of a store leaves of what holds between two calls.
 use Rattle.std.proofs.Common.{◌≡◌, ℕ, ◌+◌, ◌≤◌, Bool, true, false, refl, sym, ◌∙◌, ap, subst, arith}
-use Rattle.std.specs.Prelude.{IfSome, ◌||◌, slice_index_or, length}
+use Rattle.std.specs.Prelude.{IfSome, ◌||◌, slice_index_or, length, if◌then◌else◌, Option, Some, None}
 use Rattle.std.proofs.lemmas.Bool.{false_from_ne_true}
 use Rattle.std.proofs.Math.Logic.{∥∥₁_elim, ∥∥₁_prop}
 use Rattle.rss_base.specs.DiskRule.{Pages, IsTold, Passes}
@@ -8,7 +8,6 @@ use Rattle.rss_base.specs.PageMap.{page_count}
 use Rattle.rss_base.specs.Paged.{Mapped, Held, Fixed, Backing, HasFixed, page_key, mapped_pages, mapped_of}
 use Rattle.rss_base.specs.Notes.{Noted}
 use Rattle.rss_base.specs.Steps.{PagesView, Keys, PagesStep, no_page}
-use Rattle.rss_base.specs.declared.call.Call.{Call}
 use Rattle.rss_base.specs.declared.key.Space.TheVariants.{Overflow, System}
 use Rattle.rss_base.specs.declared.root.Root.{Root}
 use Rattle.rss_base.proofs.Moments.{widened, continues}
@@ -16,14 +15,21 @@ use Rattle.rss_base.proofs.Steps.{all_mapped, all_held, all_notes, none_changed_
 use Rattle.rss_tuple.specs.Directory.{homes, overflows}
 use Rattle.rss_tuple.specs.Heaps.{IsHeap, AreLinked, AreHeaps}
 use Rattle.rss_catalog.specs.Catalogs.{CatalogView}
+use Rattle.rss_base.specs.declared.call.Call.{Call}
+use Rattle.rss_base.specs.declared.refusal.Refusal.{Refusal}
+use Rattle.rss_model.specs.Locks.{Locks}
+use Rattle.rss_model.specs.Callers.{caller}
+use Rattle.rss_model.specs.Steps.{refusal, keeps_locks, locked_by, left_by}
+use Rattle.rss_model.proofs.OpenKeeping.{keeps_refused}
 use Rattle.rss_model.specs.Kept.{Kept}
 use Rattle.rss_model.specs.Machine.{State, now}
 use Rattle.rss_model.specs.Tables.{Tables}
-use Rattle.rss_model.specs.Store.{SpellsTables, stored, IsStore, OpensTo}
+use Rattle.rss_model.specs.Store.{SpellsTables, first_stored as stored, IsStore, OpensTo}
 use Rattle.rss_model.specs.Costs.{most_asks, most_writes}
 use Rattle.rss_model.specs.Calls.{GoesOn, ShowsState}
 use Rattle.rss_model.proofs.Endings.{within_most}
-use Rattle.rss_rsi.specs.Ready.{engine_view, is_pending, AreWritten, IsReady, IsIn}
+use Rattle.rss_access.specs.Written.{is_pending, AreWritten}
+use Rattle.rss_rsi.specs.Ready.{engine_view, IsReady, IsIn}
 use Rattle.rss_rsi.specs.Lookups.{LooksOn}
 use Rattle.rss_rsi.specs.Sessions.{Counts}
 use Rattle.rss_rsi.specs.declared.session.Session.{Session}
@@ -132,6 +138,33 @@ in_session {pages = pages} {number = number} {root = root} {old = old} {next = n
   saved = shown.saved;
   fixes = λ image has. subst (λ (t : Tables). IsStore image (stored number root pages.backing.shadow shown.saved t)) (sym base) (shown.fixes image has);
 }
+
+-- where only locks are taken
+pub counts_locked : {session : Session} {state : State} → Counts session state → (locks : Locks) → Counts session (record state { locks = locks })
+counts_locked counts locks = record {
+  slots = counts.slots;
+  listed = counts.listed;
+  defines = counts.defines;
+  marks = counts.marks;
+  heap = counts.heap;
+  since = counts.since;
+  surviving = counts.surviving;
+  changes = counts.changes;
+  live = counts.live;
+  deleted = counts.deleted;
+}
+
+pub in_locks : {pages : PagesView} {number : ℕ} {root : Root} {session : Session} {state : State} → IsIn pages number root session state → (locks : Locks) → Kept (record state { locks = locks }) → IsIn pages number root session (record state { locks = locks })
+in_locks shown locks kept = in_session refl shown refl refl refl refl (counts_locked shown.counts locks) kept
+
+-- a call that is refused may leave locks
+pub in_left : {pages : PagesView} {number : ℕ} {root : Root} {session : Session} {state : State} (call : Call) {why : Refusal} → IsIn pages number root session state → refusal state call ≡ Some why → IsIn pages number root session (left_by state call why)
+in_left {pages = pages} {number = number} {root = root} {session = session} {state = state} call {why = why} shown is = by (keeps_locks why) (caller call) (keeps_refused shown.kept call why is)
+  where
+    by : (keeps : Bool) (by : Option ℕ) → Kept (if keeps then locked_by by call state else state) → IsIn pages number root session (if keeps then locked_by by call state else state)
+    by false c kept = shown
+    by true None kept = shown
+    by true (Some t) kept = in_locks shown _ kept
 
 -- no page was changed by it
 changed_less : (now before pending : Bool) → (now ≡ true → before ≡ true) → (now || pending) ≡ true → (before || pending) ≡ true

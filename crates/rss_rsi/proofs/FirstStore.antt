@@ -1,9 +1,9 @@
 -- What an empty store opens to.
 use Rattle.std.proofs.Common.{◌≡◌, inl, inr, ℕ, zero, suc, ◌+◌, ◌-◌, ◌*◌, ◌≤◌, true, cond, List, [], ◌∷◌, ◌++◌, length, get_or, take, drop, replicate, Option, Some, None, option_map, refl, sym, ◌∙◌, ap, arith, length-take}
-use Rattle.std.specs.Prelude.{is_some, sum_by, flat_map, map as list_map, ◌==◌}
+use Rattle.std.specs.Prelude.{nat_le, is_some, sum_by, flat_map, map as list_map, ◌==◌}
 use Rattle.std.specs.List.{range_with_len}
 use Rattle.std.specs.FinMap.{get-empty}
-use Rattle.std.proofs.lemmas.Bool.{cond-false, ne_eqb, true≢false}
+use Rattle.std.proofs.lemmas.Bool.{cases_lt, cond-true, cond-false, ne_eqb, le-leb, true≢false}
 use Rattle.std.proofs.lemmas.List.{length-replicate, replicate-append-replicate}
 use Rattle.std.proofs.lemmas.Option.{none-some}
 use Rattle.std.proofs.lemmas.List.Sums.{sum_by-append}
@@ -12,11 +12,11 @@ use Rattle.rss_base.specs.declared.name.Name.{Name}
 use Rattle.rss_base.specs.declared.tid.Tid.{Tid}
 use Rattle.rss_base.specs.declared.item.Item.{Item}
 use Rattle.rss_base.specs.declared.relation.RelationEntry.{RelationEntry}
-use Rattle.rss_base.specs.declared.key.Space.TheVariants.{Home, Overflow, System}
+use Rattle.rss_base.specs.declared.key.Space.TheVariants.{Home, Overflow, Image, System}
 use Rattle.rss_base.specs.declared.key.PageKey.{PageKey}
 use Rattle.rss_base.specs.DiskRule.{Pages, page as page_at}
 use Rattle.rss_base.specs.Layout.{slots_at}
-use Rattle.rss_base.specs.Listings.{ListingFits, HoldsListing, numbered, segment_at, relation_at, no_listing, padded, segment_spelled, relation_spelled, catalog_page}
+use Rattle.rss_base.specs.Listings.{ListingFits, IsPlain, HoldsListing, numbered, segment_at, relation_at, no_listing, padded, segment_spelled, relation_spelled, catalog_page}
 use Rattle.rss_base.specs.PageMap.{page_count}
 use Rattle.rss_base.specs.Paged.{Held, page_key}
 use Rattle.rss_base.specs.Sizes.{zero_page}
@@ -29,13 +29,15 @@ use Rattle.rss_tuple.specs.Directory.{homes, overflows, body_by, bodies_of}
 use Rattle.rss_tuple.specs.Heaps.{AreLinked}
 use Rattle.rss_model.specs.Items.{item_cmp}
 use Rattle.rss_model.specs.Tables.{content}
-use Rattle.rss_model.specs.Store.{no_tables, SpellsTables, stored, OpensTo}
+use Rattle.rss_model.specs.Store.{no_tables, SpellsTables, first_stored as stored, OpensTo}
+use Rattle.rss_catalog.proofs.Plain.{plain_paths, zeros_past}
 use Rattle.rss_model.proofs.Fitting.{no_tables_fit}
+use Rattle.rss_model.proofs.PlainStores.{spelled_contents, plain_images, plain_nodes, tables_plain, none_imaged}
 use Rattle.rss_model.proofs.Listed.{at_place}
 use Rattle.rss_rsi.specs.Formatted.{first_root, first_owners, IsFormatted}
 use Rattle.rss_rsi.proofs.FirstOwners.{owner_first, owner_is}
 use Rattle.rss_rsi.proofs.Empties.{entry_none, linked_none}
-use Rattle.rss_rsi.proofs.Holding.{held_mapped}
+use Rattle.rss_model.proofs.StorePages.{held_mapped, pages_counted, room_least}
 use Rattle.rss_rsi.proofs.Looked.{times, times_most}
 use Rattle.rss_rsi.proofs.Made.{listing_defines}
 use Rattle.rss_rsi.proofs.Rows.{Each, each_drop, each_take}
@@ -105,6 +107,9 @@ no_relation number relation is = none-some relation (sym (none_numbered 48 numbe
 no_segment : (number : ℕ) (name : Name) → segment_at no_listing number ≡ Some name → ⊥
 no_segment number name is = none-some name (sym (none_numbered 8 number) ∙ is)
 
+no_listing_plain : IsPlain no_listing
+no_listing_plain = record { no_images = refl; no_links = refl }
+
 no_listing_fits : ListingFits no_listing
 no_listing_fits = record {
   segment_places = refl;
@@ -113,6 +118,8 @@ no_listing_fits = record {
   segments_once = λ one other name is too. absurd (no_segment one name is);
   relations_once = λ one other name is too. absurd (none-some name (sym (none_numbered {A = Name} 48 one) ∙ is));
   relations = λ number relation is. absurd (no_relation number relation is);
+  paths = plain_paths no_listing no_listing_plain;
+  plain = no_listing_plain;
 }
 
 -- ---- its pages of the catalog are zeros
@@ -138,14 +145,18 @@ zeros_spelled spelled width none (item ∷ items) each =
 
 zeros_page : (page : ℕ) → catalog_page no_listing page ≡ zero_page
 zeros_page zero = ap (padded 4096) (zeros_spelled segment_spelled 16 refl (replicate 8 None) (all_none Name 8)) ∙ zeros_padded 4096 128 (omega arith)
-zeros_page (suc page) =
-    let on : List (Option RelationEntry) = take 8 (drop (8 * (suc page - 1)) (replicate 48 None)) in
-    let few : length on ≤ 8 = omega (arith, length-take 8 (drop (8 * (suc page - 1)) (replicate {A = Option RelationEntry} 48 None))) in
-    let most = times_most (length on) (8 - length on) 512 in
-    let eight : (8 - length on) + length on ≡ 8 = omega arith in
-    ap (padded 4096) (cond-false (suc page == 0) (flat_map segment_spelled no_listing.segments) (flat_map relation_spelled on) (ne_eqb (suc page) 0 (λ e. absurd (omega (arith, e))))
-    ∙ zeros_spelled relation_spelled 512 refl on (each_take _ 8 _ (each_drop _ (8 * (suc page - 1)) (replicate 48 None) (all_none RelationEntry 48))))
-    ∙ zeros_padded 4096 (times (length on) 512) (omega (arith, most, ap (λ (m : ℕ). times m 512) eight))
+zeros_page (suc page) = elim (cases_lt 6 (suc page)) [
+  | inl past ↦ zeros_past no_listing no_listing_plain (suc page) past
+  | inr low ↦
+      let on : List (Option RelationEntry) = take 8 (drop (8 * (suc page - 1)) (replicate 48 None)) in
+      let few : length on ≤ 8 = omega (arith, length-take 8 (drop (8 * (suc page - 1)) (replicate {A = Option RelationEntry} 48 None))) in
+      let most = times_most (length on) (8 - length on) 512 in
+      let eight : (8 - length on) + length on ≡ 8 = omega arith in
+      ap (padded 4096) (cond-false (suc page == 0) (flat_map segment_spelled no_listing.segments) _ (ne_eqb (suc page) 0 (λ e. absurd (omega (arith, e))))
+      ∙ cond-true (nat_le (suc page) 6) (flat_map relation_spelled on) _ (le-leb (suc page) 6 (omega (arith, low)))
+      ∙ zeros_spelled relation_spelled 512 refl on (each_take _ 8 _ (each_drop _ (8 * (suc page - 1)) (replicate 48 None) (all_none RelationEntry 48))))
+      ∙ zeros_padded 4096 (times (length on) 512) (omega (arith, most, ap (λ (m : ℕ). times m 512) eight))
+]
 
 -- ---- it spells no tables
 
@@ -161,11 +172,14 @@ spells_none slots log_pages pages made =
       listed = no_listing_fits;
       defines = listing_defines no_listing_fits;
       counts = λ number relation at. absurd (no_relation number relation at);
-      contents = record {
+      contents = spelled_contents no_listing_plain (record {
         stands = λ number relation tid values at is. absurd (no_relation number relation at);
         bodies_are = λ segment tid body is. absurd (none-some body (sym (no_body held none segment tid) ∙ is));
         only = λ item there. absurd (true≢false (sym there ∙ ap is_some (absent item)));
-      };
+      });
+      images = plain_images no_listing_plain (λ key image there.
+          let both : Image ≡ System = sym image ∙ first_page slots key (sym (held_mapped first pages (first_owners slots) key) ∙ there) in
+          absurd (cc));
     }
 
 holds_none : (slots log_pages : ℕ) (pages : Pages) → IsFormatted slots log_pages pages → HoldsListing (held_at (slots_at slots log_pages) pages (first_owners slots)) no_listing
@@ -176,17 +190,23 @@ holds_none slots log_pages pages made page low =
 -- ---- the store
 
 pub opens_empty : (slots log_pages : ℕ) (pages : Pages) → IsFormatted slots log_pages pages → OpensTo pages (record { slots = slots; log_pages = log_pages }) no_tables
-opens_empty slots log_pages pages made = record {
-  stored = stored 1 (first_root slots log_pages) (first_owners slots) no_listing no_tables;
-  store = record {
-    root_there = made.root_there;
-    log = record { head = refl; checkpoint = refl; end = refl; tail = refl };
-    map = made.map;
-    room = omega (arith, ten_pages slots, made.root_there.there.formed.slots_least);
-    system = holds_none slots log_pages pages made;
-    spells = spells_none slots log_pages pages made;
-    fit = no_tables_fit slots;
-  };
-  same_size = refl;
-  holds = refl;
-}
+opens_empty slots log_pages pages made =
+    let is = stored 1 (first_root slots log_pages) (first_owners slots) no_listing no_tables in
+    let system = holds_none slots log_pages pages made in
+    let spells = spells_none slots log_pages pages made in
+    let twice : 2 * page_count (first_owners slots) ≤ slots = omega (arith, ten_pages slots, made.root_there.there.formed.slots_least) in
+    record {
+      stored = is;
+      store = record {
+        root_there = made.root_there;
+        log = record { first = record { head = refl; checkpoint = refl; end = refl; tail = refl }; older = refl; newer = refl; tables = refl };
+        map = made.map;
+        room = room_least is (tables_plain spells) refl refl twice (pages_counted (first_root slots log_pages) (first_owners slots) pages made.map system spells);
+        system = system;
+        spells = spells;
+        nodes = plain_nodes (none_imaged spells);
+        fit = no_tables_fit slots;
+      };
+      same_size = refl;
+      holds = refl;
+    }

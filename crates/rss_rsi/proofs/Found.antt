@@ -13,12 +13,12 @@ use Rattle.rss_base.specs.TupleTypes.{kinds, misfit, tuple_bytes, Spells}
 use Rattle.rss_base.specs.Listings.{Listing, ListingFits, HoldsListing, segment_at, relation_at}
 use Rattle.rss_base.specs.declared.key.PageKey.{PageKey}
 use Rattle.rss_base.specs.declared.key.Space.{Space}
-use Rattle.rss_base.specs.declared.key.Space.TheVariants.{Home, Overflow}
+use Rattle.rss_base.specs.declared.key.Space.TheVariants.{Home, Overflow, Image, System}
 use Rattle.rss_base.specs.declared.name.Name.{Name}
 use Rattle.rss_base.specs.declared.relation.RelationEntry.{RelationEntry}
 use Rattle.rss_base.specs.declared.tid.Tid.{Tid}
 use Rattle.rss_base.specs.declared.item.Item.{Item}
-use Rattle.rss_base.specs.declared.item.Item.TheVariants.{Tuple as TupleItem}
+use Rattle.rss_base.specs.declared.item.Item.TheVariants.{Tuple as TupleItem, Chain as ChainItem}
 use Rattle.rss_base.specs.declared.value.Value.{Value}
 use Rattle.rss_value.specs.Spelled.{is_spelled}
 use Rattle.rss_value.proofs.Spelling.{is_spelled_exactly}
@@ -31,20 +31,24 @@ use Rattle.rss_tuple.specs.Heaps.{AreLinked}
 use Rattle.rss_tuple.specs.Checked.{tuples_of}
 use Rattle.rss_model.specs.Items.{Content, Values}
 use Rattle.rss_model.specs.Tables.{RelationDef, Contents, Tables, content, fields_of, segment_of, is_tuple_of, tuple_count}
-use Rattle.rss_model.specs.Fits.{IsTupleOf, IsLive, Fits, tuple_limit}
-use Rattle.rss_model.specs.Store.{IsStorePage, IsTupleBody, IsTupleItem, AreCounts, Defines, SpellsTables, body_of}
+use Rattle.rss_model.specs.Fits.{ArePlain, HasContent, IsTupleOf, IsLive, Fits, tuple_limit}
+use Rattle.rss_model.proofs.Plain.{plain_keys, plain_links}
+use Rattle.rss_model.specs.Store.{IsStorePage, IsTupleItem, AreCounts, Defines, SpellsTables, plain_body as body_of}
+use Rattle.rss_model.proofs.PlainStores.{spelled_contents, plain_images, contents_spelled, PlainBody as IsTupleBody}
+use Rattle.rss_rsi.specs.Interim.{IsPlainPage}
 use Rattle.rss_model.proofs.Codes.{item_total, item_apart, name_total, name_apart}
 use Rattle.rss_model.proofs.Contents.{not_tied}
 use Rattle.rss_model.proofs.Listed.{listed, stands_within, number_within}
-use Rattle.rss_model.proofs.Putting.{some_of, same_parts}
+use Rattle.rss_model.proofs.LogLists.{some_of}
+use Rattle.rss_model.proofs.Putting.{same_parts}
 use Rattle.rss_model.proofs.Relisted.{number_within_list}
 use Rattle.rss_model.proofs.Spelled.{named_relation, spelled, tuple_bytes_same}
-use Rattle.rss_rsi.specs.Bodies.{is_body, is_values_of}
+use Rattle.rss_access.specs.Bodies.{is_body, is_values_of}
 use Rattle.rss_rsi.specs.Checks.{count_of, IsSegmentOf}
 use Rattle.rss_rsi.specs.Opening.{HoldsTables, HoldsNone}
 use Rattle.rss_rsi.proofs.Empties.{entry_none, linked_none}
 use Rattle.rss_rsi.proofs.Made.{definitions_of, listing_defines, listing_fits}
-use Rattle.rss_rsi.proofs.OneListing.{one_listing}
+use Rattle.rss_model.proofs.ListedOnce.{listing_once}
 use Rattle.rss_rsi.proofs.Rows.{IsAt, IsNamedIn, AreGood, Spot, values_in, named_by, held_by, item_of, contents_of, spots_of, spots_at, each_among, none_of, same_number, same_relation, relation_body, body_at_spot, found_at, found_spot, relation_counted}
 
 -- ---- identifiers, and numbers of segments
@@ -78,7 +82,7 @@ module _ (held : Held) (slots : ℕ) (allowed : (key : PageKey) → is_some (hel
           }
 
 -- a page of a tuple store is one of a segment that is listed
-pub heap_listed : (held : Held) (listing : Listing) → ((key : PageKey) → is_some (held key) ≡ true → IsStorePage listing key) → (key : PageKey) → IsHeapKey key → is_some (held key) ≡ true → is_some (segment_at listing key.segment) ≡ true
+pub heap_listed : (held : Held) (listing : Listing) → ((key : PageKey) → is_some (held key) ≡ true → IsPlainPage listing key) → (key : PageKey) → IsHeapKey key → is_some (held key) ≡ true → is_some (segment_at listing key.segment) ≡ true
 heap_listed held listing only key heap there = elim (only key there) [
   | inl system ↦ elim heap [ inl home ↦ absurd (cc) | inr over ↦ absurd (cc) ]
   | inr listed ↦ listed.0
@@ -89,7 +93,7 @@ none_if None lacks = refl
 none_if (Some bytes) lacks = absurd (lacks refl)
 
 -- where no segment of this number is listed, its pages are linked
-unlisted_linked : (held : Held) (listing : Listing) → ((key : PageKey) → is_some (held key) ≡ true → IsStorePage listing key) → (segment : ℕ) → is_some (segment_at listing segment) ≡ false → AreLinked (homes held segment) (overflows held segment)
+unlisted_linked : (held : Held) (listing : Listing) → ((key : PageKey) → is_some (held key) ≡ true → IsPlainPage listing key) → (segment : ℕ) → is_some (segment_at listing segment) ≡ false → AreLinked (homes held segment) (overflows held segment)
 unlisted_linked held listing only segment none = linked_none (homes held segment) (overflows held segment)
     (λ page slot. entry_none held segment Home page slot (gone Home page (inl refl)))
     (λ page slot. entry_none held segment Overflow page slot (gone Overflow page (inr refl)))
@@ -99,7 +103,7 @@ unlisted_linked held listing only segment none = linked_none (homes held segment
 
 -- ---- pages that are found sound
 
-module _ (held : Held) (slots : ℕ) (listing : Listing) (fits : ListingFits listing) (only : (key : PageKey) → is_some (held key) ≡ true → IsStorePage listing key) (allowed : (key : PageKey) → is_some (held key) ≡ true → IsKey slots key)
+module _ (held : Held) (slots : ℕ) (listing : Listing) (fits : ListingFits listing) (only : (key : PageKey) → is_some (held key) ≡ true → IsPlainPage listing key) (allowed : (key : PageKey) → is_some (held key) ≡ true → IsKey slots key)
     (sound : (segment : ℕ) → is_some (segment_at listing segment) ≡ true → IsSegmentOf held slots listing segment) where
   body_listed : (segment : ℕ) (tid : Tid) (body : List ℕ) → bodies_of held segment tid ≡ Some body → is_some (segment_at listing segment) ≡ true
   body_listed segment tid body is = heap_listed held listing only (page_key segment Home tid.page) (inl refl) (there (held (page_key segment Home tid.page)) refl is)
@@ -174,14 +178,26 @@ module _ (held : Held) (slots : ℕ) (listing : Listing) (fits : ListingFits lis
 
   found_spells : SpellsTables held listing found_tables
   found_spells = record {
-    only = only;
+    only = λ key there. store_page key (only key there);
     formed = λ key bytes heap is. (sound key.segment (heap_listed held listing only key heap (ap is_some is))).sound.formed key bytes (refl, heap) is;
     linked = linked_found;
     listed = fits;
     defines = defines;
     counts = found_counts;
-    contents = record { stands = stands_found; bodies_are = body_found; only = item_found };
+    contents = spelled_contents fits.plain (record { stands = stands_found; bodies_are = body_found; only = item_found });
+    images = plain_images fits.plain (λ key image there. no_image key image (only key there));
   }
+    where
+      store_page : (key : PageKey) → IsPlainPage listing key → IsStorePage listing key
+      store_page key (inl system) = inl system
+      store_page key (inr heap) = inr heap.0
+
+      no_image : (key : PageKey) → key.space ≡ Image → IsPlainPage listing key → ⊥
+      no_image key image (inl system) = let both : Image ≡ System = sym image ∙ system in absurd (cc)
+      no_image key image (inr heap) = elim heap.1 [
+        | inl home ↦ absurd (let both : Image ≡ Home = sym image ∙ home in cc)
+        | inr over ↦ absurd (let both : Image ≡ Overflow = sym image ∙ over in cc)
+      ]
 
   -- ---- they fit
 
@@ -264,7 +280,17 @@ module _ (held : Held) (slots : ℕ) (listing : Listing) (fits : ListingFits lis
     tids = λ name tid lives. let of = (live_found name tid lives).1 in (named_in held slots allowed of.relation.segment tid (of.number ∷ of.bytes) of.stands).named;
     alone = alone_found;
     few = few_found;
+    keys = plain_keys found_tables plain;
+    links = plain_links found_tables (λ link parent. no_chain link parent (content found_tables.contents (ChainItem link parent)) refl);
+    only = λ item there. let of = item_found item there in subst HasContent (sym of.is) (tt {0});
   }
+    where
+      plain : ArePlain (definitions_of listing)
+      plain = record { no_images = refl; no_links = refl }
+
+      no_chain : (link : Name) (parent : Option Tid) (found : Option Content) → content found_tables.contents (ChainItem link parent) ≡ found → content found_tables.contents (ChainItem link parent) ≡ None
+      no_chain link parent None is = is
+      no_chain link parent (Some held) is = let of = item_found (ChainItem link parent) (ap is_some is) in let both : ChainItem link parent ≡ TupleItem of.relation.name of.tid = of.is in absurd (cc)
 
   pub holds_found : HoldsListing held listing → HoldsTables held slots listing
   holds_found system = record { tables = found_tables; system = system; spells = found_spells; fit = found_fit }
@@ -287,7 +313,7 @@ module _ {held : Held} {slots : ℕ} {listing : Listing} {tables : Tables} (allo
 
   good_body : (segment : ℕ) (tid : Tid) (body : List ℕ) → bodies_of held segment tid ≡ Some body → is_body listing segment body ≡ true
   good_body segment tid body is =
-      let of = spells.contents.bodies_are segment tid body is in
+      let of = (contents_spelled spells).bodies_are segment tid body is in
       let spelled = (is_spelled_exactly (kinds of.relation.fields) (tuple_bytes of.values)).1 (of.values, record { fit = fits_listed of.number of.relation tid of.values of.at of.holds; storable = of.storable; same = refl }) in
       ap (is_body listing segment) of.is ∙ ap (λ (found : Option RelationEntry). is_values_of found segment (tuple_bytes of.values)) of.at
       ∙ and_from (of.relation.segment == segment) (is_spelled (kinds of.relation.fields) (tuple_bytes of.values)) (eq-eqb of.relation.segment segment of.within) spelled
@@ -311,7 +337,7 @@ module _ {held : Held} {slots : ℕ} {listing : Listing} {tables : Tables} (allo
   there_spelled : (item : Item) (c : Content) → content (contents_of listing (spots_of held slots)) item ≡ Some c → content tables.contents item ≡ Some c
   there_spelled item c is =
       let found = found_spot spelled_good item c is in
-      let of = spells.contents.bodies_are found.0.0 found.0.1.0 found.0.1.1 found.1 in
+      let of = (contents_spelled spells).bodies_are found.0.0 found.0.1.0 found.0.1.1 found.1 in
       let read = same_read found.0.0 found.0.1.0 found.0.1.1 of (good_body found.0.0 found.0.1.0 found.0.1.1 found.1) in
       ap (content tables.contents) (sym found.2 ∙ ap (λ (n : Name). TupleItem n found.0.1.0) read.0) ∙ of.holds ∙ ap Some (sym read.1 ∙ found.3)
 
@@ -357,4 +383,4 @@ module _ {held : Held} {slots : ℕ} {listing : Listing} {tables : Tables} (allo
 -- The pages of a listing's system space spell tables by no other listing.
 pub none_by : (held : Held) (slots : ℕ) (listing : Listing) → ListingFits listing → HoldsListing held listing → ((tables : Tables) → SpellsTables held listing tables → Fits slots tables → ⊥) → HoldsNone held slots
 none_by held slots listing fits system none other tables there spells fit =
-    none tables (subst (λ (l : Listing). SpellsTables held l tables) (one_listing held other listing spells.listed fits there system) spells) fit
+    none tables (subst (λ (l : Listing). SpellsTables held l tables) (listing_once held spells.listed fits there system) spells) fit

@@ -14,7 +14,9 @@ use Rattle.rss_base.proofs.Keys.{owner_of-slot_of}
 use Rattle.rss_shadow.proofs.Owned.{slot_of-owned}
 use Rattle.rss_model.specs.Tables.{Tables}
 use Rattle.rss_model.specs.Fits.{Fits}
-use Rattle.rss_model.specs.Store.{SpellsTables, HasFirstLog, stored, IsStore}
+use Rattle.rss_model.specs.Store.{SpellsTables, HasFirstLog, Stored, first_stored as stored, IsStore}
+use Rattle.rss_model.proofs.PlainStores.{tables_plain, none_imaged, plain_nodes}
+use Rattle.rss_model.proofs.StorePages.{held_mapped, pages_counted, room_least, store_room}
 
 -- what stands in the slots of a store
 pub store_holds : {pages : Pages} {number : ℕ} {root : Root} {owners : List (Option PageKey)} {listing : Listing} {tables : Tables} → IsStore pages (stored number root owners listing tables) → HoldsPages pages number root owners (held_at (slots_at root.slots root.log_pages) pages owners)
@@ -29,14 +31,6 @@ store_holds {pages = pages} {root = root} {owners = owners} store = record {
 }
 
 -- ---- what is held is what stands in the slots
-
-is_some_mapped : (f : ℕ → List ℕ) (o : Option ℕ) → is_some (option_map f o) ≡ is_some o
-is_some_mapped f None = refl
-is_some_mapped f (Some slot) = refl
-
--- exactly the pages of the map are held
-pub held_mapped : (first : ℕ) (pages : Pages) (owners : List (Option PageKey)) (key : PageKey) → is_some (held_at first pages owners key) ≡ mapped_by owners key
-held_mapped first pages owners key = is_some_mapped (λ slot. page pages (first + slot)) (slot_of owners key)
 
 -- what is not there is none
 none_there : (o : Option (List ℕ)) → is_some o ≡ false → None ≡ o
@@ -59,18 +53,37 @@ held_slots {pages = pages} {root = root} {owners = owners} {held = held} holds o
 
 -- pages that hold tables are a store
 pub holds_store : {pages : Pages} {number : ℕ} {root : Root} {owners : List (Option PageKey)} (held : Held) (listing : Listing) (tables : Tables) → HoldsPages pages number root owners held → ((key : PageKey) → is_some (held key) ≡ mapped_by owners key) → HasFirstLog root → 2 * page_count owners ≤ root.slots → HoldsListing held listing → SpellsTables held listing tables → Fits root.slots tables → IsStore pages (stored number root owners listing tables)
-holds_store {pages = pages} {root = root} {owners = owners} held listing tables holds only log room system spells fit = record {
-  root_there = holds.root_there;
-  log = log;
-  map = subst (λ (n : ℕ). IsMap n pages (map_at n root.area) owners) holds.count holds.saved.map;
-  room = room;
-  system = subst (λ (h : Held). HoldsListing h listing) (sym (held_slots holds only)) system;
-  spells = subst (λ (h : Held). SpellsTables h listing tables) (sym (held_slots holds only)) spells;
-  fit = fit;
-}
+holds_store {pages = pages} {number = number} {root = root} {owners = owners} held listing tables holds only log room system spells fit =
+    let map = subst (λ (n : ℕ). IsMap n pages (map_at n root.area) owners) holds.count holds.saved.map in
+    let same = sym (held_slots holds only) in
+    let listed = subst (λ (h : Held). HoldsListing h listing) same system in
+    let spelled = subst (λ (h : Held). SpellsTables h listing tables) same spells in
+    record {
+      root_there = holds.root_there;
+      log = record { first = log; older = refl; newer = refl; tables = refl };
+      map = map;
+      room = room_least (stored number root owners listing tables) (tables_plain spelled) refl refl room (pages_counted root owners pages map listed spelled);
+      system = listed;
+      spells = spelled;
+      nodes = plain_nodes (none_imaged spelled);
+      fit = fit;
+    }
 
 -- pages that hold what a store holds
 pub same_store : {before image : Pages} {number : ℕ} {root : Root} {owners : List (Option PageKey)} {listing : Listing} {tables : Tables} → IsStore before (stored number root owners listing tables) → HoldsPages image number root owners (held_at (slots_at root.slots root.log_pages) before owners) → IsStore image (stored number root owners listing tables)
 same_store {before = before} {root = root} {owners = owners} {listing = listing} {tables = tables} store holds =
     holds_store (held_at (slots_at root.slots root.log_pages) before owners) listing tables holds
-    (held_mapped (slots_at root.slots root.log_pages) before owners) store.log store.room store.system store.spells store.fit
+    (held_mapped (slots_at root.slots root.log_pages) before owners) store.log.first (store_room store) store.system store.spells store.fit
+
+-- as yet each store has the first log
+pub first_form : {pages : Pages} {is : Stored} → IsStore pages is → is ≡ stored is.number is.root is.owners is.listing is.tables
+first_form {is = is} store = λ i. record {
+  number = is.number;
+  root = is.root;
+  owners = is.owners;
+  listing = is.listing;
+  saved = sym store.log.tables i;
+  older = store.log.older i;
+  newer = store.log.newer i;
+  tables = is.tables;
+}

@@ -103,9 +103,9 @@ module _ {old mid : EngineView} (new : EngineView) (on : LooksOn old mid) where
   outcome_joined call (Err NoMemory) out = record {
     unmade = λ told state shown. then (on.moments told state shown) (out.unmade (on.told told) state (on.shows told state shown)) (λ image opens. opens);
     up = out.up;
-    same = λ up told state shown. out.same up (on.told told) state (on.shows told state shown);
-    changed = λ up key is. on.changed key (out.changed up key is);
-    since = λ up. out.since up ∙ on.since;
+    same = λ told state shown. out.same (on.told told) state (on.shows told state shown);
+    changed = λ key is. on.changed key (out.changed key is);
+    since = out.since ∙ on.since;
   }
   outcome_joined call (Err Down) out = out
 
@@ -113,16 +113,16 @@ module _ {old mid : EngineView} (new : EngineView) (on : LooksOn old mid) where
   pub joined : {call : Call} {result : Result Reply CallError} → old.is_up → mid.is_up → GoesOn old new call → IsCallOf mid new call result → IsCallOf old new call result
   joined {call = call} {result = result} was_up is_up goes rest = comes_to was_up goes (outcome_joined call result (rest.outcome is_up))
 
--- how a look ends by an error of its pages, each of which leaves the engine down but one of memory
-pub look_ends : (old new : EngineView) {T : Type 0} {fault : PageFault} (result : Result Bool CallError) → IsErrAnd result (λ why. why ≡ page_error fault) → HasPageCause {T = T} old.disk old.faults new.faults (Err fault) → ((fault ≡ PageNoMemory → ⊥) → new.is_up → ⊥) → (fault ≡ PageNoMemory → new.is_up) → LookEnds old new result
-look_ends old new {T = T} {fault = fault} result is cause goes_down stays_up =
+-- how a look ends by an error of its pages, each of which leaves the engine down
+pub look_ends : (old new : EngineView) {T : Type 0} {fault : PageFault} (result : Result Bool CallError) → IsErrAnd result (λ why. why ≡ page_error fault) → HasPageCause {T = T} old.disk old.faults new.faults (Err fault) → (new.is_up → ⊥) → LookEnds old new result
+look_ends old new {T = T} {fault = fault} result is cause down =
     let why = err_from_is_err_and result is in
-    subst (LookEnds old new) (sym (why.1 ∙ ap Err why.2)) (by_fault fault cause goes_down stays_up)
+    subst (LookEnds old new) (sym (why.1 ∙ ap Err why.2)) (by_fault fault cause)
   where
-    by_fault : (fault : PageFault) → HasPageCause {T = T} old.disk old.faults new.faults (Err fault) → ((fault ≡ PageNoMemory → ⊥) → new.is_up → ⊥) → (fault ≡ PageNoMemory → new.is_up) → LookEnds old new (Err (page_error fault))
-    by_fault PageDevice cause goes_down stays_up = (goes_down (λ e. absurd (cc)), cause.failed refl)
-    by_fault (PageDamaged place) cause goes_down stays_up = (goes_down (λ e. absurd (cc)), cause.sound place refl)
-    by_fault PageNoMemory cause goes_down stays_up = stays_up refl
+    by_fault : (fault : PageFault) → HasPageCause {T = T} old.disk old.faults new.faults (Err fault) → LookEnds old new (Err (page_error fault))
+    by_fault PageDevice cause = (down, cause.failed refl)
+    by_fault (PageDamaged place) cause = (down, cause.sound place refl)
+    by_fault PageNoMemory cause = cause.memory refl
 
 -- a look that failed
 pub look_failed : {old new : EngineView} {call : Call} (result : Result Reply CallError) (why : CallError) → result ≡ Err why → old.is_up → LooksOn old new → GoesOn old new call → LookEnds old new (Err why)
@@ -132,12 +132,6 @@ look_failed {old = old} {new = new} {call = call} result why is was_up on goes l
     by_error : (why : CallError) → LookEnds old new (Err why) → IsOutcome old new call (Err why)
     by_error Device fails = record { stopped = stopped; down = fails.0; cause = fails.1 }
     by_error (Damaged place) fails = record { sound = fails.1; down = fails.0 }
-    by_error NoMemory up = record {
-      unmade = on.moments;
-      up = λ looks. up;
-      same = λ now told state shown. on.shows told state shown;
-      changed = λ now. on.changed;
-      since = λ now. on.since;
-    }
+    by_error NoMemory none = absurd none
     by_error (Refused refusal) fails = absurd fails
     by_error Down fails = absurd fails

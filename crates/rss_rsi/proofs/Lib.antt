@@ -1,5 +1,3 @@
-pub mod TupleChanges
-pub mod Weighing
 pub mod Recounting
 pub mod Spelling
 pub mod Readied
@@ -8,18 +6,15 @@ pub mod Holding
 pub mod FirstOwners
 pub mod FirstStore
 pub mod Formats
-pub mod Stores
 pub mod Refused
 pub mod Unopened
 pub mod Opened
 pub mod Empties
 pub mod Made
-pub mod OneListing
 pub mod Rows
 pub mod Found
 pub mod Census
 pub mod Looked
-pub mod Counting
 pub mod Following
 pub mod Numbered
 pub mod Counted
@@ -27,7 +22,6 @@ pub mod Relisting
 pub mod Lines
 pub mod Definitions
 pub mod Tested
-pub mod Writing
 pub mod Pending
 pub mod Checkpoints
 pub mod Engines

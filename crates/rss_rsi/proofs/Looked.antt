@@ -22,11 +22,12 @@ use Rattle.rss_tuple.specs.Directory.{homes, overflows}
 use Rattle.rss_tuple.specs.Heaps.{AreLinked, AreHeaps}
 use Rattle.rss_tuple.specs.Checked.{pages_of, IsNoted, AreNoted}
 use Rattle.rss_catalog.specs.Catalogs.{CatalogView, Loads, IsCatalogPlace}
-use Rattle.rss_model.proofs.Putting.{some_of}
+use Rattle.rss_model.proofs.LogLists.{some_of}
 use Rattle.rss_model.proofs.Relisted.{number_within_list}
-use Rattle.rss_model.specs.Store.{IsStorePage}
+use Rattle.rss_rsi.specs.Interim.{IsPlainPage as IsStorePage}
 use Rattle.rss_rsi.specs.Checks.{IsSegmentOf, ChecksSegment, MissesSegment, ChecksSegments, MissesOne}
 use Rattle.rss_rsi.specs.Opening.{FindsTables, FindsNone, AreAllNoted}
+use Rattle.rss_model.proofs.StorePages.{plain_page}
 use Rattle.rss_rsi.proofs.Found.{heap_listed, linked_found, holds_found, spelled_segment, none_by}
 
 -- ---- pages of no segment that is listed
@@ -186,7 +187,7 @@ module _ {T : Type 0} {old mid : PagesView} {catalog : CatalogView} {first : Res
   -- there is a page that no store with these definitions has
   pub none_foreign : {place : Place} (key : PageKey) → mid.mapped key ≡ true → (IsStorePage catalog.listing key → ⊥) → (place ≡ Room → ⊥) → FindsNone old place
   none_foreign key is foreign elsewhere = record {
-    none = λ told. none_by old.held old.slots catalog.listing loads.fits (loads.holds told) (λ tables spells fit. foreign (spells.only key (holds told key ∙ was_mapped key is)));
+    none = λ told. none_by old.held old.slots catalog.listing loads.fits (loads.holds told) (λ tables spells fit. foreign (plain_page spells key (holds told key ∙ was_mapped key is)));
     elsewhere = elsewhere;
   }
 

@@ -6,7 +6,7 @@ use Rattle.rss_base.specs.Steps.{PagesView, PagesStep, no_page}
 use Rattle.rss_base.specs.declared.tid.Tid.{Tid}
 use Rattle.rss_tuple.specs.Directory.{bodies_of}
 use Rattle.rss_base.proofs.Steps.{all_held}
-use Rattle.rss_rsi.specs.Tuples.{body_at, FindsBody}
+use Rattle.rss_access.specs.Tuples.{body_at, FindsBody}
 
 -- what was found is what the pages hold then
 pub finds_read : {pages new : PagesView} {asks writes segment number : ℕ} {tid : Tid} {there : Bool} {bytes : List ℕ} → PagesStep no_page asks writes pages new → IsTold pages.disk → FindsBody segment number tid pages there bytes → FindsBody segment number tid new there bytes

@@ -17,6 +17,8 @@ use Rattle.rss_model.specs.Items.{name_cmp}
 use Rattle.rss_model.specs.Tables.{RelationDef, Definitions}
 use Rattle.rss_model.specs.Fits.{DefinitionsFit, RelationFits}
 use Rattle.rss_model.specs.Store.{Defines, definition_of}
+use Rattle.rss_model.proofs.Plain.{plain_paths}
+use Rattle.rss_model.proofs.PlainStores.{plain_defines, plain_defined}
 use Rattle.rss_model.proofs.ByNumber.{len_listed, relations_listed}
 use Rattle.rss_model.proofs.Listed.{IsListOf, at_place, segments_listed, listed}
 use Rattle.rss_model.proofs.Named.{made, made_here, made_other}
@@ -111,8 +113,7 @@ module _ {listing : Listing} (fits : ListingFits listing) where
     only_relations = λ name there.
         let at = made_only relation_name (relation_def listing) listing.relations name there in
         (suc at.0, number_of listing (suc at.0) at.1 (at_place listing.relations at.0 ∙ at.2) ∙ ap Some at.3);
-    no_images = refl;
-    no_links = refl;
+    paths = plain_defines fits.plain (record { no_images = refl; no_links = refl });
   }
 
   -- ---- they fit
@@ -141,4 +142,5 @@ module _ {listing : Listing} (fits : ListingFits listing) where
       few_relations = few_names (names_of RelationKind listing) definitions.relations relations_most (relations_listed fits defines)
           (length-map listing.relations (option_map relation_name) ∙ fits.relation_places);
       relations = relation_fits;
+      paths = plain_paths definitions (plain_defined fits.plain defines);
     }

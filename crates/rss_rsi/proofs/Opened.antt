@@ -26,22 +26,24 @@ use Rattle.rss_base.specs.Listings.{Listing, ListingFits, HoldsListing, catalog_
 use Rattle.rss_catalog.specs.Catalogs.{CatalogView, IsPending, none_pending}
 use Rattle.rss_model.specs.Tables.{Tables}
 use Rattle.rss_model.specs.Fits.{Fits}
-use Rattle.rss_model.specs.Meter.{heap_pages}
+use Rattle.rss_model.specs.Meter.{heap_pages, at_rest}
 use Rattle.rss_model.specs.Calls.{ShowsState}
-use Rattle.rss_model.specs.Machine.{State, IsAtRest}
-use Rattle.rss_model.specs.Store.{IsStorePage, Defines, AreCounts, SpellsTables, stored, size_of, IsStore, OpensTo, OpensIn}
+use Rattle.rss_model.specs.Machine.{State, IsIdle, IsAtRest}
+use Rattle.rss_model.specs.Store.{Defines, AreCounts, SpellsTables, first_stored as stored, size_of, IsStore, OpensTo, OpensIn}
+use Rattle.rss_rsi.specs.Interim.{IsPlainPage as IsStorePage}
 use Rattle.rss_model.proofs.Listed.{heap_is}
-use Rattle.rss_model.proofs.Keeping.{rest_keeps}
+use Rattle.rss_model.proofs.StepKeeping.{rest_keeps}
 use Rattle.rss_rsi.specs.declared.session.Session.{Session}
 use Rattle.rss_rsi.specs.Sessions.{Counts, marks_of, none_deleted}
-use Rattle.rss_rsi.specs.Ready.{IsReady, IsIn, IsSystemOrHeap, is_pending, engine_view}
+use Rattle.rss_access.specs.Written.{IsSystemOrHeap, is_pending}
+use Rattle.rss_rsi.specs.Ready.{IsReady, IsIn, engine_view}
 use Rattle.rss_rsi.specs.RsiLaws.{opens_shown}
 use Rattle.rss_rsi.specs.Opening.{LacksStore, IsLayout, HasLayout, HoldsTables, HoldsNone, FindsTables, NotesRooms, IsOpened}
 use Rattle.rss_rsi.proofs.Holding.{held_slots, holds_store}
-use Rattle.rss_rsi.proofs.Counting.{pages_are}
+use Rattle.rss_model.proofs.StorePages.{pages_are, plain_page}
 use Rattle.rss_rsi.proofs.Pending.{none_waits, pending_key}
 use Rattle.rss_rsi.proofs.Found.{heap_listed}
-use Rattle.rss_rsi.proofs.Stores.{same_overflow, sound_unbroken, not_overfull}
+use Rattle.rss_model.proofs.Stores.{same_overflow, sound_unbroken, not_overfull}
 
 -- the map of a root stands in its area
 pub held_map : {pages : Pages} {root : Root} {number : ℕ} {owners : List (Option PageKey)} → IsLayout root number owners → HasLayout pages root number owners → HoldsMapAt owners root.area pages
@@ -74,14 +76,14 @@ system_or_heap : (listing : Listing) (key : PageKey) → IsStorePage listing key
 system_or_heap listing key (inl system) = inl system
 system_or_heap listing key (inr listed) = inr listed.1
 
-module _ {root : Root} {number writes : ℕ} {owners : List (Option PageKey)} {old : PagesView} {saving : SavingView} (layout : IsLayout root number owners) (saveable : AreSaveable old saving) (fresh : IsFresh root owners writes old saving) where
+module _ {root : Root} {number frames writes : ℕ} {owners : List (Option PageKey)} {old : PagesView} {saving : SavingView} (layout : IsLayout root number owners) (saveable : AreSaveable old saving) (fresh : IsFresh root owners frames writes old saving) where
   mapped_is : old.mapped ≡ mapped_by owners
   mapped_is = saveable.mapped ∙ ap (λ (o : List (Option PageKey)). mapped_by o) fresh.current
 
   shadow_is : old.backing.shadow ≡ owners
   shadow_is = ap (λ (b : Backing). b.shadow) fresh.backing
 
-  size_is : old.slots ≡ root.slots
+  pub size_is : old.slots ≡ root.slots
   size_is = saveable.slots ∙ ap (λ (o : List (Option PageKey)). length o) fresh.current ∙ layout.slots
 
   log_is : old.backing.log_pages ≡ root.log_pages
@@ -121,7 +123,7 @@ module _ {root : Root} {number writes : ℕ} {owners : List (Option PageKey)} {o
     notes_rooms {catalog = catalog} did finds device same told_device listing system segment there key bytes page is =
         let told : IsTold old.disk = record { pages = told_device.pages; is = sym same ∙ told_device.is } in
         let was : old.held key ≡ Some bytes = ap (λ (h : Held). h key) (sym (did.looks.held told)) ∙ is in
-        finds.noted told key.segment (heap_listed old.held catalog.listing (finds.holds told).spells.only key page.1 (ap is_some was)) key bytes (refl, page.1) is
+        finds.noted told key.segment (heap_listed old.held catalog.listing (plain_page (finds.holds told).spells) key page.1 (ap is_some was)) key bytes (refl, page.1) is
 
     module _ {T : Type 0} {noted : Keys} {asks : ℕ} {catalog : CatalogView} {new : PagesView} {result : Result T PageFault} {session : Session} (did : ChecksPages noted asks old new result) (finds : FindsTables old new catalog) (rested : IsRested root owners catalog session) where
       told_before : IsTold new.disk → IsTold old.disk
@@ -182,15 +184,16 @@ module _ {root : Root} {number writes : ℕ} {owners : List (Option PageKey)} {o
         base = tables;
         changes = [];
         marks = map.empty;
-        meter = record {
-          heap = heap_pages root.slots tables + mapped_of new.mapped Overflow new.slots;
-          since = 0;
-          over = mapped_of new.mapped Overflow new.slots;
-        };
+        locks = map.empty;
+        scans = map.empty;
+        meter = at_rest root.slots tables (mapped_of new.mapped Overflow new.slots) 0 2;
       }
 
+      opened_idle : (tables : Tables) → IsIdle (size_of root) tables (opened_state tables)
+      opened_idle tables = record { same_size = refl; committed = refl; none_changed = refl; none_open = refl; none_locked = refl; none_scanned = refl }
+
       opened_rest : (tables : Tables) → IsAtRest (size_of root) tables (opened_state tables)
-      opened_rest tables = record { same_size = refl; committed = refl; none_changed = refl; none_open = refl; meter = record { heap = refl; since = refl; same_over = refl } }
+      opened_rest tables = record { idle = opened_idle tables; meter = refl }
 
       module _ (told : IsTold old.disk) where
         abbrev found : HoldsTables old.held old.slots catalog.listing
@@ -226,6 +229,7 @@ module _ {root : Root} {number writes : ℕ} {owners : List (Option PageKey)} {o
           marks = ap marks_of (sym rested.transaction);
           heap = heap_found;
           since = sym rested.since;
+          surviving = refl;
           changes = sym rested.since;
           live = subst (λ (l : Listing). AreCounts l found.tables.contents) (sym listing_is) found.spells.counts;
           deleted = λ n relation at. sym (ap (λ (l : List ℕ). get_or l (n - 1) 0) rested.deleted ∙ zeros_at 48 (n - 1));
@@ -236,7 +240,7 @@ module _ {root : Root} {number writes : ℕ} {owners : List (Option PageKey)} {o
         opened_in = record {
           size = refl;
           counts = opened_counts;
-          kept = rest_keeps (size_of root) found.tables (opened_state found.tables) (opened_rest found.tables) fit_found;
+          kept = rest_keeps (size_of root) found.tables (opened_state found.tables) (opened_idle found.tables) fit_found;
           over = refl;
           spells = subst (λ (l : Listing). SpellsTables new.held l found.tables) (sym listing_is) (subst (λ (h : Held). SpellsTables h catalog.listing found.tables) (sym (did.looks.held told)) found.spells);
           written = λ page low off.
@@ -256,6 +260,8 @@ module _ {root : Root} {number writes : ℕ} {owners : List (Option PageKey)} {o
         opened_begins = record {
           rest = opened_rest found.tables;
           over = λ other store. ap (λ (m : Mapped). mapped_of m Overflow new.slots) new_mapped ∙ ap (λ (n : ℕ). mapped_of (mapped_by owners) Overflow n) new_size ∙ same_overflow found_store store;
+          head = λ other store. sym store.log.first.head;
+          end = λ other store. sym store.log.first.end;
         }
 
       -- ---- seen as an engine

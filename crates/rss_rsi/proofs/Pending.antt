@@ -11,7 +11,8 @@ use Rattle.rss_base.specs.declared.key.Space.{Space}
 use Rattle.rss_base.specs.declared.key.Space.TheVariants.{System, Home, Overflow, Image}
 use Rattle.rss_base.specs.declared.key.PageKey.{PageKey}
 use Rattle.rss_catalog.specs.Catalogs.{CatalogView, IsPending, none_pending}
-use Rattle.rss_rsi.specs.Ready.{HasCounts, is_pending, is_pending_in, changed_with}
+use Rattle.rss_access.specs.Written.{is_pending, is_pending_in}
+use Rattle.rss_rsi.specs.Ready.{HasCounts, changed_with}
 
 -- how many of a list are true
 abbrev pub trues : List Bool → ℕ

@@ -14,12 +14,13 @@ use Rattle.rss_tuple.specs.Checked.{pages_of}
 use Rattle.rss_catalog.specs.Catalogs.{CatalogView, IsPending}
 use Rattle.rss_model.specs.Costs.{IsPageFor, IsCountedPage}
 use Rattle.rss_model.proofs.Relisted.{number_within_list}
-use Rattle.rss_rsi.specs.Ready.{IsReady, HasCounts, is_pending, changed_with}
+use Rattle.rss_access.specs.Written.{is_pending}
+use Rattle.rss_rsi.specs.Ready.{IsReady, HasCounts, changed_with}
 use Rattle.rss_rsi.specs.Sessions.{ChangesOnce, SameTuples, CountsTuples}
-use Rattle.rss_rsi.specs.Tuples.{ChangesTuple}
+use Rattle.rss_access.specs.Tuples.{ChangesTuple}
 use Rattle.rss_rsi.specs.declared.session.Session.{Session}
 use Rattle.rss_rsi.proofs.Pending.{waits_now, pending_key, or_true}
-use Rattle.rss_rsi.proofs.Spelling.{mapped_changed, system_still, only_still}
+use Rattle.rss_access.proofs.Spelling.{mapped_changed, system_still, only_still}
 
 -- Only counts in the catalog wait after a change.
 pub record StaysCounted (after : Session) : Type 0 where

@@ -19,6 +19,7 @@ use Rattle.rss_rsi.specs.Ready.{engine_view, IsReady}
 use Rattle.rss_rsi.specs.Saves.{StoreParts, IsDefining, view_before}
 use Rattle.rss_rsi.specs.Sessions.{Counts, Redefines, Defining}
 use Rattle.rss_rsi.specs.declared.session.Session.{Session}
+use Rattle.rss_rsi.proofs.Engines.{in_left}
 
 -- the state that is shown is shown, whether the engine is up or not
 pub shows_as : {pages : PagesView} {number : ℕ} {root : Root} {session : Session} {up up_now : Type 0} → ∥ ShowsState (engine_view pages number root session up) ∥₁ → ∥ ShowsState (engine_view pages number root session up_now) ∥₁
@@ -46,7 +47,7 @@ module _ {store : StoreParts} {before : Session} {call : Call} {made : Result (U
   refused_define why so =
       let refused = refused_so why so in
       subst (λ (s : Session). IsCallOf (view_before store before) (engine_view store.pages store.number store.root s (false ≡ false)) call (Err (Refused why))) (sym refused.0)
-      (refused_at_once refl refused.2 (λ state shown. refused.1 state shown.counts))
+      (refused_at_once refl refused.2 (λ state shown. let why_so = refused.1 state shown.counts in (why_so, in_left call shown why_so)))
 
   -- and the store is as it was
   pub refused_ready : (why : Refusal) → made ≡ Err why → IsReady store.pages store.number store.root store.session

@@ -23,16 +23,18 @@ use Rattle.rss_model.specs.Tables.{RelationDef, fields_of, tuple_count}
 use Rattle.rss_model.specs.Changes.{Change, is_delete_of, after, own, others}
 use Rattle.rss_model.specs.Machine.{State, now}
 use Rattle.rss_model.specs.Defining.{refused_if}
-use Rattle.rss_model.specs.Steps.{Step, first_of, misfit_of, is_open, unless_open, unless_defined, admission, value_admission, if_full, refusal, begun, ended, IsMeterAfter}
-use Rattle.rss_model.specs.Steps.Step.{ends}
-use Rattle.rss_model.specs.Meter.{room_of, needed_slots}
+use Rattle.rss_model.specs.Steps.{Step, first_of, misfit_of, is_open, unless_open, unless_defined, admission, value_admission, refusal, begun, ended, committing, meter_after}
+use Rattle.rss_rsi.specs.Interim.{if_full}
+use Rattle.rss_model.specs.Steps.StepBy.{ends}
+use Rattle.rss_rsi.specs.Interim.{room_of, needed_slots}
+use Rattle.rss_model.specs.Meter.{Meter}
 use Rattle.rss_model.specs.Store.{Defines, AreCounts}
 use Rattle.rss_model.proofs.Contents.{tied, not_tied}
 use Rattle.rss_model.proofs.ByNumber.{relation_named, relation_unnamed}
 use Rattle.rss_model.proofs.Tests.{goes_on, refuses_at, refuses_if, passes_if, refuses_unless, passes_unless}
 use Rattle.rss_rsi.specs.Sessions.{marks_of, none_deleted, AreDeleted, Counts, Ends, needed}
 use Rattle.rss_rsi.specs.declared.session.Session.{Session}
-use Rattle.rss_rsi.proofs.Numbered.{name_of, fields_listed}
+use Rattle.rss_access.proofs.Numbered.{name_of, fields_listed}
 
 -- ---- what is the same
 
@@ -142,6 +144,7 @@ module _ {session : Session} {state : State} (counts : Counts session state) whe
     marks = ap (λ (m : FinMap nat_cmp (List ℕ)). map.insert m t []) (counts.marks ∙ ap marks_of is) ∙ ap marks_of (sym begins.transaction);
     heap = counts.heap ∙ sym begins.heap;
     since = counts.since ∙ sym begins.since;
+    surviving = counts.surviving;
     changes = counts.changes ∙ sym begins.since;
     live = subst (λ c. AreCounts c.listing (now state).contents) (sym begins.catalog) counts.live;
     deleted = same_deleted session new begins.catalog begins.deleted state.changes counts.deleted;
@@ -187,7 +190,7 @@ module _ {session : Session} {state : State} (counts : Counts session state) whe
 
   pub full_here : session.slots < needed session → if_full state ≡ Some (Full session.slots (needed session))
   full_here full =
-      ap (λ (b : Bool). refused_if b (Full state.size.slots (needed_slots state.meter))) (lt-ltb state.size.slots (needed_slots state.meter) (omega (arith, full, counts.slots, counts.heap, counts.since)))
+      ap (λ (b : Bool). refused_if b (Full state.size.slots (needed_slots state))) (lt-ltb state.size.slots (needed_slots state) (omega (arith, full, counts.slots, counts.heap, counts.since)))
       ∙ (λ i. Some (Full (counts.slots i) (room_of (counts.heap i) (counts.since i + 1))))
 
 -- ---- a transaction that has changed nothing
@@ -214,17 +217,22 @@ module _ {session : Session} {state : State} (counts : Counts session state) (t 
     none_changed : state.changes ≡ []
     none_changed = nothing state.changes (counts.changes ∙ rests)
 
-    pub close_step : Step state (End t) (Ok Done) (ended t state.meter state)
-    close_step = ends t state.meter may_end (subst (λ (changes : List Change). IsMeterAfter (own t changes) state state.meter) (sym none_changed) refl)
+    pub close_step : Step state (End t) (Ok Done) (ended t state)
+    close_step = ends t may_end
 
-    pub close_counts : (new : Session) → Ends session.heap session new → Counts new (ended t state.meter state)
+    -- no checkpoint is taken
+    close_meter : (ended t state).meter ≡ (committing t state).meter
+    close_meter = ap (λ (changes : List Change). meter_after (own t changes) (committing t state)) none_changed
+
+    pub close_counts : (new : Session) → Ends session.heap session new → Counts new (ended t state)
     close_counts new closed = record {
       slots = counts.slots ∙ sym closed.slots;
       listed = subst (λ c. ListingFits c.listing) (sym closed.catalog) counts.listed;
       defines = subst (λ c. Defines c.listing state.base.definitions) (sym closed.catalog) counts.defines;
       marks = no_marks ∙ ap marks_of (sym closed.transaction);
-      heap = counts.heap ∙ sym closed.heap_now;
-      since = counts.since ∙ rests ∙ sym closed.since;
+      heap = ap (λ (m : Meter). m.heap) close_meter ∙ counts.heap ∙ sym closed.heap_now;
+      since = ap (λ (m : Meter). m.since) close_meter ∙ counts.since ∙ rests ∙ sym closed.since;
+      surviving = ap (λ (m : Meter). m.surviving) close_meter ∙ counts.surviving;
       changes = ap (λ (changes : List Change). length (others t changes)) none_changed ∙ sym closed.since;
       live = λ k r at.
           ap (λ (changes : List Change). tuple_count (after (after state.base.contents (own t changes)) (others t changes)) r.name) none_changed

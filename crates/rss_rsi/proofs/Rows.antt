@@ -33,7 +33,7 @@ use Rattle.rss_model.proofs.Contents.{tied, not_tied, same_item_of, content_put}
 use Rattle.rss_model.proofs.Counts.{one_if, counts_same, counts_put, counts_none}
 use Rattle.rss_model.proofs.Putting.{same_parts}
 use Rattle.rss_model.proofs.Relisted.{number_of}
-use Rattle.rss_rsi.specs.Bodies.{is_body, is_values_of}
+use Rattle.rss_access.specs.Bodies.{is_body, is_values_of}
 use Rattle.rss_rsi.specs.Checks.{begins_with, count_of}
 
 -- ---- lists

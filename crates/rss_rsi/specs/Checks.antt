@@ -10,7 +10,7 @@ use Rattle.rss_base.specs.declared.place.Place.{Place}
 use Rattle.rss_base.specs.declared.place.Place.TheVariants.{Room}
 use Rattle.rss_tuple.specs.Checked.{Row, Rows, tuples_of, IsSound, AreNoted}
 use Rattle.rss_model.specs.Fits.{tuple_limit}
-use Rattle.rss_rsi.specs.Bodies.{is_body}
+use Rattle.rss_access.specs.Bodies.{is_body}
 
 -- the body is that of a tuple of the relation of this number
 abbrev pub begins_with : ℕ → List ℕ → Bool

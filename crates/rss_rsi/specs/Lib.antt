@@ -6,13 +6,12 @@ pub use Rattle.rss_base.specs.Paged
 pub use Rattle.rss_base.specs.StoredPages
 pub use Rattle.rss_model.specs.Store
 pub use Rattle.rss_catalog.specs.Catalogs
+pub mod Interim
 pub mod Formatted
-pub mod Bodies
 pub mod FieldTests
 pub mod Sessions
 pub mod Ready
 pub mod Saves
-pub mod Tuples
 pub mod Lookups
 pub mod Checks
 pub mod Opening

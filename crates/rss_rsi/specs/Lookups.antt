@@ -42,7 +42,7 @@ abbrev pub LookEnds : EngineView → EngineView → Result Bool CallError → Ty
 LookEnds old new (Ok there) = new.is_up
 LookEnds old new (Err Device) = (new.is_up → ⊥) × Rises old.faults new.faults
 LookEnds old new (Err (Damaged place)) = (new.is_up → ⊥) × (IsTold old.disk → ⊥)
-LookEnds old new (Err NoMemory) = new.is_up
+LookEnds old new (Err NoMemory) = ⊥
 LookEnds old new (Err (Refused why)) = ⊥
 LookEnds old new (Err Down) = ⊥
 

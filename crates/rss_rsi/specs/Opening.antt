@@ -1,5 +1,5 @@
 -- What an opening finds on a device.
-use Rattle.std.specs.Prelude.{◌≡◌, ◌⊎◌, ℕ, ◌*◌, ◌≤◌, true, List, length, Option, is_some}
+use Rattle.std.specs.Prelude.{◌≡◌, ◌⊎◌, ℕ, ◌*◌, ◌≤◌, min, true, List, length, Option, is_some}
 use Rattle.rss_base.specs.declared.fault.OpenFault.{OpenFault}
 use Rattle.rss_base.specs.declared.fault.OpenFault.TheVariants.{Device as DeviceFailed, NotAStore, Damaged, WrongSize, NoMemory as LacksMemory}
 use Rattle.rss_base.specs.declared.root.Root.{Root}
@@ -21,7 +21,8 @@ use Rattle.rss_model.specs.Tables.{Tables}
 use Rattle.rss_model.specs.Calls.{EngineView}
 use Rattle.rss_model.specs.Machine.{State}
 use Rattle.rss_model.specs.Fits.{Fits}
-use Rattle.rss_model.specs.Store.{IsStorePage, SpellsTables, HasFirstLog, stored, IsStore, OpensTo, OpensIn, Opens, IsBrokenAt, IsOverfull, IsNoStore}
+use Rattle.rss_model.specs.Store.{SpellsTables, HasFirstLog, first_stored as stored, IsStore, OpensTo, OpensIn, Opens, IsBrokenAt, IsOverfull, IsNoStore}
+use Rattle.rss_rsi.specs.Interim.{IsPlainPage as IsStorePage}
 
 -- ---- the layout
 
@@ -125,6 +126,10 @@ pub record IsOpened (old : DeviceView) (new : EngineView) : Type 0 where
 pub record OpensOver (old below : DeviceView) (new : EngineView) : Type 0 where
   pub opened : IsOpened old new
   pub reads : OnlyReads old below
+
+-- So many of the pages may be in memory at once, or as many as there are slots where these are fewer.
+abbrev pub HasFrames : ℕ → PagesView → Type 0
+HasFrames frames pages = pages.backing.frames ≡ min pages.slots frames
 
 -- What was seen of each page's room is noted on it, where the device tells its contents.
 abbrev pub NotesRooms : DeviceView → PagesView → Type 0

@@ -3,7 +3,7 @@ use Rattle.std.specs.Prelude.{◌≡◌, ℕ, false}
 use Rattle.rss_base.specs.declared.pages.Pages.{Ghosts as PagesGhosts}
 use Rattle.rss_buffer.specs.declared.saving.Saving.{Ghosts}
 use Rattle.rss_model.specs.Calls.{EngineView}
-use Rattle.rss_model.specs.Meter.{room_of}
+use Rattle.rss_rsi.specs.Interim.{room_of}
 use Rattle.rss_rsi.specs.Ready.{engine_view}
 use Rattle.rss_rsi.specs.Saves.{StoreParts}
 use Rattle.rss_rsi.specs.declared.engine.Rss.{Rss}

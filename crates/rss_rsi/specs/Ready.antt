@@ -1,67 +1,41 @@
 -- What holds of a store between two calls.
-use Rattle.std.specs.Prelude.{◌≡◌, ◌⊎◌, ℕ, ◌+◌, ◌-◌, ◌*◌, ◌<◌, ◌≤◌, Bool, true, false, ◌==◌, ◌&&◌, ◌||◌, ◌↔◌, List, length, slice_index_or, Some, Option, Result, Err, IsErrOf}
+use Rattle.std.specs.Prelude.{◌≡◌, ℕ, ◌+◌, ◌-◌, ◌*◌, ◌<◌, ◌≤◌, true, false, ◌||◌, ◌↔◌, List, length, Some, Option, Result, Err, IsErrOf}
 use Rattle.rss_base.specs.DiskRule.{Pages, IsTold, Continues}
 use Rattle.rss_base.specs.Faults.{Rises}
 use Rattle.rss_base.specs.declared.place.Place.{Place}
 use Rattle.rss_base.specs.declared.fault.PageFault.{PageFault}
-use Rattle.rss_base.specs.declared.fault.PageFault.TheVariants.{Device as DeviceFailed, Damaged}
+use Rattle.rss_base.specs.declared.fault.PageFault.TheVariants.{Device as DeviceFailed, Damaged, NoMemory}
 use Rattle.rss_base.specs.Sizes.{system_pages}
 use Rattle.rss_base.specs.Layout.{IsWellFormed}
 use Rattle.rss_base.specs.PageMap.{page_count}
-use Rattle.rss_base.specs.Paged.{Mapped, Held, HasFixed, page_key, mapped_pages, mapped_of}
+use Rattle.rss_base.specs.Paged.{Mapped, HasFixed, page_key, mapped_pages, mapped_of}
 use Rattle.rss_base.specs.Listings.{Listing, catalog_page, relation_pages}
 use Rattle.rss_base.specs.Steps.{PagesView}
 use Rattle.rss_base.specs.declared.root.Root.{Root}
 use Rattle.rss_base.specs.declared.key.PageKey.{PageKey}
-use Rattle.rss_base.specs.declared.key.Space.{Space}
-use Rattle.rss_base.specs.declared.key.Space.TheVariants.{System, Home, Overflow, Image}
-use Rattle.rss_page.specs.Slotted.{IsHeapKey}
+use Rattle.rss_base.specs.declared.key.Space.TheVariants.{System, Overflow}
 use Rattle.rss_tuple.specs.Heaps.{AreHeaps}
 use Rattle.rss_catalog.specs.Catalogs.{CatalogView, IsPending, HasSystemPages, none_pending}
 use Rattle.rss_model.specs.Tables.{Tables}
 use Rattle.rss_model.specs.Fits.{Fits}
 use Rattle.rss_model.specs.Kept.{Kept}
 use Rattle.rss_model.specs.Machine.{State, now}
-use Rattle.rss_model.specs.Store.{SpellsTables, HasFirstLog, stored, size_of, IsStore}
+use Rattle.rss_model.specs.Store.{SpellsTables, HasFirstLog, first_stored as stored, size_of, IsStore}
 use Rattle.rss_model.specs.Calls.{EngineView}
+use Rattle.rss_access.specs.Written.{heap_now, IsSystemOrHeap, is_pending, AreWritten}
 use Rattle.rss_rsi.specs.Sessions.{Counts}
 use Rattle.rss_rsi.specs.declared.session.Session.{Session}
-
--- how many home and overflow pages there are
-abbrev pub heap_now : PagesView → ℕ
-heap_now pages = mapped_of pages.mapped Home pages.slots + mapped_of pages.mapped Overflow pages.slots
 
 -- All pages are saved in the map that is selected: those of the system space, and the home and overflow pages.
 pub record AreSaved (pages : PagesView) : Type 0 where
   pub shadow : page_count pages.backing.shadow ≡ mapped_pages pages.slots pages.mapped
   pub counted : mapped_pages pages.slots pages.mapped ≡ heap_now pages + system_pages
 
--- a home or overflow page, or one of the system space
-abbrev pub IsSystemOrHeap : PageKey → Type 0
-IsSystemOrHeap key = (key.space ≡ System) ⊎ IsHeapKey key
-
 -- ---- pages of the catalog
-
--- the page of this number and this space is one of the system space that isn't as the catalog spells it
-abbrev pub is_pending_in : List Bool → Space → ℕ → Bool
-is_pending_in pending Home number = false
-is_pending_in pending Overflow number = false
-is_pending_in pending Image number = false
-is_pending_in pending System number = slice_index_or pending number false
-
-abbrev pub is_pending : CatalogView → PageKey → Bool
-is_pending catalog key =
-    (key.segment == 0) && is_pending_in catalog.pending key.space key.number
 
 -- which pages were changed since the last commit, with those of the catalog that are to be written
 abbrev pub changed_with : PagesView → CatalogView → Mapped
 changed_with pages catalog key = pages.changed key || is_pending catalog key
-
--- each page of the system space that isn't to be written is as the catalog spells it
-abbrev pub AreWritten : Held → CatalogView → Type 0
-AreWritten held catalog =
-    (page : ℕ) → page < system_pages → (IsPending catalog page → ⊥)
-    → held (page_key 0 System page) ≡ Some (catalog_page catalog.listing page)
 
 -- a page of the catalog that has relations, and so the counts of their tuples
 abbrev pub HasCounts : ℕ → Type 0
@@ -149,7 +123,7 @@ pub record SavesAll (catalog : CatalogView) (root : Root) (old new : PagesView) 
       → new.held (page_key 0 System page) ≡ old.held (page_key 0 System page)
   pub heaps : IsTold old.disk → AreHeaps old → AreHeaps new
 
--- What a checkpoint passes on, by its result: it asks for no page, and each fault has its cause.
+-- What a checkpoint passes on, by its result: it asks for no page, each fault has its cause, and memory never runs out.
 pub record CommitsPages {T : Type 0} (old new : PagesView) (result : Result T PageFault) : Type 0 where
   pub asks : new.asks ≡ old.asks
   pub slots : new.slots ≡ old.slots
@@ -158,6 +132,7 @@ pub record CommitsPages {T : Type 0} (old new : PagesView) (result : Result T Pa
   pub later : old.faults ≤ new.faults
   pub failed : IsErrOf result DeviceFailed → Rises old.faults new.faults
   pub sound : (place : Place) → result ≡ Err (Damaged place) → IsTold old.disk → ⊥
+  pub memory : IsErrOf result NoMemory → ⊥
 
 -- the same root, with the other map area
 abbrev pub other_area : Root → Root

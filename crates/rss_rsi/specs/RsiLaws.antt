@@ -5,7 +5,7 @@ use Rattle.rss_base.specs.DiskRule.{Pages, IsTold, Leaves}
 use Rattle.rss_base.specs.Paged.{HasFixed}
 use Rattle.rss_base.specs.Steps.{PagesView}
 use Rattle.rss_base.specs.declared.root.Root.{Root}
-use Rattle.rss_model.specs.Store.{stored, Opens}
+use Rattle.rss_model.specs.Store.{first_stored as stored, Opens}
 use Rattle.rss_model.specs.Machine.{State}
 use Rattle.rss_rsi.specs.Ready.{IsReady, IsIn}
 use Rattle.rss_rsi.specs.declared.session.Session.{Session}

@@ -18,8 +18,9 @@ use Rattle.rss_catalog.specs.Catalogs.{HasSystemPages, none_pending}
 use Rattle.rss_model.specs.Tables.{Tables}
 use Rattle.rss_model.specs.Calls.{EngineView, ShowsState}
 use Rattle.rss_model.specs.Defining.{DefinesNames}
-use Rattle.rss_model.specs.Store.{HasFirstLog, stored, size_of, IsStore, OpensTo, OpensToEither}
-use Rattle.rss_rsi.specs.Ready.{IsSystemOrHeap, IsReady, CanCommit, SavesAll, heap_now, changed_with, engine_view, other_area}
+use Rattle.rss_model.specs.Store.{HasFirstLog, first_stored as stored, size_of, IsStore, OpensToEither}
+use Rattle.rss_access.specs.Written.{IsSystemOrHeap, heap_now}
+use Rattle.rss_rsi.specs.Ready.{IsReady, CanCommit, SavesAll, changed_with, engine_view, other_area}
 use Rattle.rss_rsi.specs.Sessions.{Defining, none_deleted}
 use Rattle.rss_rsi.specs.declared.session.Session.{Session}
 
@@ -84,12 +85,12 @@ pub record HasSaved (old new : StoreParts) : Type 0 where
   pub listing : new.session.catalog.listing ≡ old.session.catalog.listing
   pub pending : new.session.catalog.pending ≡ none_pending
 
--- how it ended: where memory ran out, a stop leaves the tables before
+-- how it ended
 abbrev pub SaveEnds : StoreParts → StoreParts → Result (Unit {0}) CallError → Type 0
 SaveEnds old new (Ok done) = HasSaved old new
 SaveEnds old new (Err Device) = Rises old.pages.faults new.pages.faults
 SaveEnds old new (Err (Damaged place)) = IsTold old.pages.disk → ⊥
-SaveEnds old new (Err NoMemory) = SavePasses old new (λ before after image. OpensTo image (size_of old.root) before)
+SaveEnds old new (Err NoMemory) = ⊥
 SaveEnds old new (Err (Refused why)) = ⊥
 SaveEnds old new (Err Down) = ⊥
 

@@ -48,6 +48,7 @@ pub record Counts (session : Session) (state : State) : Type 0 where
   pub marks : state.marks ≡ marks_of session.transaction
   pub heap : state.meter.heap ≡ session.heap
   pub since : state.meter.since ≡ session.since
+  pub surviving : state.meter.surviving ≡ 0
   pub changes : length state.changes ≡ session.since
   pub live : AreCounts session.catalog.listing (now state).contents
   pub deleted : AreDeleted session state.changes

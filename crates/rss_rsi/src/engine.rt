@@ -14,13 +14,12 @@ ghost use Rattle.rss_model.specs.Calls.{ShowsState};
 ghost use Rattle.rss_model.specs.ReplyText.{IsShort};
 ghost use Rattle.rss_rsi.specs.Ready.{IsReady, engine_view};
 
-use crate::bodies::{body_of, tuple_of};
 use crate::checkpoint::checkpoint;
 use crate::session::Session;
-use crate::tuples::{delete, find, insert, update};
+use rss_access::{body_of, delete, find, insert, tuple_of, update};
 use rss_base::{
-    Body, Call, CallError, Fields, Name, PageFault, Pages, Place, Refusal, Reply, Root,
-    SYSTEM_PAGES, Tid, Tuple,
+    Body, Call, CallError, Fields, Name, Pages, Place, Refusal, Reply, Root, SYSTEM_PAGES, Tid,
+    Tuple,
 };
 use rss_buffer::Saving;
 use rss_model::Engine;
@@ -36,7 +35,7 @@ pub struct Rss<S: Saving> {
     root: Root,
     number: u8,
     session: Session,
-    /// A call has met a fault, or ran out of memory while it changed pages.
+    /// A call has met a fault.
     down: bool,
     alloc: Global,
     ghost ready: { down ≡ false
@@ -56,8 +55,9 @@ impl<S: Saving> Rss<S> {
     ghost use Rattle.rss_rsi.specs.Saves.{CanSave, SavesStore, IsDefining, IsRedefining, view_before};
     ghost use Rattle.rss_rsi.specs.declared.session.Session.{Session as AnySession};
     ghost use Rattle.rss_base.specs.declared.call.Call.{Call as AnyCall};
-    ghost use Rattle.rss_rsi.specs.Ready.{AreSaved, heap_now};
-    ghost use Rattle.rss_rsi.specs.Tuples.{FindsBody};
+    ghost use Rattle.rss_access.specs.Written.{heap_now};
+    ghost use Rattle.rss_rsi.specs.Ready.{AreSaved};
+    ghost use Rattle.rss_access.specs.Tuples.{FindsBody};
 
     /// The store whose tuples stand in these pages, all committed.
     pub(crate) fn new(alloc: Global, pages: S, root: Root, number: u8, session: Session) -> Self
@@ -101,7 +101,7 @@ impl<S: Saving> Rss<S> {
         match find(&mut self.tuples, segment, number, tid, into) {
             Ok(there) => Ok(there),
             Err(fault) => {
-                self.down = !matches!(fault, PageFault::NoMemory);
+                self.down = true;
                 Err(CallError::from(fault))
             }
         }
@@ -349,7 +349,7 @@ impl<S: Saving> Rss<S> {
     pub fn room(&self) -> u32
         ensures is { result ≡ counted_room self.now }
         ensures state { (state : State) → (view self.now).shows state
-            → room_number state.meter ≡ result }
+            → room_number state.base.definitions state.meter ≡ result }
     {
         2 * (self.session.heap + 4 * self.session.since + SYSTEM_PAGES)
     }
@@ -421,6 +421,7 @@ impl<S: Saving> Engine for Rss<S> {
             Call::MakeRelation(name, segment, fields) => self.make_relation(name, segment, fields),
             Call::DropSegment(name) => self.drop_segment(name),
             Call::DropRelation(name) => self.drop_relation(name),
+            _ => unreachable!(),
         }
     }
 }

@@ -2,15 +2,14 @@
 //! opened and called.
 #![tactic(auto)]
 
-mod bodies;
 mod checking;
 mod checkpoint;
 mod engine;
 mod formatting;
 mod opening;
 mod session;
-mod tuples;
 
 pub use engine::Rss;
 pub use formatting::format;
 pub use opening::open;
+pub use rss_buffer::{LEAST_FRAMES, MOST_FRAMES};

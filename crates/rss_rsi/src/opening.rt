@@ -9,13 +9,13 @@ ghost use Rattle.rss_model.specs.Store.{HasFirstLog};
 ghost use Rattle.rss_buffer.specs.Devices.{device_of};
 ghost use Rattle.rss_rsi.specs.Parts.{pages_below};
 ghost use Rattle.rss_rsi.specs.Opening.{LacksStore, IsUnopened, IsLayout, HasLayout};
-ghost use Rattle.rss_rsi.specs.Opening.{IsHandedBack, OpensOver, NotesRooms};
+ghost use Rattle.rss_rsi.specs.Opening.{IsHandedBack, OpensOver, HasFrames, NotesRooms};
 
 use crate::Rss;
 use crate::checking::{look_through, pages_in};
 use crate::session::Session;
 use rss_base::{Device, OpenFault, Pages, Place, Root, SYSTEM_PAGES, Unopened};
-use rss_buffer::{Buffer, MOST_FRAMES};
+use rss_buffer::{Buffer, LEAST_FRAMES, MOST_FRAMES};
 use rss_model::Engine;
 use rss_pagemap::{SlotTable, read_table};
 use rss_root::load;
@@ -83,12 +83,16 @@ fn read_layout<D: Device>(alloc: Global, device: &mut D) -> Result<Layout, OpenF
     })
 }
 
-/// The store whose layout was read, with its pages in a buffer, where they hold tables.
+/// The store whose layout was read, with its pages in a buffer of so many frames, where they hold
+/// tables.
 fn store_of<D: Device>(
     alloc: Global,
     device: D,
     layout: Layout,
+    frames: u32,
 ) -> Result<Rss<Buffer<D>>, Unopened<D>>
+    requires least { LEAST_FRAMES ≤ frames }
+    requires most { frames ≤ MOST_FRAMES }
     requires layout { IsLayout layout.root layout.number layout.table }
     requires size { (D.view device).size ≡ device_pages layout.root }
     requires holds { Told (D.view device).disk (λ pages.
@@ -98,6 +102,8 @@ fn store_of<D: Device>(
         (D.view (device_of (pages_below store))) (⟦<Rss<Buffer<D>> as Engine>⟧.view store)) }
     ensures noted { IfOk result (λ store.
         NotesRooms (D.view device) (⟦<Buffer<D> as Pages>⟧.view (pages_below store))) }
+    ensures frames { IfOk result (λ store.
+        HasFrames frames (⟦<Buffer<D> as Pages>⟧.view (pages_below store))) }
     ensures refused { IfErr result (λ e. IsHandedBack (D.view device) (D.view e.device) e.fault) }
 {
     let Layout {
@@ -106,7 +112,8 @@ fn store_of<D: Device>(
         table,
     } = layout;
     let heap = pages_in(&table).saturating_sub(SYSTEM_PAGES);
-    let mut pages = Buffer::new(alloc, device, &root, table, MOST_FRAMES)?;
+    let room = root.slots.min(frames);
+    let mut pages = Buffer::new(alloc, device, &root, table, room)?;
     let catalog = match look_through(alloc, &mut pages) {
         Ok(catalog) => catalog,
         Err(fault) => {
@@ -120,7 +127,8 @@ fn store_of<D: Device>(
     Ok(Rss::new(alloc, pages, root, number, session))
 }
 
-/// Opens the store that a device holds, with at most `MOST_FRAMES` of its pages in memory.
+/// Opens the store that a device holds, with room in memory for so many of its pages, or for all of
+/// them where these are fewer. Room for all that it ever keeps of them is taken here.
 ///
 /// It syncs the device, reads the whole store, and writes nothing. The device is handed back where
 /// it holds none: `NotAStore` names the first place at which the layout of the device, of its root
@@ -128,16 +136,20 @@ fn store_of<D: Device>(
 /// has too many pages; at `Log` where the log isn't as it is made; at `Catalog` where a page of the
 /// system space isn't in form; at a page or a tuple that is none of a store; or at `Count` where a
 /// relation hasn't as many tuples as the catalog says, or has more than it may have.
-pub fn open<D: Device>(alloc: Global, device: D) -> Result<Rss<Buffer<D>>, Unopened<D>>
+pub fn open<D: Device>(alloc: Global, device: D, frames: u32) -> Result<Rss<Buffer<D>>, Unopened<D>>
+    requires least { LEAST_FRAMES ≤ frames }
+    requires most { frames ≤ MOST_FRAMES }
     ensures opened { IfOk result (λ store. OpensOver (D.view device)
         (D.view (device_of (pages_below store))) (⟦<Rss<Buffer<D>> as Engine>⟧.view store)) }
     ensures noted { IfOk result (λ store.
         NotesRooms (D.view device) (⟦<Buffer<D> as Pages>⟧.view (pages_below store))) }
+    ensures frames { IfOk result (λ store.
+        HasFrames frames (⟦<Buffer<D> as Pages>⟧.view (pages_below store))) }
     ensures refused { IfErr result (λ e. IsHandedBack (D.view device) (D.view e.device) e.fault) }
 {
     let mut device = device;
     match read_layout(alloc, &mut device) {
-        Ok(layout) => store_of(alloc, device, layout),
+        Ok(layout) => store_of(alloc, device, layout, frames),
         Err(fault) => Err(Unopened { device, fault }),
     }
 }

@@ -13,7 +13,8 @@ ghost use Rattle.rss_base.specs.declared.answer.Reply.TheVariants.{Ok as Done};
 ghost use Rattle.rss_model.specs.Items.{name_cmp};
 ghost use Rattle.rss_model.specs.Fits.{tuple_limit};
 ghost use Rattle.rss_model.specs.Defining.{has_twice, if_any_open};
-ghost use Rattle.rss_model.specs.Steps.{begun, ended, first_of, admission, value_admission, if_used_up, if_full};
+ghost use Rattle.rss_model.specs.Steps.{begun, ended, first_of, admission, value_admission, if_used_up};
+ghost use Rattle.rss_rsi.specs.Interim.{if_full};
 ghost use Rattle.rss_model.specs.ReplyText.{IsShort};
 ghost use Rattle.rss_rsi.specs.FieldTests.{fields_tests};
 
@@ -118,7 +119,7 @@ impl Session {
         requires open { self.old.transaction ≡ Some transaction }
         requires unchanged { self.old.since ≡ 0 }
         ensures answers { Answers self.old self.new (End transaction) (Ok Done)
-            (λ state. ended transaction state.meter state) }
+            (λ state. ended transaction state) }
         ensures ends { Ends self.old.heap self.old self.new }
     {
         self.deleted = [0; RELATIONS];

@@ -1,7 +1,7 @@
 use Rattle.std.proofs.Common.{◌∙◌, ◌-◌, [], inl, refl, sym, subst, arith}
 use Rattle.rss_base.proofs.Moments.{widened, continues, continues_then, rises_since}
 use Rattle.rss_buffer.proofs.SavingSteps.{saving_then}
-use Rattle.rss_model.specs.Store.{stored, IsStore}
+use Rattle.rss_model.specs.Store.{first_stored as stored, IsStore}
 use Rattle.rss_rsi.specs.Ready.{other_area}
 use Rattle.rss_rsi.proofs.Checkpoints.{may_save, stores_then, saved, switched, adopted, fixes_after, is_root_of, held_saved, fixed_last, unstored, unsaved, saved_so, writes_all, half_saved, saves_all}
 use Rattle.rss_rsi.proofs.checkpoint.checkpoint.Goals as goal

@@ -1,15 +1,17 @@
-use Rattle.std.proofs.Common.{◌≡◌, false, Err, sym, ◌∙◌, ap, subst, arith}
+use Rattle.std.proofs.Common.{◌≡◌, ℕ, false, Err, sym, ◌∙◌, ap, subst, arith}
 use Rattle.rss_base.specs.Answers.{open_error}
 use Rattle.rss_base.specs.declared.fault.OpenFault.{OpenFault}
+use Rattle.std.specs.Prelude.{min}
+use Rattle.rss_base.specs.Paged.{Backing}
 use Rattle.rss_base.specs.Devices.{OnlyReads}
 use Rattle.rss_buffer.specs.BufferLaws.{saveable_by, holds_by, stays_by}
 use Rattle.rss_buffer.specs.Devices.{device_of, buffer_view}
 use Rattle.rss_buffer.specs.Views.{pages_view}
 use Rattle.rss_buffer.proofs.SavingSteps.{fresh_unchanged}
 use Rattle.rss_model.specs.Calls.{EngineView}
-use Rattle.rss_rsi.specs.Opening.{IsHandedBack, IsOpened, NotesRooms}
+use Rattle.rss_rsi.specs.Opening.{IsHandedBack, IsOpened, HasFrames, NotesRooms}
 use Rattle.rss_rsi.specs.Ready.{engine_view}
-use Rattle.rss_rsi.proofs.Opened.{lacks_tables, opened_ready, opened_shown, opened, notes_rooms}
+use Rattle.rss_rsi.proofs.Opened.{size_is, lacks_tables, opened_ready, opened_shown, opened, notes_rooms}
 use Rattle.rss_rsi.proofs.Refused.{refused_look}
 use Rattle.rss_rsi.proofs.Unopened.{unopened_look, look_device}
 use Rattle.rss_rsi.proofs.opening.store_of.Goals as goal
@@ -95,3 +97,12 @@ returns-clause-noted g c =
     subst (λ (b : _). NotesRooms (g.D.Device.view c.args.device) (pages_view (buffer_view b))) (sym c.new-2.ensures.pages)
     (notes_rooms c.requires.layout (saveable_by c.in_ok-pages.pages.holds) c.in_ok-pages.ensures.fresh (λ read key. holds_by (buffer_view c.in_ok-pages.pages) key)
     (λ p read. c.requires.holds p (back ∙ read)) (λ p read. c.in_ok-pages.ensures.held p (back ∙ read)) c.in-Ok.ensures.did c.in-Ok.ensures.finds (g.D.Device.view c.args.device) back)
+
+pub returns-clause-frames : goal.returns-clause-frames
+returns-clause-frames g c =
+    let fresh = c.in_ok-pages.ensures.fresh in
+    let old = pages_view (buffer_view c.in_ok-pages.pages) in
+    let step = c.look_through.ensures.did.looks.step in
+    let size = size_is c.requires.layout (saveable_by c.in_ok-pages.pages.holds) fresh in
+    subst (λ (b : _). HasFrames c.args.frames (pages_view (buffer_view b))) (sym c.new-2.ensures.pages)
+    (ap (λ (b : Backing). b.frames) step.passes.backing ∙ ap (λ (b : Backing). b.frames) fresh.backing ∙ c.min-room.ensures ∙ ap (λ (n : ℕ). min n c.args.frames) (sym (step.passes.slots ∙ size)))

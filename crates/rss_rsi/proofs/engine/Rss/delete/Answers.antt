@@ -13,12 +13,13 @@ use Rattle.rss_rsi.specs.Lookups.{HasFound}
 use Rattle.rss_rsi.specs.Sessions.{Counts}
 use Rattle.rss_rsi.specs.declared.session.Session.{Session}
 use Rattle.rss_rsi.proofs.Engines.{goes, fixes_still}
-use Rattle.rss_rsi.proofs.Following.{live_passes, delete_misses, deletes_step}
+use Rattle.rss_rsi.proofs.Following.{quiet_in, live_passes, delete_misses, deletes_step}
 use Rattle.rss_rsi.proofs.Joining.{looks_as, goes_looked, goes_after, joined, look_failed}
 use Rattle.rss_rsi.proofs.Answering.{refused_test, refused_so, refused_later}
-use Rattle.rss_rsi.proofs.Numbered.{entry_at, name_of}
+use Rattle.rss_access.proofs.Numbered.{entry_at, name_of}
 use Rattle.rss_rsi.proofs.Readied.{stays_counted, ready_changed, changed_counted}
-use Rattle.rss_rsi.proofs.Spelling.{found_values, found_none, some_live, can_change, segment_safe}
+use Rattle.rss_access.proofs.Spelling.{some_live, segment_safe}
+use Rattle.rss_rsi.proofs.Spelling.{found_values, found_none, can_change}
 use Rattle.rss_rsi.proofs.Tested.{delete_unfit, delete_full}
 use Rattle.rss_rsi.proofs.Changing.{answers_change, shows_change, fails_change}
 use Rattle.rss_rsi.proofs.engine.Rss.delete.Goals as goal
@@ -40,7 +41,7 @@ returns-in_err-look g c =
     let looks = c.in_err-look.ensures.looks in
     let why = err_from_is_err_and c.from_residual-in_err-look.result c.from_residual-in_err-look.ensures.1 in
     look_failed _ _ (why.1 ∙ ap Err why.2) c.requires looks.on (goes_looked call looks.on tt (λ pages. tt)) looks.ends
-    (λ told state shown. stops_by shown.kept call tt (looks.on.moments told state shown))
+    (λ told state shown. stops_by shown.kept call refl tt (looks.on.moments told state shown))
 
 pub returns-then-not-branch : goal.returns-then-not-branch
 returns-then-not-branch g c =
@@ -57,7 +58,7 @@ returns-then-not-branch g c =
     refused_so _ c.no_tuple.ensures.is c.requires looks.ends looks.on (goes_looked call looks.on tt (λ pages. tt)) c.no_tuple.ensures.short (λ told state shown.
     let finds = rw c.if-not-branch.true at (look.finds (looks.on.told told)) in
     let none = found_none (looks.on.shows told state shown) number entry at c.args.tid c.look.new.into finds in
-    delete_misses state c.args.transaction c.args.relation.now c.args.tid (admitted.tests state shown.counts) (subst (λ (name : Name). HasFound state name c.args.tid None) named none))
+    delete_misses state (quiet_in shown) c.args.transaction c.args.relation.now c.args.tid (admitted.tests state shown.counts) (subst (λ (name : Name). HasFound state name c.args.tid None) named none))
 
 pub returns-in_err-test_room : goal.returns-in_err-test_room
 returns-in_err-test_room g c =
@@ -76,7 +77,7 @@ returns-in_err-test_room g c =
     let finds = rw c.if-not-branch.false at (look.finds (looks.on.told told)) in
     let has = found_values (looks.on.shows told state shown) number entry at c.args.tid c.look.new.into finds in
     let live = live_passes state c.args.relation.now c.args.tid has.values (subst (λ (name : Name). HasFound state name c.args.tid (Some has.values)) named has.holds) in
-    delete_full state c.args.transaction c.args.relation.now (admitted.tests state shown.counts) c.args.tid live
+    delete_full state c.args.transaction c.args.relation.now (quiet_in shown) (admitted.tests state shown.counts) c.args.tid live
     (tests.0 state (subst (λ (s : Session). Counts s state) (sym look.session) shown.counts)))
 
 pub delete-requires : goal.delete-requires
@@ -108,7 +109,7 @@ returns-then-live-eq0 g c =
       sound = λ told. ∥∥₁_elim (mid.shown looks.ends (looks.on.told told)) (λ x y. absurd x) (λ shown_in.
           let finds = rw c.if-not-branch.false at (look.finds (looks.on.told told)) in
           let has = found_values shown_in.shows number entry at c.args.tid c.look.new.into finds in
-          absurd (omega (arith, some_live shown_in.shows.counts number entry at c.args.tid (ap is_some has.holds), c.if-live-eq0.true, ap (λ (r : RelationEntry). r.live) one)));
+          absurd (omega (arith, some_live shown_in.shows.spells number entry at c.args.tid (ap is_some has.holds), c.if-live-eq0.true, ap (λ (r : RelationEntry). r.live) one)));
       down = λ up. absurd (cc);
     })
 
@@ -131,7 +132,7 @@ returns-in_err-delete g c =
     let did = c.in_err-delete.ensures.did in
     let cost = goes {call = call} ready.settled_now did.step refl tt (λ pages. tt) in
     joined _ looks.on c.requires looks.ends (goes_after call refl (λ slots pages since. refl) looks.on cost)
-    (fails_change ready _ c.from_residual-in_err-delete.ensures.1 looks.ends (λ up. absurd (cc)) (λ looks. looks) tt did cost)
+    (fails_change ready _ c.from_residual-in_err-delete.ensures.1 looks.ends (λ up. absurd (cc)) refl tt did cost)
 
 pub invariant_of-self-2 : goal.invariant_of-self-2
 invariant_of-self-2 g c =
@@ -180,4 +181,4 @@ returns g c =
     let has = found_values shown number entry at c.args.tid c.look.new.into finds in
     deletes_step shown ready (fixes_still ready told shown put.did.step) at c.args.transaction c.args.tid told put.did.step counted.once c.args.relation.now named has.values
     (admitted.tests state (subst (λ (s : Session). Counts s state) look.session shown.counts)) (c.in_ok-test_room.ensures.tests state shown.counts) (subst (λ (name : Name). HasFound state name c.args.tid (Some has.values)) named has.holds) put.changes counts)
-    refl (search rules) tt (changed_counted put.changes counts) refl))
+    refl (search rules) refl (changed_counted put.changes counts) refl))

@@ -22,7 +22,7 @@ pub returns-then-ne : goal.returns-then-ne
 returns-then-ne g c =
     let store = c.args.self.now in
     let other : store.session.transaction ≢ Some c.args.transaction = search rules in
-    refused_at_once c.requires (search rules) (λ state shown. refuses_at _ (ap (λ (b : Bool). refused_unless b NoTransaction) (closed_here shown.counts c.args.transaction other)))
+    refused_at_once c.requires (search rules) (λ state shown. (refuses_at _ (ap (λ (b : Bool). refused_unless b NoTransaction) (closed_here shown.counts c.args.transaction other)), shown))
 
 pub invariant_of-self : goal.invariant_of-self
 invariant_of-self g c =
@@ -65,7 +65,7 @@ returns-in_err-save g c =
     let down = c.in_err-save.ensures.down in
     let saves = c.in_err-save.ensures.saves in
     let why = err_from_is_err_and c.from_residual.result c.from_residual.ensures.1 in
-    fails_saving store.session _ _ saves.on (End c.args.transaction) _ _ (why.1 ∙ ap Err why.2) c.requires (λ up. absurd (cc)) (λ looks. looks) (goes_saving store.session _ _ saves.on (End c.args.transaction) refl refl (end_writes ready store.size c.args.transaction some saves.on)) saves.ends
+    fails_saving store.session _ _ saves.on (End c.args.transaction) _ _ (why.1 ∙ ap Err why.2) c.requires (λ up. absurd (cc)) (goes_saving store.session _ _ saves.on (End c.args.transaction) refl refl (end_writes ready store.size c.args.transaction some saves.on)) saves.ends
     (λ told state shown. end_may_stop ready store.size shown is saves.on told)
 
 pub invariant_of-self-3 : goal.invariant_of-self-3

@@ -1,4 +1,4 @@
-use Rattle.std.proofs.Common.{◌≡◌, ◌∙◌, ℕ, true, List, inl, sym, ap, subst, arith}
+use Rattle.std.proofs.Common.{◌≡◌, ◌∙◌, ℕ, true, List, inl, sym, ap, subst, arith, refl}
 use Rattle.std.specs.Prelude.{Some, None, Err, is_some}
 use Rattle.std.proofs.Math.Logic.{∥∥₁_elim}
 use Rattle.std.proofs.lemmas.Option.{none-some, same_Some}
@@ -13,14 +13,15 @@ use Rattle.rss_base.specs.declared.relation.RelationEntry.{RelationEntry}
 use Rattle.rss_model.proofs.Endings.{comes_to}
 use Rattle.rss_model.proofs.Lengths.{tuple_line}
 use Rattle.rss_model.proofs.Totals.{stops as stops_by}
-use Rattle.rss_rsi.specs.Bodies.{IsBodyOf}
+use Rattle.rss_access.specs.Bodies.{IsBodyOf}
 use Rattle.rss_rsi.specs.Lookups.{HasFound}
-use Rattle.rss_rsi.specs.Tuples.{FindsBody}
+use Rattle.rss_access.specs.Tuples.{FindsBody}
 use Rattle.rss_rsi.specs.declared.session.Session.{Session}
-use Rattle.rss_rsi.proofs.Following.{fetch_misses, fetches_step}
+use Rattle.rss_model.specs.Steps.{locked}
+use Rattle.rss_rsi.proofs.Following.{quiet_in, fetched_in, fetch_misses, fetches_step}
 use Rattle.rss_rsi.proofs.Joining.{looks_as, goes_looked, look_failed}
 use Rattle.rss_rsi.proofs.Answering.{refused_test, refused_so, unanswered_looked}
-use Rattle.rss_rsi.proofs.Numbered.{entry_at, name_of}
+use Rattle.rss_access.proofs.Numbered.{entry_at, name_of}
 use Rattle.rss_rsi.proofs.Spelling.{found_values, found_tuple, found_none}
 use Rattle.rss_rsi.proofs.Tested.{fetch_unfit}
 use Rattle.rss_rsi.proofs.engine.Rss.fetch.Goals as goal
@@ -42,7 +43,7 @@ returns-in_err-look g c =
     let looks = c.in_err-look.ensures.looks in
     let why = err_from_is_err_and c.from_residual-in_err-look.result c.from_residual-in_err-look.ensures.1 in
     look_failed _ _ (why.1 ∙ ap Err why.2) c.requires looks.on (goes_looked call looks.on (omega arith) (λ pages. omega arith)) looks.ends
-    (λ told state shown. stops_by shown.kept call tt (looks.on.moments told state shown))
+    (λ told state shown. stops_by shown.kept call refl tt (looks.on.moments told state shown))
 
 pub returns-then-not-branch : goal.returns-then-not-branch
 returns-then-not-branch g c =
@@ -59,7 +60,7 @@ returns-then-not-branch g c =
     refused_so _ c.no_tuple.ensures.is c.requires looks.ends looks.on (goes_looked call looks.on (omega arith) (λ pages. omega arith)) c.no_tuple.ensures.short (λ told state shown.
     let finds = rw c.if-not-branch.true at (look.finds (looks.on.told told)) in
     let none = found_none (looks.on.shows told state shown) number entry at c.args.tid c.look.new.into finds in
-    fetch_misses state c.args.transaction c.args.relation.now c.args.tid (admitted.tests state shown.counts) (subst (λ (name : Name). HasFound state name c.args.tid None) named none))
+    fetch_misses state (quiet_in shown) c.args.transaction c.args.relation.now c.args.tid (admitted.tests state shown.counts) (subst (λ (name : Name). HasFound state name c.args.tid None) named none))
 
 pub returns-in-Ok-Some : goal.returns-in-Ok-Some
 returns-in-Ok-Some g c =
@@ -82,11 +83,12 @@ returns-in-Ok-Some g c =
           let finds = rw c.if-not-branch.false at (look.finds (looks.on.told told)) in
           let in_it = subst (λ (r : RelationEntry). FindsBody r.segment number c.args.tid (g.S.Pages.view mid.tuples.pages) true c.look.new.into) one finds in
           let has = found_tuple (looks.on.shows told state shown) number entry c.relation-entry.ensures.is c.args.tid c.look.new.into in_it c.in-Ok-Some.tuple body in
+          let made = fetches_step state (quiet_in shown) c.args.transaction c.args.relation.now c.args.tid c.in-Ok-Some.tuple (admitted.tests state shown.counts) (subst (λ (name : Name). HasFound state name c.args.tid (Some c.in-Ok-Some.tuple)) named has) in
           record {
-            next = state;
-            shows = looks.on.shows told state shown;
+            next = locked call state;
+            shows = fetched_in (looks.on.shows told state shown) c.args.transaction c.args.relation.now c.args.tid made;
             answered = record {
-              step = fetches_step state c.args.transaction c.args.relation.now c.args.tid c.in-Ok-Some.tuple (admitted.tests state shown.counts) (subst (λ (name : Name). HasFound state name c.args.tid (Some c.in-Ok-Some.tuple)) named has);
+              step = made;
               moments = widened (looks.on.moments told state shown) (λ image opens. inl opens);
             };
           };

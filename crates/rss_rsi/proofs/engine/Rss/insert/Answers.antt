@@ -7,13 +7,14 @@ use Rattle.rss_tuple.specs.Calls.{MayPut}
 use Rattle.rss_model.specs.Steps.{unless_free, if_used_up}
 use Rattle.rss_model.proofs.Endings.{comes_to}
 use Rattle.rss_model.proofs.Lengths.{identifier_line}
-use Rattle.rss_rsi.specs.Tuples.{Inserts}
+use Rattle.rss_access.specs.Tuples.{Inserts}
 use Rattle.rss_rsi.proofs.Engines.{goes, fixes_still}
-use Rattle.rss_rsi.proofs.Following.{unless_free_passes, inserts_step}
+use Rattle.rss_rsi.proofs.Following.{quiet_in, unless_free_passes, inserts_step}
 use Rattle.rss_rsi.proofs.Answering.{refused_test, refused_told}
-use Rattle.rss_rsi.proofs.Numbered.{entry_at, name_of}
+use Rattle.rss_access.proofs.Numbered.{entry_at, name_of}
 use Rattle.rss_rsi.proofs.Readied.{stays_counted, ready_changed, changed_counted}
-use Rattle.rss_rsi.proofs.Spelling.{can_change, may_put_safe}
+use Rattle.rss_access.proofs.Spelling.{may_put_safe}
+use Rattle.rss_rsi.proofs.Spelling.{can_change}
 use Rattle.rss_rsi.proofs.Tested.{insert_unfit, insert_used_up, insert_full}
 use Rattle.rss_rsi.proofs.Changing.{answers_change, shows_change, fails_change}
 use Rattle.rss_rsi.proofs.engine.Rss.insert.Goals as goal
@@ -47,7 +48,7 @@ returns-in_err-test_room g c =
     refused_told _ c.from_residual-in_err-test_room.ensures.1 c.requires tests.1 (λ told state shown.
     let few = ap (if_used_up state) (sym has.named) ∙ c.in_ok-test_limit.ensures.tests has.entry has.at state shown.counts in
     let free = unless_free_passes shown (store.ready c.requires) c.args.transaction admitted.«open» c.in_ok-number.number has.entry has.at (g.met.S.Pages.are_counted store.tuples.pages) (g.met.S.Pages.holds store.tuples.pages told) in
-    insert_full state c.args.transaction c.args.relation.now c.args.tuple.now (admitted.tests state shown.counts) few (ap (unless_free state c.args.transaction) (sym has.named) ∙ free) (tests.0 state shown.counts))
+    insert_full state c.args.transaction c.args.relation.now c.args.tuple.now (admitted.tests state shown.counts) (quiet_in shown) few (ap (unless_free state c.args.transaction) (sym has.named) ∙ free) (tests.0 state shown.counts))
 
 pub body_of-body-requires : goal.body_of-body-requires
 body_of-body-requires g c = record {
@@ -78,7 +79,7 @@ returns-in_err-tid g c =
     let store = c.args.self.now in
     let ready = store.ready c.requires in
     let did = c.in_err-tid.ensures.did in
-    fails_change ready _ c.from_residual-in_err-tid.ensures.1 c.requires (λ up. absurd (cc)) (λ looks. looks) tt did (goes ready.settled_now did.step refl tt (λ pages. tt))
+    fails_change ready _ c.from_residual-in_err-tid.ensures.1 c.requires (λ up. absurd (cc)) refl tt did (goes ready.settled_now did.step refl tt (λ pages. tt))
 
 pub invariant_of-self-2 : goal.invariant_of-self-2
 invariant_of-self-2 g c =

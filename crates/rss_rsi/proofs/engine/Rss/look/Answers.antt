@@ -1,4 +1,4 @@
-use Rattle.std.proofs.Common.{Bool, true, false, not, ◌≡◌, ◌∙◌, sym, ap}
+use Rattle.std.proofs.Common.{true, false, ◌≡◌}
 use Rattle.std.specs.Prelude.{Err}
 use Rattle.rss_base.proofs.Steps.{cause_of}
 use Rattle.rss_rsi.specs.Parts.{view}
@@ -7,10 +7,6 @@ use Rattle.rss_rsi.proofs.Engines.{ready_read, shows_read, looks_on}
 use Rattle.rss_rsi.proofs.Looking.{finds_read}
 use Rattle.rss_rsi.proofs.Joining.{look_ends}
 use Rattle.rss_rsi.proofs.engine.Rss.look.Goals as goal
-use Rattle.rss_rsi.proofs.engine.Rss.look.Goals.{in-NoMemory, in_default}
-
-not_up : (b : Bool) → b ≡ false → not b ≡ false → ⊥
-not_up b is up = let both : true ≡ false = ap not (sym is) ∙ up in absurd (cc)
 
 pub find-requires : goal.find-requires
 find-requires g c = (c.args.self.now.ready c.requires).heaps
@@ -47,17 +43,11 @@ returns-in-Ok-clause-finds g c = λ told.
     let before = read.did.step.passes.leaves.told.1 told in
     finds_read read.did.step before (read.finds before)
 
-pub returns-after-matches-clause-looks : goal.returns-after-matches-clause-looks
-returns-after-matches-clause-looks g c =
+pub returns-in-Err-clause-looks : goal.returns-in-Err-clause-looks
+returns-in-Err-clause-looks g c =
     let store = c.args.self.now in
     let read = c.in-Err.ensures in
     record {
       on = looks_on (store.ready c.requires) read.did.step;
-      ends = look_ends (view store) (engine_view (g.S.Pages.view c.find.new.tuples.pages) store.number store.root store.session (not c.match-matches.matches ≡ false)) (Err c.from.result) c.from.ensures (cause_of read.did) (λ other up. elim c.match-matches.branch [
-        | in-NoMemory w ↦ absurd (other w.in-NoMemory.is)
-        | in_default w ↦ not_up _ w.matches-is up
-      ]) (λ fault. elim c.match-matches.branch [
-        | in-NoMemory w ↦ ap not w.matches-is
-        | in_default w ↦ absurd (w.in_default.not-NoMemory fault)
-      ]);
+      ends = look_ends (view store) (engine_view (g.S.Pages.view c.find.new.tuples.pages) store.number store.root store.session (true ≡ false)) (Err c.from.result) c.from.ensures (cause_of read.did) (λ up. absurd (cc));
     }

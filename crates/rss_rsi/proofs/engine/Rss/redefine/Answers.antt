@@ -27,7 +27,7 @@ returns-in_err-save g c = λ before call is.
     let down = c.in_err-save.ensures.down in
     let saves = c.in_err-save.ensures.saves in
     let why = err_from_is_err_and c.from_residual.result c.from_residual.ensures.1 in
-    fails_saving before _ _ saves.on call _ _ (why.1 ∙ ap Err why.2) refl (λ up. absurd (cc)) defines.1 (goes_saving before _ _ saves.on call (sym so.0.slots) defines.0.1 (define_writes is.ready is.size so.0 saves.on)) saves.ends
+    fails_saving before _ _ saves.on call _ _ (why.1 ∙ ap Err why.2) refl (λ up. absurd (cc)) (goes_saving before _ _ saves.on call (sym so.0.slots) defines.1 (define_writes is.ready is.size so.0 saves.on)) saves.ends
     (λ told state shown. define_may_stop is.ready is.size so.0 shown (so.1 state shown.counts) is.names saves.on told)
 
 pub invariant_of-self-2 : goal.invariant_of-self-2
@@ -54,5 +54,5 @@ returns g c = λ before call is.
     let saves = c.in_ok-save.ensures.saves in
     let can = can_define is.ready is.size so.0 in
     let same = slots_same is.ready is.size so.0 in
-    comes_to refl (goes_saving before _ _ saves.on call (sym so.0.slots) defines.0.1 (define_writes is.ready is.size so.0 saves.on))
-    (defined_by defines.0.0 is.names refl (none_left can same saves.on saves.ends) saves.ends.since (λ told state shown. is_defined is.ready is.size so.0 shown (so.1 state shown.counts) is.names saves.on told _ _ saves.ends (g.met.S.Pages.holds c.args.self.now.tuples.pages told)))
+    comes_to refl (goes_saving before _ _ saves.on call (sym so.0.slots) defines.1 (define_writes is.ready is.size so.0 saves.on))
+    (defined_by defines.0 is.names refl (none_left can same saves.on saves.ends) saves.ends.since (λ told state shown. is_defined is.ready is.size so.0 shown (so.1 state shown.counts) is.names saves.on told _ _ saves.ends (g.met.S.Pages.holds c.args.self.now.tuples.pages told)))

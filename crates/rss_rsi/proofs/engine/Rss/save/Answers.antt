@@ -1,6 +1,6 @@
 use Rattle.std.proofs.Common.{◌∙◌, refl, sym, ap, subst, arith}
 use Rattle.rss_catalog.specs.Catalogs.{CatalogView}
-use Rattle.rss_model.specs.Store.{stored, IsStore}
+use Rattle.rss_model.specs.Store.{first_stored as stored, IsStore}
 use Rattle.rss_rsi.specs.Parts.{parts}
 use Rattle.rss_rsi.proofs.Committing.{passes_save, save_failed, are_saved, same_heap, heap_room}
 use Rattle.rss_rsi.proofs.engine.Rss.save.Goals as goal
@@ -8,7 +8,7 @@ use Rattle.rss_rsi.proofs.engine.Rss.save.Goals as goal
 pub returns-in_err-self-clause-saves : goal.returns-in_err-self-clause-saves
 returns-in_err-self-clause-saves g c =
     let saved = c.in_err-self.ensures in
-    save_failed (parts c.args.self.now) _ _ c.from_residual.ensures.1 (passes_save (parts c.args.self.now) _ saved.did refl saved.writes saved.moments) saved.did saved.unmade
+    save_failed (parts c.args.self.now) _ _ c.from_residual.ensures.1 (passes_save (parts c.args.self.now) _ saved.did refl saved.writes saved.moments) saved.did
 
 pub saved_heap-heap-requires-clause-saved : goal.saved_heap-heap-requires-clause-saved
 saved_heap-heap-requires-clause-saved g c =

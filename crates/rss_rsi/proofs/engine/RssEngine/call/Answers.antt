@@ -5,7 +5,7 @@ use Rattle.rss_model.proofs.Endings.{comes_to, costs_nothing}
 use Rattle.rss_catalog.specs.Catalogs.{CatalogView}
 use Rattle.rss_rsi.specs.Ready.{changed_with}
 use Rattle.rss_rsi.proofs.Engines.{ready_session}
-use Rattle.rss_rsi.proofs.Beginning.{begin_leads, begin_shows, begin_refused}
+use Rattle.rss_rsi.proofs.Beginning.{begin_leaves, begin_since, begin_leads, begin_shows, begin_refused}
 use Rattle.rss_rsi.proofs.engine.RssEngine.call.Goals as goal
 
 pub returns-in-End-clause-done : goal.returns-in-End-clause-done
@@ -58,6 +58,6 @@ returns-in_ok-begin-in-Begin-clause-done g c =
       answered = λ told state shown. begin_leads begun.same_catalog shown begun.begins;
       up = c.if-self.false;
       short = begun.begins.short;
-      changed = λ key is. inl (ap (λ (d : CatalogView). changed_with (g.S.Pages.view store.tuples.pages) d key) (sym begun.same_catalog) ∙ is, tt);
-      since = begun.same_since;
+      changed = λ key is. inl (ap (λ (d : CatalogView). changed_with (g.S.Pages.view store.tuples.pages) d key) (sym begun.same_catalog) ∙ is, begin_leaves c.in-Begin.transaction c.in_ok-begin-in-Begin.field-0);
+      since = begun.same_since ∙ sym (begin_since c.in-Begin.transaction c.in_ok-begin-in-Begin.field-0 store.session.since);
     }))

@@ -1,5 +1,5 @@
 use Rattle.std.proofs.Common.{◌∙◌, ap, Some, rules}
-use Rattle.rss_model.specs.Steps.Step.{refuses, begins}
+use Rattle.rss_model.specs.Steps.StepBy.{refuses, begins}
 use Rattle.rss_rsi.proofs.Refusals.{already_open, too_many, may_begin, begun_counts}
 use Rattle.rss_rsi.proofs.session.Session.begin.Goals as goal
 

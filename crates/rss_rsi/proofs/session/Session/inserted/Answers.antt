@@ -6,7 +6,7 @@ use Rattle.rss_base.specs.Listings.{with_relation, with_count}
 use Rattle.rss_base.specs.declared.relation.RelationEntry.{RelationEntry}
 use Rattle.rss_base.specs.declared.refusal.Kind.TheVariants.{Relation as RelationKind}
 use Rattle.rss_catalog.specs.Catalogs.{Lists, page_of}
-use Rattle.rss_rsi.proofs.Numbered.{places_counted}
+use Rattle.rss_access.proofs.Numbered.{places_counted}
 use Rattle.rss_rsi.proofs.session.Session.inserted.Goals as goal
 
 pub returns-clause-counts : goal.returns-clause-counts

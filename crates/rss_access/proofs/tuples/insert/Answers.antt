@@ -1,7 +1,7 @@
 use Rattle.rss_base.proofs.Steps.{done}
 use Rattle.rss_tuple.proofs.Seen.{found_damaged}
-use Rattle.rss_rsi.proofs.TupleChanges.{some_unmapped, free_there, inserts_tuple}
-use Rattle.rss_rsi.proofs.tuples.insert.Goals as goal
+use Rattle.rss_access.proofs.TupleChanges.{some_unmapped, free_there, inserts_tuple}
+use Rattle.rss_access.proofs.tuples.insert.Goals as goal
 
 pub returns-in-Some-clause-inserts : goal.returns-in-Some-clause-inserts
 returns-in-Some-clause-inserts g c = inserts_tuple c.requires.put.length (rw c.in-Some.is at c.in_ok-tid.ensures.inserts) c.in_ok-tid.ensures.did.heaps

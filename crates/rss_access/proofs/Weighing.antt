@@ -14,13 +14,15 @@ use Rattle.rss_base.specs.declared.value.Value.{Value}
 use Rattle.rss_base.specs.declared.item.Item.TheVariants.{Tuple as TupleItem}
 use Rattle.rss_tuple.specs.Directory.{Bodies, tid_at}
 use Rattle.rss_model.specs.Items.{Values, name_cmp}
-use Rattle.rss_model.specs.Tables.{Tables, content}
+use Rattle.rss_model.specs.Fits.{ArePlain}
+use Rattle.rss_model.specs.Tables.{Definitions, Tables, content}
 use Rattle.rss_model.specs.Meter.{is_in_segment, relations_in, held_size, bytes_of, bytes_on}
-use Rattle.rss_model.specs.Store.{Defines, SpellsContents, body_of}
+use Rattle.rss_model.specs.Store.{Defines, plain_body as body_of}
+use Rattle.rss_model.proofs.PlainStores.{no_blocks, plain_defined, PlainContents as SpellsContents}
 use Rattle.rss_model.proofs.Codes.{name_apart}
 use Rattle.rss_model.proofs.Frees.{stands_in, is_listed}
 use Rattle.rss_model.proofs.Listed.{stands_within}
-use Rattle.rss_rsi.specs.Tuples.{size_of_body, bytes_at}
+use Rattle.rss_access.specs.Tuples.{size_of_body, bytes_at}
 
 -- ---- sums of sums
 
@@ -57,16 +59,19 @@ kept_less test g (k ∷ list) name there is = elim (or_cases (eq_by_cmp name_cmp
       ]
 ]
 
+le_by : {a b c : ℕ} → a ≤ b → b ≡ c → a ≤ c
+le_by less same = omega (arith, less, same)
+
 -- ---- the bytes of a page
 
 -- a tuple has as many bytes as its body
-pub values_size : (number : ℕ) (values : List Value) → held_size (Some (Values values)) ≡ size_of_body (Some (body_of number values))
-values_size number values = omega arith
+pub values_size : {definitions : Definitions} → ArePlain definitions → (relation : Name) (number : ℕ) (values : List Value) → held_size definitions relation (Some (Values values)) ≡ size_of_body (Some (body_of number values))
+values_size plain relation number values = let none = no_blocks plain relation in omega (arith, none)
 
 module _ {listing : Listing} {bodies : Bodies} (tables : Tables) (fits : ListingFits listing) (defines : Defines listing tables.definitions) (spells : SpellsContents listing bodies tables.contents) (n : ℕ) (segment : Name) (named : segment_at listing n ≡ Some segment) where
   -- how many bytes a tuple of a relation has
   abbrev size_at : Tid → Name → ℕ
-  size_at tid relation = held_size (content tables.contents (TupleItem relation tid))
+  size_at tid relation = held_size tables.definitions relation (content tables.contents (TupleItem relation tid))
 
   -- a body is that of a tuple of one of the relations
   body_less : (tid : Tid) (body : Option (List ℕ)) → bodies n tid ≡ body → size_of_body body ≤ sum_by (size_at tid) (relations_in tables segment)
@@ -74,12 +79,12 @@ module _ {listing : Listing} {bodies : Bodies} (tables : Tables) (fits : Listing
   body_less tid (Some body) is =
       let of = spells.bodies_are n tid body is in
       let stands = stands_within tables fits defines of.number of.relation of.at segment (ap (segment_at listing) of.within ∙ named) in
-      let size : size_at tid of.relation.name ≡ size_of_body (Some body) = ap held_size of.holds ∙ values_size of.number of.values ∙ ap (λ (b : List ℕ). size_of_body (Some b)) (sym of.is) in
+      let size : size_at tid of.relation.name ≡ size_of_body (Some body) = ap (held_size tables.definitions of.relation.name) of.holds ∙ values_size (plain_defined fits.plain defines) of.relation.name of.number of.values ∙ ap (λ (b : List ℕ). size_of_body (Some b)) (sym of.is) in
       omega (arith, size, kept_less (is_in_segment tables segment) (size_at tid) (map.keys tables.definitions.relations) of.relation.name (is_listed tables segment of.relation.name stands) (stands_in tables segment of.relation.name stands))
 
   -- the tuples of the segment's relations have all bytes of its bodies
   pub bytes_less : (page : ℕ) → bytes_at bodies n page ≤ bytes_on tables segment page
   unfolding bytes_of
   bytes_less page =
-      let each = sum_by-le-sum_by (λ slot. size_of_body (bodies n (tid_at page slot))) (λ slot. sum_by (size_at (tid_at page slot)) (relations_in tables segment)) (range_with_len 0 128) (λ slot. body_less (tid_at page slot) _ refl) in
-      omega (arith, each, sums_turned (λ slot. size_at (tid_at page slot)) (range_with_len 0 128) (relations_in tables segment))
+      le_by (sum_by-le-sum_by (λ slot. size_of_body (bodies n (tid_at page slot))) (λ slot. sum_by (size_at (tid_at page slot)) (relations_in tables segment)) (range_with_len 0 128) (λ slot. body_less (tid_at page slot) _ refl))
+      (sums_turned (λ slot. size_at (tid_at page slot)) (range_with_len 0 128) (relations_in tables segment))

@@ -1,15 +1,13 @@
--- How many pages are mapped, where a call maps one more at most, and where all of them are those of a store.
-use Rattle.std.proofs.Common.{◌≡◌, ◌≢◌, inl, inr, ⊎_elim, ℕ, zero, suc, ◌+◌, ◌<◌, ◌≤◌, Bool, true, false, cond, refl, sym, ◌∙◌, ap, arith}
+-- How many pages are mapped, where a call maps one more at most.
+use Rattle.std.proofs.Common.{◌≡◌, ◌≢◌, inl, inr, ℕ, zero, suc, ◌+◌, ◌<◌, ◌≤◌, Bool, true, false, cond, refl, sym, ◌∙◌, ap, arith}
 use Rattle.std.specs.Prelude.{sum_by}
 use Rattle.std.specs.List.{range_with_len}
-use Rattle.std.proofs.lemmas.Bool.{cases_lt, false_from_ne_true}
+use Rattle.std.proofs.lemmas.Bool.{cases_lt}
 use Rattle.std.proofs.lemmas.List.Sums.{sum_by-cons}
-use Rattle.rss_base.specs.Sizes.{system_pages}
 use Rattle.rss_base.specs.Paged.{Mapped, page_key, mapped_in, mapped_of, mapped_pages}
 use Rattle.rss_base.specs.declared.key.PageKey.{PageKey}
 use Rattle.rss_base.specs.declared.key.Space.{Space}
 use Rattle.rss_base.specs.declared.key.Space.TheVariants.{Home, Overflow, Image, System}
-use Rattle.rss_rsi.specs.Ready.{IsSystemOrHeap}
 
 -- ---- sums over a range of numbers
 
@@ -42,14 +40,6 @@ module _ (f g : ℕ → ℕ) where
         omega (arith, most a, rest, sum_by-cons f a (range_with_len (a + 1) n), sum_by-cons g a (range_with_len (a + 1) n))
     | inr below ↦ omega (arith, below, one_rises (a + 1) n most alone, sum_by-cons f a (range_with_len (a + 1) n), sum_by-cons g a (range_with_len (a + 1) n))
   ]
-
-all_zero : (f : ℕ → ℕ) (a n : ℕ) → ((j : ℕ) → f j ≡ 0) → sum_by f (range_with_len a n) ≡ 0
-all_zero f a zero none = refl
-all_zero f a (suc n) none = omega (arith, none a, all_zero f (a + 1) n none, sum_by-cons f a (range_with_len (a + 1) n))
-
-all_one : (f : ℕ → ℕ) (a n : ℕ) → ((j : ℕ) → j < a + n → f j ≡ 1) → sum_by f (range_with_len a n) ≡ n
-all_one f a zero each = refl
-all_one f a (suc n) each = omega (arith, each a (omega arith), all_one f (a + 1) n (λ j lt. each j (omega (arith, lt))), sum_by-cons f a (range_with_len (a + 1) n))
 
 -- ---- one page more at most
 
@@ -125,20 +115,3 @@ module _ (old new : Mapped) (one : (key other : PageKey) → new key ≡ true �
       (λ a b. apart (λ is. absurd (cc)) (new_of Overflow slots a).1 (new_of Image slots b).1)
       (λ a b. apart (λ is. absurd (cc)) (new_of Overflow slots a).1 (new_in System 10 0 b).1)
       (λ a b. apart (λ is. absurd (cc)) (new_of Image slots a).1 (new_in System 10 0 b).1)
-
--- ---- the pages of a store
-
-module _ (mapped : Mapped) (only : (key : PageKey) → mapped key ≡ true → IsSystemOrHeap key) where
-  no_image : (segment number : ℕ) → mapped (page_key segment Image number) ≡ false
-  no_image segment number = false_from_ne_true (mapped (page_key segment Image number)) (λ is. elim (only (page_key segment Image number) is) [
-    | inl system ↦ absurd (cc)
-    | inr heap ↦ ⊎_elim (λ home. absurd (cc)) (λ over. absurd (cc)) heap
-  ])
-
-  -- those of the system space, and the home and overflow pages
-  pub pages_are : (slots : ℕ) → ((number : ℕ) → number < system_pages → mapped (page_key 0 System number) ≡ true) → mapped_pages slots mapped ≡ mapped_of mapped Home slots + mapped_of mapped Overflow slots + system_pages
-  unfolding mapped_pages
-  pages_are slots system =
-      let images : mapped_of mapped Image slots ≡ 0 = all_zero (mapped_in mapped Image slots) 1 8 (λ segment. all_zero (λ n. count_of (mapped (page_key segment Image n))) 0 slots (λ n. ap count_of (no_image segment n))) in
-      let systems : mapped_in mapped System 10 0 ≡ 10 = all_one (λ n. count_of (mapped (page_key 0 System n))) 0 10 (λ n lt. ap count_of (system n lt)) in
-      omega (arith, images, systems)

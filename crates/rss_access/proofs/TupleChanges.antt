@@ -29,7 +29,7 @@ use Rattle.rss_tuple.proofs.Seen.{high_empty}
 use Rattle.rss_tuple.proofs.Changes.{empty_absent, live_some, fits_unmapped}
 use Rattle.rss_tuple.proofs.Placed.{empty_there}
 use Rattle.rss_model.specs.Costs.{IsPageFor}
-use Rattle.rss_rsi.specs.Tuples.{body_at, size_of_body, bytes_at, ChangesTuple, Inserts, FindsBody}
+use Rattle.rss_access.specs.Tuples.{body_at, size_of_body, bytes_at, ChangesTuple, Inserts, FindsBody}
 
 -- ---- sums over a range of numbers
 
@@ -211,8 +211,12 @@ changes_put (Err e) low few longer puts = tt
 changes_put (Ok value) low few longer puts = changes_by low few longer puts.takes puts.did.below.step.changed_off puts.put puts.did.heaps
 
 -- no tuple stood there
-longer_new : (old new : PagesView) (segment : ℕ) (tid : Tid) (body : List ℕ) → 1 ≤ length body → (IsTold old.disk → bodies_of old.held segment tid ≡ None) → OnlyLonger old new segment tid body
+pub longer_new : (old new : PagesView) (segment : ℕ) (tid : Tid) (body : List ℕ) → 1 ≤ length body → (IsTold old.disk → bodies_of old.held segment tid ≡ None) → OnlyLonger old new segment tid body
 longer_new old new segment tid body some absent told key space is not = omega (arith, some, ap size_of_body (absent told))
+
+pub longer_ok : {T : Type 0} {A : Type 0} (result : Result T PageFault) → A → OnOk result A
+longer_ok (Ok value) a = a
+longer_ok (Err e) a = tt
 
 -- so an insert changes one tuple
 pub inserts_tuple : {segment : ℕ} {tid : Tid} {body : List ℕ} {old new : PagesView} → IsBodyLength (length body) → InsertsAt segment body [] (tuples_in old) (tuples_in new) tid → (IsTold old.disk → AreHeaps new) → Inserts segment body old new tid

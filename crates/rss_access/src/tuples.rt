@@ -6,10 +6,11 @@ ghost use Rattle.rss_base.specs.Steps.{PagesCall, no_page};
 ghost use Rattle.rss_base.specs.declared.fault.PageFault.TheVariants.{Damaged};
 ghost use Rattle.rss_base.specs.declared.key.Space.TheVariants.{Home};
 ghost use Rattle.rss_base.specs.declared.place.Place.TheVariants.{Page as PagePlace};
-ghost use Rattle.rss_tuple.specs.Calls.{IsSegment, MayPut};
+ghost use Rattle.rss_tuple.specs.Calls.{IsSegment, MayPut, MayInsert};
+ghost use Rattle.rss_tuple.specs.TupleSteps.{tuples_in};
 ghost use Rattle.rss_tuple.specs.Checked.{pages_of};
 ghost use Rattle.rss_tuple.specs.Heaps.{AreHeaps};
-ghost use Rattle.rss_rsi.specs.Tuples.{body_at, CanChange, ChangesTuple, Inserts, FindsBody};
+ghost use Rattle.rss_access.specs.Tuples.{body_at, CanChange, ChangesTuple, Inserts, FindsBody};
 
 use rss_base::{Body, PageFault, PageKey, Pages, Place, Space, Tid};
 use rss_tuple::{Store, Tuples};
@@ -26,11 +27,7 @@ fn damaged(segment: u8) -> PageFault
 }
 
 /// Puts a tuple with this body into a segment, and answers the identifier that it got.
-pub(crate) fn insert<P: Pages>(
-    tuples: &mut Store<P>,
-    segment: u8,
-    body: &[u8],
-) -> Result<Tid, PageFault>
+pub fn insert<P: Pages>(tuples: &mut Store<P>, segment: u8, body: &[u8]) -> Result<Tid, PageFault>
     requires may { CanChange (P.view tuples.old.pages) }
     requires put { MayPut segment (length body.now) }
     ensures inserts { IfOk result
@@ -45,9 +42,26 @@ pub(crate) fn insert<P: Pages>(
     }
 }
 
+/// Puts a tuple with this body at an identifier that none has.
+pub(crate) fn put_at<P: Pages>(
+    tuples: &mut Store<P>,
+    segment: u8,
+    tid: Tid,
+    body: &[u8],
+) -> Result<(), PageFault>
+    requires { MayInsert (tuples_in (P.view tuples.old.pages)) segment tid (length body.now) }
+    ensures changes { OnOk result (ChangesTuple segment tid (Some body.now)
+        (P.view tuples.old.pages) (P.view tuples.new.pages)) }
+    ensures did { PagesCall (pages_of segment) ((P.view tuples.old.pages).slots + 4)
+        ((P.view tuples.old.pages).slots + 4)
+        (P.view tuples.old.pages) (P.view tuples.new.pages) result }
+{
+    tuples.insert_at(segment, tid, body)
+}
+
 /// Whether the tuple of a segment with this identifier is one of the relation of this number. If so,
 /// its body is put into `into`.
-pub(crate) fn find<P: Pages>(
+pub fn find<P: Pages>(
     tuples: &mut Store<P>,
     segment: u8,
     number: u8,
@@ -66,7 +80,7 @@ pub(crate) fn find<P: Pages>(
 }
 
 /// Gives a tuple another body.
-pub(crate) fn update<P: Pages>(
+pub fn update<P: Pages>(
     tuples: &mut Store<P>,
     segment: u8,
     tid: Tid,
@@ -86,11 +100,7 @@ pub(crate) fn update<P: Pages>(
 }
 
 /// Takes a tuple away.
-pub(crate) fn delete<P: Pages>(
-    tuples: &mut Store<P>,
-    segment: u8,
-    tid: Tid,
-) -> Result<(), PageFault>
+pub fn delete<P: Pages>(tuples: &mut Store<P>, segment: u8, tid: Tid) -> Result<(), PageFault>
     requires may { CanChange (P.view tuples.old.pages) }
     requires segment { IsSegment segment }
     requires live { IsTold (P.view tuples.old.pages).disk

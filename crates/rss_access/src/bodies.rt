@@ -2,15 +2,15 @@
 ghost use Rattle.std.specs.Prelude.{◌≡◌, ◌≤◌, [], Some, None, All, IfOk, IfSome, List};
 ghost use Rattle.rss_base.specs.TupleTypes.{kinds, misfit, width, most_width, IsStorable};
 ghost use Rattle.rss_base.specs.declared.value.Value.{Value as FieldValue};
-ghost use Rattle.rss_model.specs.Store.{body_of};
-ghost use Rattle.rss_rsi.specs.Bodies.{IsBodyOf};
+ghost use Rattle.rss_model.specs.Store.{plain_body as body_of};
+ghost use Rattle.rss_access.specs.Bodies.{IsBodyOf};
 
 use rss_base::{Body, FieldDef, Tuple};
 use rss_value::{decode, encode};
 use std::alloc::{AllocError, Global};
 
 /// The body of a tuple of the relation of this number, which has these fields.
-pub(crate) fn body_of(number: u8, fields: &[FieldDef], tuple: &Tuple) -> Body
+pub fn body_of(number: u8, fields: &[FieldDef], tuple: &Tuple) -> Body
     requires fit { misfit (kinds fields.now) tuple.now ≡ None }
     requires narrow { width (kinds fields.now) ≤ most_width }
     ensures is { result ≡ body_of number tuple.now }
@@ -23,7 +23,7 @@ pub(crate) fn body_of(number: u8, fields: &[FieldDef], tuple: &Tuple) -> Body
 }
 
 /// The tuple that a body is of, where its relation has this number and these fields.
-pub(crate) fn tuple_of(
+pub fn tuple_of(
     alloc: Global,
     number: u8,
     fields: &[FieldDef],

@@ -1,8 +1,8 @@
 use Rattle.std.proofs.Common.{arith}
 use Rattle.rss_base.proofs.Steps.{widens}
 use Rattle.rss_tuple.proofs.Inserted.{heap_key}
-use Rattle.rss_rsi.proofs.TupleChanges.{longer_put, changes_put, live_low}
-use Rattle.rss_rsi.proofs.tuples.update.Goals as goal
+use Rattle.rss_access.proofs.TupleChanges.{longer_put, changes_put, live_low}
+use Rattle.rss_access.proofs.tuples.update.Goals as goal
 
 pub returns-clause-changes : goal.returns-clause-changes
 returns-clause-changes g c =

@@ -16,7 +16,8 @@ use Rattle.rss_tuple.specs.Heaps.{IsHeap, AreLinked, AreHeaps}
 use Rattle.rss_catalog.specs.Catalogs.{CatalogView, IsPending, pending_pages, StoresListing}
 use Rattle.rss_model.specs.Tables.{Tables}
 use Rattle.rss_model.specs.Store.{SpellsTables, SpellsContents, IsStorePage}
-use Rattle.rss_rsi.specs.Ready.{AreWritten, is_pending}
+use Rattle.rss_model.proofs.PlainStores.{plain_images, none_imaged}
+use Rattle.rss_access.specs.Written.{AreWritten, is_pending}
 
 -- pages that hold the same, but for those of the system space
 abbrev pub SameOffSystem : (old new : Held) → Type 0
@@ -50,6 +51,7 @@ module _ {old new : Held} (same : SameOffSystem old new) where
     defines = spells.defines;
     counts = spells.counts;
     contents = subst (λ (b : Bodies). SpellsContents listing b tables.contents) (sym bodies_same) spells.contents;
+    images = plain_images spells.listed.plain (λ key image there. none_imaged spells key image (ap is_some (sym (same key (λ system. let not : Image ≡ System = sym image ∙ system in absurd (cc)))) ∙ there));
   }
     where
       kept : (key : PageKey) → is_some (new key) ≡ true → key.space ≢ System → IsStorePage listing key

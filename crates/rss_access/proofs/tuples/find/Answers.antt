@@ -1,8 +1,8 @@
 use Rattle.std.proofs.Common.{◌≡◌, true, arith}
 use Rattle.std.specs.Prelude.{Some, slice_get}
 use Rattle.std.proofs.lemmas.Grind.{common_steps}
-use Rattle.rss_rsi.proofs.TupleChanges.{finds_body}
-use Rattle.rss_rsi.proofs.tuples.find.Goals as goal
+use Rattle.rss_access.proofs.TupleChanges.{finds_body}
+use Rattle.rss_access.proofs.tuples.find.Goals as goal
 
 pub returns-then-live-clause-finds : goal.returns-then-live-clause-finds
 returns-then-live-clause-finds g c = λ told.

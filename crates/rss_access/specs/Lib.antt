@@ -1,0 +1,5 @@
+pub mod Bodies
+pub mod Written
+pub mod Tuples
+pub mod Changes
+pub mod Edits

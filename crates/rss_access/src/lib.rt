@@ -1,0 +1,11 @@
+//! Tuples of relations in pages: what a change of one of them does there.
+#![tactic(auto)]
+
+mod applying;
+mod bodies;
+mod edit;
+mod tuples;
+
+pub use applying::{apply, undo};
+pub use bodies::{body_of, tuple_of};
+pub use tuples::{delete, find, insert, update};
