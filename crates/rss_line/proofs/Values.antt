@@ -1,8 +1,7 @@
 -- Values: numbers, and texts between quotes.
-use Rattle.std.proofs.Common.{◌≡◌, ◌∙◌, ℕ, ℤ, true, List, [], ◌∷◌, ◌++◌, Result, Ok, Err, IsErrAnd, refl, ap, sym, subst, arith, append_assoc, append-nil}
+use Rattle.std.proofs.Common.{◌≡◌, ◌∙◌, ℕ, ℤ, List, [], ◌∷◌, ◌++◌, Result, Ok, Err, IsErrAnd, refl, ap, sym, subst, arith, append_assoc, append-nil}
 use Rattle.std.specs.Prelude.{◌≢◌, All}
 use Rattle.std.proofs.lemmas.List.Elements.{All-nil, All-head}
-use Rattle.rss_base.specs.TupleTypes.{is_allowed_text}
 use Rattle.rss_base.specs.declared.value.Value.{Value}
 use Rattle.rss_base.specs.declared.value.Value.TheVariants.{Int, Text}
 use Rattle.rss_model.specs.Spellings.{space, quote, doubled}
@@ -41,13 +40,13 @@ off_skips off = record { spaces = []; before = All-nil (λ n. n ≡ space); part
 
 -- a value that begins with a quote is a text
 pub quote_front : {bytes word rest : List ℕ} (value : Value) → Begins (quote ∷ bytes) word rest → IsValue word value
-    → (text : List ℕ) × (value ≡ Text text) × (bytes ≡ doubled text ++ quote ∷ rest) × (is_allowed_text text ≡ true)
+    → (text : List ℕ) × (value ≡ Text text) × (bytes ≡ doubled text ++ quote ∷ rest)
 quote_front {bytes = bytes} {word = word} {rest = rest} (Int z) begins is =
     absurd (int_off {word = word} {z = z} (record { spelled = is.spelled; proper = is.proper }) rest bytes
     (skipped (off_skips {bytes = quote ∷ bytes} (λ same. omega (arith, same))) (value_solid word (Int z) is) begins))
 quote_front {bytes = bytes} {word = word} {rest = rest} (Text text) begins is =
     let all = skipped (off_skips {bytes = quote ∷ bytes} (λ same. omega (arith, same))) (value_solid word (Text text) is) begins in
-    (text, refl, same_tail (all ∙ ap (λ l. l ++ rest) is.spelled) ∙ append_assoc (doubled text) (quote ∷ []) rest, is.proper)
+    (text, refl, same_tail (all ∙ ap (λ l. l ++ rest) is.spelled) ∙ append_assoc (doubled text) (quote ∷ []) rest)
 
 pub text_more : (old now new text : List ℕ) (b : ℕ) → old ≡ doubled text ++ now → now ≡ doubled (b ∷ []) ++ new → old ≡ doubled (text ++ b ∷ []) ++ new
 text_more old now new text b e f =
@@ -64,27 +63,27 @@ module _ {old new : List ℕ} where
   quoted_missing Words (Err f) (text, whole) is = record {
     ok = tt;
     all = λ word rest value begins has.
-        let (bytes, same, parts, allowed) = quote_front value begins has in
+        let (bytes, same, parts) = quote_front value begins has in
         absurd (not_empty (same_text text bytes [] (quote ∷ rest) tt (refl, apart_off rest begins.apart) (append-nil (doubled text) ∙ (sym whole ∙ parts))).1);
   }
   quoted_missing NoMemory (Err f) reads is = record { ok = tt; all = λ word rest value begins has. is }
 
-  pub quoted_read : (text : List ℕ) → ReadsText old new (Ok text) → IsApart new → is_allowed_text text ≡ true → ReadsWord IsValue (quote ∷ old) new (Ok (Text text))
-  quoted_read text reads apart allowed = record {
-    ok = (quote ∷ (doubled text ++ quote ∷ []), at_once (ap (λ l. quote ∷ l) (reads.0 ∙ sym (append_assoc (doubled text) (quote ∷ []) new))) apart, record { spelled = refl; proper = allowed });
+  pub quoted_read : (text : List ℕ) → ReadsText old new (Ok text) → IsApart new → ReadsWord IsValue (quote ∷ old) new (Ok (Text text))
+  quoted_read text reads apart = record {
+    ok = (quote ∷ (doubled text ++ quote ∷ []), at_once (ap (λ l. quote ∷ l) (reads.0 ∙ sym (append_assoc (doubled text) (quote ∷ []) new))) apart, record { spelled = refl; proper = tt });
     all = λ word rest value begins has.
-        let (bytes, same, parts, others) = quote_front value begins has in
-        let read = same_read {old = old} {new = new} reads begins.apart parts in
+        let (bytes, same, parts) = quote_front value begins has in
+        let read = same_read {old = old} {new = new} {text = text} {bytes = bytes} reads begins.apart parts in
         (ap Text read.0 ∙ sym same, same_tail read.1);
   }
 
-  pub quoted_other : (text : List ℕ) → ReadsText old new (Ok text) → (IsApart new → is_allowed_text text ≡ true → ⊥) → ReadsWord IsValue (quote ∷ old) new (Err Words)
+  pub quoted_other : (text : List ℕ) → ReadsText old new (Ok text) → (IsApart new → ⊥) → ReadsWord IsValue (quote ∷ old) new (Err Words)
   quoted_other text reads none = record {
     ok = tt;
     all = λ word rest value begins has.
-        let (bytes, same, parts, allowed) = quote_front value begins has in
-        let read = same_read {old = old} {new = new} reads begins.apart parts in
-        absurd (none (subst IsApart (sym (same_tail read.1)) begins.apart) (ap is_allowed_text read.0 ∙ allowed));
+        let (bytes, same, parts) = quote_front value begins has in
+        let read = same_read {old = old} {new = new} {text = text} {bytes = bytes} reads begins.apart parts in
+        absurd (none (subst IsApart (sym (same_tail read.1)) begins.apart));
   }
 
 -- ---- a value

@@ -1,5 +1,5 @@
 -- What the methods of the reader do. They see it as the bytes that are left.
-use Rattle.std.specs.Prelude.{◌≡◌, ◌≢◌, ℕ, ℤ, Bool, true, false, ◌==◌, List, [], ◌∷◌, ◌++◌, All, Option, Some, None, IfSome, Result, Ok, Err, IfOk, ⊤, ◌<◌, length, codes, decimal}
+use Rattle.std.specs.Prelude.{◌≡◌, ◌≢◌, ℕ, ℤ, Bool, true, false, ◌==◌, List, [], ◌∷◌, ◌++◌, All, Option, Some, None, IfSome, Result, Ok, Err, IfOk, IsErrOf, ⊤, ◌<◌, length, codes, decimal}
 use Rattle.std.specs.Result.{MatchResult}
 use Rattle.std.specs.Str.{IsAscii}
 use Rattle.rss_base.specs.declared.value.Value.TheVariants.{Int}
@@ -15,6 +15,10 @@ use Rattle.rss_line.specs.declared.fault.LineFault.TheVariants.{Words, NoMemory}
 
 abbrev pub is_space : ℕ → Bool
 is_space b = b == space
+
+-- memory doesn't run out
+abbrev pub NeedsNoMemory : {T : Type 0} → Result T LineFault → Type 0
+NeedsNoMemory result = IsErrOf result NoMemory → ⊥
 
 -- ---- the front of a line
 

@@ -6,14 +6,13 @@ ghost use Rattle.rss_model.specs.Script.{IsApart, IsTransaction, IsNameWord, IsT
 ghost use Rattle.rss_model.specs.Script.{IsValue, AreValues, StandFor, AreFieldWords, Names};
 ghost use Rattle.rss_line.specs.Reads.{is_space, Skips, ReadsFront, ReadsPlain, ReadsWord, IsInt};
 ghost use Rattle.rss_line.specs.Reads.{ReadsTarget, ReadsQuote, ReadsByte, ReadsText, HasLength, ReadsWords, Ends};
-ghost use Rattle.rss_line.specs.Reads.{Behind, BehindDrop};
+ghost use Rattle.rss_line.specs.Reads.{Behind, BehindDrop, NeedsNoMemory};
 
 use crate::LineFault;
 use crate::field::read_field;
 use crate::name::read_name;
 use crate::number::{read_int, read_tid, read_transaction};
 use rss_base::{Call, FieldDef, Fields, MOST_FIELDS, Name, Text, Tid, Tuple, Value};
-use rss_value::is_allowed_text;
 use std::alloc::Global;
 use std::marker::Model;
 use std::str;
@@ -28,7 +27,8 @@ fn count_spaces(bytes: &[u8]) -> usize
 
 /// How many bytes the text has whose opening quote stands before these bytes.
 fn text_length(bytes: &[u8]) -> Result<usize, LineFault>
-    ensures { HasLength bytes.now result }
+    ensures length { HasLength bytes.now result }
+    ensures memory { NeedsNoMemory result }
 {
     let mut reader = Reader::new(bytes);
     let mut length = 0;
@@ -92,7 +92,8 @@ impl<'a> Reader<'a> {
 
     /// The next word, which is no text between quotes.
     fn word(&mut self) -> Result<&'a str, LineFault>
-        ensures { ReadsPlain self.old self.new result }
+        ensures reads { ReadsPlain self.old self.new result }
+        ensures memory { NeedsNoMemory result }
     {
         self.skip_spaces();
         let Ok(word) = str::from_utf8(self.front()) else {
@@ -102,19 +103,22 @@ impl<'a> Reader<'a> {
     }
 
     fn transaction(&mut self) -> Result<u32, LineFault>
-        ensures { ReadsWord IsTransaction self.old self.new result }
+        ensures reads { ReadsWord IsTransaction self.old self.new result }
+        ensures memory { NeedsNoMemory result }
     {
         read_transaction(self.word()?).ok_or(LineFault::Words)
     }
 
     fn name(&mut self) -> Result<Name, LineFault>
-        ensures { ReadsWord IsNameWord self.old self.new result }
+        ensures reads { ReadsWord IsNameWord self.old self.new result }
+        ensures memory { NeedsNoMemory result }
     {
         read_name(self.word()?).ok_or(LineFault::Words)
     }
 
     fn target(&mut self) -> Result<Target, LineFault>
-        ensures { ReadsTarget self.old self.new result }
+        ensures reads { ReadsTarget self.old self.new result }
+        ensures memory { NeedsNoMemory result }
     {
         let transaction = self.transaction()?;
         let relation = self.name()?;
@@ -125,13 +129,15 @@ impl<'a> Reader<'a> {
     }
 
     fn tid(&mut self) -> Result<Tid, LineFault>
-        ensures { ReadsWord IsTid self.old self.new result }
+        ensures reads { ReadsWord IsTid self.old self.new result }
+        ensures memory { NeedsNoMemory result }
     {
         read_tid(self.word()?).ok_or(LineFault::Words)
     }
 
     fn int(&mut self) -> Result<i64, LineFault>
-        ensures { ReadsWord IsInt self.old self.new result }
+        ensures reads { ReadsWord IsInt self.old self.new result }
+        ensures memory { NeedsNoMemory result }
     {
         read_int(self.word()?).ok_or(LineFault::Words)
     }
@@ -180,12 +186,12 @@ impl<'a> Reader<'a> {
         matches!(self.rest, [] | [b' ', ..])
     }
 
-    /// The value whose opening quote was read.
+    /// The value whose opening quote was read. It may have any bytes.
     fn quoted(&mut self, alloc: Global) -> Result<Value, LineFault>
         ensures { ReadsWord IsValue (quote ∷ self.old) self.new result }
     {
         let text = self.text(alloc)?;
-        if self.is_apart() && is_allowed_text(text.as_slice()) {
+        if self.is_apart() {
             Ok(Value::Text(text))
         } else {
             Err(LineFault::Words)
@@ -219,7 +225,8 @@ impl<'a> Reader<'a> {
     }
 
     fn field(&mut self) -> Result<FieldDef, LineFault>
-        ensures { ReadsWord IsField self.old self.new result }
+        ensures reads { ReadsWord IsField self.old self.new result }
+        ensures memory { NeedsNoMemory result }
     {
         read_field(self.word()?).ok_or(LineFault::Words)
     }
@@ -262,14 +269,16 @@ impl<'a> Reader<'a> {
     }
 
     fn begin(&mut self) -> Result<Call, LineFault>
-        ensures { ReadsWords (Behind (codes "begin")) self.old result }
+        ensures reads { ReadsWords (Behind (codes "begin")) self.old result }
+        ensures memory { NeedsNoMemory result }
     {
         let transaction = self.transaction()?;
         self.ended(Call::Begin(transaction))
     }
 
     fn end(&mut self) -> Result<Call, LineFault>
-        ensures { ReadsWords (Behind (codes "end")) self.old result }
+        ensures reads { ReadsWords (Behind (codes "end")) self.old result }
+        ensures memory { NeedsNoMemory result }
     {
         let transaction = self.transaction()?;
         self.ended(Call::End(transaction))
@@ -284,7 +293,8 @@ impl<'a> Reader<'a> {
     }
 
     fn fetch(&mut self) -> Result<Call, LineFault>
-        ensures { ReadsWords (Behind (codes "fetch")) self.old result }
+        ensures reads { ReadsWords (Behind (codes "fetch")) self.old result }
+        ensures memory { NeedsNoMemory result }
     {
         let target = self.target()?;
         let tid = self.tid()?;
@@ -301,7 +311,8 @@ impl<'a> Reader<'a> {
     }
 
     fn delete(&mut self) -> Result<Call, LineFault>
-        ensures { ReadsWords (Behind (codes "delete")) self.old result }
+        ensures reads { ReadsWords (Behind (codes "delete")) self.old result }
+        ensures memory { NeedsNoMemory result }
     {
         let target = self.target()?;
         let tid = self.tid()?;
@@ -309,7 +320,8 @@ impl<'a> Reader<'a> {
     }
 
     fn make_segment(&mut self) -> Result<Call, LineFault>
-        ensures { ReadsWords (Behind (codes "segment")) self.old result }
+        ensures reads { ReadsWords (Behind (codes "segment")) self.old result }
+        ensures memory { NeedsNoMemory result }
     {
         let name = self.name()?;
         self.ended(Call::MakeSegment(name))
@@ -325,14 +337,16 @@ impl<'a> Reader<'a> {
     }
 
     fn drop_segment(&mut self) -> Result<Call, LineFault>
-        ensures { ReadsWords (BehindDrop (codes "segment")) self.old result }
+        ensures reads { ReadsWords (BehindDrop (codes "segment")) self.old result }
+        ensures memory { NeedsNoMemory result }
     {
         let name = self.name()?;
         self.ended(Call::DropSegment(name))
     }
 
     fn drop_relation(&mut self) -> Result<Call, LineFault>
-        ensures { ReadsWords (BehindDrop (codes "relation")) self.old result }
+        ensures reads { ReadsWords (BehindDrop (codes "relation")) self.old result }
+        ensures memory { NeedsNoMemory result }
     {
         let name = self.name()?;
         self.ended(Call::DropRelation(name))
@@ -340,7 +354,8 @@ impl<'a> Reader<'a> {
 
     /// The call that takes a segment or a relation away.
     fn drop_definition(&mut self) -> Result<Call, LineFault>
-        ensures { ReadsWords (Behind (codes "drop")) self.old result }
+        ensures reads { ReadsWords (Behind (codes "drop")) self.old result }
+        ensures memory { NeedsNoMemory result }
     {
         let kind = self.word()?;
         if kind == "segment" {

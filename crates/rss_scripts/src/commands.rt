@@ -1,11 +1,13 @@
 // Commands, with how they ended, what they wrote, and the device that they left.
-ghost use Rattle.std.specs.Prelude.{IfOk};
+ghost use Rattle.std.specs.Prelude.{◌≤◌, length, IfOk};
 ghost use Rattle.rss_base.specs.DiskRule.{Told};
 ghost use Rattle.rss_device.specs.MemDevice.{view_of, IsFresh};
 
-use rss_base::{Device, Sink, Source};
+use rss_base::{Device, Sink, Source, Unopened};
 use rss_device::{MemDevice, MemSink, MemSource};
-use rss_top::{Status, run};
+use rss_model::Engine;
+use rss_rsi::{LEAST_FRAMES, MOST_FRAMES, open};
+use rss_top::{Status, run, run_line};
 use std::alloc::{AllocError, Global};
 
 /// The words of a command, with the program's own name first.
@@ -43,6 +45,50 @@ pub fn run_script<D: Device + Drop>(
     let mut sink = MemSink::new(alloc);
     let (status, device) = run_words(alloc, &["run", "FILE"], &mut source, &mut sink, device)?;
     Ok((status, sink.into_bytes(), device))
+}
+
+/// How many bytes the first line of these has.
+fn line_length(bytes: &[u8]) -> usize
+    ensures { result ≤ length bytes.now }
+{
+    match bytes.iter().position(|byte| *byte == b'\n') {
+        Some(at) => at,
+        None => bytes.len(),
+    }
+}
+
+/// Runs the lines of a script over a store that is open, up to the first that stops the run.
+fn run_lines<E: Engine>(store: &mut E, alloc: Global, script: &[u8], sink: &mut MemSink) -> Status
+    requires { (E.view store.old).is_up }
+{
+    let mut reply = Vec::new(alloc);
+    let mut done = 0;
+    while done < script.len() {
+        let end = done + line_length(&script[done..]);
+        if let Err(status) = run_line(store, alloc, &script[done..end], &mut reply, sink) {
+            return status;
+        }
+        done = end + 1;
+    }
+    Status::Ok
+}
+
+/// Runs a script with so many pages in memory, as `run` does with the most: from 8 to 1,024. Answers
+/// how it ended, and the replies.
+pub fn run_in_frames<D: Device + Drop>(
+    alloc: Global,
+    device: D,
+    script: &[u8],
+    frames: u32,
+) -> Result<(Status, Vec<u8>), Unopened<D>>
+    requires least { LEAST_FRAMES ≤ frames }
+    requires most { frames ≤ MOST_FRAMES }
+{
+    let mut store = open(alloc, device, frames)?;
+    let mut sink = MemSink::new(alloc);
+    let status = run_lines(&mut store, alloc, script, &mut sink);
+    let _ = store.into_pages().into_device();
+    Ok((status, sink.into_bytes()))
 }
 
 /// Makes a device an empty store of so many slots and log pages, as decimals. Answers how that

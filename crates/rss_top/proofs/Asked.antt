@@ -12,12 +12,13 @@ use Rattle.rss_model.specs.Plays.{plain, one_turn}
 use Rattle.rss_model.specs.Plays.LineStep.{call}
 use Rattle.rss_model.specs.Machine.{State}
 use Rattle.rss_model.specs.Calls.{EngineView, OpensShown}
-use Rattle.rss_top.specs.Run.{Stream}
+use Rattle.rss_base.specs.Streams.{Stream, TakesSome}
+use Rattle.rss_base.proofs.Flows.{some_none}
 use Rattle.rss_top.specs.Lines.{world, seen, PassesOn, IsCallEnd, IsAsked, LineStopped, IsLineEnd, RunsCall}
 use Rattle.rss_top.specs.Says.{IsWritten, Writes}
 use Rattle.rss_top.specs.declared.status.Status.{Status}
 use Rattle.rss_top.specs.declared.status.Status.TheVariants.{Ok as Done, Words, ReadFault, WriteFault, DeviceFault, NotAStore, Damaged, NoMemory, TooLong, WrongSize}
-use Rattle.rss_top.proofs.Ways.{passed_on, by_cut}
+use Rattle.rss_top.proofs.Ways.{passed_on, by_cut, written_some}
 
 module _ (old new : EngineView) (made : Call) where
   -- the engine answered with a status
@@ -45,20 +46,20 @@ module _ (old new : EngineView) (made : Call) where
   stops_with sink WrongSize never = absurd never
 
 module _ {old new : EngineView} {made : Call} where
-  asked_passes : {before after : Stream} {result : Result (Result Reply Refusal) Status} → IsAsked old new made result → before.faults ≤ after.faults → PassesOn (world old before) (world new after)
-  asked_passes {result = result} asked later = record { told = asked.goes.told; history = asked.goes.history; device = asked.goes.later; sink = later }
+  asked_passes : {before after : Stream} {result : Result (Result Reply Refusal) Status} → IsAsked old new made result → before.faults ≤ after.faults → TakesSome before.bytes after.bytes → PassesOn (world old before) (world new after)
+  asked_passes {result = result} asked later said = record { told = asked.goes.told; history = asked.goes.history; device = asked.goes.later; sink = later; said = said }
 
   pub call_stopped : {T : Type 0} {sink : Stream} {status : Status} (result : Result T Status) → IsErrAnd result (λ why. why ≡ status) → IsAsked old new made (Err status) → RunsCall (seen old sink) (seen new sink) made result
   call_stopped {sink = sink} {status = status} result is asked = passed_on {S = ℕ} result is (record {
-    passes = asked_passes asked (omega arith);
+    passes = asked_passes asked (omega arith) (some_none _);
     outcome = stops_with old new made sink status asked.outcome;
   })
 
   -- it answered, and its law says what a stop leaves
   module _ (before after : Stream) {answer : Answer} (asked : IsAsked old new made (Ok answer)) (opens : new.is_up → IsTold new.disk → OpensShown new) where
     pub call_ran : {T : Type 0} {said : T} → Writes {T = T} (answer_line answer) before after (Ok said) → (done : T) → RunsCall (seen old before) (seen new after) made (Ok done)
-    call_ran wrote done = record {
-      passes = asked_passes asked wrote.later;
+    call_ran {T = T} {said = said} wrote done = record {
+      passes = asked_passes asked wrote.later (written_some {T = T} (answer_line answer) before after (Ok said) wrote.outcome);
       outcome = (
         asked.outcome.up,
         λ told state shown line spells.
@@ -93,6 +94,6 @@ module _ {old new : EngineView} {made : Call} where
 
     pub call_cut : {S T : Type 0} {status : Status} (result : Result T Status) → IsErrAnd result (λ why. why ≡ status) → Writes {T = S} (answer_line answer) before after (Err status) → RunsCall (seen old before) (seen new after) made result
     call_cut {S = S} {status = status} result is wrote = passed_on {S = S} result is (record {
-      passes = asked_passes asked wrote.later;
+      passes = asked_passes asked wrote.later (written_some {T = S} (answer_line answer) before after (Err status) wrote.outcome);
       outcome = cut_with S status wrote.outcome;
     })

@@ -1,17 +1,18 @@
 -- How a run ends.
-use Rattle.std.proofs.Common.{◌≡◌, inl, inr, ℕ, ◌<◌, ◌≤◌, List, [], ◌++◌, length, Option, Some, refl, ◌∙◌, ap, arith, length-append}
+use Rattle.std.proofs.Common.{◌≡◌, inl, inr, ⊎_elim, ℕ, ◌<◌, ◌≤◌, List, [], ◌++◌, length, Option, Some, refl, ◌∙◌, ap, arith, length-append}
 use Rattle.std.proofs.lemmas.List.{append-nil}
 use Rattle.rss_base.specs.DiskRule.{Disk}
-use Rattle.rss_base.specs.Streams.{Gives}
+use Rattle.rss_base.specs.Streams.{Stream, Gives, IsAllOf}
 use Rattle.rss_model.specs.Plays.{Scene}
-use Rattle.rss_top.specs.Run.{Stream, World, Point, Beginning, Story, Stopped, Whole, Ended, IsStoppedBy, IsHalt, IsStop, IsAllOf, IsReadThrough, script_limit}
+use Rattle.rss_top.specs.Run.{World, Point, Beginning, Story, Stopped, Whole, IsTaken, Ended, IsStoppedBy, IsHalt, IsStop, IsReadThrough, script_limit}
+use Rattle.rss_base.specs.declared.place.Place.{Place}
 use Rattle.rss_top.specs.Lines.{IsLineEnd, IsScriptEnd}
 use Rattle.rss_top.specs.declared.status.Status.{Status}
 use Rattle.rss_top.specs.declared.status.Status.TheVariants.{Ok, Words, ReadFault, WriteFault, DeviceFault, NotAStore, Damaged, NoMemory, TooLong, WrongSize}
 
 -- ---- statuses
 
-not_halt : {s : Status} → IsHalt s → s ≡ Ok → ⊥
+pub not_halt : {s : Status} → IsHalt s → s ≡ Ok → ⊥
 not_halt (inl a) b = cc
 not_halt (inr a) b = cc
 
@@ -45,6 +46,33 @@ pub not_through : IsReadThrough TooLong → ⊥
 not_through (inl a) = cc
 not_through (inr a) = cc
 
+-- a run that ended before all was read, and before it was too long
+pub record IsCut (status : Status) : Type 0 where
+  pub within : IsReadThrough status → ⊥
+  pub short : status ≡ TooLong → ⊥
+
+pub stop_is_cut : {status : Status} → IsStop status → IsCut status
+stop_is_cut stop = record { within = stop_not_through stop; short = stop_not_long stop }
+
+pub damaged_is_cut : (place : Place) → IsCut (Damaged place)
+damaged_is_cut place = record { within = λ through. ⊎_elim (λ is. cc) (λ is. cc) through; short = λ is. cc }
+
+pub layout_is_cut : (place : Place) → IsCut (NotAStore place)
+layout_is_cut place = record { within = λ through. ⊎_elim (λ is. cc) (λ is. cc) through; short = λ is. cc }
+
+-- a line ends a run so
+pub line_is_cut : (old new : World) (status : Status) → IsLineEnd old new status → IsCut status
+line_is_cut old new DeviceFault cause = stop_is_cut (inr (inl refl))
+line_is_cut old new WriteFault cause = stop_is_cut (inl refl)
+line_is_cut old new NoMemory cause = stop_is_cut (inr (inr refl))
+line_is_cut old new (Damaged place) cause = damaged_is_cut place
+line_is_cut old new Ok cause = absurd cause
+line_is_cut old new Words cause = absurd cause
+line_is_cut old new ReadFault cause = absurd cause
+line_is_cut old new (NotAStore place) cause = absurd cause
+line_is_cut old new TooLong cause = absurd cause
+line_is_cut old new WrongSize cause = absurd cause
+
 -- a run that stopped within a line has such a status
 is_stop : (disk : Disk) (from : Point) (line said : List ℕ) (status : Status) → IsStoppedBy status disk from line said → IsStop status
 is_stop disk from line said WriteFault stopped = inl refl
@@ -77,44 +105,32 @@ script_end old new source_old source_new WrongSize cause = cause
 pub all_of : {before mid : Option (List ℕ)} (given : List ℕ) → Gives before given mid → IsAllOf mid [] → IsAllOf before given
 all_of given gives no_more all is = let moved = gives.moves all is in moved.2 ∙ ap (λ (l : List ℕ). given ++ l) (no_more moved.0 moved.1) ∙ append-nil given
 
-module _ {begin : Beginning} {now : World} {left : Option (List ℕ)} (given : List ℕ) (gives : Gives begin.left given left) where
-  pub ended_halted : {scene : Scene} {front : List ℕ} (status : Status) → IsHalt status → length given ≤ script_limit → (IsReadThrough status → length given < script_limit) → (status ≡ TooLong → length given ≡ script_limit)
-      → Story begin now scene given front → Ended status begin now left
-  ended_halted {scene = scene} {front = front} status is most short long story = record {
-    given = given;
-    gives = gives;
-    most = most;
-    short = short;
-    too_long = long;
-    all_given = λ ok. absurd (not_halt is ok);
+-- what was taken by a run that was cut
+abbrev pub taken_cut : {status : Status} {left_old left_new : Option (List ℕ)} (given : List ℕ) → Gives left_old given left_new → length given ≤ script_limit → IsCut status → IsTaken status left_old left_new
+taken_cut given gives most is = record { given = given; gives = gives; most = most; short = λ through. absurd (is.within through); too_long = λ e. absurd (is.short e); all = λ ok. absurd (is.within (inl ok)) }
+
+module _ {begin : Beginning} {now : World} {left : Option (List ℕ)} where
+  pub ended_halted : {scene : Scene} {front : List ℕ} (status : Status) → IsHalt status → (taken : IsTaken status begin.left left) → Story begin now scene taken.given front → Ended status begin now left
+  ended_halted {scene = scene} {front = front} status is taken story = record {
+    taken = taken;
     whole = λ ok. absurd (not_halt is ok);
     halted = λ halt. record { scene = scene; left = front; story = story };
     stopped = λ stop. absurd (not_both is stop);
   }
 
-  pub ended_stopped : (status : Status) → length given ≤ script_limit → Stopped status begin now given (IsAllOf begin.left given) → Ended status begin now left
-  ended_stopped status most stop =
+  pub ended_stopped : (status : Status) (taken : IsTaken status begin.left left) → Stopped status begin now taken.given (IsAllOf begin.left taken.given) → Ended status begin now left
+  ended_stopped status taken stop =
       let is = is_stop now.disk stop.from stop.line stop.said status stop.stopped in
       record {
-        given = given;
-        gives = gives;
-        most = most;
-        short = λ through. absurd (stop_not_through is through);
-        too_long = λ e. absurd (stop_not_long is e);
-        all_given = λ ok. absurd (not_stop is ok);
+        taken = taken;
         whole = λ ok. absurd (not_stop is ok);
         halted = λ halt. absurd (not_both halt is);
         stopped = λ _. stop;
       }
 
-  pub ended_whole : length given < script_limit → IsAllOf begin.left given → Whole begin now given → Ended Ok begin now left
-  ended_whole short all whole = record {
-    given = given;
-    gives = gives;
-    most = omega arith;
-    short = λ through. short;
-    too_long = λ e. absurd (cc);
-    all_given = λ _. all;
+  pub ended_whole : (taken : IsTaken Ok begin.left left) → Whole begin now taken.given → Ended Ok begin now left
+  ended_whole taken whole = record {
+    taken = taken;
     whole = λ _. whole;
     halted = λ halt. absurd (not_halt halt refl);
     stopped = λ stop. absurd (not_stop stop refl);
@@ -123,5 +139,5 @@ module _ {begin : Beginning} {now : World} {left : Option (List ℕ)} (given : L
 -- a source with fewer bytes than a script may have isn't too long
 pub not_too_long : {status : Status} {begin : Beginning} {now : World} {left : Option (List ℕ)} (all : List ℕ) → begin.left ≡ Some all → length all < script_limit → Ended status begin now left → status ≡ TooLong → ⊥
 not_too_long all told short ended is =
-    let moved = ended.gives.moves all told in
-    absurd (omega (arith, short, ended.too_long is, ap (λ (l : List ℕ). length l) moved.2, length-append ended.given moved.0))
+    let moved = ended.taken.gives.moves all told in
+    absurd (omega (arith, short, ended.taken.too_long is, ap (λ (l : List ℕ). length l) moved.2, length-append ended.taken.given moved.0))

@@ -7,6 +7,7 @@ pub mod Fronts
 pub mod Pieces
 pub mod Bytes
 pub mod Endings
+pub mod Refusals
 pub mod Scripts
 pub mod Openings
 pub mod Made

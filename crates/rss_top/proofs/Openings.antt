@@ -1,33 +1,36 @@
 -- The opening of a device for a run, and its refusal.
-use Rattle.std.proofs.Common.{◌≡◌, ◌⊎◌, inl, inr, ℕ, ◌+◌, List, [], Option, refl, sym, ◌∙◌, ap, subst, arith}
+use Rattle.std.proofs.Common.{◌≡◌, ◌⊎◌, inl, inr, ℕ, List, [], Option, refl, sym, ◌∙◌, ap, subst, arith}
 use Rattle.rss_base.specs.DiskRule.{Disk, Pages, Told, IsTold, Leaves, Passes, Continues}
 use Rattle.rss_base.specs.Devices.{DeviceView, OnlyReads}
 use Rattle.rss_base.specs.Faults.{Rises}
-use Rattle.rss_base.proofs.Flows.{gives_none}
+use Rattle.rss_base.proofs.Flows.{gives_none, some_none, some_then}
 use Rattle.rss_base.specs.declared.place.Place.{Place}
 use Rattle.rss_base.specs.declared.place.Place.TheVariants.{Room, Size}
 use Rattle.rss_base.specs.declared.fault.OpenFault.{OpenFault}
 use Rattle.rss_base.specs.declared.fault.OpenFault.TheVariants.{Device as DeviceFailed, NotAStore as NoLayout, Damaged as NoStore, NoMemory as LacksMemory}
 use Rattle.std.specs.FinMap as map
-use Rattle.rss_model.specs.Meter.{heap_pages}
+use Rattle.rss_base.specs.declared.root.Root.{Root}
+use Rattle.rss_model.specs.Meter.{at_rest}
 use Rattle.rss_model.specs.Tables.{Tables}
 use Rattle.rss_model.specs.Machine.{StoreSize, State}
 use Rattle.rss_model.specs.ReplyText.{not_a_store_line, damaged_line}
 use Rattle.rss_model.specs.Store.{OpensTo, OpensIn, IsBrokenAt, overflow_pages}
 use Rattle.rss_rsi.specs.Opening.{IsOpened, IsRefused as DoesNotOpen}
-use Rattle.rss_rsi.proofs.Stores.{one_store, same_overflow, store_unbroken}
-use Rattle.rss_top.specs.Run.{Stream, World, Window, Ended, IsFailedOpening}
+use Rattle.rss_model.proofs.Stores.{opens_once, same_roots, same_overflow, store_unbroken}
+use Rattle.rss_base.specs.Streams.{Stream}
+use Rattle.rss_top.specs.Run.{World, Window, IsTaken, Ended, IsFailedOpening}
 use Rattle.rss_top.specs.Run.IsRun.{unopened, opened}
-use Rattle.rss_model.specs.Calls.{States, EngineView}
-use Rattle.rss_top.specs.Lines.{IsScriptEnd, IsTaken, RunsScript, beginning, on, world}
-use Rattle.rss_top.specs.Says.{Says}
+use Rattle.rss_model.specs.Calls.{EngineView}
+use Rattle.rss_top.specs.Lines.{View, IsScriptEnd, RunsScript, beginning, on, world, seen}
+use Rattle.rss_top.specs.Says.{Says, TellsDamage}
 use Rattle.rss_top.specs.Says.IsSaid.{said, cut, unsaid}
 use Rattle.rss_top.specs.Programs.{IsLeftAlone, IsRefusal, IsRefused, IsRunFrom, IsDamagedAt, IsRunEnd, IsFaultless, IsScriptRun}
 use Rattle.rss_top.specs.Programs.IsRefusal.{says, fails}
 use Rattle.rss_top.specs.declared.status.Status.{Status}
 use Rattle.rss_top.specs.declared.status.Status.TheVariants.{Ok, Words, ReadFault, WriteFault, DeviceFault, NotAStore, Damaged, NoMemory, TooLong, WrongSize}
 use Rattle.rss_base.proofs.Moments.{rises_since}
-use Rattle.rss_top.proofs.Endings.{not_too_long}
+use Rattle.rss_top.proofs.Endings.{IsCut, stop_is_cut, damaged_is_cut, layout_is_cut, taken_cut, not_too_long}
+use Rattle.rss_top.proofs.Refusals.{said_is_cut, says_some, tells_no_damage, tells_damage}
 
 -- ---- the store is open
 
@@ -38,15 +41,15 @@ opening_window opening history = record { later = opening.later; each = λ t ima
 -- it is in the state in which the tables that the pages hold are opened
 opens_with : {pages : Pages} {size : StoreSize} {tables : Tables} (state : State) → OpensIn pages state.size state.base state → OpensTo pages state.size state.base → OpensTo pages size tables → OpensIn pages size tables state
 opens_with {pages = pages} {size = size} state begins read opens =
-    let same = one_store read opens in
+    let same = opens_once _ _ _ _ _ opens read in
     subst (λ (t : Tables). OpensIn pages size t state) same.1 (subst (λ (s : StoreSize). OpensIn pages s state.base state) same.0 begins)
 
-module _ {device below : DeviceView} {engine : EngineView} {sink : Stream} {new : World} {source_old source_new : Stream} {status : Status}
-    (opening : IsOpened device engine) (reads : OnlyReads device below) (ran : RunsScript engine.shows (on below sink) new source_old source_new status) where
+module _ {device below : DeviceView} {engine : EngineView} {sink : Stream} {ended : View} {source_old source_new : Stream} {status : Status}
+    (opening : IsOpened device engine) (reads : OnlyReads device below) (ran : RunsScript (record { world = on below sink; shows = engine.shows; is_up = engine.is_up }) ended source_old source_new status) (tells : TellsDamage status sink ended.world.sink) where
   still_told : IsTold device.disk → IsTold below.disk
   still_told told = record { pages = told.pages; is = reads.contents ∙ told.is }
 
-  completes : IsFaultless (on device sink) new source_old source_new → IsTold device.disk → (ended : Status) → (ended ≡ TooLong → ⊥) → IsScriptEnd (on below sink) new source_old source_new ended → (ended ≡ Ok) ⊎ (ended ≡ NoMemory)
+  completes : IsFaultless (on device sink) ended.world source_old source_new → IsTold device.disk → (end : Status) → (end ≡ TooLong → ⊥) → IsScriptEnd (on below sink) ended.world source_old source_new end → (end ≡ Ok) ⊎ (end ≡ NoMemory)
   completes faultless told Ok long cause = inl refl
   completes faultless told NoMemory long cause = inr refl
   completes faultless told ReadFault long cause = absurd (faultless.source cause)
@@ -58,10 +61,10 @@ module _ {device below : DeviceView} {engine : EngineView} {sink : Stream} {new 
   completes faultless told (NotAStore place) long cause = absurd cause
   completes faultless told WrongSize long cause = absurd cause
 
-  end_at : (told : IsTold device.disk) → Ended status (beginning (opening.begins told.pages told.is).state (on below sink) source_old) new source_new.bytes
+  end_at : (told : IsTold device.disk) → Ended status (beginning (opening.begins told.pages told.is).state (on below sink) source_old) ended.world source_new.bytes
   end_at told = let found = opening.begins told.pages told.is in ran.ended (still_told told) found.state found.shows
 
-  run_end : (ended : Status) → IsScriptEnd (on below sink) new source_old source_new ended → IsRunEnd (on device sink) new source_old source_new ended
+  run_end : (end : Status) → IsScriptEnd (on below sink) ended.world source_old source_new end → IsRunEnd (on device sink) ended.world source_old source_new end
   run_end Ok cause = tt
   run_end NoMemory cause = tt
   run_end TooLong cause = tt
@@ -73,7 +76,7 @@ module _ {device below : DeviceView} {engine : EngineView} {sink : Stream} {new 
   run_end (NotAStore place) cause = absurd cause
   run_end WrongSize cause = absurd cause
 
-  pub script_ran : IsScriptRun status (on device sink) new source_old source_new
+  pub script_ran : IsScriptRun status (on device sink) ended.world source_old source_new
   script_ran = record {
     run = λ size tables pages told opens.
         let known : IsTold device.disk = record { pages = pages; is = told } in
@@ -91,28 +94,37 @@ module _ {device below : DeviceView} {engine : EngineView} {sink : Stream} {new 
     no_store = λ pages told none. absurd (none _ _ (opening.begins pages told).reads);
     cause = run_end status ran.cause;
     taken = ran.taken;
+    tells = tells;
   }
 
 -- ---- it isn't
 
 -- the state in which a store is opened
 abbrev opening_state : {pages : Pages} {size : StoreSize} {tables : Tables} → OpensTo pages size tables → State
-opening_state {size = size} {tables = tables} opens =
-    let over = overflow_pages opens.stored in
-    record { size = size; base = tables; changes = []; marks = map.empty; meter = record { heap = heap_pages size.slots tables + over; since = 0; over = over } }
+opening_state {size = size} {tables = tables} opens = record {
+  size = size;
+  base = tables;
+  changes = [];
+  marks = map.empty;
+  locks = map.empty;
+  scans = map.empty;
+  meter = at_rest size.slots tables (overflow_pages opens.stored) opens.stored.root.head opens.stored.root.end;
+}
 
 opening_in : {pages : Pages} {size : StoreSize} {tables : Tables} (opens : OpensTo pages size tables) → OpensIn pages size tables (opening_state opens)
 opening_in opens = record {
-  rest = record { same_size = refl; committed = refl; none_changed = refl; none_open = refl; meter = record { heap = refl; since = refl; same_over = refl } };
+  rest = record { idle = record { same_size = refl; committed = refl; none_changed = refl; none_open = refl; none_locked = refl; none_scanned = refl }; meter = refl };
   over = λ stored store. same_overflow opens.store store;
+  head = λ stored store. ap (λ (r : Root). r.head) (same_roots opens.store store);
+  end = λ stored store. ap (λ (r : Root). r.end) (same_roots opens.store store);
 }
 
 -- the device is handed back as it came
 pub left_alone : {device back : DeviceView} {sink_old sink_new source : Stream} → OnlyReads device back → IsLeftAlone (on device sink_old) (on back sink_new) source source
 left_alone reads = record { unread = refl; writes = reads.same_writes; moments = reads.moments }
 
-taken_none : (left : Option (List ℕ)) → IsTaken left left
-taken_none left = record { given = []; gives = gives_none left; most = omega arith }
+taken_none : {status : Status} (left : Option (List ℕ)) → IsCut status → IsTaken status left left
+taken_none left is = taken_cut [] (gives_none left) (omega arith) is
 
 module _ {old new : World} {source : Stream} (alone : IsLeftAlone old new source source) where
   -- such a state is there in any case
@@ -130,7 +142,8 @@ module _ {old new : World} {source : Stream} (alone : IsLeftAlone old new source
         overfull = λ pages told over. record { alone = alone; refusal = fails refl silent };
         no_store = λ pages told none. record { place = Size; refused = inl (record { alone = alone; refusal = fails refl silent }) };
         cause = rises;
-        taken = taken_none source.bytes;
+        taken = taken_none source.bytes (stop_is_cut (inr (inl refl)));
+        tells = record { last = λ place is. absurd (cc) };
       }
 
   pub lacked_opening : new.sink ≡ old.sink → IsScriptRun NoMemory old new source source
@@ -143,7 +156,8 @@ module _ {old new : World} {source : Stream} (alone : IsLeftAlone old new source
         overfull = λ pages told over. record { alone = alone; refusal = silent (Damaged Room) };
         no_store = λ pages told none. record { place = Size; refused = inl (record { alone = alone; refusal = silent (NotAStore Size) }) };
         cause = tt;
-        taken = taken_none source.bytes;
+        taken = taken_none source.bytes (stop_is_cut (inr (inr refl)));
+        tells = record { last = λ place is. absurd (cc) };
       }
 
   -- the layout is out of form at this place
@@ -180,7 +194,8 @@ module _ {old new : World} {source : Stream} (alone : IsLeftAlone old new source
       overfull = λ pages told over. absurd (no_room ((why pages told).overfull over));
       no_store = λ pages told none. record { place = place; refused = inl refused };
       cause = cause_of;
-      taken = taken_none source.bytes;
+      taken = taken_none source.bytes (said_is_cut (layout_is_cut place) line);
+      tells = tells_no_damage line;
     }
 
   -- the pages are no store
@@ -217,26 +232,34 @@ module _ {old new : World} {source : Stream} (alone : IsLeftAlone old new source
       overfull = λ pages told over. subst (λ (p : Place). IsRefused (Damaged p) status old new source source) (the_room ((why pages told).overfull over)) turned_away;
       no_store = λ pages told no_tables. record { place = place; refused = inr turned_away };
       cause = why_damaged;
-      taken = taken_none source.bytes;
+      taken = taken_none source.bytes (said_is_cut (damaged_is_cut place) line);
+      tells = tells_damage (some_none _) line;
     }
 
 -- ---- a line found the store damaged
 
-module _ (engine : EngineView) {shown : States} {old : World} {before after : Stream} {source_old source_new : Stream} {place : Place} {status : Status} (ran : RunsScript shown old (world engine before) source_old source_new (Damaged place)) (line : Says (Damaged place) (damaged_line place) status before after) where
-  end_said : IsScriptEnd old (world engine after) source_old source_new status
+module _ (engine : EngineView) {old : View} {before after : Stream} {source_old source_new : Stream} {place : Place} {status : Status} (ran : RunsScript old (seen engine before) source_old source_new (Damaged place)) (line : Says (Damaged place) (damaged_line place) status before after) where
+  end_said : IsScriptEnd old.world (world engine after) source_old source_new status
   end_said = elim line.how [
-    | said same takes ↦ subst (λ (s : Status). IsScriptEnd old (world engine after) source_old source_new s) (sym same) ran.cause
-    | cut same front rises ↦ subst (λ (s : Status). IsScriptEnd old (world engine after) source_old source_new s) (sym same) (rises_since ran.passes.sink rises)
-    | unsaid same silent ↦ subst (λ (s : Status). IsScriptEnd old (world engine after) source_old source_new s) (sym same) tt
+    | said same takes ↦ subst (λ (s : Status). IsScriptEnd old.world (world engine after) source_old source_new s) (sym same) ran.cause
+    | cut same front rises ↦ subst (λ (s : Status). IsScriptEnd old.world (world engine after) source_old source_new s) (sym same) (rises_since ran.passes.sink rises)
+    | unsaid same silent ↦ subst (λ (s : Status). IsScriptEnd old.world (world engine after) source_old source_new s) (sym same) tt
   ]
 
-  pub damage_refused : RunsScript shown old (world engine after) source_old source_new status
+  is_cut : IsCut status
+  is_cut = said_is_cut (damaged_is_cut place) line
+
+  pub damage_refused : RunsScript old (seen engine after) source_old source_new status
   damage_refused = record {
-    passes = record { told = ran.passes.told; history = ran.passes.history; device = ran.passes.device; sink = omega (arith, ran.passes.sink, line.later) };
+    passes = record { told = ran.passes.told; history = ran.passes.history; device = ran.passes.device; sink = omega (arith, ran.passes.sink, line.later); said = some_then ran.passes.said (says_some line) };
     cause = end_said;
-    taken = ran.taken;
+    taken = taken_cut ran.taken.given ran.taken.gives ran.taken.most is_cut;
+    up = λ ok. absurd (is_cut.within (inl ok));
     ended = λ told state shows. absurd (ran.cause told);
   }
+
+  pub damage_told : TellsDamage status old.world.sink after
+  damage_told = tells_damage ran.passes.said line
 
 -- ---- no other statuses
 

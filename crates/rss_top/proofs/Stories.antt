@@ -4,7 +4,7 @@ use Rattle.std.proofs.lemmas.List.{append-nil}
 use Rattle.std.proofs.lemmas.List.Elements.{All-push, All-append}
 use Rattle.std.specs.Prelude.{All}
 use Rattle.rss_base.specs.DiskRule.{Disk, Pages, Passes}
-use Rattle.rss_base.specs.Streams.{Takes}
+use Rattle.rss_base.specs.Streams.{Stream, Takes}
 use Rattle.rss_base.proofs.Flows.{takes_none, takes_then}
 use Rattle.rss_base.proofs.Moments.{started, now}
 use Rattle.rss_model.specs.Machine.{State}
@@ -12,7 +12,7 @@ use Rattle.rss_model.specs.Script.{joined, IsUnbroken, last_line}
 use Rattle.rss_model.specs.Plays.{Scene, Made, plain}
 use Rattle.rss_top.proofs.Plays.{played_is_play, play_is_run}
 use Rattle.rss_top.proofs.Ways.{by_stop}
-use Rattle.rss_top.specs.Run.{Stream, World, Point, point_now, Beginning, OpensAt, ImagesNow, LineTurn, Played, Story, Stopped, IsStoppedBy, Whole, IsLineFault, EndsLine}
+use Rattle.rss_top.specs.Run.{World, Point, point_now, Beginning, OpensAt, ImagesNow, LineTurn, Played, Story, Stopped, IsStoppedBy, Whole, IsLineFault, EndsLine}
 use Rattle.rss_top.specs.Run.Played.{none, more}
 use Rattle.rss_top.specs.Lines.{View, LineDone, LineRan, LineStopped, MemoryStopped, beginning}
 use Rattle.rss_top.specs.declared.status.Status.{Status}

@@ -11,12 +11,12 @@ use Rattle.rss_model.specs.Plays.{plain, nothing, only_text}
 use Rattle.rss_model.specs.Plays.LineStep.{blank, words}
 use Rattle.rss_model.specs.Machine.{State}
 use Rattle.rss_model.specs.Calls.{EngineView, OpensShown}
-use Rattle.rss_top.specs.Run.{Stream}
+use Rattle.rss_base.specs.Streams.{Stream}
 use Rattle.rss_top.specs.Lines.{View, world, seen, PassesOn, LineStopped, IsLineEnd, RunsLine}
 use Rattle.rss_top.specs.Says.{IsWritten, Writes}
 use Rattle.rss_top.specs.declared.status.Status.{Status}
 use Rattle.rss_top.specs.declared.status.Status.TheVariants.{NoMemory}
-use Rattle.rss_top.proofs.Ways.{idles, passed_on, by_cut}
+use Rattle.rss_top.proofs.Ways.{idles, passed_on, by_cut, written_some}
 
 -- memory ran out before it was read
 pub line_unread : {T : Type 0} (view : View) (line : List ℕ) → RunsLine {T = T} view view line (Err NoMemory)
@@ -31,7 +31,7 @@ module _ (engine : EngineView) (up : engine.is_up) (opens : engine.is_up → IsT
 
   module _ (before after : Stream) {line : List ℕ} (is : IsWords line) where
     writes_on : {S : Type 0} {result : Result S Status} → Writes (answer_line (Err NoWords)) before after result → PassesOn (world engine before) (world engine after)
-    writes_on wrote = record { told = λ told. told; history = λ told. started _ _; device = omega arith; sink = wrote.later }
+    writes_on {S = S} {result = result} wrote = record { told = λ told. told; history = λ told. started _ _; device = omega arith; sink = wrote.later; said = written_some {T = S} (answer_line (Err NoWords)) before after result wrote.outcome }
 
     pub line_words : {S T : Type 0} {said : S} (done : T) → Writes (answer_line (Err NoWords)) before after (Ok said) → RunsLine (seen engine before) (seen engine after) line (Ok done)
     line_words done wrote = record {

@@ -4,9 +4,10 @@ use Rattle.std.specs.Prelude.{Result, Ok, Err, IsErrAnd}
 use Rattle.std.proofs.lemmas.Result.{err_from_is_err_and}
 use Rattle.rss_base.specs.Faults.{Rises}
 use Rattle.rss_base.proofs.Moments.{started, continues_then, rises_since}
-use Rattle.rss_base.specs.Streams.{TakesFront}
+use Rattle.rss_base.specs.Streams.{Stream, TakesFront, TakesSome}
+use Rattle.rss_base.proofs.Flows.{some_none, some_then}
 use Rattle.rss_model.specs.Machine.{State}
-use Rattle.rss_top.specs.Run.{Stream, World}
+use Rattle.rss_top.specs.Run.{World}
 use Rattle.rss_top.specs.Says.{IsWritten}
 use Rattle.rss_top.specs.Lines.{View, PassesOn, IsLineEnd, Runs, DeviceStopped, SinkStopped, MemoryStopped, LineStopped}
 use Rattle.rss_top.specs.declared.status.Status.{Status}
@@ -14,7 +15,7 @@ use Rattle.rss_top.specs.declared.status.Status.TheVariants.{Ok as Done, Words, 
 
 -- nothing was done
 pub idles : (world : World) → PassesOn world world
-idles world = record { told = λ told. told; history = λ told. started _ _; device = omega arith; sink = omega arith }
+idles world = record { told = λ told. told; history = λ told. started _ _; device = omega arith; sink = omega arith; said = some_none _ }
 
 pub passes_then : {old mid new : World} → PassesOn old mid → PassesOn mid new → PassesOn old new
 passes_then first second = record {
@@ -22,6 +23,7 @@ passes_then first second = record {
   history = λ told. continues_then (first.history told) (second.history (first.told told));
   device = omega (arith, first.device, second.device);
   sink = omega (arith, first.sink, second.sink);
+  said = some_then first.said second.said;
 }
 
 -- the cause of a status, seen from before
@@ -64,6 +66,11 @@ by_cut T line before after P ReadFault sink cut = absurd cut
 by_cut T line before after P (NotAStore place) sink cut = absurd cut
 by_cut T line before after P TooLong sink cut = absurd cut
 by_cut T line before after P WrongSize sink cut = absurd cut
+
+-- some of its line is written in any case
+pub written_some : {T : Type 0} (line : List ℕ) (before after : Stream) (result : Result T Status) → IsWritten line before after result → TakesSome before.bytes after.bytes
+written_some line before after (Ok done) takes = record { said = line; takes = takes }
+written_some {T = T} line before after (Err status) cut = by_cut T line before after (λ s. TakesSome before.bytes after.bytes) status (λ front rises. record { said = front.front; takes = front.takes }) cut
 
 module _ {old new : View} {on : Type 0} {stopped : Status → Type 0} where
   -- the error that `?` passes on

@@ -1,23 +1,20 @@
 -- What the functions that run lines say, each of what it runs.
-use Rattle.std.specs.Prelude.{◌≡◌, ℕ, ◌+◌, ◌≤◌, List, ◌++◌, length, take, Option, Result, Ok, Err, ⊤}
+use Rattle.std.specs.Prelude.{◌≡◌, ℕ, ◌+◌, ◌≤◌, List, ◌++◌, take, Result, Ok, Err, ⊤}
 use Rattle.rss_base.specs.DiskRule.{Disk, IsTold, Passes, Continues}
 use Rattle.rss_base.specs.Devices.{DeviceView}
 use Rattle.rss_base.specs.Faults.{Rises}
-use Rattle.rss_base.specs.Streams.{Gives, Takes, TakesFront}
+use Rattle.rss_base.specs.Streams.{Stream, Takes, TakesFront, TakesSome}
 use Rattle.rss_base.specs.declared.call.Call.{Call}
 use Rattle.rss_model.specs.Machine.{State}
 use Rattle.rss_model.specs.Steps.{Answer}
 use Rattle.rss_model.specs.Script.{Spells, line_limit}
 use Rattle.rss_model.specs.Plays.{Scene, Made, plain, LineStep}
 use Rattle.rss_model.specs.Calls.{States, EngineView, GoesOn, IsAnswer, IsFault, IsDamaged, IsUnanswered}
-use Rattle.rss_top.specs.Run.{Stream, World, Beginning, point_now, OpensAt, OpensAtEither, ImagesNow, Story, Stopped, Whole, Ended, script_limit}
+use Rattle.rss_top.specs.Run.{World, Beginning, point_now, OpensAt, OpensAtEither, ImagesNow, Story, Stopped, Whole, IsTaken, Ended}
 use Rattle.rss_top.specs.declared.status.Status.{Status}
 use Rattle.rss_top.specs.declared.status.Status.TheVariants.{Ok as Done, ReadFault, TooLong, WriteFault, DeviceFault, Damaged, NoMemory}
 
 -- ---- what there is to see
-
-abbrev pub stream : Option (List ℕ) → ℕ → Stream
-stream bytes faults = record { bytes = bytes; faults = faults }
 
 abbrev world_of : Disk → ℕ → ℕ → Stream → World
 world_of disk writes faults sink = record { disk = disk; writes = writes; faults = faults; sink = sink }
@@ -49,6 +46,7 @@ pub record PassesOn (old new : World) : Type 0 where
   pub history : IsTold old.disk → Continues old.disk new.disk
   pub device : old.faults ≤ new.faults
   pub sink : old.sink.faults ≤ new.sink.faults
+  pub said : TakesSome old.sink.bytes new.sink.bytes
 
 -- ---- a call
 
@@ -57,7 +55,7 @@ abbrev pub IsCallEnd : EngineView → EngineView → Call → Result Answer Stat
 IsCallEnd old new call (Ok answer) = IsAnswer old new call answer
 IsCallEnd old new call (Err DeviceFault) = IsFault old new call
 IsCallEnd old new call (Err (Damaged place)) = IsDamaged old new
-IsCallEnd old new call (Err NoMemory) = IsUnanswered old new call
+IsCallEnd old new call (Err NoMemory) = IsUnanswered old new
 IsCallEnd old new call (Err status) = ⊥
 
 pub record IsAsked (old new : EngineView) (call : Call) (result : Result Answer Status)
@@ -198,12 +196,6 @@ IsScriptEnd old new source_old source_new TooLong = ⊤
 IsScriptEnd old new source_old source_new ReadFault = Rises source_old.faults source_new.faults
 IsScriptEnd old new source_old source_new status = IsLineEnd old new status
 
--- no more bytes were taken than a script may have
-pub record IsTaken (left_old left_new : Option (List ℕ)) : Type 0 where
-  pub given : List ℕ
-  pub gives : Gives left_old given left_new
-  pub most : length given ≤ script_limit
-
 -- where a run of an engine begins
 abbrev pub beginning : State → World → Stream → Beginning
 beginning state now source = record {
@@ -212,11 +204,13 @@ beginning state now source = record {
   written = now.sink.bytes;
 }
 
--- a script was run over an engine, from each of these states
-pub record RunsScript (shown : States) (old new : World) (source_old source_new : Stream)
-    (status : Status) : Type 0 where
-  pub passes : PassesOn old new
-  pub cause : IsScriptEnd old new source_old source_new status
-  pub taken : IsTaken source_old.bytes source_new.bytes
-  pub ended : IsTold old.disk → (state : State) → shown state
-      → Ended status (beginning state old source_old) new source_new.bytes
+-- A script was run over an engine, from whatever state is shown. The engine is up behind one that
+-- was run to its end.
+pub record RunsScript (old new : View) (source_old source_new : Stream) (status : Status)
+    : Type 0 where
+  pub passes : PassesOn old.world new.world
+  pub cause : IsScriptEnd old.world new.world source_old source_new status
+  pub taken : IsTaken status source_old.bytes source_new.bytes
+  pub up : status ≡ Done → new.is_up
+  pub ended : IsTold old.world.disk → FromEach old (λ state.
+      Ended status (beginning state old.world source_old) new.world source_new.bytes)

@@ -10,9 +10,10 @@ use Rattle.rss_model.specs.Plays.{plain}
 use Rattle.rss_model.specs.ReplyText.{not_a_store_line, damaged_line}
 use Rattle.rss_model.specs.Store.{OpensTo, OpensIn, IsBrokenAt, IsOverfull, IsNoStore}
 use Rattle.rss_top.specs.Words.{AreRun, AreFormat, IsCommand}
-use Rattle.rss_top.specs.Run.{Stream, World, IsRun, script_limit}
-use Rattle.rss_top.specs.Lines.{IsScriptEnd, IsTaken}
-use Rattle.rss_top.specs.Says.{Says}
+use Rattle.rss_base.specs.Streams.{Stream}
+use Rattle.rss_top.specs.Run.{World, IsTaken, IsRun, script_limit}
+use Rattle.rss_top.specs.Lines.{IsScriptEnd}
+use Rattle.rss_top.specs.Says.{Says, TellsDamage}
 use Rattle.rss_top.specs.Format.{IsFormat}
 use Rattle.rss_top.specs.declared.status.Status.{Status}
 use Rattle.rss_top.specs.declared.status.Status.TheVariants.{Ok, Words, DeviceFault, NotAStore, Damaged, NoMemory}
@@ -105,7 +106,9 @@ pub record IsScriptRun (status : Status) (old new : World) (source_old source_ne
   pub no_store : Told old.disk (λ pages. IsNoStore pages
       → IsTurnedAway status old new source_old source_new)
   pub cause : IsRunEnd old new source_old source_new status
-  pub taken : IsTaken source_old.bytes source_new.bytes
+  -- Whatever the device tells.
+  pub taken : IsTaken status source_old.bytes source_new.bytes
+  pub tells : TellsDamage status old.sink new.sink
 
 -- ---- the program
 

@@ -1,7 +1,7 @@
 -- One run over a script, tied to what a stop at each moment of it leaves.
 use Rattle.std.specs.Prelude.{◌≡◌, ◌⊎◌, ℕ, ◌^◌, ◌<◌, ◌≤◌, List, [], ◌∷◌, ◌++◌, length, Option, Some, All}
 use Rattle.rss_base.specs.DiskRule.{Disk, Pages, Leaves, Passes}
-use Rattle.rss_base.specs.Streams.{Gives, Takes}
+use Rattle.rss_base.specs.Streams.{Stream, Gives, IsAllOf, Takes}
 use Rattle.rss_model.specs.Runs.{Run}
 use Rattle.rss_model.specs.Script.{joined, IsUnbroken, Splits, AreLines}
 use Rattle.rss_model.specs.Plays.{Scene, Made, nothing, both_made, LineStep, Play}
@@ -10,12 +10,6 @@ use Rattle.rss_top.specs.declared.status.Status.{Status}
 use Rattle.rss_top.specs.declared.status.Status.TheVariants.{Ok, ReadFault, TooLong, WriteFault, DeviceFault, NoMemory}
 
 -- ---- what a run sees
-
--- A source or a sink: the bytes that it has left or that were written, where it tells them, and how
--- often it failed.
-pub record Stream : Type 0 where
-  pub bytes : Option (List ℕ)
-  pub faults : ℕ
 
 -- What a run writes to: the device, how many writes of it were made and how often it failed, and
 -- the sink.
@@ -182,26 +176,27 @@ IsStop status = (status ≡ WriteFault) ⊎ (status ≡ DeviceFault) ⊎ (status
 abbrev pub IsReadThrough : Status → Type 0
 IsReadThrough status = (status ≡ Ok) ⊎ (status ≡ ReadFault)
 
--- all that the source tells was given
-abbrev pub IsAllOf : Option (List ℕ) → List ℕ → Type 0
-IsAllOf source given = (all : List ℕ) → source ≡ Some all → all ≡ given
-
 -- a script has fewer bytes than this
 abbrev pub script_limit : ℕ
 script_limit = 2 ^ 30
 
--- How a run ended: the bytes given, and what was run and written.
-pub record Ended (status : Status) (begin : Beginning) (now : World) (left : Option (List ℕ))
-    : Type 0 where
+-- The bytes that a source gave to a run, by how the run ended.
+pub record IsTaken (status : Status) (left_old left_new : Option (List ℕ)) : Type 0 where
   pub given : List ℕ
-  pub gives : Gives begin.left given left
+  pub gives : Gives left_old given left_new
   pub most : length given ≤ script_limit
   pub short : IsReadThrough status → length given < script_limit
   pub too_long : status ≡ TooLong → length given ≡ script_limit
-  pub all_given : status ≡ Ok → IsAllOf begin.left given
-  pub whole : status ≡ Ok → Whole begin now given
-  pub halted : IsHalt status → Halted begin now given
-  pub stopped : IsStop status → Stopped status begin now given (IsAllOf begin.left given)
+  pub all : status ≡ Ok → IsAllOf left_old given
+
+-- How a run ended: the bytes given, and what was run and written.
+pub record Ended (status : Status) (begin : Beginning) (now : World) (left : Option (List ℕ))
+    : Type 0 where
+  pub taken : IsTaken status begin.left left
+  pub whole : status ≡ Ok → Whole begin now taken.given
+  pub halted : IsHalt status → Halted begin now taken.given
+  pub stopped : IsStop status
+      → Stopped status begin now taken.given (IsAllOf begin.left taken.given)
 
 -- the opening ended the run
 abbrev pub IsFailedOpening : Status → Type 0

@@ -1,10 +1,11 @@
 -- Lines that are written to a sink.
 use Rattle.std.specs.Prelude.{◌≡◌, ◌≤◌, ℕ, List, Result, Ok, Err}
 use Rattle.rss_base.specs.Faults.{Rises}
-use Rattle.rss_base.specs.Streams.{Takes, TakesFront}
-use Rattle.rss_top.specs.Run.{Stream}
+use Rattle.rss_base.specs.Streams.{Stream, Takes, TakesFront, TakesLast}
+use Rattle.rss_base.specs.declared.place.Place.{Place}
+use Rattle.rss_model.specs.ReplyText.{damaged_line}
 use Rattle.rss_top.specs.declared.status.Status.{Status}
-use Rattle.rss_top.specs.declared.status.Status.TheVariants.{WriteFault, NoMemory}
+use Rattle.rss_top.specs.declared.status.Status.TheVariants.{WriteFault, Damaged, NoMemory}
 
 -- The line was written, or the sink failed with its front.
 abbrev pub IsWritten : {T : Type 0} → List ℕ → Stream → Stream → Result T Status → Type 0
@@ -31,3 +32,8 @@ pub record Says (meant : Status) (line : List ℕ) (status : Status) (old new : 
     : Type 0 where
   pub later : old.faults ≤ new.faults
   pub how : IsSaid meant line status old new
+
+-- Damage is told last, behind the replies that were written before.
+pub record TellsDamage (status : Status) (old new : Stream) : Type 0 where
+  pub last : (place : Place) → status ≡ Damaged place
+      → TakesLast old.bytes (damaged_line place) new.bytes

@@ -3,7 +3,7 @@ ghost use Rattle.std.specs.Prelude.{◌≡◌, ◌<◌, ◌≤◌, [], ◌∷◌
 ghost use Rattle.std.specs.Prelude.{IfSome, IfNone, OnOk};
 ghost use Rattle.rss_model.specs.Script.{IsUnbroken};
 ghost use Rattle.rss_top.specs.Run.{line_end};
-ghost use Rattle.rss_top.specs.Lines.{stream, seen, kept_limit, RunsBytes};
+ghost use Rattle.rss_top.specs.Lines.{seen, kept_limit, RunsBytes};
 
 use crate::Status;
 use crate::line::line;
@@ -49,8 +49,8 @@ fn end_line<E: Engine, K: Sink>(
     requires up { (E.view engine.old).is_up }
     requires unbroken { IsUnbroken bytes.now }
     ensures { RunsBytes
-        (seen (E.view engine.old) (stream (K.written sink.old) (K.faults sink.old)))
-        (seen (E.view engine.new) (stream (K.written sink.new) (K.faults sink.new)))
+        (seen (E.view engine.old) (K.view sink.old))
+        (seen (E.view engine.new) (K.view sink.new))
         front.old.items (bytes.now ++ line_end ∷ []) front.new.items result }
 {
     if front.is_empty() {
@@ -76,8 +76,8 @@ pub fn feed<E: Engine, K: Sink>(
 ) -> Result<(), Status>
     requires { (E.view engine.old).is_up }
     ensures { RunsBytes
-        (seen (E.view engine.old) (stream (K.written sink.old) (K.faults sink.old)))
-        (seen (E.view engine.new) (stream (K.written sink.new) (K.faults sink.new)))
+        (seen (E.view engine.old) (K.view sink.old))
+        (seen (E.view engine.new) (K.view sink.new))
         front.old.items piece.now front.new.items result }
 {
     let mut done = 0;

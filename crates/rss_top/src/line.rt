@@ -1,8 +1,9 @@
 // One line of a script.
-ghost use Rattle.std.specs.Prelude.{◌≡◌, ◌≤◌, [], vec_capacity};
-ghost use Rattle.rss_model.specs.Defining.{DefinesNames};
+ghost use Rattle.std.specs.Prelude.{◌≡◌, ◌≤◌, true, [], vec_capacity};
+ghost use Rattle.rss_model.specs.Callers.{is_built};
+ghost use Rattle.rss_model.specs.Defining.{DefinesNames, LocksGranule};
 ghost use Rattle.rss_model.specs.Script.{line_limit};
-ghost use Rattle.rss_top.specs.Lines.{stream, seen, IsAsked, RunsCall, RunsLine};
+ghost use Rattle.rss_top.specs.Lines.{seen, IsAsked, RunsCall, RunsLine};
 
 use crate::Status;
 use crate::writing::{make_room, write_answer};
@@ -15,6 +16,8 @@ use std::alloc::Global;
 fn ask<E: Engine>(engine: &mut E, call: &Call) -> Result<Result<Reply, Refusal>, Status>
     requires up { (E.view engine.old).is_up }
     requires names { DefinesNames call.now }
+    requires granule { LocksGranule call.now }
+    requires built { is_built call.now ≡ true }
     ensures { IsAsked (E.view engine.old) (E.view engine.new) call.now result }
 {
     match engine.call(call) {
@@ -36,11 +39,13 @@ fn make_call<E: Engine, K: Sink>(
 ) -> Result<(), Status>
     requires up { (E.view engine.old).is_up }
     requires names { DefinesNames call.now }
+    requires granule { LocksGranule call.now }
+    requires built { is_built call.now ≡ true }
     requires empty { reply.old.items ≡ [] }
     requires room { line_limit ≤ vec_capacity reply.old }
     ensures { RunsCall
-        (seen (E.view engine.old) (stream (K.written sink.old) (K.faults sink.old)))
-        (seen (E.view engine.new) (stream (K.written sink.new) (K.faults sink.new)))
+        (seen (E.view engine.old) (K.view sink.old))
+        (seen (E.view engine.new) (K.view sink.new))
         call.now result }
 {
     let answer = ask(engine, call)?;
@@ -59,8 +64,8 @@ pub fn line<E: Engine, K: Sink>(
 ) -> Result<(), Status>
     requires { (E.view engine.old).is_up }
     ensures { RunsLine
-        (seen (E.view engine.old) (stream (K.written sink.old) (K.faults sink.old)))
-        (seen (E.view engine.new) (stream (K.written sink.new) (K.faults sink.new)))
+        (seen (E.view engine.old) (K.view sink.old))
+        (seen (E.view engine.new) (K.view sink.new))
         bytes.now result }
 {
     if make_room(reply).is_err() {

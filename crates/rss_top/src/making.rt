@@ -2,7 +2,7 @@
 ghost use Rattle.std.specs.Prelude.{◌≡◌, Ok};
 ghost use Rattle.rss_base.specs.declared.answer.Reply.TheVariants.{Ok as Done};
 ghost use Rattle.rss_model.specs.ReplyText.{answer_line};
-ghost use Rattle.rss_top.specs.Lines.{stream, on};
+ghost use Rattle.rss_top.specs.Lines.{on};
 ghost use Rattle.rss_top.specs.Says.{Says};
 ghost use Rattle.rss_top.specs.Format.{IsFormat};
 
@@ -16,8 +16,7 @@ use std::alloc::Global;
 /// Writes the line of a format that was done.
 fn say_done<K: Sink>(alloc: Global, sink: &mut K) -> Status
     ensures { Says Status.Ok (answer_line (Ok Done)) result
-        (stream (K.written sink.old) (K.faults sink.old))
-        (stream (K.written sink.new) (K.faults sink.new)) }
+        (K.view sink.old) (K.view sink.new) }
 {
     let mut line = Vec::new(alloc);
     let Ok(()) = say(&Ok(Reply::Ok), &mut line) else {
@@ -35,8 +34,8 @@ pub fn make_store<K: Sink, D: Device>(
     sink: &mut K,
 ) -> Status
     ensures format { IsFormat slots log_pages result
-        (on (D.view device.old) (stream (K.written sink.old) (K.faults sink.old)))
-        (on (D.view device.new) (stream (K.written sink.new) (K.faults sink.new))) }
+        (on (D.view device.old) (K.view sink.old))
+        (on (D.view device.new) (K.view sink.new)) }
     ensures untouched { result ≡ Status.WrongSize → device.new ≡ device.old }
 {
     let (Ok(slots), Ok(log_pages)) = (u32::try_from(slots), u32::try_from(log_pages)) else {

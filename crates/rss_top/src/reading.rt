@@ -1,9 +1,7 @@
 // A script, read and run.
-ghost use Rattle.std.specs.Prelude.{◌≡◌, ◌<◌, ◌≤◌, [], List, ℕ, Some, Ok, length, take, vec_len};
-ghost use Rattle.std.specs.Prelude.{IfOk, OnErr};
-ghost use Rattle.rss_base.specs.Faults.{HasCause};
-ghost use Rattle.rss_base.specs.Streams.{Gives};
-ghost use Rattle.rss_top.specs.Lines.{stream, seen, world, RunsLast, RunsScript};
+ghost use Rattle.std.specs.Prelude.{◌≡◌, ◌≤◌, length, vec_len, IfOk};
+ghost use Rattle.rss_base.specs.Streams.{ReadsBytes};
+ghost use Rattle.rss_top.specs.Lines.{seen, RunsLast, RunsScript};
 
 use crate::Status;
 use crate::feed::feed;
@@ -28,13 +26,7 @@ fn new_piece(alloc: Global) -> Result<Vec<u8>, AllocError>
 /// Reads at most so many bytes into the front of a buffer.
 fn read_piece<O: Source>(source: &mut O, piece: &mut [u8], most: usize) -> Result<usize, Failed>
     requires { most ≤ length piece.old }
-    ensures within { IfOk result (λ n. n ≤ most) }
-    ensures gives { IfOk result (λ n.
-        Gives (O.left source.old) (take n piece.new) (O.left source.new)) }
-    ensures end { result ≡ Ok 0 → 0 < most
-        → (all : List ℕ) → O.left source.old ≡ Some all → all ≡ [] }
-    ensures failed { OnErr result (Gives (O.left source.old) [] (O.left source.new)) }
-    ensures cause { HasCause (O.faults source.old) (O.faults source.new) result }
+    ensures { ReadsBytes most piece.new (O.view source.old) (O.view source.new) result }
 {
     match source.read(&mut piece[..most]) {
         Ok(count) => Ok(count),
@@ -52,8 +44,8 @@ fn finish<E: Engine, K: Sink>(
 ) -> Result<(), Status>
     requires { (E.view engine.old).is_up }
     ensures { RunsLast
-        (seen (E.view engine.old) (stream (K.written sink.old) (K.faults sink.old)))
-        (seen (E.view engine.new) (stream (K.written sink.new) (K.faults sink.new)))
+        (seen (E.view engine.old) (K.view sink.old))
+        (seen (E.view engine.new) (K.view sink.new))
         front.now result }
 {
     if front.is_empty() {
@@ -71,12 +63,10 @@ pub fn run_lines<O: Source, K: Sink, E: Engine>(
     sink: &mut K,
 ) -> Status
     requires { (E.view engine.old).is_up }
-    ensures { RunsScript (E.view engine.old).shows
-        (world (E.view engine.old) (stream (K.written sink.old) (K.faults sink.old)))
-        (world (E.view engine.new) (stream (K.written sink.new) (K.faults sink.new)))
-        (stream (O.left source.old) (O.faults source.old))
-        (stream (O.left source.new) (O.faults source.new))
-        result }
+    ensures { RunsScript
+        (seen (E.view engine.old) (K.view sink.old))
+        (seen (E.view engine.new) (K.view sink.new))
+        (O.view source.old) (O.view source.new) result }
 {
     let mut front = Vec::new(alloc);
     let mut reply = Vec::new(alloc);

@@ -1,7 +1,7 @@
 // The top call.
 ghost use Rattle.std.specs.Prelude.{◌≡◌, ℕ, map, string_bytes};
 ghost use Rattle.rss_top.specs.Words.{AreFormat};
-ghost use Rattle.rss_top.specs.Lines.{stream, on};
+ghost use Rattle.rss_top.specs.Lines.{on};
 ghost use Rattle.rss_top.specs.Programs.{IsProgram};
 
 use crate::Status;
@@ -30,10 +30,9 @@ pub fn run<O: Source, K: Sink, D: Device>(
     // A device that holds no store is refused. One that is formatted reads as an empty store, and a
     // stop leaves nothing else.
     ensures program { IsProgram (map string_bytes words.now) result.0
-        (on (D.view device) (stream (K.written sink.old) (K.faults sink.old)))
-        (on (D.view result.1) (stream (K.written sink.new) (K.faults sink.new)))
-        (stream (O.left source.old) (O.faults source.old))
-        (stream (O.left source.new) (O.faults source.new)) }
+        (on (D.view device) (K.view sink.old))
+        (on (D.view result.1) (K.view sink.new))
+        (O.view source.old) (O.view source.new) }
 
     // Words that are no command, and a size that no store has, leave all as it was.
     ensures untouched { result.0 ≡ Status.Words → result.1 ≡ device }

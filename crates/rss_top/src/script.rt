@@ -1,5 +1,6 @@
 // A script, run over the store of a device.
-ghost use Rattle.rss_top.specs.Lines.{stream, world, on, RunsScript};
+ghost use Rattle.rss_top.specs.Lines.{seen, on, RunsScript};
+ghost use Rattle.rss_top.specs.Says.{TellsDamage};
 ghost use Rattle.rss_top.specs.Programs.{IsScriptRun};
 
 use crate::Status;
@@ -7,7 +8,7 @@ use crate::reading::run_lines;
 use crate::writing::{refuse_damaged, refuse_layout};
 use rss_base::{Device, OpenFault, Sink, Source, Unopened};
 use rss_model::Engine;
-use rss_rsi::open;
+use rss_rsi::{MOST_FRAMES, open};
 use std::alloc::Global;
 
 /// Runs a script over a store that is open. A store that a line finds damaged is refused.
@@ -18,12 +19,11 @@ fn run_store<O: Source, K: Sink, E: Engine>(
     sink: &mut K,
 ) -> Status
     requires { (E.view store.old).is_up }
-    ensures { RunsScript (E.view store.old).shows
-        (world (E.view store.old) (stream (K.written sink.old) (K.faults sink.old)))
-        (world (E.view store.new) (stream (K.written sink.new) (K.faults sink.new)))
-        (stream (O.left source.old) (O.faults source.old))
-        (stream (O.left source.new) (O.faults source.new))
-        result }
+    ensures runs { RunsScript
+        (seen (E.view store.old) (K.view sink.old))
+        (seen (E.view store.new) (K.view sink.new))
+        (O.view source.old) (O.view source.new) result }
+    ensures tells { TellsDamage result (K.view sink.old) (K.view sink.new) }
 {
     match run_lines(store, alloc, source, sink) {
         Status::Damaged(place) => refuse_damaged(alloc, place, sink),
@@ -39,12 +39,11 @@ pub fn run_script<O: Source, K: Sink, D: Device>(
     device: D,
 ) -> (Status, D)
     ensures { IsScriptRun result.0
-        (on (D.view device) (stream (K.written sink.old) (K.faults sink.old)))
-        (on (D.view result.1) (stream (K.written sink.new) (K.faults sink.new)))
-        (stream (O.left source.old) (O.faults source.old))
-        (stream (O.left source.new) (O.faults source.new)) }
+        (on (D.view device) (K.view sink.old))
+        (on (D.view result.1) (K.view sink.new))
+        (O.view source.old) (O.view source.new) }
 {
-    match open(alloc, device) {
+    match open(alloc, device, MOST_FRAMES) {
         Ok(mut store) => {
             let status = run_store(&mut store, alloc, source, sink);
             (status, store.into_pages().into_device())

@@ -1,7 +1,6 @@
 // The lines that are written to the sink.
 ghost use Rattle.std.specs.Prelude.{◌≡◌, ◌≤◌, [], length, vec_capacity, OnOk};
 ghost use Rattle.rss_model.specs.ReplyText.{answer_line, not_a_store_line, damaged_line};
-ghost use Rattle.rss_top.specs.Lines.{stream};
 ghost use Rattle.rss_top.specs.Says.{Writes, Says};
 
 use crate::Status;
@@ -27,9 +26,7 @@ pub fn write_answer<K: Sink>(
     requires empty { reply.old.items ≡ [] }
     requires room { length (answer_line answer.now) ≤ vec_capacity reply.old }
     ensures { Writes (answer_line answer.now)
-        (stream (K.written sink.old) (K.faults sink.old))
-        (stream (K.written sink.new) (K.faults sink.new))
-        result }
+        (K.view sink.old) (K.view sink.new) result }
 {
     let Ok(()) = say(answer, reply) else {
         unreachable!()
@@ -43,8 +40,7 @@ pub fn write_answer<K: Sink>(
 /// Writes a line, and answers the status with which the run then ends.
 pub fn end_with<K: Sink>(status: Status, line: &[u8], sink: &mut K) -> Status
     ensures { Says status line.now result
-        (stream (K.written sink.old) (K.faults sink.old))
-        (stream (K.written sink.new) (K.faults sink.new)) }
+        (K.view sink.old) (K.view sink.new) }
 {
     match write_all(sink, line) {
         Ok(()) => status,
@@ -55,8 +51,7 @@ pub fn end_with<K: Sink>(status: Status, line: &[u8], sink: &mut K) -> Status
 /// Writes the line of a device that is not a store.
 pub fn refuse_layout<K: Sink>(alloc: Global, place: Place, sink: &mut K) -> Status
     ensures { Says (Status.NotAStore place) (not_a_store_line place) result
-        (stream (K.written sink.old) (K.faults sink.old))
-        (stream (K.written sink.new) (K.faults sink.new)) }
+        (K.view sink.old) (K.view sink.new) }
 {
     let mut line = Vec::new(alloc);
     let Ok(()) = say_not_a_store(place, &mut line) else {
@@ -68,8 +63,7 @@ pub fn refuse_layout<K: Sink>(alloc: Global, place: Place, sink: &mut K) -> Stat
 /// Writes the line of a device whose layout is sound, and whose pages are no store.
 pub fn refuse_damaged<K: Sink>(alloc: Global, place: Place, sink: &mut K) -> Status
     ensures { Says (Status.Damaged place) (damaged_line place) result
-        (stream (K.written sink.old) (K.faults sink.old))
-        (stream (K.written sink.new) (K.faults sink.new)) }
+        (K.view sink.old) (K.view sink.new) }
 {
     let mut line = Vec::new(alloc);
     let Ok(()) = say_damaged(place, &mut line) else {

@@ -1,5 +1,5 @@
 use Rattle.std.proofs.Common.{◌∙◌, ap, Ok, Err}
-use Rattle.rss_line.proofs.Defining.{spelled_defines_names}
+use Rattle.rss_line.proofs.Defining.{spelled_defines_names, spelled_granule, spelled_built}
 use Rattle.rss_top.proofs.Ways.{passed_on, runs_as}
 use Rattle.rss_top.proofs.Unasked.{line_unread, line_blank, line_words, line_cut}
 use Rattle.rss_top.proofs.line.line.Goals as goal
@@ -23,6 +23,12 @@ returns-in-Err-NoMemory g c = line_unread _ _
 
 pub make_call-requires-clause-names : goal.make_call-requires-clause-names
 make_call-requires-clause-names g c = spelled_defines_names (c.read_line.ensures.call _ (c.in-Ok-Call.is ∙ ap Ok c.in-Ok-Call.field-0-is))
+
+pub make_call-requires-clause-granule : goal.make_call-requires-clause-granule
+make_call-requires-clause-granule g c = spelled_granule (c.read_line.ensures.call _ (c.in-Ok-Call.is ∙ ap Ok c.in-Ok-Call.field-0-is))
+
+pub make_call-requires-clause-built : goal.make_call-requires-clause-built
+make_call-requires-clause-built g c = spelled_built (c.read_line.ensures.call _ (c.in-Ok-Call.is ∙ ap Ok c.in-Ok-Call.field-0-is))
 
 pub returns-in_err-make_call-in-Ok-Call : goal.returns-in_err-make_call-in-Ok-Call
 returns-in_err-make_call-in-Ok-Call g c =

@@ -3,7 +3,7 @@ use Rattle.rss_top.proofs.Openings.{script_ran, left_alone, failed_opening, lack
 use Rattle.rss_top.proofs.script.run_script.Goals as goal
 
 pub returns-in-Ok : goal.returns-in-Ok
-returns-in-Ok g c = rw c.into_device.ensures (rw c.into_pages.ensures (script_ran c.in-Ok.ensures.opened.opened c.in-Ok.ensures.opened.reads c.run_store-status.ensures))
+returns-in-Ok g c = rw c.into_device.ensures (rw c.into_pages.ensures (script_ran c.in-Ok.ensures.opened.opened c.in-Ok.ensures.opened.reads c.run_store-status.ensures.runs c.run_store-status.ensures.tells))
 
 -- ---- the device is handed back as it came
 

@@ -9,14 +9,14 @@ use Rattle.rss_line.proofs.reader.Reader.field_list.Goals as goal
 
 pub returns-in_err-field : goal.returns-in_err-field
 returns-in_err-field c = goes_stops IsField field_solid c.from_residual.result c.loop-self.invariant
-    (λ spaces. false≢true (sym c.loop-self-test.true ∙ (c.is_at_end.ensures ∙ spaces_test c.loop-self.self spaces))) c.in_err-field.ensures c.from_residual.ensures.1
+    (λ spaces. false≢true (sym c.loop-self-test.true ∙ (c.is_at_end.ensures ∙ spaces_test c.loop-self.self spaces))) c.in_err-field.ensures.reads c.from_residual.ensures.1
 
 pub loop-self-smaller : goal.loop-self-smaller
-loop-self-smaller c = let (word, begins, is) = c.in_ok-field.ensures.ok in shorter (field_solid word _ is) begins
+loop-self-smaller c = let (word, begins, is) = c.in_ok-field.ensures.reads.ok in shorter (field_solid word _ is) begins
 
 pub loop-self-preserved : goal.loop-self-preserved
 loop-self-preserved c = subst (λ (fields : List FieldDef). GoesOn IsField c.args.self.now fields c.field.new.self) (sym c.in_ok-push.ensures.ok)
-    (goes_more IsField field_solid c.loop-self.invariant c.in_ok-field.ensures)
+    (goes_more IsField field_solid c.loop-self.invariant c.in_ok-field.ensures.reads)
 
 pub returns : goal.returns
 returns c = goes_end IsField field_solid c.loop-self.invariant (spaces_from _ (sym c.loop-self-test.ensures))

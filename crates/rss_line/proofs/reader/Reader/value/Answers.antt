@@ -13,10 +13,10 @@ returns-then-opens_text c = value_quoted c.quoted.result c.skip_spaces.ensures c
 pub returns-in_err-number : goal.returns-in_err-number
 returns-in_err-number c = let off = c.if-opens_text.ensures in
     value_missing (subst (Skips c.args.self.now) (sym off.0) c.skip_spaces.ensures) (subst (IsOff quote) (sym off.0) off.1)
-    c.from_residual.result c.in_err-number.ensures c.from_residual.ensures.1
+    c.from_residual.result c.in_err-number.ensures.reads c.from_residual.ensures.1
 
 pub returns : goal.returns
 returns c = let off = c.if-opens_text.ensures in
     let number = c.in_ok-number.number in
-    subst (λ (z : ℤ). ReadsWord IsValue c.args.self.now c.int.new.self (Ok (Int z))) (sym (to_z-of_z w64 number c.in_ok-number.ensures.ok.2.proper))
-    (value_int (subst (Skips c.args.self.now) (sym off.0) c.skip_spaces.ensures) (subst (IsOff quote) (sym off.0) off.1) c.in_ok-number.ensures)
+    subst (λ (z : ℤ). ReadsWord IsValue c.args.self.now c.int.new.self (Ok (Int z))) (sym (to_z-of_z w64 number c.in_ok-number.ensures.reads.ok.2.proper))
+    (value_int (subst (Skips c.args.self.now) (sym off.0) c.skip_spaces.ensures) (subst (IsOff quote) (sym off.0) off.1) c.in_ok-number.ensures.reads)
