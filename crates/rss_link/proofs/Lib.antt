@@ -1,0 +1,17 @@
+pub mod Pointers
+pub mod BlockBytes
+pub mod TupleSteps
+pub mod Edited
+pub mod Lists
+pub mod Meaning
+pub mod Splices
+pub mod Puts
+pub mod Turned
+pub mod Relinked
+pub mod Finding
+pub mod Connected
+pub mod Others
+pub mod Failing
+pub mod Coming
+pub mod Operations
+pub mod Prefixed

@@ -1,0 +1,10 @@
+use Rattle.rss_link.proofs.Meaning.{stands_by, after_within, after_outside}
+use Rattle.rss_link.proofs.link.Chains.after.Goals as goal
+
+pub returns-in-Within-clause-after : goal.returns-in-Within-clause-after
+returns-in-Within-clause-after g c = λ told ends linkage spells is_child.
+    after_within spells.chains c.args.child c.in-Within.parent c.in-Within.previous c.in-Within.next (stands_by spells c.args.child _ _ c.in-Within.is is_child (c.in_ok-next.ensures.says told))
+
+pub returns-in-Outside-clause-after : goal.returns-in-Outside-clause-after
+returns-in-Outside-clause-after g c = λ told ends linkage spells is_child.
+    after_outside linkage.lists c.args.child (stands_by spells c.args.child _ _ c.in-Outside.is is_child (c.in_ok-next.ensures.says told))

@@ -1,0 +1,10 @@
+use Rattle.rss_link.proofs.Meaning.{stands_by, before_within, before_outside}
+use Rattle.rss_link.proofs.link.Chains.before.Goals as goal
+
+pub returns-in-Within-clause-before : goal.returns-in-Within-clause-before
+returns-in-Within-clause-before g c = λ told ends linkage spells is_child.
+    before_within spells.chains c.args.child c.in-Within.parent c.in-Within.previous c.in-Within.next (stands_by spells c.args.child _ _ c.in-Within.is is_child (c.in_ok-previous.ensures.says told))
+
+pub returns-in-Outside-clause-before : goal.returns-in-Outside-clause-before
+returns-in-Outside-clause-before g c = λ told ends linkage spells is_child.
+    before_outside linkage.lists c.args.child (stands_by spells c.args.child _ _ c.in-Outside.is is_child (c.in_ok-previous.ensures.says told))

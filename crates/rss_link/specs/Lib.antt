@@ -1,0 +1,6 @@
+pub mod Blocks
+pub mod Chains
+pub mod Links
+pub mod Calls
+pub mod Prefixed
+pub mod Edits

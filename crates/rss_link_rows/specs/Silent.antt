@@ -1,0 +1,34 @@
+-- Tuples that don't tell what they are.
+use Rattle.std.specs.Prelude.{true, false, [], None}
+use Rattle.rss_base.specs.DiskRule.{Disk, IsTold}
+use Rattle.rss_base.specs.Steps.{PagesView}
+use Rattle.rss_tuple.specs.TupleSteps.{TuplesView, tuples_in}
+
+-- a device that tells nothing of its pages
+abbrev pub silent : Disk
+silent = record { contents = None; moment = 0; images = λ t image. ⊥ }
+
+-- every page, over such a device, and none that is said to hold anything
+abbrev pub no_pages : PagesView
+no_pages = record {
+  disk = silent;
+  slots = 0;
+  mapped = λ key. true;
+  held = λ key. None;
+  notes = λ key. None;
+  changed = λ key. false;
+  in_memory = λ key. false;
+  spare = 0;
+  asks = 0;
+  writes = 0;
+  faults = 0;
+  fixed = record { size = 0; held_at = λ q. None };
+  settled = false;
+  backing = record { log_pages = 0; area = 0; frames = 0; shadow = [] };
+}
+
+abbrev pub untold : TuplesView
+untold = tuples_in no_pages
+
+pub never_told : IsTold silent → ⊥
+never_told told = let is = told.is in absurd (cc)
