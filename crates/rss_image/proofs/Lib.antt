@@ -1,0 +1,16 @@
+pub mod Calls
+pub mod Halves
+pub mod Grows
+pub mod Insertion
+pub mod Passing
+pub mod Results
+pub mod Putting
+pub mod Seeks
+pub mod Places
+pub mod Evened
+pub mod Mending
+pub mod Removal
+pub mod Cut
+pub mod Counted
+pub mod Making
+pub mod Giving

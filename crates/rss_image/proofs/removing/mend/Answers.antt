@@ -1,0 +1,84 @@
+use Rattle.std.proofs.Common.{◌≡◌, ◌⊎◌, inl, inr, ◌<◌, ◌+◌, ◌∙◌, ℕ, suc, List, length, ap, sym, subst, arith, Option}
+use Rattle.rss_base.proofs.Steps.{then_call, widens}
+use Rattle.rss_levels.specs.Entries.{Entry, least}
+use Rattle.rss_levels.specs.Rows.{first, no_page}
+use Rattle.rss_base.specs.Paged.{page_key}
+use Rattle.rss_base.specs.declared.key.Space.TheVariants.{Image}
+use Rattle.rss_node.specs.Nodes.{NodeView, with_entries, spliced}
+use Rattle.rss_image.specs.Trees.{cells_of, HoldsNode}
+use Rattle.rss_image.specs.Removed.{second_names, MendsTo}
+use Rattle.rss_image.proofs.Calls.{held_mapped}
+use Rattle.rss_image.proofs.Halves.{many}
+use Rattle.rss_image.proofs.Mending.{on_done, two, mend_neighbours, mend_still, mended}
+use Rattle.rss_image.proofs.removing.mend.Goals.{then-place-count, else-place-count, in-None, in-Some}
+use Rattle.rss_image.proofs.removing.mend.Goals as goal
+
+pub even-requires-clause-there : goal.even-requires-clause-there
+even-requires-clause-there g c = λ told.
+    let of = c.args.of in
+    let old = g.P.Pages.view c.args.pages.now in
+    let own : List Entry = c.args.node.now.entries in
+    let at : ℕ = c.if-place-count.at in
+    let may = c.requires.there told in
+    let near : (c.args.place ≡ at) ⊎ (c.args.place ≡ suc at) = elim c.if-place-count.branch [ then-place-count w ↦ inl (omega (arith, w.at-is)) | else-place-count w ↦ inr (omega (arith, w.at-is, w.if-place-count.false, c.count-count.ensures.count, c.if-count-lt2.false, c.requires.within)) ] in
+    let low : suc at < length own = elim c.if-place-count.branch [ then-place-count w ↦ omega (arith, w.at-is, w.if-place-count.true, c.count-count.ensures.count) | else-place-count w ↦ omega (arith, w.at-is, c.count-count.ensures.count, c.if-count-lt2.false) ] in
+    let wide = many of.width c.requires.of.narrow in
+    let next : at + 1 ≡ suc at = omega arith in
+    let some : 0 < least of.width = omega (arith, wide) in
+    let both = two of (cells_of of old.held) c.args.level c.args.number c.args.place own may.start may.pairs may.front may.back may.lower may.entries may.rows may.height may.own_is at (at + 1) next near low some in
+    record {
+      left = both.left;
+      right = both.right;
+      next = first both.after no_page;
+      are = mend_neighbours of (cells_of of old.held) c.args.level c.args.number c.args.place own may.start may.pairs may.front may.back may.lower may.entries may.rows may.height may.own_is at (at + 1) next near low some c.child-left.result c.child-right.result c.pair-pair.result c.child-left.ensures c.child-right.ensures c.pair-pair.ensures.pair;
+    }
+
+pub write_node-requires-clause-mapped : goal.write_node-requires-clause-mapped
+write_node-requires-clause-mapped g c = λ told_mid.
+    let of = c.args.of in
+    let old = g.P.Pages.view c.args.pages.now in
+    let mid = g.P.Pages.view c.even.new.pages in
+    let told = c.in_ok-even.ensures.did.step.passes.leaves.told.1 told_mid in
+    let own : List Entry = c.args.node.now.entries in
+    let at : ℕ = c.if-place-count.at in
+    let may = c.requires.there told in
+    let near : (c.args.place ≡ at) ⊎ (c.args.place ≡ suc at) = elim c.if-place-count.branch [ then-place-count w ↦ inl (omega (arith, w.at-is)) | else-place-count w ↦ inr (omega (arith, w.at-is, w.if-place-count.false, c.count-count.ensures.count, c.if-count-lt2.false, c.requires.within)) ] in
+    let low : suc at < length own = elim c.if-place-count.branch [ then-place-count w ↦ omega (arith, w.at-is, w.if-place-count.true, c.count-count.ensures.count) | else-place-count w ↦ omega (arith, w.at-is, c.count-count.ensures.count, c.if-count-lt2.false) ] in
+    let wide = many of.width c.requires.of.narrow in
+    let next : at + 1 ≡ suc at = omega arith in
+    let some : 0 < least of.width = omega (arith, wide) in
+    let both = two of (cells_of of old.held) c.args.level c.args.number c.args.place own may.start may.pairs may.front may.back may.lower may.entries may.rows may.height may.own_is at (at + 1) next near low some in
+    let are = mend_neighbours of (cells_of of old.held) c.args.level c.args.number c.args.place own may.start may.pairs may.front may.back may.lower may.entries may.rows may.height may.own_is at (at + 1) next near low some c.child-left.result c.child-right.result c.pair-pair.result c.child-left.ensures c.child-right.ensures c.pair-pair.ensures.pair in
+    let ev = c.in_ok-even.ensures.evened told both.left both.right (first both.after no_page) are in
+    let still = mend_still of (cells_of of old.held) c.args.level c.args.number c.args.place own may.start may.pairs may.front may.back may.lower may.entries may.rows may.height may.own_is at (at + 1) next near low some (cells_of of mid.held) (second_names c.in_ok-even.field-0 c.child-right.result) ev may.off may.bytes may.held in
+    held_mapped mid (g.met.P.Pages.holds c.even.new.pages told_mid) (page_key of.segment Image c.args.number) may.bytes still
+
+pub returns-clause-mended : goal.returns-clause-mended
+returns-clause-mended g c = on_done c.write_node.result (λ writes told start pairs front back lower entries rows height own_is within.
+    let of = c.args.of in
+    let old = g.P.Pages.view c.args.pages.now in
+    let mid = g.P.Pages.view c.even.new.pages in
+    let new = g.P.Pages.view c.write_node.new.pages in
+    let told_mid = c.in_ok-even.ensures.did.step.passes.leaves.told.0 told in
+    let own : List Entry = c.args.node.now.entries in
+    let at : ℕ = c.if-place-count.at in
+    let near : (c.args.place ≡ at) ⊎ (c.args.place ≡ suc at) = elim c.if-place-count.branch [ then-place-count w ↦ inl (omega (arith, w.at-is)) | else-place-count w ↦ inr (omega (arith, w.at-is, w.if-place-count.false, c.count-count.ensures.count, c.if-count-lt2.false, c.requires.within)) ] in
+    let low : suc at < length own = elim c.if-place-count.branch [ then-place-count w ↦ omega (arith, w.at-is, w.if-place-count.true, c.count-count.ensures.count) | else-place-count w ↦ omega (arith, w.at-is, c.count-count.ensures.count, c.if-count-lt2.false) ] in
+    let wide = many of.width c.requires.of.narrow in
+    let next : at + 1 ≡ suc at = omega arith in
+    let some : 0 < least of.width = omega (arith, wide) in
+    let both = two of (cells_of of old.held) c.args.level c.args.number c.args.place own start pairs front back lower entries rows height own_is at (at + 1) next near low some in
+    let are = mend_neighbours of (cells_of of old.held) c.args.level c.args.number c.args.place own start pairs front back lower entries rows height own_is at (at + 1) next near low some c.child-left.result c.child-right.result c.pair-pair.result c.child-left.ensures c.child-right.ensures c.pair-pair.ensures.pair in
+    let ev = c.in_ok-even.ensures.evened told both.left both.right (first both.after no_page) are in
+    let more : List Entry = second_names c.in_ok-even.field-0 c.child-right.result in
+    let node : c.match-branch-2.node ≡ with_entries c.args.node.now (spliced own (at + 1) 1 more) = elim c.match-branch-2.branch [
+      | in-None w ↦ w.node-is ∙ w.cut.ensures ∙ ap (λ (s : Option (List ℕ)). with_entries c.args.node.now (spliced own (at + 1) 1 (second_names s c.child-right.result))) (sym w.in-None.is)
+      | in-Some w ↦ w.node-is ∙ w.put.ensures ∙ ap (λ (s : Option (List ℕ)). with_entries c.args.node.now (spliced own (at + 1) 1 (second_names s c.child-right.result))) (sym w.in-Some.is)
+    ] in
+    let wrote = writes told_mid in
+    let held = subst (λ (n : NodeView). HoldsNode of new.held c.args.level c.args.number n.next n.entries) node wrote.holds in
+    subst (λ (n : ℕ). MendsTo of c.args.level c.args.number c.args.node.now.next start (cells_of of new.held) pairs front back lower entries n) (sym (ap (λ (n : NodeView). length n.entries) node))
+    (mended of (cells_of of old.held) c.args.level c.args.number c.args.place own start pairs front back lower entries rows height own_is at (at + 1) next near low some (cells_of of mid.held) (cells_of of new.held) c.args.node.now.next more ev held wrote.keeps wrote.loses_none)) c.write_node.ensures.writes
+
+pub returns-clause-did : goal.returns-clause-did
+returns-clause-did g c = widens (λ key there. there) (omega arith) (omega arith) (then_call c.in_ok-even.ensures.did.step c.write_node.ensures.did)

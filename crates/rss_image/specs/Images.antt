@@ -1,0 +1,137 @@
+-- An image: a sorted list of pairs, spelled by a tree of pages.
+use Rattle.std.specs.Prelude.{◌≡◌, ◌≢◌, ℕ, ◌+◌, ◌-◌, ◌/◌, ◌≤◌, Bool, List, [], ◌∷◌, length, drop, Contains, Option, Some, None}
+use Rattle.std.specs.Int.{w16, from_be_bytes}
+use Rattle.std.specs.Ordering.{nat_cmp, is_lt}
+use Rattle.rss_base.specs.Paged.{Held}
+use Rattle.rss_base.specs.Sizes.{page_entries}
+use Rattle.rss_base.specs.Steps.{PagesView}
+use Rattle.rss_levels.specs.Entries.{Entry, Each, IsIn, zeros, least}
+use Rattle.rss_levels.specs.Rows.{Part, Row, HoldsAt, IsTree, no_page, pages}
+use Rattle.rss_levels.specs.Sought.{first_from}
+use Rattle.rss_levels.specs.Spots.{IsOwn, AreMade, with_pair}
+use Rattle.rss_levels.specs.Removes.{without_pair}
+use Rattle.rss_base.specs.declared.tid.Tid.{Tid}
+use Rattle.rss_node.specs.Pairs.{pair_bytes}
+use Rattle.rss_node.specs.declared.pair.Nodes.{Nodes}
+use Rattle.rss_image.specs.Trees.{cells_of, spells, KeepsPages, LosesNoPage}
+use Rattle.rss_image.specs.Emptied.{Gives}
+use Rattle.rss_image.specs.declared.image.Image.{Image}
+
+abbrev pub nodes_of : Image → Nodes
+nodes_of image = record { segment = image.segment; image = image.number; width = image.width }
+
+-- how many pairs an image has at most
+abbrev pub pairs_most : ℕ
+pairs_most = 1048576
+
+-- the identifier behind a key of this width names an entry that a page may have
+abbrev pub has_slot : ℕ → List ℕ → Bool
+has_slot width pair = is_lt (nat_cmp (from_be_bytes w16 (drop (width + 4) pair)) page_entries)
+
+-- the pages spell these pairs, in a tree of these rows
+pub record ImageTree (image : Image) (held : Held) (pairs : List (List ℕ)) : Type 0 where
+  pub top : Part
+  pub lower : List Row
+  pub tree : IsTree (spells (nodes_of image)) (cells_of (nodes_of image) held) image.width image.root image.levels pairs top lower
+  pub made : AreMade (has_slot image.width) ((top ∷ []) ∷ lower)
+
+-- the image's own pages
+abbrev pub pages_of : {image : Image} {held : Held} {pairs : List (List ℕ)} → ImageTree image held pairs → List ℕ
+pages_of tree = pages ((tree.top ∷ []) ∷ tree.lower)
+
+-- a new root names two nodes
+pub record Rooted (of : Nodes) (levels root : ℕ) (e : Entry) (number : ℕ) (old new : PagesView) : Type 0 where
+  pub held : HoldsAt (spells of) (cells_of of new.held) levels number no_page (record { pair = zeros of.width; child = root } ∷ e ∷ [])
+  pub fresh : cells_of of old.held number ≡ None
+  pub keeps : KeepsPages of [] old new
+  pub loses_none : LosesNoPage of [] (number ∷ []) old new
+
+-- the pair belongs into an image, and isn't there
+pub record MayPut (image : Image) (held : Held) (pair : List ℕ) : Type 0 where
+  pub pairs : List (List ℕ)
+  pub tree : ImageTree image held pairs
+  pub absent : Each (λ p. p ≢ pair) pairs
+  pub few : length pairs ≤ pairs_most
+
+-- The image has these pairs now, in pages that were its own or weren't mapped; what was its own and isn't any longer isn't mapped. No other image page was changed. So many pages fewer can be taken as it has more.
+pub record Becomes (old_image new_image : Image) (old new : PagesView) (own : List ℕ) (pairs : List (List ℕ)) : Type 0 where
+  pub tree : ImageTree new_image new.held pairs
+  pub own_pages : Each (IsOwn own (cells_of (nodes_of old_image) old.held)) (pages_of tree)
+  pub keeps : KeepsPages (nodes_of old_image) own old new
+  pub loses_none : LosesNoPage (nodes_of old_image) own (pages_of tree) old new
+  pub spare : new.spare + length (pages_of tree) ≡ old.spare + length own
+
+-- the pair is put into the sorted list
+abbrev pub PutsPair : List ℕ → Image → Image → PagesView → PagesView → Type 0
+PutsPair pair old_image new_image old new = (pairs : List (List ℕ)) (tree : ImageTree old_image old.held pairs) → Each (λ p. p ≢ pair) pairs
+    → Becomes old_image new_image old new (pages_of tree) (with_pair pair pairs)
+
+-- the pages spell some pairs
+pub record HasImage (image : Image) (held : Held) : Type 0 where
+  pub pairs : List (List ℕ)
+  pub tree : ImageTree image held pairs
+
+-- below every other identifier
+abbrev pub least_tid : Tid
+least_tid = record { page = 0; slot = 0 }
+
+-- a pair that was found, as bytes
+abbrev pub found_bytes : Option (List ℕ × Tid) → Option (List ℕ)
+found_bytes None = None
+found_bytes (Some found) = Some (pair_bytes found.0 found.1)
+
+-- the first pair that isn't passed, of those that the pages spell
+abbrev pub Finds : Bool → List ℕ → Image → PagesView → Option (List ℕ × Tid) → Type 0
+Finds beyond pair image view found = (pairs : List (List ℕ)) → ImageTree image view.held pairs → found_bytes found ≡ first_from beyond pair pairs
+
+-- An image of so many pairs has at most so many pages.
+abbrev pub page_bound : ℕ → ℕ → ℕ
+page_bound width count = count / (least width - 1) + 2
+
+-- So many pages can be taken as an image with one pair more may have beyond its own.
+abbrev pub HasSpare : Image → PagesView → Type 0
+HasSpare image view = (pairs : List (List ℕ)) (tree : ImageTree image view.held pairs) → page_bound image.width (length pairs + 1) ≤ view.spare + length (pages_of tree)
+
+abbrev pub HasFewPages : Image → Held → Type 0
+HasFewPages image held = (pairs : List (List ℕ)) (tree : ImageTree image held pairs) → length (pages_of tree) ≤ page_bound image.width (length pairs)
+
+-- the pair is in an image
+pub record MayCut (image : Image) (held : Held) (pair : List ℕ) : Type 0 where
+  pub pairs : List (List ℕ)
+  pub tree : ImageTree image held pairs
+  pub there : Contains pairs pair
+
+-- The same, and no page was taken.
+pub record Shrinks (old_image new_image : Image) (old new : PagesView) (own : List ℕ) (pairs : List (List ℕ)) : Type 0 where
+  pub tree : ImageTree new_image new.held pairs
+  pub own_pages : Each (IsIn own) (pages_of tree)
+  pub keeps : KeepsPages (nodes_of old_image) own old new
+  pub loses_none : LosesNoPage (nodes_of old_image) own (pages_of tree) old new
+  pub spare : new.spare + length (pages_of tree) ≡ old.spare + length own
+
+-- the pair is taken out of the sorted list
+abbrev pub CutsPair : List ℕ → Image → Image → PagesView → PagesView → Type 0
+CutsPair pair old_image new_image old new = (pairs : List (List ℕ)) (tree : ImageTree old_image old.held pairs) → Contains pairs pair
+    → Shrinks old_image new_image old new (pages_of tree) (without_pair pair pairs)
+
+-- All pages of the image are given, and no other image page is changed.
+pub record Destroys (image : Image) (old new : PagesView) (own : List ℕ) : Type 0 where
+  pub gives : Gives (nodes_of image) own old new
+  pub spare : new.spare ≡ old.spare + length own
+
+abbrev pub DestroysImage : Image → PagesView → PagesView → Type 0
+DestroysImage image old new = (pairs : List (List ℕ)) (tree : ImageTree image old.held pairs) → Destroys image old new (pages_of tree)
+
+-- ---- laws
+
+-- an image has five levels at most
+abbrev pub HasFewLevels : Image → Held → Type 0
+HasFewLevels image held = (pairs : List (List ℕ)) → ImageTree image held pairs → length pairs ≤ pairs_most → image.levels ≤ 5
+
+-- the pages spell one list at most, in the same pages
+pub record AreOne {image : Image} {held : Held} {pairs others : List (List ℕ)} (tree : ImageTree image held pairs) (other : ImageTree image held others) : Type 0 where
+  pub pairs_are : pairs ≡ others
+  pub pages_are : pages_of tree ≡ pages_of other
+
+abbrev pub SpellOne : Image → Held → Type 0
+SpellOne image held = (pairs others : List (List ℕ)) (tree : ImageTree image held pairs) (other : ImageTree image held others) → AreOne tree other

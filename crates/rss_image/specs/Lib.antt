@@ -1,0 +1,7 @@
+pub mod Trees
+pub mod Grown
+pub mod Inserted
+pub mod Images
+pub mod Seeking
+pub mod Removed
+pub mod Emptied

@@ -1,0 +1,23 @@
+// The laws of images.
+ghost use Rattle.rss_base.specs.Paged.{Held};
+ghost use Rattle.rss_node.specs.Nodes.{AreNodes};
+ghost use Rattle.rss_image.specs.Images.{nodes_of, HasFewPages, HasFewLevels, SpellOne};
+ghost use Rattle.rss_image.specs.declared.image.Image.{Image as SomeImage};
+
+/// The pages of an image spell one list at most.
+pub fn spelled_once()
+    ensures { (image : SomeImage) (held : Held) → SpellOne image held }
+{}
+
+/// With f entries at least in a node that isn't the root, an image of n pairs has at most
+/// n / (f - 1) + 2 pages.
+pub fn pages_are_few()
+    ensures { (image : SomeImage) (held : Held) → AreNodes (nodes_of image)
+        → HasFewPages image held }
+{}
+
+/// An image of at most 2^20 pairs has at most five levels.
+pub fn levels_are_few()
+    ensures { (image : SomeImage) (held : Held) → AreNodes (nodes_of image)
+        → HasFewLevels image held }
+{}

@@ -1,0 +1,9 @@
+use Rattle.std.proofs.Common.{◌≡◌, length, drop, sym, ap, ◌∙◌, arith}
+use Rattle.rss_node.specs.Nodes.{NodeView, count_of, entry_at}
+use Rattle.rss_node.proofs.Codec.{length_entries, read_child}
+use Rattle.rss_node.proofs.node.Node.child.Goals as goal
+
+pub returns : goal.returns
+returns c =
+    let long : length c.args.self.now.entries ≡ count_of c.self.inside.page = sym (ap (λ (n : NodeView). length n.entries) c.self.view_is) ∙ length_entries c.self.inside.width (count_of c.self.inside.page) (drop 32 c.self.inside.page) in
+    c.u32_at.ensures ∙ read_child c.self.inside.width (count_of c.self.inside.page) c.args.at c.self.inside.page (omega (arith, long, c.requires)) ∙ ap (λ (n : NodeView). (entry_at n.entries c.args.at).child) c.self.view_is

@@ -1,0 +1,37 @@
+use Rattle.std.proofs.Common.{◌≡◌, ◌≤◌, ◌+◌, ◌-◌, ℕ, List, length, drop, arith, sym, ap, ◌∙◌}
+use Rattle.rss_levels.specs.Entries.{capacity}
+use Rattle.rss_node.specs.Nodes.{NodeView, count_of, put, entries_from, spliced, with_entries}
+use Rattle.rss_node.proofs.Codec.{length_entries}
+use Rattle.rss_node.proofs.Headers.{IsSpliced, spliced_page, moves, grows}
+use Rattle.rss_node.proofs.node.Node.splice.Goals as goal
+
+pub put_and_move-requires-clause-order : goal.put_and_move-requires-clause-order
+put_and_move-requires-clause-order c = omega (arith, grows c.self.inside.width (c.args.at + c.args.removed) c.count-old.result (omega (arith, c.requires.within, c.count-old.ensures.count)))
+
+wide : (view now : NodeView) → view ≡ now → now.width ≡ view.width
+wide view now is = sym (ap (λ (n : NodeView). n.width) is)
+
+pub put_and_move-requires-clause-room : goal.put_and_move-requires-clause-room
+put_and_move-requires-clause-room c =
+    let w = wide _ _ c.self.view_is in
+    moves c.self.inside.width c.args.at c.args.removed c.count-old.result c.args.count (length c.args.bytes.now)
+    (omega (arith, c.requires.within, c.count-old.ensures.count))
+    (let room = rw w at c.requires.room in rw c.count-old.ensures.count room)
+    (rw w at c.requires.bytes)
+
+is_spliced : (c : goal.After-put_bytes) → IsSpliced c.self.inside.width c.self.inside.page c.put_bytes.new.page c.args.at c.args.removed (entries_from c.self.inside.width c.args.count c.args.bytes.now)
+is_spliced c =
+    let w = wide _ _ c.self.view_is in
+    let old = c.count-old.result in
+    let now : ℕ = old + c.args.count - c.args.removed in
+    let long : old ≡ count_of c.self.inside.page = c.count-old.ensures.count ∙ sym (ap (λ (n : NodeView). length n.entries) c.self.view_is) ∙ length_entries c.self.inside.width (count_of c.self.inside.page) (drop 32 c.self.inside.page) in
+    let room : old + c.args.count ≤ capacity c.self.inside.width + c.args.removed = (let room = rw w at c.requires.room in rw c.count-old.ensures.count room) in
+    spliced_page c.self.inside.width c.args.at c.args.removed c.args.count now old c.self.inside.page c.args.bytes.now c.put_and_move.new.page c.put_bytes.new.page c.self.invariant long (omega (arith, c.requires.within, c.count-old.ensures.count)) (rw w at c.requires.bytes) room (omega (arith, c.requires.within, c.count-old.ensures.count)) c.put_and_move.ensures (c.put_bytes.ensures ∙ ap (λ (l : List ℕ). put c.put_and_move.new.page 8 l) c.to_be_bytes.ensures)
+
+pub invariant_of-self : goal.invariant_of-self
+invariant_of-self c = (is_spliced c).formed
+
+pub returns : goal.returns
+returns c =
+    let next : NodeView → NodeView = λ n. with_entries n (spliced n.entries c.args.at c.args.removed (entries_from n.width c.args.count c.args.bytes.now)) in
+    (is_spliced c).says ∙ ap next c.self.view_is
