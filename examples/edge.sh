@@ -1,7 +1,8 @@
 #!/usr/bin/env bash
 # What the program does at its edge: standard streams that are closed or fail, files that are no store,
-# two processes on one file, and a file size limit. Each check prints a line, and says what status,
-# what replies and what bytes of the file were there in place of those that should be.
+# two processes on one file, a file that is damaged while a run waits, and a file size limit. Each check
+# prints a line, and says what status, what replies and what bytes of the file were there in place of
+# those that should be.
 #
 # usage: edge.sh [PROGRAM]
 # PROGRAM is the launcher `rss` beside this folder where it isn't given. Its files lie in a folder of
@@ -157,6 +158,65 @@ finish 2>/dev/null
 report "a run is killed" "$faults"
 check one '"$rss" run a <probe' 0 $'ok\nok 7\nrefused 9 no tuple r 0.1' one
 
+# A store of 1,100 home pages, each with one tuple, in 3,072 slots behind 23 other pages. No more than
+# 1,024 pages are kept in memory, and an opening looks at each page, home page 0 before all others. So
+# that has left memory when a run waits for its first line, and a line that asks for it has it read from
+# the file again.
+text="\"$(printf '%250s' '' | tr ' ' x)\""
+long="$text $text $text $text $text $text $text $text"
+short='"y" "y" "y" "y" "y" "y" "y" "y"'
+{
+    echo 'segment s'
+    echo 'relation r s a:text255 b:text255 c:text255 d:text255 e:text255 f:text255 g:text255 h:text255'
+    for ((commit = 0; commit < 11; commit++)); do
+        echo 'begin 1'
+        for ((tuple = 0; tuple < 100; tuple++)); do echo "insert 1 r $long"; done
+        echo 'end 1'
+    done
+} >fill
+"$rss" format many 3072 8 >replies
+"$rss" run many <fill >replies
+if [ "$(tail -n 2 replies)" != $'ok 1099.0\nok' ]; then report "a store of 1,100 home pages" " other replies;"; fi
+
+# Where the pages of the file begin whose first 16 bytes are the header of a home page, by its number.
+heads="$(od -An -v -tx1 -w4096 many | cut -c 1-48)"
+place_of() {
+    local found
+    found="$(printf ' 01 01 00 00 00 00 00 %02x 00 00 00 00 00 00 00 00' "$1")"
+    echo $((4096 * ($(grep -nxF -- "$found" <<<"$heads" | cut -d : -f 1) - 1)))
+}
+first_page="$(place_of 0)"
+second_page="$(place_of 1)"
+
+# Damage to the file `a`, by what is said of it.
+turn_header() { printf '\2' | dd of=a bs=1 seek="$first_page" conv=notrunc status=none; }
+turn_entry() { printf '\3' | dd of=a bs=1 seek=$((first_page + 16)) conv=notrunc status=none; }
+set_to_zeros() { dd if=/dev/zero of=a bs=4096 seek=23 count=3072 conv=notrunc status=none; }
+exchange() {
+    dd if=many of=a bs=4096 skip=$((first_page / 4096)) seek=$((second_page / 4096)) count=1 conv=notrunc status=none
+    dd if=many of=a bs=4096 skip=$((second_page / 4096)) seek=$((first_page / 4096)) count=1 conv=notrunc status=none
+}
+
+# meets DAMAGE WHAT LINE: the line of a run over a file that was damaged while the run waited for it.
+meets() {
+    local faults
+    start many
+    faults="$(says ok 'begin 1')"
+    "$1"
+    if cmp -s a many; then faults+=" no damage was done;"; fi
+    cp a before
+    faults+="$(says 'damaged page 1 home 0' "$3")"
+    finish
+    : >replies
+    report "$3, where $2 while the run waited" "$faults$(faults_of "$first_status" 10 "" before)"
+}
+for line in 'fetch 1 r 0.0' "insert 1 r $short" "update 1 r 0.0 $short" 'delete 1 r 0.0'; do
+    meets turn_header 'the header of the home page was turned' "$line"
+    meets turn_entry 'its entry was turned' "$line"
+    meets set_to_zeros 'all data slots were set to zeros' "$line"
+    meets exchange 'two home pages were exchanged' "$line"
+done
+
 # Standard output is closed by its reader after a commit.
 start empty
 faults="$(says ok 'begin 1'; says 'ok 0.0' 'insert 1 r 7'; says ok 'end 1')"
@@ -165,6 +225,17 @@ echo 'begin 1' >&7
 finish
 : >replies
 report "the reader of the replies goes after a commit" "$faults$(faults_of "$first_status" 3 "" one)"
+
+# Words that are no command, and none.
+for words in "" run "format a 64"; do
+    status=0
+    # shellcheck disable=SC2086
+    "$rss" $words >replies 2>errors || status=$?
+    faults=""
+    if [ "$status" != 1 ]; then faults=" status $status;"; fi
+    if ! grep -qx 'usage: rss format FILE N G | run FILE' errors; then faults+=" no usage line;"; fi
+    report "rss $words" "$faults"
+done
 
 # System calls.
 if [ -n "$(command -v strace)" ]; then

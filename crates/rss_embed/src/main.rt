@@ -13,7 +13,7 @@ use rss_base::{
 };
 use rss_device::MemDevice;
 use rss_model::Engine;
-use rss_rsi::{format, open};
+use rss_rsi::{MOST_FRAMES, format, open};
 use std::alloc::{AllocError, Global};
 use std::io;
 use thiserror::Error;
@@ -109,12 +109,12 @@ fn print_all<E: Engine, R: Print>(rt: &R, engine: &mut E, tids: &[Tid]) -> Resul
 fn main(rt: HostRuntime) -> Result<(), Failure> {
     let mut device = MemDevice::empty(rt.alloc());
     format(rt.alloc(), &mut device, 64, 8)?;
-    let mut store = open(rt.alloc(), device).map_err(|unopened| unopened.fault)?;
+    let mut store = open(rt.alloc(), device, MOST_FRAMES).map_err(|unopened| unopened.fault)?;
     let tids = insert_both(&mut store, rt.alloc());
     // A store is given back as its device, whatever came out.
     let device = store.into_pages().into_device();
     let tids = tids?;
-    let mut store = open(rt.alloc(), device).map_err(|unopened| unopened.fault)?;
+    let mut store = open(rt.alloc(), device, MOST_FRAMES).map_err(|unopened| unopened.fault)?;
     let printed = print_all(&rt, &mut store, &tids);
     let _ = store.into_pages().into_device();
     printed

@@ -1,7 +1,8 @@
 // One example: a script over a store, and the replies that it gets.
 use anyhow::{Context, Result, bail, ensure};
 use rss_device::MemDevice;
-use rss_scripts::{format_device, run_script, without_moments};
+use rss_rsi::LEAST_FRAMES;
+use rss_scripts::{format_device, run_in_frames, run_script, without_moments};
 use rss_top::Status;
 use std::alloc::Global;
 use std::fs;
@@ -54,6 +55,26 @@ fn run_pieces(
     Ok(after)
 }
 
+/// Runs a script over a copy of a store with as few pages in memory as there may be, and it gets
+/// these replies.
+fn run_in_few(
+    alloc: Global,
+    name: &str,
+    store: &MemDevice,
+    (script, replies): (&[u8], &[u8]),
+) -> Result<()> {
+    let device = without_moments(alloc, store)?;
+    let Ok((status, found)) = run_in_frames(alloc, device, script, LEAST_FRAMES) else {
+        bail!("{name}: no store");
+    };
+    ensure!(status == Status::Ok, "{name}: ended with {status:?}");
+    ensure!(
+        found.as_slice() == replies,
+        "{name}: other replies, with {LEAST_FRAMES} pages in memory"
+    );
+    Ok(())
+}
+
 /// The bytes of a file of an example.
 fn read<R: Files + AllocGlobal>(rt: &R, folder: &str, name: &str, ending: &str) -> Result<Vec<u8>> {
     let path = format!(in rt.alloc(); "{folder}{name}.{ending}")?;
@@ -79,6 +100,7 @@ pub(crate) fn run_example<R: Files + AllocGlobal + Print>(
     for piece in PIECES {
         after = run_pieces(rt.alloc(), words.name, &store, texts, piece)?;
     }
+    run_in_few(rt.alloc(), words.name, &store, texts)?;
     println!(rt; "{}", words.name)?;
     Ok(after)
 }

@@ -1,4 +1,5 @@
-//! Runs the examples over devices in memory, as `examples/check` does with the program over files.
+//! Runs the examples over devices in memory, as `examples/check` does with the program over files,
+//! and once more with as few pages in memory as there may be.
 //! `data/` holds them: `list` names each with the store that it wants, and beside each script stand
 //! its replies. The program runs where they lie, or is given the way there, as `data/`.
 #![tactic(auto)]

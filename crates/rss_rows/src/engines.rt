@@ -4,7 +4,7 @@ use rss_asserts::assert_same;
 use rss_base::{Call, CallError, Name, Reply, Tid, Tuple, Value};
 use rss_buffer::Saving;
 use rss_model::Engine;
-use rss_rsi::{Rss, open};
+use rss_rsi::{LEAST_FRAMES, MOST_FRAMES, Rss, open};
 use std::alloc::Global;
 use std::test::Fail;
 
@@ -78,12 +78,21 @@ fn assert_steps<S: Saving>(alloc: Global, store: &mut Rss<S>) -> Result<(), Fail
     Ok(())
 }
 
-#[test]
-fn an_engine_counts_its_pages_and_its_room(rt: HostRuntime) -> Result<(), Fail> {
-    let Ok(mut store) = open(rt.alloc(), store_with_r(rt.alloc(), SMALL)?) else {
+/// The steps, with so many pages in memory.
+fn assert_counts(alloc: Global, frames: u32) -> Result<(), Fail> {
+    if frames < LEAST_FRAMES || frames > MOST_FRAMES {
+        return Err("so many frames no store has".into());
+    }
+    let Ok(mut store) = open(alloc, store_with_r(alloc, SMALL)?, frames) else {
         return Err("there is no store".into());
     };
-    let asserted = assert_steps(rt.alloc(), &mut store);
+    let asserted = assert_steps(alloc, &mut store);
     let _ = store.into_pages().into_device();
     asserted
+}
+
+#[test]
+fn an_engine_counts_its_pages_and_its_room(rt: HostRuntime) -> Result<(), Fail> {
+    assert_counts(rt.alloc(), MOST_FRAMES)?;
+    assert_counts(rt.alloc(), LEAST_FRAMES)
 }

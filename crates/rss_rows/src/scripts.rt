@@ -1,6 +1,6 @@
 // Lines that are no call, and scripts that write. Scripts with their replies are those of
 // `rss_examples`.
-use crate::harness::{Row, SMALL, WHOLE, assert_script, has_writes, store_with_r};
+use crate::harness::{Row, SMALL, WHOLE, assert_script, has_writes, store_after, store_with_r};
 use rss_asserts::assert_same;
 use rss_device::MemDevice;
 use rss_scripts::{run_script, without_moments};
@@ -32,7 +32,7 @@ static WRITES: [(&[u8], usize); 14] = [
 ];
 
 /// Lines that are words.
-static WORDS: [&[u8]; 62] = [
+static WORDS: [&[u8]; 58] = [
     b"\t",
     b"\r",
     b"\0",
@@ -77,11 +77,7 @@ static WORDS: [&[u8]; 62] = [
     b"insert 1 r \"x\"y",
     b"insert 1 r \"x\"\"y\"\"\"z",
     b"insert 1 r x\"y\"",
-    b"insert 1 r \"\t\"",
-    b"insert 1 r \"\0\"",
-    b"insert 1 r \"\x7f\"",
-    b"insert 1 r \"\xff\"",
-    b"insert 1 r \"\xe2\x98\"",
+    b"insert 1 r \"\xff\"\xff",
     b"fetch 1 r",
     b"fetch 1 r 0.128",
     b"fetch 1 r 65536.0",
@@ -96,6 +92,19 @@ static WORDS: [&[u8]; 62] = [
     b"delete 1 r 00.0",
     b"Delete 1 r 0.0",
 ];
+
+/// Scripts over a relation of one TEXT, whose bytes between quotes are none that a field takes.
+static BAD_TEXTS: [&[u8]; 6] = [
+    b"insert 1 n \"\t\"\n",
+    b"insert 1 n \"\0\"\n",
+    b"insert 1 n \"a\x7f\"\n",
+    b"insert 1 n \"\xff\"\n",
+    b"insert 1 n \"\xe2\x98\"\n",
+    b"update 1 n 0.0 \"\r\"\n",
+];
+
+/// The reply to each of them.
+const BAD_TUPLE: &[u8] = b"refused 8 bad tuple 1\n";
 
 /// Lines of so many bytes are words too.
 const LENGTHS: [usize; 3] = [8192, 8193, 100_000];
@@ -193,6 +202,23 @@ fn assert_count(alloc: Global, count: usize, replies: &[u8]) -> Result<(), Fail>
     Ok(())
 }
 
+/// Runs each of the scripts with a bad text, in a transaction.
+fn assert_bad_texts(alloc: Global, device: MemDevice) -> Result<(), Fail> {
+    let mut device = device;
+    for line in &BAD_TEXTS {
+        let mut script = Vec::from_slice(alloc, b"begin 1\n")?;
+        script.extend_from_slice(line)?;
+        let mut replies = Vec::from_slice(alloc, b"ok\n")?;
+        replies.extend_from_slice(BAD_TUPLE)?;
+        let row = Row {
+            script: script.as_slice(),
+            replies: replies.as_slice(),
+        };
+        device = assert_script(alloc, device, &row, 100, *line)?;
+    }
+    Ok(())
+}
+
 /// Runs a script that makes so many writes. Answers what it left, with no moments yet.
 fn assert_writes(
     alloc: Global,
@@ -211,6 +237,15 @@ fn assert_writes(
 fn a_line_that_is_no_call_is_words(rt: HostRuntime) -> Result<(), Fail> {
     let device = assert_lines(rt.alloc(), store_with_r(rt.alloc(), SMALL)?)?;
     assert_long_lines(rt.alloc(), device)
+}
+
+#[test]
+fn bytes_between_quotes_that_are_no_text_are_a_bad_tuple(rt: HostRuntime) -> Result<(), Fail> {
+    let device = store_with_r(rt.alloc(), SMALL)?;
+    assert_bad_texts(
+        rt.alloc(),
+        store_after(rt.alloc(), device, b"relation n s a:text4\n")?,
+    )
 }
 
 #[test]

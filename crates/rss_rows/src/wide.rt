@@ -3,7 +3,7 @@ use crate::harness::{Row, WHOLE, assert_script, empty_store, store_after};
 use crate::lines::write_lines;
 use rss_asserts::assert_same;
 use rss_device::MemDevice;
-use rss_rsi::open;
+use rss_rsi::{MOST_FRAMES, open};
 use rss_scripts::without_moments;
 use std::alloc::Global;
 use std::fmt::Write;
@@ -170,7 +170,7 @@ fn assert_left(alloc: Global, device: MemDevice) -> Result<MemDevice, Fail> {
 
 /// A store has so many pages.
 fn assert_mapped(alloc: Global, device: MemDevice, mapped: u32) -> Result<(), Fail> {
-    let Ok(store) = open(alloc, device) else {
+    let Ok(store) = open(alloc, device, MOST_FRAMES) else {
         return Err("there is no store".into());
     };
     let found = store.mapped();

@@ -7,7 +7,7 @@ use anyhow::{Result, bail, ensure};
 use rss_base::{Call, FieldDef, FieldKind, Fields, Name, Reply, Tid, Tuple, Value};
 use rss_device::FileDevice;
 use rss_model::Engine;
-use rss_rsi::{format, open};
+use rss_rsi::{MOST_FRAMES, format, open};
 use std::alloc::Global;
 use std::env;
 use std::process::ExitCode;
@@ -184,7 +184,7 @@ fn read_words(words: &[String]) -> Option<(&str, Work)> {
 fn run(rt: &HostRuntime, file: &str, work: Work) -> Result<()> {
     let mut device = FileDevice::new(rt, file);
     format(rt.alloc(), &mut device, SLOTS, LOG_PAGES)?;
-    let mut store = open(rt.alloc(), device).map_err(|unopened| unopened.fault)?;
+    let mut store = open(rt.alloc(), device, MOST_FRAMES).map_err(|unopened| unopened.fault)?;
     let measured = measure(rt, &mut store, work);
     let _ = store.into_pages().into_device();
     measured

@@ -4,7 +4,7 @@ use anyhow::{Result, bail};
 use rss_base::{Call, CallError, Kind, Name, Page, Refusal, Reply, Tid, Tuple, Value};
 use rss_device::MemDevice;
 use rss_model::Engine;
-use rss_rsi::open;
+use rss_rsi::{MOST_FRAMES, open};
 use std::alloc::Global;
 
 /// The relation whose tuples are shown.
@@ -55,7 +55,7 @@ fn fetch_all<E: Engine>(engine: &mut E, alloc: Global) -> Result<Vec<i64>> {
 
 /// The tuples of the store in these pages, in the order of their identifiers.
 pub(crate) fn values_in(alloc: Global, pages: Vec<Page>) -> Result<Vec<i64>> {
-    let mut store = match open(alloc, MemDevice::new(alloc, pages)?) {
+    let mut store = match open(alloc, MemDevice::new(alloc, pages)?, MOST_FRAMES) {
         Ok(store) => store,
         Err(unopened) => bail!("a stop left no store: {}", unopened.fault),
     };
