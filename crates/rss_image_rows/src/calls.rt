@@ -4,9 +4,9 @@ ghost use Rattle.rss_node.specs.Nodes.{AreNodes};
 ghost use Rattle.rss_image.specs.Images.{nodes_of};
 
 use crate::pairs::{Code, code_from, key_of, tid_of};
-use crate::untold::Untold;
 use rss_base::{PageFault, Pages};
 use rss_device::MemPages;
+use rss_images::Untold;
 use rss_image::Image;
 use std::alloc::Global;
 use std::test::Fail;
@@ -48,7 +48,7 @@ fn is_image(image: &Image) -> bool
 
 const NO_IMAGE: Undone = Undone::Refused("no image");
 
-#[tactic(auto, using(crate::specs::Silent::never_told))]
+#[tactic(auto, using(rss_images::specs::Silent::never_told))]
 pub(crate) fn create(pages: &mut Tried, width: u8) -> Result<Image, Undone> {
     if width < 1 || width > 120 || pages.spare() == 0 {
         return Err(NO_IMAGE);
@@ -56,7 +56,7 @@ pub(crate) fn create(pages: &mut Tried, width: u8) -> Result<Image, Undone> {
     Ok(Image::create(pages, SEGMENT, NUMBER, width)?)
 }
 
-#[tactic(auto, using(crate::specs::Silent::never_told))]
+#[tactic(auto, using(rss_images::specs::Silent::never_told))]
 pub(crate) fn insert(image: &mut Image, pages: &mut Tried, code: Code) -> Result<(), Undone> {
     let key = key_of(code, image.width);
     let tid = tid_of(code);
@@ -69,7 +69,7 @@ pub(crate) fn insert(image: &mut Image, pages: &mut Tried, code: Code) -> Result
     Ok(image.insert(pages, &key, tid)?)
 }
 
-#[tactic(auto, using(crate::specs::Silent::never_told))]
+#[tactic(auto, using(rss_images::specs::Silent::never_told))]
 pub(crate) fn remove(image: &mut Image, pages: &mut Tried, code: Code) -> Result<(), Undone> {
     let key = key_of(code, image.width);
     if !is_image(image) || image.levels == 0 || key.as_slice().len() != usize::from(image.width) {
@@ -79,7 +79,7 @@ pub(crate) fn remove(image: &mut Image, pages: &mut Tried, code: Code) -> Result
 }
 
 /// The first pair at or above the key of a pair.
-#[tactic(auto, using(crate::specs::Silent::never_told))]
+#[tactic(auto, using(rss_images::specs::Silent::never_told))]
 pub(crate) fn seek(image: &Image, pages: &mut Tried, code: Code) -> Result<Option<Code>, Undone> {
     let key = key_of(code, image.width);
     if !is_image(image) || image.levels == 0 || key.as_slice().len() != usize::from(image.width) {
@@ -92,7 +92,7 @@ pub(crate) fn seek(image: &Image, pages: &mut Tried, code: Code) -> Result<Optio
 }
 
 /// The first pair above a pair.
-#[tactic(auto, using(crate::specs::Silent::never_told))]
+#[tactic(auto, using(rss_images::specs::Silent::never_told))]
 pub(crate) fn after(image: &Image, pages: &mut Tried, code: Code) -> Result<Option<Code>, Undone> {
     let key = key_of(code, image.width);
     if !is_image(image) || image.levels == 0 || key.as_slice().len() != usize::from(image.width) {
@@ -104,7 +104,7 @@ pub(crate) fn after(image: &Image, pages: &mut Tried, code: Code) -> Result<Opti
     }
 }
 
-#[tactic(auto, using(crate::specs::Silent::never_told))]
+#[tactic(auto, using(rss_images::specs::Silent::never_told))]
 pub(crate) fn destroy(image: Image, pages: &mut Tried) -> Result<(), Undone> {
     if !is_image(&image) || image.levels == 0 {
         return Err(NO_IMAGE);

@@ -10,6 +10,4 @@ mod pairs;
 #[cfg(test)]
 mod tested;
 #[cfg(test)]
-mod untold;
-#[cfg(test)]
 mod widths;

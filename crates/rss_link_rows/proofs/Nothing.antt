@@ -10,7 +10,8 @@ use Rattle.rss_base.specs.Paged.{page_key}
 use Rattle.rss_base.specs.declared.key.Space.TheVariants.{Home}
 use Rattle.rss_tuple.specs.Calls.{PutsTuple}
 use Rattle.rss_tuple.specs.TupleSteps.{Tuples, TuplesCall}
-use Rattle.rss_link_rows.specs.Silent.{no_pages, untold, never_told}
+use Rattle.rss_images.specs.Silent.{never_told}
+use Rattle.rss_link_rows.specs.Silent.{no_pages, untold}
 
 pub answered : {T : Type 0} (touched : Keys) (tuples : Tuples) (cost : ℕ) (value : T) → TuplesCall touched tuples cost untold untold (Ok value)
 answered touched tuples cost value = record {

@@ -1,24 +1,20 @@
 -- Tuples that don't tell what they are.
 use Rattle.std.specs.Prelude.{true, false, [], None}
-use Rattle.rss_base.specs.DiskRule.{Disk, IsTold}
 use Rattle.rss_base.specs.Steps.{PagesView}
+use Rattle.rss_images.specs.Silent.{silent}
 use Rattle.rss_tuple.specs.TupleSteps.{TuplesView, tuples_in}
 
--- a device that tells nothing of its pages
-abbrev pub silent : Disk
-silent = record { contents = None; moment = 0; images = λ t image. ⊥ }
-
--- every page, over such a device, and none that is said to hold anything
+-- every page, over a device that tells nothing, and none that is said to hold anything; one more may be taken
 abbrev pub no_pages : PagesView
 no_pages = record {
   disk = silent;
-  slots = 0;
+  slots = 1;
   mapped = λ key. true;
   held = λ key. None;
   notes = λ key. None;
   changed = λ key. false;
   in_memory = λ key. false;
-  spare = 0;
+  spare = 1;
   asks = 0;
   writes = 0;
   faults = 0;
@@ -29,6 +25,3 @@ no_pages = record {
 
 abbrev pub untold : TuplesView
 untold = tuples_in no_pages
-
-pub never_told : IsTold silent → ⊥
-never_told told = let is = told.is in absurd (cc)

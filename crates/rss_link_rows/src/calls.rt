@@ -18,7 +18,7 @@ pub(crate) fn tid(slot: u16) -> Tid {
     Tid { page: 0, slot }
 }
 
-#[tactic(auto, using(crate::specs::Silent::never_told))]
+#[tactic(auto, using(rss_images::specs::Silent::never_told))]
 pub(crate) fn connect(
     link: &Chains,
     ends: &mut Ends,
@@ -38,7 +38,7 @@ pub(crate) fn connect(
     link.connect(ends, store, tid(child), parent, left)
 }
 
-#[tactic(auto, using(crate::specs::Silent::never_told))]
+#[tactic(auto, using(rss_images::specs::Silent::never_told))]
 pub(crate) fn disconnect(
     link: &Chains,
     ends: &mut Ends,
@@ -52,7 +52,7 @@ pub(crate) fn disconnect(
 }
 
 /// The slots of a chain, from its first on, and 20 of them at most.
-#[tactic(auto, using(crate::specs::Silent::never_told))]
+#[tactic(auto, using(rss_images::specs::Silent::never_told))]
 pub(crate) fn forwards(
     alloc: Global,
     link: &Chains,
@@ -74,7 +74,7 @@ pub(crate) fn forwards(
 }
 
 /// The same from its last on.
-#[tactic(auto, using(crate::specs::Silent::never_told))]
+#[tactic(auto, using(rss_images::specs::Silent::never_told))]
 pub(crate) fn backwards(
     alloc: Global,
     link: &Chains,
@@ -96,7 +96,7 @@ pub(crate) fn backwards(
 }
 
 /// Whether a child is in a chain, and its parent.
-#[tactic(auto, using(crate::specs::Silent::never_told))]
+#[tactic(auto, using(rss_images::specs::Silent::never_told))]
 pub(crate) fn place_of(
     link: &Chains,
     store: &mut Untold,

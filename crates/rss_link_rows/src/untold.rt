@@ -3,7 +3,7 @@
 ghost use Rattle.std.specs.Prelude.{◌≡◌};
 ghost use Rattle.rss_base.specs.Paged.{page_key};
 ghost use Rattle.rss_base.specs.declared.key.Space.TheVariants.{Home};
-ghost use Rattle.rss_link_rows.specs.Silent.{untold, never_told};
+ghost use Rattle.rss_link_rows.specs.Silent.{untold};
 
 use rss_base::{Body, PAGE_ENTRIES, PageFault, PageKey, Place, Space, Tid};
 use rss_tuple::Tuples;
@@ -70,7 +70,7 @@ impl Untold {
     }
 }
 
-#[tactic(auto, using(crate::specs::Silent::never_told, crate::proofs::Nothing::answered, crate::proofs::Nothing::refused))]
+#[tactic(auto, using(rss_images::specs::Silent::never_told, crate::proofs::Nothing::answered, crate::proofs::Nothing::refused))]
 impl Tuples for Untold {
     ghost view = { λ tuples. untold };
 

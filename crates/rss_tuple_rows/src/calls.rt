@@ -3,9 +3,9 @@ ghost use Rattle.std.specs.Prelude.{ℕ, ◌<◌, length, IsTrue};
 ghost use Rattle.rss_base.specs.PageMap.{IsKey};
 ghost use Rattle.rss_tuple.specs.Calls.{IsBodyLength};
 
-use crate::untold::Untold;
 use rss_base::{BODY_BYTES, Body, Page, PageFault, PageKey, Pages, Space, Tid};
 use rss_device::MemPages;
+use rss_images::Untold;
 use rss_page::{ENTRIES, Entry, entry};
 use rss_tuple::{Store, Tuples};
 use std::alloc::Global;
@@ -57,7 +57,7 @@ fn is_body(body: &[u8]) -> bool
     !body.is_empty() && body.len() <= BODY_BYTES
 }
 
-#[tactic(auto, using(crate::specs::Silent::never_told))]
+#[tactic(auto, using(rss_images::specs::Silent::never_told))]
 pub(crate) fn choose(
     store: &mut Tried,
     length: u16,
@@ -69,7 +69,7 @@ pub(crate) fn choose(
     Ok(store.choose(SEGMENT, length, barred)?)
 }
 
-#[tactic(auto, using(crate::specs::Silent::never_told))]
+#[tactic(auto, using(rss_images::specs::Silent::never_told))]
 pub(crate) fn insert_at(store: &mut Tried, tid: Tid, body: &[u8]) -> Result<(), Undone> {
     if !is_body(body) {
         return Err(Undone::Refused("no body of a tuple"));
@@ -83,7 +83,7 @@ pub(crate) fn insert_at(store: &mut Tried, tid: Tid, body: &[u8]) -> Result<(), 
     Ok(store.insert_at(SEGMENT, tid, body)?)
 }
 
-#[tactic(auto, using(crate::specs::Silent::never_told))]
+#[tactic(auto, using(rss_images::specs::Silent::never_told))]
 pub(crate) fn insert(store: &mut Tried, body: &[u8]) -> Result<Option<Tid>, Undone> {
     if !is_body(body) {
         return Err(Undone::Refused("no body of a tuple"));
@@ -94,7 +94,7 @@ pub(crate) fn insert(store: &mut Tried, body: &[u8]) -> Result<Option<Tid>, Undo
     Ok(store.insert(SEGMENT, body, &[])?)
 }
 
-#[tactic(auto, using(crate::specs::Silent::never_told))]
+#[tactic(auto, using(rss_images::specs::Silent::never_told))]
 pub(crate) fn replace(store: &mut Tried, tid: Tid, body: &[u8]) -> Result<(), Undone> {
     if !is_body(body) {
         return Err(Undone::Refused("no body of a tuple"));
@@ -102,17 +102,17 @@ pub(crate) fn replace(store: &mut Tried, tid: Tid, body: &[u8]) -> Result<(), Un
     Ok(store.replace(SEGMENT, tid, body)?)
 }
 
-#[tactic(auto, using(crate::specs::Silent::never_told))]
+#[tactic(auto, using(rss_images::specs::Silent::never_told))]
 pub(crate) fn remove(store: &mut Tried, tid: Tid) -> Result<(), Undone> {
     Ok(store.remove(SEGMENT, tid)?)
 }
 
-#[tactic(auto, using(crate::specs::Silent::never_told))]
+#[tactic(auto, using(rss_images::specs::Silent::never_told))]
 pub(crate) fn fetch(store: &mut Tried, tid: Tid, into: &mut Body) -> Result<bool, Undone> {
     Ok(store.fetch(SEGMENT, tid, into)?)
 }
 
-#[tactic(auto, using(crate::specs::Silent::never_told))]
+#[tactic(auto, using(rss_images::specs::Silent::never_told))]
 pub(crate) fn next_live(store: &mut Tried, after: Option<Tid>) -> Result<Option<Tid>, Undone> {
     Ok(store.next_live(SEGMENT, after)?)
 }

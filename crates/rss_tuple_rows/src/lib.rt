@@ -11,5 +11,3 @@ mod damaged;
 mod identifiers;
 #[cfg(test)]
 mod plain;
-#[cfg(test)]
-mod untold;

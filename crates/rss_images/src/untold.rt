@@ -1,23 +1,24 @@
 // Pages of which proofs know no content: a test needs no proof of what stands in them, and damaged
 // pages may stand there too.
-ghost use Rattle.rss_image_rows.specs.Silent.{untold, never_told};
+ghost use Rattle.rss_images.specs.Silent.{untold, never_told};
 
 use rss_base::{Page, PageFault, PageKey, Pages, Space};
 
 /// Pages of which proofs know no content, and that count how often a page is asked for.
 #[derive(Drop)]
-pub(crate) struct Untold<P: Pages> {
+pub struct Untold<P: Pages> {
     pages: P,
     asks: u32,
 }
 
 impl<P: Pages> Untold<P> {
-    pub(crate) fn new(pages: P) -> Self {
+    /// These pages, none of which was asked for as yet.
+    pub fn new(pages: P) -> Self {
         Untold { pages, asks: 0 }
     }
 
     /// How often a page was asked for.
-    pub(crate) fn asks(&self) -> u32 {
+    pub fn asks(&self) -> u32 {
         self.asks
     }
 }
