@@ -1,4 +1,3 @@
-pub mod Parsing
 pub mod RingBytes
 pub mod RingWrites
 pub mod LogRing

@@ -15,7 +15,7 @@ use Rattle.rss_log.specs.Logs.{LogView, IsLog, piece_start, free_of, bytes_from,
 use Rattle.rss_log.specs.Inside.{view_of, log_view, IsInside}
 use Rattle.rss_log.specs.declared.log.Log.TheInside.{Inside}
 use Rattle.rss_log.proofs.RingBytes.{length-ring_bytes, drop-ring_bytes, take-ring_bytes, written_behind}
-use Rattle.rss_log.proofs.Parsing.{placed_length, placed_split, parses_append, parses_one, parses_drop}
+use Rattle.rss_record.proofs.Parsing.{placed_length, placed_split, parses_append, parses_one, parses_drop}
 
 pub is_log : (log : Inside) → IsInside log → IsLog (log_view log)
 is_log log is = record { ring = is.ring; long = length-ring_bytes log.ring.items (piece_start log.head) (log.end - piece_start log.head) }

@@ -1,4 +1,4 @@
-use Rattle.rss_log.proofs.Parsing.{parses_once}
+use Rattle.rss_record.proofs.Parsing.{parses_once}
 use Rattle.rss_log.proofs.laws.spelled_once.Goals as goal
 
 pub returns : goal.returns
