@@ -15,6 +15,7 @@ pub mod Saving
 pub mod Stamps
 pub mod Cases
 pub mod LogLists
+pub mod Surviving
 pub mod LogChanging
 pub mod LogUndoing
 pub mod LogRedoing
@@ -23,6 +24,7 @@ pub mod LogKeeping
 pub mod LogParts
 pub mod LogTying
 pub mod LogPlaced
+pub mod FirstLog
 pub mod Frees
 pub mod HeapPages
 pub mod Listed
@@ -66,5 +68,6 @@ pub mod Metering
 pub mod RoomKeeping
 pub mod DefinitionRoom
 pub mod DefinitionKeeping
+pub mod LogOnce
 pub mod StorePages
 pub mod Stores

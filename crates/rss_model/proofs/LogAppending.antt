@@ -6,8 +6,9 @@ use Rattle.std.proofs.lemmas.Bool.Decides.{nat_tests}
 use Rattle.rss_model.specs.Tables.{Contents}
 use Rattle.rss_model.specs.Changes.{Change}
 use Rattle.rss_model.specs.Records.{LogEntry, Changed, Restore, End, Abort, Checkpoint, Placed, Listed, changes_in, is_by, is_cut, listed, committed_by as committed, list_after, recovered, Rise}
-use Rattle.rss_model.specs.Restart.{OnlyBy, Lone, LoneAlong, Falls}
+use Rattle.rss_model.specs.Restart.{OnlyBy, Lone, LoneAlong}
 use Rattle.rss_model.specs.Ties.{ChainedAlong}
+use Rattle.rss_model.proofs.Surviving.{Falls}
 use Rattle.rss_model.proofs.LogLists.{by_test, filter_yes, filter_no, filter_same, filter_filter, filter_all, filter_none, all_weaker}
 use Rattle.rss_model.proofs.LogRedoing.{Below, below_more, below_listed, falls_listed, lone_now}
 

@@ -10,8 +10,9 @@ use Rattle.rss_model.specs.Tables.{Contents, content}
 use Rattle.rss_model.specs.Changes.{Change, after, own, others}
 use Rattle.rss_model.specs.Records.{Listed, changes_in, is_by, own_in, others_in, is_cut, cut}
 use Rattle.rss_model.specs.Changes.{Chained}
-use Rattle.rss_model.specs.Restart.{Lone, Falls}
+use Rattle.rss_model.specs.Restart.{Lone}
 use Rattle.rss_model.specs.Ties.{cut_own, StandsAt, here, older}
+use Rattle.rss_model.proofs.Surviving.{Falls}
 use Rattle.rss_model.proofs.LogLists.{by_test, by_same, false_true, filter_yes, filter_no, filter_all, all_filter, all_weaker}
 use Rattle.rss_model.proofs.LogChanging.{NotAt, by_item, put_here, put_other, after_off, after_frame}
 use Rattle.rss_model.proofs.LogRedoing.{Below, below_more, all_changes, all_listed}

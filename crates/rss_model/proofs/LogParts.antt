@@ -10,8 +10,9 @@ use Rattle.rss_model.specs.Records.{Listed, changes_in, is_by, own_in, others_in
 use Rattle.rss_model.specs.Changes.{undone}
 use Rattle.rss_model.specs.Restart.{UndoFinds}
 use Rattle.rss_model.specs.Changes.{Chained}
-use Rattle.rss_model.specs.Restart.{OnlyBy, Lone, Falls}
+use Rattle.rss_model.specs.Restart.{OnlyBy, Lone}
 use Rattle.rss_model.specs.Ties.{StandsAt, here, older, kept, gone, Undoes}
+use Rattle.rss_model.proofs.Surviving.{Falls}
 use Rattle.rss_model.proofs.LogLists.{by_test, by_same, false_true, filter_yes, filter_no}
 use Rattle.rss_model.proofs.LogChanging.{NotAt, by_item, put_here, put_other, same_contents, after_off, after_frame, undone_off, undo_one}
 use Rattle.rss_model.proofs.LogUndoing.{finds_off}

@@ -7,10 +7,11 @@ use Rattle.rss_base.specs.declared.item.Item.{Item}
 use Rattle.rss_model.specs.Tables.{Contents, content, put}
 use Rattle.rss_model.specs.Changes.{Change, after}
 use Rattle.rss_model.specs.Records.{LogEntry, Changed, Restore, End, Abort, Checkpoint, Placed, Listed, changes_in, is_by, own_in, others_in, is_cut, listed, committed_by as committed, recovered, Rise}
-use Rattle.rss_model.specs.Restart.{survives, stays, winners, redo, redone, restarted, FindsOld, RedoFinds}
+use Rattle.rss_model.specs.Restart.{survives, stays, redo, redone, restarted, FindsOld, RedoFinds}
 use Rattle.rss_model.specs.Changes.{Chained}
-use Rattle.rss_model.specs.Restart.{OnlyBy, Lone, LoneAlong, Falls}
+use Rattle.rss_model.specs.Restart.{OnlyBy, Lone, LoneAlong}
 use Rattle.rss_model.specs.Ties.{TellsOld, ChainedAlong}
+use Rattle.rss_model.proofs.Surviving.{winners, Falls}
 use Rattle.rss_model.proofs.LogLists.{by_test, by_same, filter_yes, filter_no, filter_filter, all_filter, all_weaker}
 use Rattle.rss_model.proofs.LogChanging.{NotAt, by_item, put_here, put_other, same_contents, after_off, after_frame}
 use Rattle.rss_model.proofs.LogUndoing.{winner, no_winner, survives_too, undo_losers}

@@ -6,12 +6,13 @@ use Rattle.rss_model.specs.Tables.{Contents, content}
 use Rattle.rss_model.specs.Changes.{Change, after, own, others}
 use Rattle.rss_model.specs.Records.{LogEntry, Changed, Restore, End, Abort, Checkpoint, Placed, Listed, changes_in, is_by, own_in, others_in, is_cut, cut, listed, committed_by as committed, list_after, recovered, Rise}
 use Rattle.rss_model.specs.Changes.{undone}
-use Rattle.rss_model.specs.Restart.{winners, losers, restarted, UndoFinds, RedoFinds}
+use Rattle.rss_model.specs.Restart.{losers, restarted, UndoFinds, RedoFinds}
 use Rattle.rss_model.specs.Changes.{Chained}
-use Rattle.rss_model.specs.Restart.{OnlyBy, Lone, LoneAlong, Falls}
+use Rattle.rss_model.specs.Restart.{OnlyBy, Lone, LoneAlong}
 use Rattle.rss_model.specs.Ties.{TellsOld, ChainedAlong}
 use Rattle.rss_model.specs.Recovers.{NamesLists, IsCheckpointOf, is_checkpoint, BeginsAtCheckpoint, lists_at, base_at, Recovers, Restarts}
 use Rattle.rss_model.specs.Ties.{is_plain, Log, newer, records, lists, pushed, saved, checkpointed, cut_own, StandsAt, Ties}
+use Rattle.rss_model.proofs.Surviving.{winners, Falls}
 use Rattle.rss_model.proofs.LogLists.{false_true, all_append, all_weaker}
 use Rattle.rss_model.proofs.LogChanging.{undo_all, finds_all, after_undone, chained_undone}
 use Rattle.rss_model.proofs.LogUndoing.{undo_losers, undo_finds}

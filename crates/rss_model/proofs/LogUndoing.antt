@@ -9,9 +9,10 @@ use Rattle.rss_model.specs.Tables.{Contents, put}
 use Rattle.rss_model.specs.Changes.{Change, after}
 use Rattle.rss_model.specs.Records.{LogEntry, Changed, Restore, End, Abort, Checkpoint, Placed, Listed, changes_in}
 use Rattle.rss_model.specs.Changes.{undone}
-use Rattle.rss_model.specs.Restart.{survives_by, survives, stays, winners, losers, UndoFinds}
+use Rattle.rss_model.specs.Restart.{survives_by, survives, stays, losers, UndoFinds}
 use Rattle.rss_model.specs.Changes.{Chained}
-use Rattle.rss_model.specs.Restart.{OnlyBy, Lone, Falls}
+use Rattle.rss_model.specs.Restart.{OnlyBy, Lone}
+use Rattle.rss_model.proofs.Surviving.{winners, Falls}
 use Rattle.rss_model.proofs.LogLists.{by_test, false_true, filter_yes, filter_no}
 use Rattle.rss_model.proofs.LogChanging.{NotAt, put_other, put_here, put_both, undone_off, undo_one}
 

@@ -1,13 +1,13 @@
 -- The pages of a store: how many there are, and that each has room in two slots.
 use Rattle.std.proofs.Common.{◌≡◌, ◌⊎◌, inl, inr, ⊎_elim, ℕ, zero, suc, ◌+◌, ◌*◌, ◌<◌, ◌≤◌, Bool, true, false, cond, List, [], ◌∷◌, length, Option, Some, None, refl, sym, ◌∙◌, ap, subst, arith}
-use Rattle.std.specs.Prelude.{IfSome, is_some, option_map, count_by, sum_by, map as list_map}
+use Rattle.std.specs.Prelude.{IfSome, is_some, option_map, not, filter, count_by, sum_by, map as list_map}
 use Rattle.std.specs.List.{range_with_len}
 use Rattle.std.proofs.lemmas.Bool.{cases_lt, false_from_ne_true}
 use Rattle.std.proofs.lemmas.List.{get_or_past}
-use Rattle.std.proofs.lemmas.List.Sums.{sum_by-cons}
+use Rattle.std.proofs.lemmas.List.Sums.{sum_by-cons, length-filter, count_by-le-length}
 use Rattle.std.proofs.lemmas.Option.{none-some}
 use Rattle.rss_base.specs.DiskRule.{Pages, page}
-use Rattle.rss_base.specs.Layout.{map_at, slots_at}
+use Rattle.rss_base.specs.Layout.{map_at, slots_at, log_free}
 use Rattle.rss_base.specs.Listings.{Listing, HoldsListing, segment_at}
 use Rattle.rss_base.specs.PageMap.{IsKey, IsMap, owner_of, page_count}
 use Rattle.rss_base.specs.Paged.{Mapped, Held, page_key, mapped_in, mapped_of, mapped_pages}
@@ -18,17 +18,23 @@ use Rattle.rss_base.specs.declared.key.Space.TheVariants.{Home, Overflow, Image,
 use Rattle.rss_base.specs.declared.root.Root.{Root}
 use Rattle.rss_base.proofs.Counts.{mapped_pages-owners}
 use Rattle.rss_page.specs.Slotted.{IsHeapKey}
-use Rattle.rss_model.specs.Tables.{Tables, tuple_count}
-use Rattle.rss_model.specs.Changes.{Change, maker}
+use Rattle.rss_model.specs.Tables.{Definitions, Contents, Tables, tuple_count}
+use Rattle.rss_model.specs.Changes.{Change, maker, undo, undone}
 use Rattle.rss_model.specs.Fits.{ArePlain}
 use Rattle.rss_model.specs.Kept.{AreStamps, IsMetered}
 use Rattle.rss_model.specs.Steps.{stamp_by}
 use Rattle.rss_model.specs.Machine.{StoreSize, State, IsAtRest, with_changes, now}
 use Rattle.rss_model.specs.Meanings.{Logged, as_entries}
 use Rattle.rss_model.specs.Meter.{Meter, heap_pages, changes_of, room_number, owed, log_room, free_between}
+use Rattle.rss_model.specs.Records.{LogEntry, Changed, Restore, End, Abort, Checkpoint, Placed, Listed, changes_in}
 use Rattle.rss_model.specs.Recovers.{lists_at}
-use Rattle.rss_model.specs.Store.{IsStorePage, SpellsTables, Stored, first_record, meter_of, overflow_pages, is_change, IsStore, StoresHaveRoom, OpeningsHaveRoom, OpeningsAreMetered}
+use Rattle.rss_model.specs.Restart.{survives, stays, losers, redo, redone, restarted}
+use Rattle.rss_model.specs.Store.{IsStorePage, SpellsTables, Stored, first_record, listed_at, HasLog, meter_of, overflow_pages, is_change, IsStore, StoresHaveRoom, OpeningsHaveRoom, OpeningsAreMetered}
+use Rattle.rss_model.proofs.Counts.{one_if}
 use Rattle.rss_model.proofs.Listed.{heap_is}
+use Rattle.rss_model.proofs.LogLists.{by_test}
+use Rattle.rss_model.proofs.LogPlaced.{restarts_log}
+use Rattle.rss_model.proofs.Rooming.{heap_put}
 use Rattle.rss_model.proofs.PlainStores.{tables_plain, none_imaged, plain_room}
 use Rattle.rss_model.proofs.Relisted.{page_kind}
 
@@ -104,7 +110,7 @@ pages_counted root owners pages map {listing = listing} {tables = tables} listed
 
 -- so the rule of room asks for each page twice
 module _ (is : Stored) (plain : ArePlain is.saved.definitions) (older : is.older ≡ []) (newer : is.newer ≡ first_record ∷ []) where
-  pub meter_is : room_number is.saved.definitions (meter_of is) ≡ 2 * (mapped_of (mapped_by is.owners) Home is.root.slots + mapped_of (mapped_by is.owners) Overflow is.root.slots + system_pages)
+  meter_is : room_number is.saved.definitions (meter_of is) ≡ 2 * (mapped_of (mapped_by is.owners) Home is.root.slots + mapped_of (mapped_by is.owners) Overflow is.root.slots + system_pages)
   meter_is =
       let none : (meter_of is).surviving ≡ 0 = ap (λ (l : List Logged). length (lists_at (as_entries l))) older in
       let since : (meter_of is).since ≡ 0 = ap (λ (l : List Logged). count_by (λ m. is_change m.is) l) newer in
@@ -117,10 +123,53 @@ module _ (is : Stored) (plain : ArePlain is.saved.definitions) (older : is.older
 pub store_room : {pages : Pages} {is : Stored} → IsStore pages is → 2 * page_count is.owners ≤ is.root.slots
 store_room {pages = pages} {is = is} store =
     let count = pages_counted is.root is.owners pages store.map store.system store.spells in
-    omega (arith, store.room, meter_is is (tables_plain store.spells) store.log.older store.log.newer, count)
+    omega (arith, store.room, plain_room (tables_plain store.spells) (meter_of is), count)
 
 pub stores_have_room : StoresHaveRoom
 stores_have_room pages stored store = store_room store
+
+-- ---- what restart adds to the heap
+
+-- each change that is undone, and each that is done again, takes one page more at most
+module _ (slots : ℕ) (definitions : Definitions) where
+  abbrev heap_of : Contents → ℕ
+  heap_of contents = heap_pages slots (record { definitions = definitions; contents = contents })
+
+  undone_pages : (contents : Contents) (ls : List Listed) → heap_of (undone contents (changes_in ls)) ≤ heap_of contents + length ls
+  undone_pages contents [] = omega arith
+  undone_pages contents (l ∷ ls) = omega (arith, undone_pages (undo contents l.change) ls, heap_put slots definitions contents l.change.old l.change.item)
+
+  redo_pages : (contents : Contents) (at : ℕ) (e : LogEntry) (ps : List Placed) → heap_of (redo contents at e ps) ≤ heap_of contents + one_if (is_change e)
+  redo_pages contents at (Changed c) ps = by_test (survives c.by at ps)
+      (λ e. rw e (omega (arith, heap_put slots definitions contents c.new c.item)))
+      (λ e. rw e (omega arith))
+  redo_pages contents at (Restore t first) ps = omega arith
+  redo_pages contents at (End t) ps = omega arith
+  redo_pages contents at (Abort t) ps = omega arith
+  redo_pages contents at (Checkpoint named) ps = omega arith
+
+  redone_pages : (contents : Contents) (ls : List Logged) → heap_of (redone contents (as_entries ls)) ≤ heap_of contents + count_by (λ l. is_change l.is) ls
+  redone_pages contents [] = omega arith
+  redone_pages contents (l ∷ ls) = omega (
+    arith,
+    redone_pages (redo contents l.at l.is (as_entries ls)) ls,
+    redo_pages contents l.at l.is (as_entries ls),
+    sum_by-cons (λ (m : Logged). one_if (is_change m.is)) l ls,
+  )
+
+  restarted_pages : (contents : Contents) (lists : List Listed) (newer : List Logged) → heap_of (restarted contents lists (as_entries newer)) ≤ heap_of contents + length lists + count_by (λ l. is_change l.is) newer
+  restarted_pages contents lists newer =
+      let lost = losers (as_entries newer) lists in
+      omega (arith, undone_pages contents lost, redone_pages (undone contents (changes_in lost)) newer, fewer (λ l. not (stays (as_entries newer) l)) lists)
+    where
+      fewer : (p : Listed → Bool) (ls : List Listed) → length (filter p ls) ≤ length ls
+      fewer p ls = omega (arith, length-filter p ls, count_by-le-length p ls)
+
+-- so it has no more pages than the meter of the checkpoint has room for
+recovered_pages : {pages : Pages} {is : Stored} → HasLog pages is → heap_pages is.root.slots is.tables ≤ heap_pages is.root.slots is.saved + (meter_of is).surviving + (meter_of is).since
+recovered_pages {is = is} log =
+    let same : record is.saved { contents = restarted is.saved.contents (listed_at is) (as_entries is.newer) } ≡ is.tables = λ i. record { definitions = sym log.definitions i; contents = (restarts_log log).gives i } in
+    omega (arith, ap (heap_pages is.root.slots) same, restarted_pages is.root.slots is.saved.definitions is.saved.contents (listed_at is) is.newer)
 
 -- ---- a store that was opened
 
@@ -128,30 +177,35 @@ pub openings_have_room : OpeningsHaveRoom
 openings_have_room pages size tables state opens at =
     let is : Stored = opens.stored in
     let store = opens.store in
-    let same : tables ≡ is.saved = opens.holds ∙ store.log.tables in
-    let plain : ArePlain tables.definitions = subst (λ (t : Tables). ArePlain t.definitions) (sym same) (tables_plain store.spells) in
+    let definitions : tables.definitions ≡ is.saved.definitions = ap (λ (t : Tables). t.definitions) opens.holds ∙ store.log.definitions in
+    let plain : ArePlain tables.definitions = subst ArePlain (sym definitions) (tables_plain store.spells) in
     let slots : size.slots ≡ is.root.slots = ap (λ (s : StoreSize). s.slots) opens.same_size in
     let over : state.meter.over ≡ overflow_pages is = at.over is store in
     let held = heap_is store.spells store.fit (mapped_by is.owners) (held_mapped (slots_at is.root.slots is.root.log_pages) pages is.owners) in
-    let heap = (λ i. heap_pages (slots i) (same i)) ∙ held in
+    let heap : heap_pages size.slots tables ≡ heap_pages is.root.slots is.tables = λ i. heap_pages (slots i) (opens.holds i) in
+    let free : log_room size.log_pages state.meter ≡ log_free is.root = λ i. free_between (opens.same_size i).log_pages (at.head is store i) (at.end is store i) in
     record {
       pages = omega (
         arith,
         plain_room plain state.meter,
         store.room,
-        meter_is is (tables_plain store.spells) store.log.older store.log.newer,
+        plain_room (tables_plain store.spells) (meter_of is),
+        recovered_pages store.log,
         slots,
         over,
         heap,
+        held,
         ap (λ (m : Meter). m.heap) at.rest.meter,
         ap (λ (m : Meter). m.surviving) at.rest.meter,
         ap (λ (m : Meter). m.since) at.rest.meter,
       );
-      log = log_of size.log_pages state.meter (ap (λ (m : Meter). m.stamps) at.rest.meter) (at.head is store ∙ store.log.first.head) (at.end is store ∙ store.log.first.end);
+      log = omega (
+        arith,
+        store.root_there.there.formed.room,
+        ap owed (ap (λ (m : Meter). m.stamps) at.rest.meter),
+        free,
+      );
     }
-  where
-    log_of : (log_pages : ℕ) (meter : Meter) → meter.stamps ≡ [] → meter.head ≡ 0 → meter.end ≡ 2 → owed meter.stamps ≤ log_room log_pages meter
-    log_of log_pages meter none head end = omega (arith, ap owed none, ap (λ (h : ℕ). free_between log_pages h meter.end) head, ap (free_between log_pages 0) end)
 
 module _ (size : StoreSize) (tables : Tables) (state : State) (rest : IsAtRest size tables state) where
   none_stamped : state.meter.stamps ≡ []
@@ -181,7 +235,7 @@ module _ (size : StoreSize) (tables : Tables) (state : State) (rest : IsAtRest s
 
 pub openings_are_metered : OpeningsAreMetered
 openings_are_metered pages size tables state opens at =
-    let first = opens.store.log.first in
+    let formed = opens.store.root_there.there.formed in
     rest_metered size tables state at.rest
-    (omega (arith, at.head opens.stored opens.store, first.head))
+    (omega (arith, at.head opens.stored opens.store, at.end opens.stored opens.store, formed.head_first, formed.before_end))
     (openings_have_room pages size tables state opens at).pages

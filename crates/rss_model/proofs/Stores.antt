@@ -1,8 +1,10 @@
 -- Pages are one store at most, or out of form at one place.
-use Rattle.std.proofs.Common.{◌≡◌, ℕ, List, Option, sym, ◌∙◌, ap, subst, arith}
+use Rattle.std.proofs.Common.{◌≡◌, ℕ, List, ◌++◌, Option, sym, ◌∙◌, ap, subst, arith}
 use Rattle.std.specs.Prelude.{count_by, is_some}
 use Rattle.rss_base.specs.DiskRule.{Pages}
 use Rattle.rss_base.specs.Layout.{map_at, slots_at, IsWellFormed, HasRoot, root_of}
+use Rattle.rss_base.specs.LogRecords.{ArePlaced, Parses}
+use Rattle.rss_base.specs.LogPages.{log_bytes}
 use Rattle.rss_base.specs.PageMap.{IsMap, IsMapFault}
 use Rattle.rss_base.specs.Listings.{Listing, HoldsListing}
 use Rattle.rss_base.specs.Paged.{Held, mapped_of}
@@ -11,13 +13,18 @@ use Rattle.rss_base.specs.declared.key.Space.TheVariants.{Overflow}
 use Rattle.rss_base.specs.declared.key.PageKey.{PageKey}
 use Rattle.rss_base.specs.declared.place.Place.{Place}
 use Rattle.rss_base.specs.declared.root.Root.{Root}
+use Rattle.rss_record.proofs.Parsing.{parses_once, split_once}
 use Rattle.rss_root.proofs.Reading.{same_root}
 use Rattle.rss_root.proofs.Faults.{fault_once, root_no_fault}
 use Rattle.rss_pagemap.proofs.Maps.{same_map, no_fault, one_fault}
 use Rattle.rss_model.specs.Tables.{Tables}
 use Rattle.rss_model.specs.Machine.{StoreSize}
-use Rattle.rss_model.specs.Store.{SpellsTables, Stored, size_of, held_in, overflow_pages, IsStore, OpensTo, OpensOnce, IsBrokenAt, IsOverfull, at_root, at_map}
+use Rattle.rss_model.specs.Meanings.{as_bytes, as_entries}
+use Rattle.rss_model.specs.Restart.{restarted}
+use Rattle.rss_model.specs.Store.{SpellsTables, Stored, size_of, held_in, listed_at, overflow_pages, IsStore, OpensTo, OpensOnce, IsBrokenAt, IsOverfull, at_root, at_map}
 use Rattle.rss_model.proofs.ListedOnce.{listing_once}
+use Rattle.rss_model.proofs.LogOnce.{Reading, restarts_once}
+use Rattle.rss_model.proofs.LogPlaced.{bytes_append, restarts_log}
 use Rattle.rss_model.proofs.Spelled.{spells_once}
 use Rattle.rss_model.proofs.StorePages.{store_room}
 
@@ -51,8 +58,31 @@ module _ {pages : Pages} {one two : Stored} (first : IsStore pages one) (second 
       (subst (λ (l : Listing). SpellsTables (held_in pages one) l two.saved) same_listing (subst (λ (h : Held). SpellsTables h two.listing two.saved) held_same second.spells))
       first.fit second.fit
 
+  -- the records are the same, and the checkpoint parts them in one way
+  same_records : (as_bytes one.older ≡ as_bytes two.older) × (as_bytes one.newer ≡ as_bytes two.newer)
+  same_records =
+      let here = subst (λ (r : Root). Parses (log_bytes pages r) r.head (as_bytes (two.older ++ two.newer)) r.end) (sym same_roots) second.log.parses in
+      let all : as_bytes (one.older ++ one.newer) ≡ as_bytes (two.older ++ two.newer) = parses_once first.log.parses here in
+      let there = subst (λ (r : Root). ArePlaced r.head (as_bytes two.older) r.checkpoint) (sym same_roots) second.log.checkpoint in
+      split_once one.root.head one.root.checkpoint (as_bytes one.older) (as_bytes one.newer) (as_bytes two.older) (as_bytes two.newer) first.log.checkpoint there
+      (sym (bytes_append one.older one.newer) ∙ all ∙ bytes_append two.older two.newer)
+
+  same_contents : one.tables.contents ≡ two.tables.contents
+  same_contents =
+      let mine : Reading one.listing one.saved.contents one.older one.newer = record { logged = first.log.logged; undoes = first.log.recovers.undoes; redoes = first.log.recovers.redoes } in
+      let theirs : Reading two.listing two.saved.contents two.older two.newer = record { logged = second.log.logged; undoes = second.log.recovers.undoes; redoes = second.log.recovers.redoes } in
+      let listed = subst (λ (l : Listing). Reading l two.saved.contents two.older two.newer) same_listing theirs in
+      let again = subst (λ (t : Tables). Reading one.listing t.contents two.older two.newer) (sym same_saved) listed in
+      sym (restarts_log first.log).gives
+      ∙ restarts_once one.older two.older one.newer two.newer mine again same_records.0 same_records.1
+      ∙ ap (λ (t : Tables). restarted t.contents (listed_at two) (as_entries two.newer)) same_saved
+      ∙ (restarts_log second.log).gives
+
+  -- so the same tables are recovered
   pub same_tables : one.tables ≡ two.tables
-  same_tables = first.log.tables ∙ same_saved ∙ sym second.log.tables
+  same_tables =
+      let definitions : one.tables.definitions ≡ two.tables.definitions = first.log.definitions ∙ ap (λ (t : Tables). t.definitions) same_saved ∙ sym second.log.definitions in
+      λ i. record { definitions = definitions i; contents = same_contents i }
 
   pub same_overflow : overflow_pages one ≡ overflow_pages two
   same_overflow = ap (λ (o : List (Option PageKey)). mapped_of (mapped_by o) Overflow one.root.slots) same_owners ∙ ap (λ (r : Root). mapped_of (mapped_by two.owners) Overflow r.slots) same_roots

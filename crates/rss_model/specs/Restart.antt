@@ -1,5 +1,5 @@
 -- Restart: which changes survive, what is undone on the tables of the checkpoint, and what is done again.
-use Rattle.std.specs.Prelude.{◌≡◌, ℕ, ◌<◌, Bool, true, false, not, ◌&&◌, ◌==◌, if◌then◌else◌, nat_le, List, [], ◌∷◌, filter, ⊤}
+use Rattle.std.specs.Prelude.{◌≡◌, ℕ, Bool, true, false, not, ◌&&◌, ◌==◌, if◌then◌else◌, nat_le, List, [], ◌∷◌, filter, ⊤}
 use Rattle.std.specs.List.{AllByRecursion}
 use Rattle.rss_base.specs.declared.item.Item.{Item}
 use Rattle.rss_model.specs.Tables.{Contents, Tables, content}
@@ -23,9 +23,6 @@ survives t at (p ∷ ps) = survives_by t at p.is (survives t at ps)
 
 abbrev pub stays : List Placed → Listed → Bool
 stays ps l = survives l.change.by l.at ps
-
-abbrev pub winners : List Placed → List Listed → List Listed
-winners ps ls = filter (stays ps) ls
 
 abbrev pub losers : List Placed → List Listed → List Listed
 losers ps ls = filter (λ l. not (stays ps l)) ls
@@ -96,8 +93,3 @@ Lone (c ∷ cs) = OnlyBy c.by c.item cs × Lone cs
 abbrev pub LoneAlong : List Listed → List Placed → Type 0
 LoneAlong ls [] = Lone (changes_in ls)
 LoneAlong ls (p ∷ ps) = Lone (changes_in ls) × LoneAlong (listed ls p.at p.is) ps
-
--- positions fall: an older change has a lesser one
-abbrev pub Falls : List Listed → Type 0
-Falls [] = ⊤
-Falls (l ∷ ls) = AllByRecursion (λ k. k.at < l.at) ls × Falls ls

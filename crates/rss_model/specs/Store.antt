@@ -19,6 +19,8 @@ use Rattle.rss_base.specs.declared.place.Place.{Place}
 use Rattle.rss_base.specs.DiskRule.{Disk, Pages, Leaves}
 use Rattle.rss_base.specs.TupleTypes.{kinds, field_names, chosen, key_width, key_bytes, tuple_bytes, IsStorable}
 use Rattle.rss_base.specs.Layout.{map_at, slots_at, HasRoot, IsRootFault}
+use Rattle.rss_base.specs.LogRecords.{ArePlaced, Parses}
+use Rattle.rss_base.specs.LogPages.{log_bytes}
 use Rattle.rss_base.specs.PageMap.{IsMap, IsMapFault, page_count}
 use Rattle.rss_base.specs.Paged.{Held, mapped_of}
 use Rattle.rss_base.specs.StoredPages.{mapped_by, held_at}
@@ -38,8 +40,8 @@ use Rattle.rss_model.specs.Meter.{Meter, counts_for, changes_of, owed, log_room,
 use Rattle.rss_base.specs.declared.log_record.LogRecord.TheVariants as records
 use Rattle.rss_model.specs.Records.{LogEntry, Changed, Checkpoint, Listed, changes_in}
 use Rattle.rss_model.specs.Restart.{restarted}
-use Rattle.rss_model.specs.Recovers.{lists_at}
-use Rattle.rss_model.specs.Meanings.{Logged, as_entries}
+use Rattle.rss_model.specs.Recovers.{lists_at, Recovers, WayFits}
+use Rattle.rss_model.specs.Meanings.{Logged, as_bytes, as_entries, IsLogged}
 use Rattle.rss_model.specs.Machine.{StoreSize, State, IsAtRest}
 use Rattle.rss_model.specs.Kept.{IsMetered}
 
@@ -314,7 +316,7 @@ stored number root owners listing saved older newer tables = record {
 abbrev pub first_record : Logged
 first_record = record { at = 0; told = records.Checkpoint []; is = Checkpoint [] }
 
--- a store with the first log: the tables of its checkpoint are recovered
+-- a store with the first log, by which the tables of its checkpoint are recovered
 abbrev pub first_stored : ℕ → Root → List (Option PageKey) → Listing → Tables → Stored
 first_stored number root owners listing tables =
     stored number root owners listing tables [] (first_record ∷ []) tables
@@ -337,12 +339,24 @@ overflow_pages stored = pages_of_space Overflow stored
 abbrev pub listed_at : Stored → List Listed
 listed_at stored = lists_at (as_entries stored.older)
 
--- As yet nothing is logged: the log is the first one, and the tables of the checkpoint are recovered.
+-- The log of a store.
+-- parses: its bytes are those of the records, from the head up to the end.
+-- checkpoint: the newer ones begin at the position of the last Checkpoint record.
+-- logged: they say these entries.
+-- recovers, way: over the tables of the checkpoint they recover the tables, and all tables on the way of restart fit.
+-- definitions: a record tells of tuples and chains alone.
+-- first: as yet nothing is logged, and the log is the first one.
 pub record HasLog (pages : Pages) (stored : Stored) : Type 0 where
+  pub parses : Parses (log_bytes pages stored.root) stored.root.head
+      (as_bytes (stored.older ++ stored.newer)) stored.root.end
+  pub checkpoint : ArePlaced stored.root.head (as_bytes stored.older) stored.root.checkpoint
+  pub logged : IsLogged stored.listing (listed_at stored) stored.older stored.newer
+  pub recovers : Recovers stored.saved.contents
+      (as_entries stored.older) (as_entries stored.newer) stored.tables.contents
+  pub way : WayFits stored.root.slots stored.saved
+      (as_entries stored.older) (as_entries stored.newer)
+  pub definitions : stored.tables.definitions ≡ stored.saved.definitions
   pub first : HasFirstLog stored.root
-  pub older : stored.older ≡ []
-  pub newer : stored.newer ≡ first_record ∷ []
-  pub tables : stored.tables ≡ stored.saved
 
 -- ---- the room of a store
 
@@ -447,7 +461,7 @@ abbrev pub OpensOnce : Type 0
 OpensOnce = (pages : Pages) (size other_size : StoreSize) (tables others : Tables)
     → OpensTo pages size tables → OpensTo pages other_size others → (other_size ≡ size) × (others ≡ tables)
 
--- the tables that pages open to fit, and so do those of the checkpoint
+-- the tables that pages open to fit: those that are recovered
 abbrev pub StoresFit : Type 0
 StoresFit = (pages : Pages) (size : StoreSize) (tables : Tables) → OpensTo pages size tables → Fits size.slots tables
 
