@@ -31,6 +31,7 @@ use Rattle.rss_model.specs.Items.{item_cmp}
 use Rattle.rss_model.specs.Tables.{content}
 use Rattle.rss_model.specs.Store.{no_tables, SpellsTables, first_stored as stored, OpensTo}
 use Rattle.rss_catalog.proofs.Plain.{plain_paths, zeros_past}
+use Rattle.rss_model.proofs.FirstLog.{first_log}
 use Rattle.rss_model.proofs.Fitting.{no_tables_fit}
 use Rattle.rss_model.proofs.PlainStores.{spelled_contents, plain_images, plain_nodes, tables_plain, none_imaged}
 use Rattle.rss_model.proofs.Listed.{at_place}
@@ -199,7 +200,7 @@ opens_empty slots log_pages pages made =
       stored = is;
       store = record {
         root_there = made.root_there;
-        log = record { first = record { head = refl; checkpoint = refl; end = refl; tail = refl }; older = refl; newer = refl; tables = refl };
+        log = first_log pages 1 (first_root slots log_pages) (first_owners slots) no_listing no_tables (record { head = refl; checkpoint = refl; end = refl; tail = refl }) (no_tables_fit slots);
         map = made.map;
         room = room_least is (tables_plain spells) refl refl twice (pages_counted (first_root slots log_pages) (first_owners slots) pages made.map system spells);
         system = system;

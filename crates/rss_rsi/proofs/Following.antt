@@ -30,7 +30,6 @@ use Rattle.rss_model.specs.Locks.{Locks}
 use Rattle.rss_model.proofs.StepKeeping.{steps_keep}
 use Rattle.rss_model.proofs.PlainStores.{tables_plain}
 use Rattle.rss_model.proofs.Tests.{passes_unless, refuses_unless}
-use Rattle.rss_rsi.specs.Lookups.{HasFound}
 use Rattle.rss_access.specs.Written.{AreWritten}
 use Rattle.rss_rsi.specs.Ready.{IsReady, IsIn}
 use Rattle.rss_rsi.specs.Sessions.{Counts, ChangesOnce, SameTuples, CountsTuples, deleted_at}
@@ -40,7 +39,7 @@ use Rattle.rss_rsi.proofs.Counted.{inserted_counts, updated_counts, deleted_coun
 use Rattle.rss_access.proofs.Recounting.{Recounts}
 use Rattle.rss_rsi.proofs.Recounting.{recounts_counted, recounts_same}
 use Rattle.rss_access.proofs.Spelling.{IsChange, inserted_by, changed_by, written_listed, written_same}
-use Rattle.rss_rsi.proofs.Spelling.{over_now, over_changed, spells_changed, free_at, none_at, some_free_here}
+use Rattle.rss_rsi.proofs.Spelling.{HasFound, over_now, over_changed, spells_changed, free_at, none_at, some_free_here}
 use Rattle.rss_rsi.proofs.Engines.{in_locks, counts_locked}
 use Rattle.rss_rsi.proofs.Tested.{IsQuiet, fetch_lacks, fetch_passes, delete_lacks, delete_passes, update_lacks, update_passes, insert_passes}
 

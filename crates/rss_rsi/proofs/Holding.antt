@@ -14,7 +14,8 @@ use Rattle.rss_base.proofs.Keys.{owner_of-slot_of}
 use Rattle.rss_shadow.proofs.Owned.{slot_of-owned}
 use Rattle.rss_model.specs.Tables.{Tables}
 use Rattle.rss_model.specs.Fits.{Fits}
-use Rattle.rss_model.specs.Store.{SpellsTables, HasFirstLog, Stored, first_stored as stored, IsStore}
+use Rattle.rss_model.specs.Store.{SpellsTables, HasFirstLog, first_stored as stored, IsStore}
+use Rattle.rss_model.proofs.FirstLog.{first_log}
 use Rattle.rss_model.proofs.PlainStores.{tables_plain, none_imaged, plain_nodes}
 use Rattle.rss_model.proofs.StorePages.{held_mapped, pages_counted, room_least, store_room}
 
@@ -60,7 +61,7 @@ holds_store {pages = pages} {number = number} {root = root} {owners = owners} he
     let spelled = subst (λ (h : Held). SpellsTables h listing tables) same spells in
     record {
       root_there = holds.root_there;
-      log = record { first = log; older = refl; newer = refl; tables = refl };
+      log = first_log pages number root owners listing tables log fit;
       map = map;
       room = room_least (stored number root owners listing tables) (tables_plain spelled) refl refl room (pages_counted root owners pages map listed spelled);
       system = listed;
@@ -74,16 +75,3 @@ pub same_store : {before image : Pages} {number : ℕ} {root : Root} {owners : L
 same_store {before = before} {root = root} {owners = owners} {listing = listing} {tables = tables} store holds =
     holds_store (held_at (slots_at root.slots root.log_pages) before owners) listing tables holds
     (held_mapped (slots_at root.slots root.log_pages) before owners) store.log.first (store_room store) store.system store.spells store.fit
-
--- as yet each store has the first log
-pub first_form : {pages : Pages} {is : Stored} → IsStore pages is → is ≡ stored is.number is.root is.owners is.listing is.tables
-first_form {is = is} store = λ i. record {
-  number = is.number;
-  root = is.root;
-  owners = is.owners;
-  listing = is.listing;
-  saved = sym store.log.tables i;
-  older = store.log.older i;
-  newer = store.log.newer i;
-  tables = is.tables;
-}

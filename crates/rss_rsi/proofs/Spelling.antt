@@ -1,6 +1,6 @@
 -- The session's part in a change of a tuple: what the state that follows wants of the pages, and what a look at them found.
 use Rattle.std.proofs.Common.{◌≡◌, ℕ, ◌<◌, true, false, List, [], ◌∙◌, ap, subst, sym, arith}
-use Rattle.std.specs.Prelude.{Option, Some, None, is_some, option_map}
+use Rattle.std.specs.Prelude.{Option, Some, None, MatchOption, is_some, option_map}
 use Rattle.std.specs.Ordering.{nat_cmp}
 use Rattle.std.specs.Cmp.{nat_cmp_total}
 use Rattle.std.specs.FinMap as map
@@ -13,6 +13,7 @@ use Rattle.rss_base.specs.Listings.{relation_at}
 use Rattle.rss_base.specs.declared.key.PageKey.{PageKey}
 use Rattle.rss_base.specs.declared.key.Space.TheVariants.{Overflow}
 use Rattle.rss_base.specs.declared.tid.Tid.{Tid}
+use Rattle.rss_base.specs.declared.name.Name.{Name}
 use Rattle.rss_base.specs.declared.item.Item.TheVariants.{Tuple as TupleItem}
 use Rattle.rss_base.specs.declared.relation.RelationEntry.{RelationEntry}
 use Rattle.rss_base.specs.declared.root.Root.{Root}
@@ -39,8 +40,13 @@ use Rattle.rss_access.proofs.Spelling.{IsChange, segment_within}
 use Rattle.rss_access.proofs.TupleChanges.{some_unmapped, free_there}
 use Rattle.rss_rsi.specs.Sessions.{marks_of, Counts, HasRoom}
 use Rattle.rss_rsi.specs.Ready.{IsReady, IsIn}
-use Rattle.rss_rsi.specs.Lookups.{HasFound}
 use Rattle.rss_rsi.specs.declared.session.Session.{Session}
+
+-- the tuple of the relation has these values, or there is none
+abbrev pub HasFound : State → Name → Tid → Option (List Value) → Type 0
+HasFound state relation tid found =
+    MatchOption found (content (now state).contents (TupleItem relation tid) ≡ None)
+    (λ values. content (now state).contents (TupleItem relation tid) ≡ Some (Values values))
 
 -- ---- a tuple that was changed
 

@@ -1,25 +1,13 @@
 -- What a look at a tuple passes on, before the call that it is for goes on or ends.
-use Rattle.std.specs.Prelude.{◌≡◌, ◌+◌, ◌≤◌, Bool, List, Option, Some, None, MatchOption, Result, Ok, Err}
+use Rattle.std.specs.Prelude.{◌≡◌, ◌+◌, ◌≤◌, Bool, Result, Ok, Err}
 use Rattle.rss_base.specs.DiskRule.{IsTold, Continues, Passes}
 use Rattle.rss_base.specs.Faults.{Rises}
 use Rattle.rss_base.specs.Paged.{AreAmong}
-use Rattle.rss_base.specs.declared.tid.Tid.{Tid}
-use Rattle.rss_base.specs.declared.value.Value.{Value}
-use Rattle.rss_base.specs.declared.name.Name.{Name}
-use Rattle.rss_base.specs.declared.item.Item.TheVariants.{Tuple as TupleItem}
 use Rattle.rss_base.specs.declared.answer.CallError.{CallError}
 use Rattle.rss_base.specs.declared.answer.CallError.TheVariants.{Refused, Damaged, Device, NoMemory, Down}
-use Rattle.rss_model.specs.Items.{Values}
-use Rattle.rss_model.specs.Tables.{content}
-use Rattle.rss_model.specs.Machine.{State, now}
+use Rattle.rss_model.specs.Machine.{State}
 use Rattle.rss_model.specs.Store.{OpensTo}
 use Rattle.rss_model.specs.Calls.{EngineView}
-
--- the tuple of the relation has these values, or there is none
-abbrev pub HasFound : State → Name → Tid → Option (List Value) → Type 0
-HasFound state relation tid found =
-    MatchOption found (content (now state).contents (TupleItem relation tid) ≡ None)
-    (λ values. content (now state).contents (TupleItem relation tid) ≡ Some (Values values))
 
 -- Whatever came of it: the states that the store may be in are the same, and a stop leaves their committed tables.
 pub record LooksOn (old new : EngineView) : Type 0 where

@@ -9,7 +9,6 @@ use Rattle.rss_base.specs.declared.name.Name.{Name}
 use Rattle.rss_base.specs.declared.relation.RelationEntry.{RelationEntry}
 use Rattle.rss_model.proofs.Endings.{comes_to}
 use Rattle.rss_model.proofs.Totals.{stops as stops_by}
-use Rattle.rss_rsi.specs.Lookups.{HasFound}
 use Rattle.rss_rsi.specs.Sessions.{Counts}
 use Rattle.rss_rsi.specs.declared.session.Session.{Session}
 use Rattle.rss_rsi.proofs.Engines.{goes, fixes_still}
@@ -19,7 +18,7 @@ use Rattle.rss_rsi.proofs.Answering.{refused_test, refused_so, refused_later}
 use Rattle.rss_access.proofs.Numbered.{entry_at, name_of}
 use Rattle.rss_rsi.proofs.Readied.{stays_counted, ready_changed, changed_counted}
 use Rattle.rss_access.proofs.Spelling.{some_live, segment_safe}
-use Rattle.rss_rsi.proofs.Spelling.{found_values, found_none, can_change}
+use Rattle.rss_rsi.proofs.Spelling.{HasFound, found_values, found_none, can_change}
 use Rattle.rss_rsi.proofs.Tested.{delete_unfit, delete_full}
 use Rattle.rss_rsi.proofs.Changing.{answers_change, shows_change, fails_change}
 use Rattle.rss_rsi.proofs.engine.Rss.delete.Goals as goal

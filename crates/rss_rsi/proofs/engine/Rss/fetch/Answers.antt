@@ -14,7 +14,6 @@ use Rattle.rss_model.proofs.Endings.{comes_to}
 use Rattle.rss_model.proofs.Lengths.{tuple_line}
 use Rattle.rss_model.proofs.Totals.{stops as stops_by}
 use Rattle.rss_access.specs.Bodies.{IsBodyOf}
-use Rattle.rss_rsi.specs.Lookups.{HasFound}
 use Rattle.rss_access.specs.Tuples.{FindsBody}
 use Rattle.rss_rsi.specs.declared.session.Session.{Session}
 use Rattle.rss_model.specs.Steps.{locked}
@@ -22,7 +21,7 @@ use Rattle.rss_rsi.proofs.Following.{quiet_in, fetched_in, fetch_misses, fetches
 use Rattle.rss_rsi.proofs.Joining.{looks_as, goes_looked, look_failed}
 use Rattle.rss_rsi.proofs.Answering.{refused_test, refused_so, unanswered_looked}
 use Rattle.rss_access.proofs.Numbered.{entry_at, name_of}
-use Rattle.rss_rsi.proofs.Spelling.{found_values, found_tuple, found_none}
+use Rattle.rss_rsi.proofs.Spelling.{HasFound, found_values, found_tuple, found_none}
 use Rattle.rss_rsi.proofs.Tested.{fetch_unfit}
 use Rattle.rss_rsi.proofs.engine.Rss.fetch.Goals as goal
 

@@ -10,7 +10,6 @@ use Rattle.rss_base.specs.declared.name.Name.{Name}
 use Rattle.rss_tuple.specs.Calls.{MayPut}
 use Rattle.rss_model.proofs.Endings.{comes_to}
 use Rattle.rss_model.proofs.Totals.{stops as stops_by}
-use Rattle.rss_rsi.specs.Lookups.{HasFound}
 use Rattle.rss_rsi.specs.Sessions.{Counts}
 use Rattle.rss_access.specs.Tuples.{ChangesTuple}
 use Rattle.rss_rsi.specs.declared.session.Session.{Session}
@@ -21,7 +20,7 @@ use Rattle.rss_rsi.proofs.Answering.{refused_test, refused_so, refused_later}
 use Rattle.rss_access.proofs.Numbered.{entry_at, name_of}
 use Rattle.rss_rsi.proofs.Readied.{stays_same, ready_changed, changed_same}
 use Rattle.rss_access.proofs.Spelling.{may_put_safe}
-use Rattle.rss_rsi.proofs.Spelling.{found_values, found_none, can_change}
+use Rattle.rss_rsi.proofs.Spelling.{HasFound, found_values, found_none, can_change}
 use Rattle.rss_rsi.proofs.Tested.{update_unfit, update_full}
 use Rattle.rss_rsi.proofs.Changing.{answers_change, shows_change, fails_change}
 use Rattle.rss_rsi.proofs.engine.Rss.update.Goals as goal
