@@ -1,6 +1,6 @@
 -- The ways in which a call on an engine ends.
 use Rattle.std.proofs.Common.{◌≡◌, inl, ℕ, ◌≤◌, length, ◌+◌, Option, Some, None, refl, sym, ◌∙◌, ap, subst, arith}
-use Rattle.std.specs.Prelude.{true, Result, Ok, Err, IsErrAnd, IfSome}
+use Rattle.std.specs.Prelude.{true, Result, Ok, Err, IsErrAnd, IsErrOf, IfSome}
 use Rattle.std.proofs.lemmas.Result.{err_from_is_err_and}
 use Rattle.rss_base.specs.DiskRule.{IsTold, Passes, Continues}
 use Rattle.rss_base.specs.Answers.{page_error}
@@ -26,7 +26,7 @@ use Rattle.rss_model.specs.Steps.StepBy.{refuses, defines}
 use Rattle.rss_model.specs.Store.{OpensTo, OpensToEither}
 use Rattle.rss_model.specs.ReplyText.{IsShort}
 use Rattle.rss_model.specs.Costs.{RisesAtMost, most_asks, most_writes, LeavesChanged, changes_after}
-use Rattle.rss_model.specs.Calls.{EngineView, GoesOn, IsAnswer, IsOutcome, IsCallOf}
+use Rattle.rss_model.specs.Calls.{EngineView, GoesOn, GetsPlace, IsAnswer, IsOutcome, IsCallOf}
 
 -- a count that rises by so many at most, rises by no more than it may
 pub within_most : (most : Option ℕ) (n before now : ℕ) → IfSome most (λ m. n ≤ m) → now ≤ before + n → RisesAtMost most before now
@@ -63,13 +63,19 @@ pub refused_since : (call : Call) (why : Refusal) (since : ℕ) → changes_afte
 refused_since (End t) why since = refl
 refused_since call why since = refl
 
+-- no tuple is placed by it
+pub refused_places : (view : EngineView) (call : Call) (why : Refusal) → GetsPlace view call (Err why)
+refused_places view (Insert t relation values) why = tt
+refused_places view call why = tt
+
 -- By a refusal, which leaves the engine as it was but for its pages in memory.
 pub refused_by : {old new : EngineView} {call : Call} {why : Refusal} → new.is_up → IsShort (Err why) → AreAmong new.changed old.changed → new.since ≡ old.since
     → (IsTold old.disk → (state : State) → old.shows state → (refusal state call ≡ Some why) × new.shows (left_by state call why) × Passes old.disk new.disk (λ pages. OpensTo pages state.size state.base)) → IsAnswer old new call (Err why)
-refused_by {call = call} {why = why} up short among since stays = record {
+refused_by {old = old} {call = call} {why = why} up short among since stays = record {
   answered = λ told state shown.
       let so = stays told state shown in
       record { next = left_by state call why; shows = so.1; answered = record { step = refuses call why so.0; moments = widened so.2 (λ image opens. inl opens) } };
+  placed = λ told. refused_places old call why;
   up = up;
   short = short;
   changed = λ key is. inl (among key is, refused_leaves call why);
@@ -116,12 +122,18 @@ pub record IsDefined (old new : EngineView) (state : State) (call : Call) : Type
   pub shows : new.shows (redefined definitions state)
   pub moments : Passes old.disk new.disk (OpensToEither state.size state.base (with_definitions definitions state.base))
 
+-- no tuple is placed where nothing is given
+pub done_places : (view : EngineView) (call : Call) → GetsPlace view call (Ok Done)
+done_places view (Insert t relation values) = tt
+done_places view call = tt
+
 -- By a definition, after which no page waits for a commit.
 pub defined_by : {old new : EngineView} {call : Call} → is_definition call ≡ true → DefinesNames call → new.is_up → ((key : PageKey) → new.changed key ≡ true → ⊥) → new.since ≡ 0 → (IsTold old.disk → (state : State) → old.shows state → IsDefined old new state call) → IsAnswer old new call (Ok Done)
 defined_by {old = old} {call = call} is names up none since made = record {
   answered = λ told state shown.
       let so = made told state shown in
       record { next = redefined so.definitions state; shows = so.shows; answered = record { step = defines call so.definitions so.passed names so.so; moments = so.moments } };
+  placed = λ told. done_places old call;
   up = up;
   short = omega arith;
   changed = λ key waits. absurd (none key waits);
@@ -149,6 +161,10 @@ failed {old = old} {new = new} {call = call} {T = T} {fault = fault} result is i
     by_fault PageDevice cause stopped = record { stopped = stopped refl; down = down; cause = cause.failed refl }
     by_fault (PageDamaged place) cause stopped = record { sound = cause.sound place refl; down = down }
     by_fault PageNoMemory cause stopped = absurd (cause.memory refl)
+
+-- an engine that is up isn't found down
+pub never_down : {old new : EngineView} {call : Call} {result : Result Reply CallError} → IsCallOf old new call result → old.is_up → IsErrOf result Down → ⊥
+never_down {old = old} {new = new} {call = call} made up is = subst (IsOutcome old new call) is (made.outcome up)
 
 -- since it was down
 pub was_down : {view : EngineView} (call : Call) → (view.is_up → ⊥) → IsCallOf view view call (Err Down)

@@ -1,16 +1,21 @@
 -- A call on an engine, whichever call it is: what it leaves, by its result.
-use Rattle.std.specs.Prelude.{◌≡◌, ◌⊎◌, ℕ, ◌≤◌, true, List, length, Result, Ok, Err, IsErrOf}
-use Rattle.rss_base.specs.DiskRule.{Disk, IsTold, Continues}
+use Rattle.std.specs.Prelude.{◌≡◌, ◌⊎◌, ℕ, ◌≤◌, true, List, [], length, Result, Ok, Err, IsErrOf}
+use Rattle.rss_base.specs.DiskRule.{Disk, Pages, IsTold, Leaves, Continues}
 use Rattle.rss_base.specs.Faults.{Rises}
 use Rattle.rss_base.specs.Paged.{Mapped, AreAmong, HasEach}
 use Rattle.rss_base.specs.declared.key.PageKey.{PageKey}
+use Rattle.rss_base.specs.declared.name.Name.{Name}
+use Rattle.rss_base.specs.declared.tid.Tid.{Tid}
+use Rattle.rss_base.specs.declared.value.Value.{Value}
 use Rattle.rss_base.specs.declared.call.Call.{Call}
+use Rattle.rss_base.specs.declared.call.Call.TheVariants.{Insert}
 use Rattle.rss_base.specs.declared.answer.Reply.{Reply}
+use Rattle.rss_base.specs.declared.answer.Reply.TheVariants.{Tid as Identifier}
 use Rattle.rss_base.specs.declared.answer.CallError.{CallError}
 use Rattle.rss_base.specs.declared.answer.CallError.TheVariants.{Refused, Damaged, Device, NoMemory, Down}
 use Rattle.rss_model.specs.Machine.{State}
 use Rattle.rss_model.specs.Steps.{Answer}
-use Rattle.rss_model.specs.Store.{Opens}
+use Rattle.rss_model.specs.Store.{HoldsState}
 use Rattle.rss_model.specs.Turns.{IsAnswered, IsStopped, IsUnmade}
 use Rattle.rss_model.specs.ReplyText.{IsShort}
 use Rattle.rss_model.specs.Costs.{RisesAtMost, most_asks, most_writes, ChangesPage, LeavesChanged, changes_after}
@@ -19,10 +24,15 @@ use Rattle.rss_model.specs.Costs.{RisesAtMost, most_asks, most_writes, ChangesPa
 abbrev pub States : Type 1
 States = State → Type 0
 
+-- The identifiers that the placing rule allows for a new tuple of a relation with these values, where these others are barred.
+abbrev pub Places : Type 1
+Places = Name → List Value → List Tid → Tid → Type 0
+
 -- What there is to see of an engine.
 --
 -- disk: what its device tells.
 -- shows: the states of the machine that it may be in, where the device tells its contents.
+-- places: which identifiers its pages have for a new tuple.
 -- is_up: it answers calls.
 -- slots: how many slots its device has for pages.
 -- changed, since: which pages were changed since the last commit, and how many changes of tuples were made.
@@ -30,6 +40,7 @@ States = State → Type 0
 pub record EngineView : Type 1 where
   pub disk : Disk
   pub shows : States
+  pub places : Places
   pub is_up : Type 0
   pub slots : ℕ
   pub changed : Mapped
@@ -53,9 +64,10 @@ pub record ShowsState (view : EngineView) : Type 0 where
   pub state : State
   pub shows : view.shows state
 
--- a stop leaves the committed tables of each state that is shown
+-- A stop leaves the committed tables of each state that is shown; and where no change was made since the last checkpoint, as many overflow pages as that state counts.
 abbrev pub OpensShown : EngineView → Type 0
-OpensShown view = (state : State) → view.shows state → Opens view.disk state.size state.base
+OpensShown view =
+    (state : State) → view.shows state → (image : Pages) → Leaves view.disk image → HoldsState image state
 
 -- ---- the ways in which a call ends
 
@@ -65,10 +77,17 @@ pub record LeadsTo (shown : States) (earlier later : Disk) (old : State) (call :
   pub shows : shown next
   pub answered : IsAnswered earlier later old call answer next
 
--- By a reply or a refusal: it is a step of the machine, and its line is short.
+-- A new tuple has an identifier that the placing rule allows. None is barred as yet.
+abbrev pub GetsPlace : EngineView → Call → Answer → Type 0
+GetsPlace view (Insert transaction relation values) (Ok (Identifier tid)) =
+    view.places relation values [] tid
+GetsPlace view call answer = Unit {0}
+
+-- By a reply or a refusal: it is a step of the machine, its line is short, and a new tuple stands where the pages of before have a place for it.
 pub record IsAnswer (old new : EngineView) (call : Call) (answer : Answer) : Type 0 where
   pub answered : IsTold old.disk → (state : State) → old.shows state
       → LeadsTo new.shows old.disk new.disk state call answer
+  pub placed : IsTold old.disk → GetsPlace old call answer
   pub up : new.is_up
   pub short : IsShort answer
   pub changed : (key : PageKey) → new.changed key ≡ true

@@ -418,12 +418,22 @@ pub record OpensTo (pages : Pages) (size : StoreSize) (tables : Tables) : Type 0
 abbrev pub OpensToEither : StoreSize → Tables → Tables → Pages → Type 0
 OpensToEither size before after pages = OpensTo pages size before ⊎ OpensTo pages size after
 
+-- the state counts as many overflow pages as the map of these pages has
+abbrev pub CountsOverflow : Pages → State → Type 0
+CountsOverflow pages state =
+    (stored : Stored) → IsStore pages stored → state.meter.over ≡ overflow_pages stored
+
 -- The state of the machine in which these pages, as they are once they are opened, are opened: at rest with their tables, with their overflow pages, and with the positions of their log.
 pub record OpensIn (pages : Pages) (size : StoreSize) (tables : Tables) (state : State) : Type 0 where
   pub rest : IsAtRest size tables state
-  pub over : (stored : Stored) → IsStore pages stored → state.meter.over ≡ overflow_pages stored
+  pub over : CountsOverflow pages state
   pub head : (stored : Stored) → IsStore pages stored → state.meter.head ≡ stored.root.head
   pub end : (stored : Stored) → IsStore pages stored → state.meter.end ≡ stored.root.end
+
+-- The pages open to the committed tables of a state; and where no change was made since its last checkpoint, it counts their overflow pages.
+pub record HoldsState (pages : Pages) (state : State) : Type 0 where
+  pub opens : OpensTo pages state.size state.base
+  pub over : state.meter.since ≡ 0 → CountsOverflow pages state
 
 -- a stop now leaves pages that open to these tables
 abbrev pub Opens : Disk → StoreSize → Tables → Type 0

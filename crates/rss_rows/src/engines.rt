@@ -25,24 +25,24 @@ enum Step {
     End,
 }
 
-/// What an engine counts: how many pages are mapped, how many of them are home and overflow pages as
-/// they were at the last checkpoint, and how many slots the changes may need.
-type Counts = [u32; 3];
+/// What an engine counts: how many pages are mapped, how many of them are home and overflow pages, and
+/// how many slots the changes may need.
+type Counts = (u32, u32, u64);
 
 /// Calls over a store of 64 slots with a relation, the identifier that each gives, and the counts after
 /// it.
 static STEPS: [(Step, Option<Tid>, Counts); 6] = [
-    (Step::Begin, None, [10, 0, 20]),
-    (Step::Insert(7), Some(FIRST), [11, 0, 28]),
-    (Step::End, None, [11, 1, 22]),
-    (Step::Begin, None, [11, 1, 22]),
+    (Step::Begin, None, (10, 0, 20)),
+    (Step::Insert(7), Some(FIRST), (11, 1, 28)),
+    (Step::End, None, (11, 1, 22)),
+    (Step::Begin, None, (11, 1, 22)),
     // The page goes with its last tuple.
-    (Step::Delete(FIRST), None, [10, 1, 30]),
-    (Step::End, None, [10, 0, 20]),
+    (Step::Delete(FIRST), None, (10, 0, 30)),
+    (Step::End, None, (10, 0, 20)),
 ];
 
 fn counts_of<S: Saving>(store: &Rss<S>) -> Counts {
-    [store.mapped(), store.heap(), store.room()]
+    (store.mapped(), store.heap(), store.room())
 }
 
 fn insert<E: Engine>(alloc: Global, engine: &mut E, value: i64) -> Result<Reply, CallError> {
@@ -69,7 +69,7 @@ fn make<E: Engine>(alloc: Global, engine: &mut E, step: Step) -> Result<Option<T
 
 fn assert_steps<S: Saving>(alloc: Global, store: &mut Rss<S>) -> Result<(), Fail> {
     assert_same(&store.slots(), &SMALL, "the slots")?;
-    assert_same(&counts_of(store), &[10, 0, 20], "at the opening")?;
+    assert_same(&counts_of(store), &(10, 0, 20), "at the opening")?;
     for (step, tid, counts) in &STEPS {
         let found = make(alloc, store, *step)?;
         assert_same(&found, tid, *step)?;

@@ -120,6 +120,8 @@ const NOT_TUPLE: Ending = Ending::Damaged(
 
 const NOT_COUNT_1: Ending = Ending::Damaged(Place::Count(1), b"damaged count 1\n");
 
+const NOT_COUNT_9: Ending = Ending::Damaged(Place::Count(9), b"damaged count 9\n");
+
 /// How many pages the device of a store of 64 slots has.
 const PAGES: usize = 77;
 
@@ -359,13 +361,13 @@ fn unmapped(alloc: Global, slot: u8) -> Result<Vec<Page>, Fail> {
 }
 
 /// The pages of a store with one tuple whose relation stands on another page of the catalog too, where
-/// bits of its name are turned.
-fn twice(alloc: Global, bits: u8) -> Result<Vec<Page>, Fail> {
+/// bits of its name are turned, as relation 9 of the same segment. It has no tuple, and so many are
+/// counted.
+fn twice(alloc: Global, bits: u8, live: u8) -> Result<Vec<Page>, Fail> {
     let mut pages = store_with_tuple(alloc)?;
     let mut page = *page_at(pages.as_mut_slice(), CATALOG_1)?;
     page[0] ^= bits;
-    // It has no tuple.
-    page[23] = 0;
+    page[23] = live;
     *page_at(pages.as_mut_slice(), CATALOG_2)? = page;
     Ok(pages)
 }
@@ -487,10 +489,16 @@ fn a_page_that_is_missing_is_named(rt: HostRuntime) -> Result<(), Fail> {
 #[test]
 fn no_two_relations_have_one_name(rt: HostRuntime) -> Result<(), Fail> {
     for (bits, ending) in [(0, NOT_CATALOG_1), (1, OPENS)] {
-        let pages = twice(rt.alloc(), bits)?;
+        let pages = twice(rt.alloc(), bits, 0)?;
         assert_ending(rt.alloc(), pages, &ending, ("bits", bits))?;
     }
     Ok(())
+}
+
+#[test]
+fn a_count_is_named_by_its_relation(rt: HostRuntime) -> Result<(), Fail> {
+    let pages = twice(rt.alloc(), 1, 1)?;
+    assert_ending(rt.alloc(), pages, &NOT_COUNT_9, "relation 9 of segment 1")
 }
 
 #[test]

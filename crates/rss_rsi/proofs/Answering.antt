@@ -9,7 +9,8 @@ use Rattle.rss_base.proofs.Moments.{started}
 use Rattle.rss_base.specs.declared.call.Call.{Call}
 use Rattle.rss_base.specs.declared.answer.Reply.{Reply}
 use Rattle.rss_base.specs.declared.answer.CallError.{CallError}
-use Rattle.rss_base.specs.declared.answer.CallError.TheVariants.{Refused, NoMemory}
+use Rattle.rss_base.specs.declared.answer.CallError.TheVariants.{Refused, Damaged, NoMemory, Down}
+use Rattle.rss_base.specs.declared.place.Place.{Place}
 use Rattle.rss_base.specs.declared.name.Name.{Name}
 use Rattle.rss_base.specs.declared.tid.Tid.{Tid}
 use Rattle.rss_base.specs.declared.refusal.Refusal.{Refusal}
@@ -18,8 +19,8 @@ use Rattle.rss_model.specs.Machine.{State}
 use Rattle.rss_model.specs.Spellings.{name_text, tid_text}
 use Rattle.rss_model.specs.ReplyText.{IsShort, answer_line}
 use Rattle.rss_model.specs.Steps.{refusal}
-use Rattle.rss_model.specs.Calls.{EngineView, GoesOn, IsCallOf}
-use Rattle.rss_model.proofs.Endings.{costs_nothing, refused_by, refused_at_once, comes_to}
+use Rattle.rss_model.specs.Calls.{EngineView, GoesOn, IsDamaged, IsCallOf}
+use Rattle.rss_model.proofs.Endings.{costs_nothing, refused_by, refused_at_once, comes_to, was_down}
 use Rattle.rss_base.specs.Steps.{PagesView}
 use Rattle.rss_base.specs.declared.root.Root.{Root}
 use Rattle.rss_rsi.specs.Lookups.{LooksOn}
@@ -41,6 +42,18 @@ refused_told {pages = pages} {number = number} {root = root} {session = session}
     let why = err_from_is_err_and result is in
     subst (IsCallOf view view call) (sym (why.1 ∙ ap Err why.2))
     (comes_to is_up (costs_nothing call refl refl refl (λ told. told) (λ told. started pages.disk _) (omega arith)) (refused_by is_up short (λ key is. is) refl (λ told state shown. let why_so = refused told state shown in (why_so, in_left call shown why_so, started _ _))))
+
+-- since the store was down
+pub found_down : {view : EngineView} {call : Call} {why : CallError} (result : Result Reply CallError) → IsErrAnd result (λ e. e ≡ why) → why ≡ Down → (view.is_up → ⊥) → IsCallOf view view call result
+found_down {view = view} {call = call} result is same not =
+    let so = err_from_is_err_and result is in
+    subst (IsCallOf view view call) (sym (so.1 ∙ ap Err (so.2 ∙ same))) (was_down call not)
+
+-- by damage, which leaves the engine down
+pub damaged_so : {old new : EngineView} {call : Call} {why : CallError} {place : Place} (result : Result Reply CallError) → IsErrAnd result (λ e. e ≡ why) → why ≡ Damaged place → old.is_up → GoesOn old new call → IsDamaged old new → IsCallOf old new call result
+damaged_so {old = old} {new = new} {call = call} result is same was_up goes damaged =
+    let so = err_from_is_err_and result is in
+    subst (IsCallOf old new call) (sym (so.1 ∙ ap Err (so.2 ∙ same))) (comes_to was_up goes damaged)
 
 -- by what a look found, or a test after it
 pub refused_looked : {old : EngineView} {pages : PagesView} {number : ℕ} {root : Root} {session : Session} {up_now : Type 0} {call : Call} {why : Refusal} → old.is_up → up_now → LooksOn old (engine_view pages number root session up_now) → GoesOn old (engine_view pages number root session up_now) call → IsShort (Err why) → (IsTold old.disk → (state : State) → old.shows state → refusal state call ≡ Some why) → IsCallOf old (engine_view pages number root session up_now) call (Err (Refused why))

@@ -38,14 +38,14 @@ module _ {pages : PagesView} {number : ℕ} {root : Root} {old new : Session} {t
       let step = answers.step state shown.counts in
       record {
         next = begun t state;
-        shows = in_session same_catalog shown refl refl refl refl (answers.counts state shown.counts) (steps_keep state (begun t state) (Begin t) (Ok reply) step shown.kept);
+        shows = in_session same_catalog shown refl refl refl refl refl (answers.counts state shown.counts) (steps_keep state (begun t state) (Begin t) (Ok reply) step shown.kept);
         answered = record { step = step; moments = started _ _ };
       }
 
   pub refuse_leads : {why : Refusal} → Answers old new (Begin t) (Err why) (λ s. s) → LeadsTo (IsIn pages number root new) pages.disk pages.disk state (Begin t) (Err why)
   refuse_leads answers = record {
     next = state;
-    shows = in_session same_catalog shown refl refl refl refl (answers.counts state shown.counts) shown.kept;
+    shows = in_session same_catalog shown refl refl refl refl refl (answers.counts state shown.counts) shown.kept;
     answered = record { step = answers.step state shown.counts; moments = started _ _ };
   }
 
@@ -61,6 +61,7 @@ begin_refused {pages = pages} {number = number} {root = root} {old = old} {new =
     let why = err_from_is_err_and result is in
     subst (IsCallOf (engine_view pages number root old up) (engine_view pages number root new up) (Begin t)) (sym (why.1 ∙ ap Err why.2)) (comes_to is_up (costs_nothing _ refl refl same_slots (λ told. told) (λ told. started _ _) (omega arith)) (record {
       answered = λ told state shown. refuse_leads same_catalog shown answers;
+      placed = λ told. tt;
       up = is_up;
       short = answers.short;
       changed = λ key is. inl (ap (λ (c : CatalogView). changed_with pages c key) (sym same_catalog) ∙ is, tt);

@@ -1,6 +1,6 @@
 -- The counts of tuples that a look through a segment makes.
-use Rattle.std.proofs.Common.{◌≡◌, inl, inr, ℕ, zero, suc, ◌+◌, ◌-◌, ◌^◌, ◌≤◌, true, false, List, [], ◌∷◌, ◌++◌, length, get_or, set, replicate, refl, sym, ◌∙◌, ap, arith, length-set, get_or-set_same, get_or-set_other}
-use Rattle.std.specs.Prelude.{Option, Some, None, is_some, option_map, min, map as list_map}
+use Rattle.std.proofs.Common.{◌≡◌, inl, inr, ℕ, zero, suc, ◌+◌, ◌-◌, ◌^◌, ◌≤◌, true, false, List, [], ◌∷◌, ◌++◌, length, get_or, set, replicate, refl, sym, ◌∙◌, ap, subst, arith, length-set, get_or-set_same, get_or-set_other}
+use Rattle.std.specs.Prelude.{Option, Some, None, is_some, option_map, min, map as list_map, Result, Err, IfErr}
 use Rattle.std.proofs.lemmas.Bool.{cases_eq, eq-eqb, ne_eqb}
 use Rattle.std.proofs.lemmas.List.{get_or-replicate}
 use Rattle.std.proofs.lemmas.List.Sums.{sum_by-append}
@@ -9,6 +9,10 @@ use Rattle.rss_base.specs.Listings.{Listing, numbered, names_of, relation_at}
 use Rattle.rss_base.specs.declared.refusal.Kind.TheVariants.{Relation as RelationKind}
 use Rattle.rss_base.specs.declared.relation.RelationEntry.{RelationEntry}
 use Rattle.rss_base.specs.declared.tid.Tid.{Tid}
+use Rattle.rss_base.specs.declared.fault.PageFault.{PageFault}
+use Rattle.rss_base.specs.declared.fault.PageFault.TheVariants.{Damaged as PageDamaged}
+use Rattle.rss_base.specs.declared.place.Place.{Place}
+use Rattle.rss_base.specs.declared.place.Place.TheVariants.{Count, Room}
 use Rattle.rss_base.specs.Paged.{Held}
 use Rattle.rss_tuple.specs.Checked.{Row, Rows, tuples_of}
 use Rattle.rss_model.specs.Fits.{tuple_limit}
@@ -115,3 +119,9 @@ pub count_wrong : (listing : Listing) (segment number : ℕ) (held : Held) (slot
 count_wrong listing segment number held slots seen is sound relation at within =
     let both = sound.counts number relation at within in
     (omega (arith, both.0, both.1, is), both.1)
+
+-- the place of a count isn't that of the room
+pub count_elsewhere : {T : Type 0} {place : Place} (number : ℕ) (result : Result T PageFault) → IfErr result (λ fault. fault ≡ PageDamaged (Count number)) → result ≡ Err (PageDamaged place) → place ≡ Room → ⊥
+count_elsewhere {T = T} number result is same room =
+    let at = subst (λ (r : Result T PageFault). IfErr r (λ fault. fault ≡ PageDamaged (Count number))) same is in
+    cc

@@ -20,7 +20,7 @@ use Rattle.rss_model.specs.Machine.{State}
 use Rattle.rss_model.specs.ReplyText.{IsShort}
 use Rattle.rss_model.specs.Steps.{Answer}
 use Rattle.rss_model.specs.Costs.{ChangesPage, LeavesChanged, changes_after}
-use Rattle.rss_model.specs.Calls.{GoesOn, ShowsState, IsAnswer, IsCallOf}
+use Rattle.rss_model.specs.Calls.{GoesOn, ShowsState, GetsPlace, IsAnswer, IsCallOf}
 use Rattle.rss_model.proofs.Endings.{failed}
 use Rattle.rss_model.proofs.Totals.{stops}
 use Rattle.rss_rsi.specs.Ready.{engine_view, changed_with, IsReady, IsIn}
@@ -33,9 +33,9 @@ module _ {pages : PagesView} {number : ℕ} {root : Root} {session : Session} (r
   module _ {segment : ℕ} {new : PagesView} {asks writes : ℕ} (step : PagesStep (pages_of segment) asks writes pages new) where
     -- a tuple was changed
     pub answers_change : {later : Session} {up up_now : Type 0} {call : Call} {answer : Answer} → ChangesOnce session later → (IsTold pages.disk → (state : State) → IsIn pages number root session state → Follows state call answer new number root later)
-        → up_now → IsShort answer → LeavesChanged call answer → ((key : PageKey) → changed_with new later.catalog key ≡ true → (changed_with pages session.catalog key ≡ true) ⊎ ChangesPage call answer key) → changes_after call answer session.since ≡ session.since + 1
+        → (IsTold pages.disk → GetsPlace (engine_view pages number root session up) call answer) → up_now → IsShort answer → LeavesChanged call answer → ((key : PageKey) → changed_with new later.catalog key ≡ true → (changed_with pages session.catalog key ≡ true) ⊎ ChangesPage call answer key) → changes_after call answer session.since ≡ session.since + 1
         → IsAnswer (engine_view pages number root session up) (engine_view new number root later up_now) call answer
-    answers_change once follows is_up short leaves changed since = record {
+    answers_change once follows placed is_up short leaves changed since = record {
       answered = λ told state shown.
           let follow = follows told state shown in
           record {
@@ -43,6 +43,7 @@ module _ {pages : PagesView} {number : ℕ} {root : Root} {session : Session} (r
             shows = follow.shows;
             answered = record { step = follow.step; moments = widened (calls_open ready told shown step) (λ image opens. inl opens) };
           };
+      placed = placed;
       up = is_up;
       short = short;
       changed = λ key is. ⊎_elim (λ was. inl (was, leaves)) (λ now. inr now) (changed key is);

@@ -272,6 +272,7 @@ module _ {old mid : PagesView} {catalog : CatalogView} {count : ℕ} (step : Pag
       saves_all shadow area settled = record {
         mapped = stored_mapped;
         shadow = ap page_count shadow ∙ sym counted_stored ∙ sym same_count;
+        maps = ap mapped_by (shadow ∙ sym saves.current) ∙ sym saveable_now.mapped;
         area = area;
         log_pages = saves.log_pages ∙ ap (λ (b : Backing). b.log_pages) step.passes.backing;
         slots = stored_slots;

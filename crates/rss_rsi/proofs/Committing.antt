@@ -161,6 +161,7 @@ module _ {old : StoreParts} (can : CanSave old) (same_slots : old.session.slots 
       counts = counts;
       kept = kept;
       over = over ∙ (λ i. mapped_of (sym saved.saves.mapped i) Overflow (sym saved.saves.slots i));
+      rested = λ rests. over ∙ (λ i. mapped_of ((sym saved.saves.mapped ∙ sym saved.saves.maps) i) Overflow ((can.size ∙ slots_same) i));
       spells = subst (λ (l : Listing). SpellsTables new.pages.held l (now next)) (sym saved.listing) (subst (SpellsTables new.pages.held old.session.catalog.listing) (sym tables) (spells_same (saved.saves.held told) spell.spells));
       written = λ page low not. saved_listing told spell.written page low;
       saved = new.session.catalog.listing;

@@ -26,7 +26,7 @@ use Rattle.rss_model.specs.Fits.{Fits}
 use Rattle.rss_model.specs.Machine.{StoreSize, State, with_changes, now}
 use Rattle.rss_model.specs.Meter.{heap_pages}
 use Rattle.rss_model.specs.Callers.{is_definition}
-use Rattle.rss_model.specs.Steps.{ended, refusal}
+use Rattle.rss_model.specs.Steps.{committing, meter_after, ended, refusal}
 use Rattle.rss_model.specs.Steps.StepBy.{ends}
 use Rattle.rss_model.specs.Store.{SpellsTables, size_of, OpensToEither}
 use Rattle.rss_model.specs.Tables.{Tables}
@@ -60,7 +60,7 @@ close_leads {pages = pages} {session = session} {state = state} {t = t} shown re
     record {
       next = next;
       shows = in_session catalog shown refl (ap (λ (l : List Change). with_changes state.base (own t l)) none)
-          (ap (λ (l : List Change). with_changes (with_changes state.base (own t l)) (others t l)) none ∙ ap (with_changes state.base) (sym none)) (ended_over t state) (answers.counts state shown.counts) (steps_keep state next (End t) (Ok Done) step shown.kept);
+          (ap (λ (l : List Change). with_changes (with_changes state.base (own t l)) (others t l)) none ∙ ap (with_changes state.base) (sym none)) (ended_over t state) (ap (λ (l : List Change). (meter_after (own t l) (committing t state)).since) none) (answers.counts state shown.counts) (steps_keep state next (End t) (Ok Done) step shown.kept);
       answered = record { step = step; moments = started _ _ };
     }
 

@@ -6,6 +6,7 @@ use Rattle.std.proofs.Math.Logic.{∥∥₁_elim, ∥∥₁_prop}
 use Rattle.rss_base.specs.DiskRule.{Pages, IsTold, Passes}
 use Rattle.rss_base.specs.PageMap.{page_count}
 use Rattle.rss_base.specs.Paged.{Mapped, Held, Fixed, Backing, HasFixed, page_key, mapped_pages, mapped_of}
+use Rattle.rss_base.specs.StoredPages.{mapped_by}
 use Rattle.rss_base.specs.Notes.{Noted}
 use Rattle.rss_base.specs.Steps.{PagesView, Keys, PagesStep, no_page}
 use Rattle.rss_base.specs.declared.key.Space.TheVariants.{Overflow, System}
@@ -98,6 +99,7 @@ module _ {pages : PagesView} {number : ℕ} {root : Root} {session : Session} (r
       counts = shown.counts;
       kept = shown.kept;
       over = shown.over ∙ (λ i. mapped_of (sym (all_mapped step) i) Overflow (sym step.passes.slots i));
+      rested = λ rests. shown.rested rests ∙ ap (λ (b : Backing). mapped_of (mapped_by b.shadow) Overflow root.slots) (sym step.passes.backing);
       spells = subst (λ (h : Held). SpellsTables h session.catalog.listing (now state)) (sym (all_held step told)) shown.spells;
       written = subst (λ (h : Held). AreWritten h session.catalog) (sym (all_held step told)) shown.written;
       saved = shown.saved;
@@ -127,12 +129,13 @@ ready_session same_heap same_since same_catalog ready = record {
   heaps = ready.heaps;
 }
 
-pub in_session : {pages : PagesView} {number : ℕ} {root : Root} {old new : Session} {state next : State} → new.catalog ≡ old.catalog → IsIn pages number root old state → next.size ≡ state.size → next.base ≡ state.base → now next ≡ now state → next.meter.over ≡ state.meter.over → Counts new next → Kept next → IsIn pages number root new next
-in_session {pages = pages} {number = number} {root = root} {old = old} {next = next} same_catalog shown size base tables over counts kept = record {
+pub in_session : {pages : PagesView} {number : ℕ} {root : Root} {old new : Session} {state next : State} → new.catalog ≡ old.catalog → IsIn pages number root old state → next.size ≡ state.size → next.base ≡ state.base → now next ≡ now state → next.meter.over ≡ state.meter.over → next.meter.since ≡ state.meter.since → Counts new next → Kept next → IsIn pages number root new next
+in_session {pages = pages} {number = number} {root = root} {old = old} {next = next} same_catalog shown size base tables over since counts kept = record {
   size = size ∙ shown.size;
   counts = counts;
   kept = kept;
   over = over ∙ shown.over;
+  rested = λ rests. over ∙ shown.rested (sym since ∙ rests);
   spells = subst (λ (c : CatalogView). SpellsTables pages.held c.listing (now next)) (sym same_catalog) (subst (λ (t : Tables). SpellsTables pages.held old.catalog.listing t) (sym tables) shown.spells);
   written = subst (AreWritten pages.held) (sym same_catalog) shown.written;
   saved = shown.saved;
@@ -155,7 +158,7 @@ counts_locked counts locks = record {
 }
 
 pub in_locks : {pages : PagesView} {number : ℕ} {root : Root} {session : Session} {state : State} → IsIn pages number root session state → (locks : Locks) → Kept (record state { locks = locks }) → IsIn pages number root session (record state { locks = locks })
-in_locks shown locks kept = in_session refl shown refl refl refl refl (counts_locked shown.counts locks) kept
+in_locks shown locks kept = in_session refl shown refl refl refl refl refl (counts_locked shown.counts locks) kept
 
 -- a call that is refused may leave locks
 pub in_left : {pages : PagesView} {number : ℕ} {root : Root} {session : Session} {state : State} (call : Call) {why : Refusal} → IsIn pages number root session state → refusal state call ≡ Some why → IsIn pages number root session (left_by state call why)

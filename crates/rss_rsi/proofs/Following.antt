@@ -1,5 +1,5 @@
 -- The state that follows where a tuple was changed, and that the pages then are in it.
-use Rattle.std.proofs.Common.{◌≡◌, ℕ, ◌+◌, ◌-◌, List, refl, ◌∙◌, ap, subst}
+use Rattle.std.proofs.Common.{◌≡◌, ℕ, ◌+◌, ◌-◌, List, refl, sym, ◌∙◌, ap, subst, arith}
 use Rattle.std.specs.Prelude.{Option, Some, None, Ok, is_some, option_map, All}
 use Rattle.rss_base.specs.DiskRule.{Pages, IsTold}
 use Rattle.rss_base.specs.Paged.{HasFixed}
@@ -102,6 +102,7 @@ module _ {old new : PagesView} {root_number : ℕ} {root : Root} {session later 
       counts = counts_locked counts locks;
       kept = steps_keep state _ call answer made shown.kept;
       over = refl;
+      rested = λ none. let one_more : 0 ≡ session.since + 1 = sym none ∙ counts.since ∙ once.since in absurd (omega (arith, one_more));
       spells = spells_changed shown is t held {session_now = later} {over = over_now new} recounts counts;
       written = written;
       saved = shown.saved;

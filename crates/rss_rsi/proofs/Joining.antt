@@ -18,7 +18,7 @@ use Rattle.rss_model.specs.Machine.{State}
 use Rattle.rss_model.specs.Steps.{Answer}
 use Rattle.rss_model.specs.Turns.{IsStopped}
 use Rattle.rss_model.specs.Costs.{RisesAtMost, most_asks, most_writes, changes_after}
-use Rattle.rss_model.specs.Calls.{EngineView, GoesOn, IsAnswer, IsOutcome, IsCallOf}
+use Rattle.rss_model.specs.Calls.{EngineView, GoesOn, GetsPlace, IsAnswer, IsOutcome, IsCallOf}
 use Rattle.rss_model.proofs.Endings.{within_most, comes_to}
 use Rattle.rss_rsi.specs.Lookups.{LooksOn, LookEnds}
 use Rattle.rss_rsi.specs.Ready.{engine_view}
@@ -64,8 +64,8 @@ goes_after {old = old} {new = new} call any_asks any_writes on goes = record {
 }
 
 module _ {old mid : EngineView} (new : EngineView) (on : LooksOn old mid) where
-  answer_joined : (call : Call) (answer : Answer) → IsAnswer mid new call answer → IsAnswer old new call answer
-  answer_joined call answer out = record {
+  answer_joined : (call : Call) (answer : Answer) → GetsPlace old call answer → IsAnswer mid new call answer → IsAnswer old new call answer
+  answer_joined call answer placed out = record {
     answered = λ told state shown.
         let leads = out.answered (on.told told) state (on.shows told state shown) in
         record {
@@ -76,16 +76,17 @@ module _ {old mid : EngineView} (new : EngineView) (on : LooksOn old mid) where
             moments = then (widened (on.moments told state shown) (λ image opens. inl opens)) leads.answered.moments (λ image opens. opens);
           };
         };
+    placed = λ told. placed;
     up = out.up;
     short = out.short;
     changed = λ key is. ⊎_elim (λ was. inl (on.changed key was.0, was.1)) (λ now. inr now) (out.changed key is);
     since = out.since ∙ ap (changes_after call answer) on.since;
   }
 
-  outcome_joined : (call : Call) (result : Result Reply CallError) → IsOutcome mid new call result → IsOutcome old new call result
-  outcome_joined call (Ok reply) out = answer_joined call (Ok reply) out
-  outcome_joined call (Err (Refused why)) out = answer_joined call (Err why) out
-  outcome_joined call (Err Device) out = record {
+  outcome_joined : (call : Call) → ((answer : Answer) → GetsPlace old call answer) → (result : Result Reply CallError) → IsOutcome mid new call result → IsOutcome old new call result
+  outcome_joined call placed (Ok reply) out = answer_joined call (Ok reply) (placed (Ok reply)) out
+  outcome_joined call placed (Err (Refused why)) out = answer_joined call (Err why) (placed (Err why)) out
+  outcome_joined call placed (Err Device) out = record {
     stopped = λ told state shown.
         let stopped = out.stopped (on.told told) state (on.shows told state shown) in
         record {
@@ -99,19 +100,19 @@ module _ {old mid : EngineView} (new : EngineView) (on : LooksOn old mid) where
     down = out.down;
     cause = rises_since on.later out.cause;
   }
-  outcome_joined call (Err (Damaged place)) out = record { sound = λ told. out.sound (on.told told); down = out.down }
-  outcome_joined call (Err NoMemory) out = record {
+  outcome_joined call placed (Err (Damaged place)) out = record { sound = λ told. out.sound (on.told told); down = out.down }
+  outcome_joined call placed (Err NoMemory) out = record {
     unmade = λ told state shown. then (on.moments told state shown) (out.unmade (on.told told) state (on.shows told state shown)) (λ image opens. opens);
     up = out.up;
     same = λ told state shown. out.same (on.told told) state (on.shows told state shown);
     changed = λ key is. on.changed key (out.changed key is);
     since = out.since ∙ on.since;
   }
-  outcome_joined call (Err Down) out = out
+  outcome_joined call placed (Err Down) out = out
 
-  -- a look, and then the rest
-  pub joined : {call : Call} {result : Result Reply CallError} → old.is_up → mid.is_up → GoesOn old new call → IsCallOf mid new call result → IsCallOf old new call result
-  joined {call = call} {result = result} was_up is_up goes rest = comes_to was_up goes (outcome_joined call result (rest.outcome is_up))
+  -- a look, and then the rest of a call that places no tuple
+  pub joined : {call : Call} {result : Result Reply CallError} → ((answer : Answer) → GetsPlace old call answer) → old.is_up → mid.is_up → GoesOn old new call → IsCallOf mid new call result → IsCallOf old new call result
+  joined {call = call} {result = result} placed was_up is_up goes rest = comes_to was_up goes (outcome_joined call placed result (rest.outcome is_up))
 
 -- how a look ends by an error of its pages, each of which leaves the engine down
 pub look_ends : (old new : EngineView) {T : Type 0} {fault : PageFault} (result : Result Bool CallError) → IsErrAnd result (λ why. why ≡ page_error fault) → HasPageCause {T = T} old.disk old.faults new.faults (Err fault) → (new.is_up → ⊥) → LookEnds old new result

@@ -20,7 +20,7 @@ pub mod Numbered
 pub mod Counted
 pub mod Relisting
 pub mod Lines
-pub mod Definitions
+pub mod Defined
 pub mod Tested
 pub mod Pending
 pub mod Checkpoints

@@ -235,6 +235,10 @@ module _ {root : Root} {number frames writes : ℕ} {owners : List (Option PageK
           deleted = λ n relation at. sym (ap (λ (l : List ℕ). get_or l (n - 1) 0) rested.deleted ∙ zeros_at 48 (n - 1));
         }
 
+        -- the map that is selected has the overflow pages that it counts
+        over_saved : mapped_of new.mapped Overflow new.slots ≡ mapped_of (mapped_by owners) Overflow root.slots
+        over_saved = ap (λ (m : Mapped). mapped_of m Overflow new.slots) new_mapped ∙ ap (λ (n : ℕ). mapped_of (mapped_by owners) Overflow n) new_size
+
         -- it is in this state
         pub opened_in : IsIn new number root session (opened_state found.tables)
         opened_in = record {
@@ -242,6 +246,7 @@ module _ {root : Root} {number frames writes : ℕ} {owners : List (Option PageK
           counts = opened_counts;
           kept = rest_keeps (size_of root) found.tables (opened_state found.tables) (opened_idle found.tables) fit_found;
           over = refl;
+          rested = λ rests. over_saved ∙ ap (λ (o : List (Option PageKey)). mapped_of (mapped_by o) Overflow root.slots) (sym new_shadow);
           spells = subst (λ (l : Listing). SpellsTables new.held l found.tables) (sym listing_is) (subst (λ (h : Held). SpellsTables h catalog.listing found.tables) (sym (did.looks.held told)) found.spells);
           written = λ page low off.
               ap (λ (h : Held). h (page_key 0 System page)) (did.looks.held told) ∙ found.system page low ∙ ap (λ (l : Listing). Some (catalog_page l page)) (sym listing_is);
@@ -259,7 +264,7 @@ module _ {root : Root} {number frames writes : ℕ} {owners : List (Option PageK
         pub opened_begins : OpensIn told.pages (size_of root) found.tables (opened_state found.tables)
         opened_begins = record {
           rest = opened_rest found.tables;
-          over = λ other store. ap (λ (m : Mapped). mapped_of m Overflow new.slots) new_mapped ∙ ap (λ (n : ℕ). mapped_of (mapped_by owners) Overflow n) new_size ∙ same_overflow found_store store;
+          over = λ other store. over_saved ∙ same_overflow found_store store;
           head = λ other store. sym store.log.first.head;
           end = λ other store. sym store.log.first.end;
         }
@@ -280,7 +285,7 @@ module _ {root : Root} {number frames writes : ℕ} {owners : List (Option PageK
                 shows = opened_in told;
                 reads = opened_reads told;
                 begins = opened_begins told;
-                opens = opens_shown (opened_in told) opened_ready now (λ settled. stays settled now);
+                opens = λ image left. (opens_shown (opened_in told) opened_ready now (λ settled. stays settled now) image left).opens;
               };
           up = is_up;
           unchanged = λ key is. true≢false (sym is ∙ or_from (new.changed key) (is_pending session.catalog key) (none_changed key) (none_written session.catalog key pending_none));

@@ -1,5 +1,5 @@
 -- A device that didn't open, by its fault, and what was opened, both seen from an earlier moment.
-use Rattle.std.proofs.Common.{◌≡◌, refl, ◌∙◌, subst}
+use Rattle.std.proofs.Common.{◌≡◌, inl, inr, ⊎_elim, refl, ◌∙◌, subst, arith}
 use Rattle.std.specs.Prelude.{Result, Err}
 use Rattle.rss_base.specs.Answers.{open_error}
 use Rattle.rss_base.specs.DiskRule.{Told}
@@ -11,9 +11,10 @@ use Rattle.rss_base.specs.declared.fault.OpenFault.TheVariants.{Device as Device
 use Rattle.rss_base.specs.declared.fault.PageFault.{PageFault}
 use Rattle.rss_base.specs.declared.fault.PageFault.TheVariants.{Device as PageDevice, Damaged as PageDamaged, NoMemory as PageNoMemory}
 use Rattle.rss_base.specs.declared.place.Place.{Place}
-use Rattle.rss_base.proofs.Moments.{reads_then, rises_since}
+use Rattle.rss_base.specs.Faults.{Rises}
+use Rattle.rss_base.proofs.Moments.{then, widened, now, reads_then, rises_since}
 use Rattle.rss_model.specs.Calls.{EngineView}
-use Rattle.rss_rsi.specs.Opening.{IsRefused, IsUnopened, IsHandedBack, IsOpened, OpensOver, NotesRooms}
+use Rattle.rss_rsi.specs.Opening.{PassesOpening, IsRefused, IsUnopened, IsHandedBack, IsOpened, OpensOver, NotesRooms}
 
 -- a fault of the layout is none of the size
 pub unopened_layout : {device : DeviceView} (fault : OpenFault) → IsLayoutFault fault → Told device.disk (λ pages. IsRefused pages fault) → IsUnopened device fault
@@ -53,14 +54,37 @@ opened_before reads is = record {
   not_overfull = λ pages told. is.not_overfull pages (reads.contents ∙ told);
 }
 
+-- one that writes nothing
+pub passes_reading : {old new : DeviceView} → OnlyReads old new → PassesOpening old new
+passes_reading reads = record {
+  told = λ told. record { pages = told.pages; is = reads.contents ∙ told.is };
+  moments = λ pages told. widened (reads.moments (record { pages = pages; is = told })) (λ image left. inl left);
+  later = reads.later;
+}
+
+passes_before : {old mid new : DeviceView} → OnlyReads old mid → PassesOpening mid new → PassesOpening old new
+passes_before {old = old} {mid = mid} first rest = record {
+  told = λ told. rest.told (record { pages = told.pages; is = first.contents ∙ told.is });
+  moments = λ pages told.
+      let read = first.moments (record { pages = pages; is = told }) in
+      then (widened read (λ image left. inl left)) (rest.moments pages (first.contents ∙ told)) (λ image. ⊎_elim (λ left. inl (⊎_elim (λ was. was) (λ was. was) (now read image left))) (λ like. inr like));
+  later = omega (arith, first.later, rest.later);
+}
+
+-- handed back by an opening that wrote nothing
+pub handed_back : {old back : DeviceView} {fault : OpenFault} → IsUnopened old fault → (fault ≡ DeviceFailed → Rises old.faults back.faults) → OnlyReads old back → IsHandedBack old back fault
+handed_back refused cause reads = record { refused = refused; cause = cause; passes = passes_reading reads; reads = λ is. reads; no_store = λ pages told none. reads }
+
 pub opens_before : {old mid below : DeviceView} {new : EngineView} → OnlyReads old mid → OpensOver mid below new → OpensOver old below new
-opens_before reads is = record { opened = opened_before reads is.opened; reads = reads_then reads is.reads }
+opens_before reads is = record { opened = opened_before reads is.opened; passes = passes_before reads is.passes }
 
 pub handed_before : {old mid back : DeviceView} {fault : OpenFault} → OnlyReads old mid → IsHandedBack mid back fault → IsHandedBack old back fault
 handed_before reads is = record {
   refused = unopened_before reads is.refused;
   cause = λ failed. rises_since reads.later (is.cause failed);
-  reads = reads_then reads is.reads;
+  passes = passes_before reads is.passes;
+  reads = λ refusal. reads_then reads (is.reads refusal);
+  no_store = λ pages told none. reads_then reads (is.no_store pages (reads.contents ∙ told) none);
 }
 
 -- the notes are those of the pages

@@ -58,11 +58,6 @@ IsCountOf listing segment number seen =
     (relation : RelationEntry) → relation_at listing number ≡ Some relation
     → relation.segment ≡ segment → (relation.live ≡ seen) × (relation.live ≤ tuple_limit)
 
--- It hasn't, which shows at this place.
-pub record MissesCount (listing : Listing) (segment number seen : ℕ) (place : Place) : Type 0 where
-  pub is_not : IsCountOf listing segment number seen → ⊥
-  pub elsewhere : place ≡ Room → ⊥
-
 -- The segments that are listed are in form.
 abbrev pub ChecksSegments : Listing → PagesView → PagesView → Type 0
 ChecksSegments listing old new =

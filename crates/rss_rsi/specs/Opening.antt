@@ -1,12 +1,12 @@
 -- What an opening finds on a device.
-use Rattle.std.specs.Prelude.{◌≡◌, ◌⊎◌, ℕ, ◌*◌, ◌≤◌, min, true, List, length, Option, is_some}
+use Rattle.std.specs.Prelude.{◌≡◌, ◌⊎◌, ℕ, ◌*◌, ◌≤◌, min, true, List, length, Option, is_some, ⊤}
 use Rattle.rss_base.specs.declared.fault.OpenFault.{OpenFault}
 use Rattle.rss_base.specs.declared.fault.OpenFault.TheVariants.{Device as DeviceFailed, NotAStore, Damaged, WrongSize, NoMemory as LacksMemory}
 use Rattle.rss_base.specs.declared.root.Root.{Root}
 use Rattle.rss_base.specs.declared.key.PageKey.{PageKey}
 use Rattle.rss_base.specs.declared.place.Place.{Place}
 use Rattle.rss_base.specs.declared.place.Place.TheVariants.{Room}
-use Rattle.rss_base.specs.DiskRule.{Pages, Told, IsTold}
+use Rattle.rss_base.specs.DiskRule.{Disk, Pages, Told, IsTold, Leaves, Passes}
 use Rattle.rss_base.specs.Devices.{DeviceView, OnlyReads}
 use Rattle.rss_base.specs.Faults.{Rises}
 use Rattle.rss_base.specs.Layout.{map_at, IsWellFormed, HasRoot}
@@ -19,7 +19,7 @@ use Rattle.rss_tuple.specs.Checked.{AreNoted}
 use Rattle.rss_catalog.specs.Catalogs.{CatalogView, Loads}
 use Rattle.rss_model.specs.Tables.{Tables}
 use Rattle.rss_model.specs.Calls.{EngineView}
-use Rattle.rss_model.specs.Machine.{State}
+use Rattle.rss_model.specs.Machine.{StoreSize, State}
 use Rattle.rss_model.specs.Fits.{Fits}
 use Rattle.rss_model.specs.Store.{SpellsTables, HasFirstLog, first_stored as stored, IsStore, OpensTo, OpensIn, Opens, IsBrokenAt, IsOverfull, IsNoStore}
 use Rattle.rss_rsi.specs.Interim.{IsPlainPage as IsStorePage}
@@ -80,6 +80,25 @@ pub record FindsNone (pages : PagesView) (place : Place) : Type 0 where
   pub none : IsTold pages.disk → HoldsNone pages.held pages.slots
   pub elsewhere : place ≡ Room → ⊥
 
+-- ---- what an opening passes on
+
+-- these pages open to the same tables as those
+pub record OpensLike (before image : Pages) : Type 0 where
+  pub size : StoreSize
+  pub tables : Tables
+  pub was : OpensTo before size tables
+  pub is : OpensTo image size tables
+
+-- What a stop within an opening of these pages may leave: what it could leave before, or pages that open to the same tables.
+abbrev pub MayLeave : Disk → Pages → Pages → Type 0
+MayLeave before pages image = Leaves before image ⊎ OpensLike pages image
+
+-- However it ends, the device tells its contents as before, and no fault is forgotten.
+pub record PassesOpening (old new : DeviceView) : Type 0 where
+  pub told : IsTold old.disk → IsTold new.disk
+  pub moments : Told old.disk (λ pages. Passes old.disk new.disk (MayLeave old.disk pages))
+  pub later : old.faults ≤ new.faults
+
 -- ---- pages that don't open
 
 -- why the pages don't open
@@ -97,11 +116,19 @@ pub record IsUnopened (device : DeviceView) (fault : OpenFault) : Type 0 where
   pub refused : Told device.disk (λ pages. IsRefused pages fault)
   pub right_size : fault ≡ WrongSize → ⊥
 
--- It is handed back as it came, but that a failure of it was counted.
+-- the device is refused, which is neither its failure nor want of memory
+abbrev pub IsRefusal : OpenFault → Type 0
+IsRefusal (NotAStore place) = ⊤
+IsRefusal (Damaged place) = ⊤
+IsRefusal fault = ⊥
+
+-- It is handed back. One that is refused or holds no store comes back as it was, but that a failure of it was counted.
 pub record IsHandedBack (old back : DeviceView) (fault : OpenFault) : Type 0 where
   pub refused : IsUnopened old fault
   pub cause : fault ≡ DeviceFailed → Rises old.faults back.faults
-  pub reads : OnlyReads old back
+  pub passes : PassesOpening old back
+  pub reads : IsRefusal fault → OnlyReads old back
+  pub no_store : Told old.disk (λ pages. IsNoStore pages → OnlyReads old back)
 
 -- ---- pages that open
 
@@ -122,10 +149,10 @@ pub record IsOpened (old : DeviceView) (new : EngineView) : Type 0 where
   pub unbroken : (place : Place) → Told old.disk (λ pages. IsBrokenAt place pages → ⊥)
   pub not_overfull : Told old.disk (λ pages. IsOverfull pages → ⊥)
 
--- It stands on a device that was only read.
+-- It stands on the device as the opening left it.
 pub record OpensOver (old below : DeviceView) (new : EngineView) : Type 0 where
   pub opened : IsOpened old new
-  pub reads : OnlyReads old below
+  pub passes : PassesOpening old below
 
 -- So many of the pages may be in memory at once, or as many as there are slots where these are fewer.
 abbrev pub HasFrames : ℕ → PagesView → Type 0

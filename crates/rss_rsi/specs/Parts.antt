@@ -1,9 +1,8 @@
 -- What an `Rss` stands on, and what there is to see of it.
-use Rattle.std.specs.Prelude.{◌≡◌, ℕ, false}
+use Rattle.std.specs.Prelude.{◌≡◌, false}
 use Rattle.rss_base.specs.declared.pages.Pages.{Ghosts as PagesGhosts}
 use Rattle.rss_buffer.specs.declared.saving.Saving.{Ghosts}
 use Rattle.rss_model.specs.Calls.{EngineView}
-use Rattle.rss_rsi.specs.Interim.{room_of}
 use Rattle.rss_rsi.specs.Ready.{engine_view}
 use Rattle.rss_rsi.specs.Saves.{StoreParts}
 use Rattle.rss_rsi.specs.declared.engine.Rss.{Rss}
@@ -25,11 +24,3 @@ module _ {S : Type 0} {g : Ghosts S} {h : PagesGhosts S} where
     root = store.root;
     session = store.session;
   }
-
-  -- how many home and overflow pages the store counted at the last checkpoint
-  abbrev pub counted_heap : Rss S g h → ℕ
-  counted_heap store = store.session.heap
-
-  -- how many slots the changes that it counted may need
-  abbrev pub counted_room : Rss S g h → ℕ
-  counted_room store = room_of store.session.heap store.session.since

@@ -2,6 +2,10 @@
 use Rattle.std.specs.Prelude.{◌≡◌, ℕ, ◌+◌, ◌-◌, ◌*◌, ◌<◌, ◌≤◌, true, false, ◌||◌, ◌↔◌, List, length, Some, Option, Result, Err, IsErrOf}
 use Rattle.rss_base.specs.DiskRule.{Pages, IsTold, Continues}
 use Rattle.rss_base.specs.Faults.{Rises}
+use Rattle.rss_base.specs.declared.name.Name.{Name}
+use Rattle.rss_base.specs.declared.tid.Tid.{Tid}
+use Rattle.rss_base.specs.declared.value.Value.{Value}
+use Rattle.rss_base.specs.declared.relation.RelationEntry.{RelationEntry}
 use Rattle.rss_base.specs.declared.place.Place.{Place}
 use Rattle.rss_base.specs.declared.fault.PageFault.{PageFault}
 use Rattle.rss_base.specs.declared.fault.PageFault.TheVariants.{Device as DeviceFailed, Damaged, NoMemory}
@@ -9,18 +13,20 @@ use Rattle.rss_base.specs.Sizes.{system_pages}
 use Rattle.rss_base.specs.Layout.{IsWellFormed}
 use Rattle.rss_base.specs.PageMap.{page_count}
 use Rattle.rss_base.specs.Paged.{Mapped, HasFixed, page_key, mapped_pages, mapped_of}
-use Rattle.rss_base.specs.Listings.{Listing, catalog_page, relation_pages}
+use Rattle.rss_base.specs.StoredPages.{mapped_by}
+use Rattle.rss_base.specs.Listings.{Listing, catalog_page, relation_pages, relation_at}
 use Rattle.rss_base.specs.Steps.{PagesView}
 use Rattle.rss_base.specs.declared.root.Root.{Root}
 use Rattle.rss_base.specs.declared.key.PageKey.{PageKey}
 use Rattle.rss_base.specs.declared.key.Space.TheVariants.{System, Overflow}
 use Rattle.rss_tuple.specs.Heaps.{AreHeaps}
+use Rattle.rss_tuple.specs.Placing.{IsChosen}
 use Rattle.rss_catalog.specs.Catalogs.{CatalogView, IsPending, HasSystemPages, none_pending}
 use Rattle.rss_model.specs.Tables.{Tables}
 use Rattle.rss_model.specs.Fits.{Fits}
 use Rattle.rss_model.specs.Kept.{Kept}
 use Rattle.rss_model.specs.Machine.{State, now}
-use Rattle.rss_model.specs.Store.{SpellsTables, HasFirstLog, first_stored as stored, size_of, IsStore}
+use Rattle.rss_model.specs.Store.{SpellsTables, HasFirstLog, first_stored as stored, size_of, plain_body, IsStore}
 use Rattle.rss_model.specs.Calls.{EngineView}
 use Rattle.rss_access.specs.Written.{heap_now, IsSystemOrHeap, is_pending, AreWritten}
 use Rattle.rss_rsi.specs.Sessions.{Counts}
@@ -69,17 +75,28 @@ pub record IsIn (pages : PagesView) (number : ℕ) (root : Root) (session : Sess
   pub counts : Counts session state
   pub kept : Kept state
   pub over : state.meter.over ≡ mapped_of pages.mapped Overflow pages.slots
+  pub rested : state.meter.since ≡ 0
+      → state.meter.over ≡ mapped_of (mapped_by pages.backing.shadow) Overflow root.slots
   pub spells : SpellsTables pages.held session.catalog.listing (now state)
   pub written : AreWritten pages.held session.catalog
   pub saved : Listing
   pub fixes : (image : Pages) → HasFixed pages.fixed image
       → IsStore image (stored number root pages.backing.shadow saved state.base)
 
+-- The placing rule of tuple stores, for the body of such a tuple.
+pub record MayStandAt (pages : PagesView) (listing : Listing) (relation : Name) (values : List Value) (barred : List Tid) (tid : Tid) : Type 0 where
+  pub number : ℕ
+  pub entry : RelationEntry
+  pub at : relation_at listing number ≡ Some entry
+  pub named : entry.name ≡ relation
+  pub chosen : IsChosen pages entry.segment (length (plain_body number values)) barred tid
+
 -- what there is to see of an engine over these pages
 abbrev pub engine_view : PagesView → ℕ → Root → Session → Type 0 → EngineView
 engine_view pages number root session is_up = record {
   disk = pages.disk;
   shows = IsIn pages number root session;
+  places = MayStandAt pages session.catalog.listing;
   is_up = is_up;
   slots = session.slots;
   changed = changed_with pages session.catalog;
@@ -111,6 +128,7 @@ pub record IsStoreUnder (number : ℕ) (root : Root) (listing : Listing) (tables
 pub record SavesAll (catalog : CatalogView) (root : Root) (old new : PagesView) : Type 0 where
   pub mapped : new.mapped ≡ old.mapped
   pub shadow : page_count new.backing.shadow ≡ mapped_pages new.slots new.mapped
+  pub maps : mapped_by new.backing.shadow ≡ new.mapped
   pub area : new.backing.area ≡ root.area
   pub log_pages : new.backing.log_pages ≡ old.backing.log_pages
   pub slots : new.slots ≡ old.slots

@@ -1,18 +1,19 @@
 // What the pages of a store hold, as an opening finds it.
-ghost use Rattle.std.specs.Prelude.{◌≡◌, ◌≢◌, ◌+◌, ◌*◌, ◌≤◌, length, true, is_some, IfSome, IfNone, IfOk, OnOk, Err, IsErrOf};
+ghost use Rattle.std.specs.Prelude.{◌≡◌, ◌≢◌, ◌+◌, ◌*◌, ◌≤◌, length, true, is_some, IfSome, IfNone, IfOk, IfErr, OnOk, Err};
 ghost use Rattle.rss_base.specs.Looking.{ChecksPages};
 ghost use Rattle.rss_base.specs.PageMap.{IsTable, page_count};
 ghost use Rattle.rss_base.specs.Sizes.{system_pages, relations_most, segments as segments_most};
 ghost use Rattle.rss_base.specs.Listings.{ListingFits, segment_at};
 ghost use Rattle.rss_base.specs.declared.fault.PageFault.TheVariants.{Damaged as PageDamaged};
 ghost use Rattle.rss_base.specs.declared.place.Place.{Place as AnyPlace};
+ghost use Rattle.rss_base.specs.declared.place.Place.TheVariants.{Count as CountPlace};
 ghost use Rattle.rss_base.specs.declared.key.PageKey.{PageKey as Key};
 ghost use Rattle.rss_base.specs.declared.key.Space.TheVariants.{System};
 ghost use Rattle.rss_page.specs.Slotted.{IsHeapKey};
 ghost use Rattle.rss_tuple.specs.Checked.{pages_of};
 ghost use Rattle.rss_rsi.specs.Interim.{IsPlainPage as IsStorePage};
 ghost use Rattle.rss_access.specs.Bodies.{is_body};
-ghost use Rattle.rss_rsi.specs.Checks.{AreSeen, ChecksSegment, MissesSegment, IsCountOf, MissesCount};
+ghost use Rattle.rss_rsi.specs.Checks.{AreSeen, ChecksSegment, MissesSegment, IsCountOf};
 ghost use Rattle.rss_rsi.specs.Checks.{ChecksSegments, MissesOne};
 ghost use Rattle.rss_rsi.specs.Opening.{FindsTables, FindsNone};
 
@@ -199,9 +200,8 @@ fn look_at_segment<P: Pages>(
 /// more than a relation may have.
 fn check_count(catalog: &Catalog, segment: u8, number: u8, seen: u32) -> Result<(), PageFault>
     ensures is { OnOk result (IsCountOf catalog.now.listing segment number seen) }
-    ensures misses { (place : AnyPlace) → result ≡ Err (PageDamaged place)
-        → MissesCount catalog.now.listing segment number seen place }
-    ensures no_device { IsErrOf result PageFault.Device → ⊥ }
+    ensures misses { IfErr result (λ fault. (fault ≡ PageDamaged (CountPlace number))
+        × (IsCountOf catalog.now.listing segment number seen → ⊥)) }
 {
     if !catalog.used(Kind::Relation, number) {
         return Ok(());

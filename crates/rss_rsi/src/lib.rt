@@ -4,10 +4,13 @@
 
 mod checking;
 mod checkpoint;
+mod definitions;
 mod engine;
 mod formatting;
 mod opening;
 mod session;
+mod transactions;
+mod tuples;
 
 pub use engine::Rss;
 pub use formatting::format;

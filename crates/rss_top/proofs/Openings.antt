@@ -1,5 +1,5 @@
 -- The opening of a device for a run, and its refusal.
-use Rattle.std.proofs.Common.{◌≡◌, ◌⊎◌, inl, inr, ℕ, List, [], Option, refl, sym, ◌∙◌, ap, subst, arith}
+use Rattle.std.proofs.Common.{◌≡◌, ◌⊎◌, inl, inr, ℕ, List, [], Option, Some, refl, sym, ◌∙◌, ap, subst, arith}
 use Rattle.rss_base.specs.DiskRule.{Disk, Pages, Told, IsTold, Leaves, Passes, Continues}
 use Rattle.rss_base.specs.Devices.{DeviceView, OnlyReads}
 use Rattle.rss_base.specs.Faults.{Rises}
@@ -14,11 +14,12 @@ use Rattle.rss_model.specs.Meter.{at_rest}
 use Rattle.rss_model.specs.Tables.{Tables}
 use Rattle.rss_model.specs.Machine.{StoreSize, State}
 use Rattle.rss_model.specs.ReplyText.{not_a_store_line, damaged_line}
-use Rattle.rss_model.specs.Store.{OpensTo, OpensIn, IsBrokenAt, overflow_pages}
-use Rattle.rss_rsi.specs.Opening.{IsOpened, IsRefused as DoesNotOpen}
-use Rattle.rss_model.proofs.Stores.{opens_once, same_roots, same_overflow, store_unbroken}
+use Rattle.rss_model.specs.Store.{OpensTo, OpensIn, IsBrokenAt, IsOverfull, IsNoStore, overflow_pages}
+use Rattle.rss_model.specs.Plays.{plain}
+use Rattle.rss_rsi.specs.Opening.{OpensLike, MayLeave as LeavesLike, PassesOpening, IsOpened, IsRefused as DoesNotOpen}
+use Rattle.rss_model.proofs.Stores.{opens_once, same_roots, same_overflow, store_unbroken, not_overfull}
 use Rattle.rss_base.specs.Streams.{Stream}
-use Rattle.rss_top.specs.Run.{World, Window, IsTaken, Ended, IsFailedOpening}
+use Rattle.rss_top.specs.Run.{World, Window, IsTaken, Ended, IsFailedOpening, MayLeave}
 use Rattle.rss_top.specs.Run.IsRun.{unopened, opened}
 use Rattle.rss_model.specs.Calls.{EngineView}
 use Rattle.rss_top.specs.Lines.{View, IsScriptEnd, RunsScript, beginning, on, world, seen}
@@ -28,14 +29,14 @@ use Rattle.rss_top.specs.Programs.{IsLeftAlone, IsRefusal, IsRefused, IsRunFrom,
 use Rattle.rss_top.specs.Programs.IsRefusal.{says, fails}
 use Rattle.rss_top.specs.declared.status.Status.{Status}
 use Rattle.rss_top.specs.declared.status.Status.TheVariants.{Ok, Words, ReadFault, WriteFault, DeviceFault, NotAStore, Damaged, NoMemory, TooLong, WrongSize}
-use Rattle.rss_base.proofs.Moments.{rises_since}
+use Rattle.rss_base.proofs.Moments.{rises_since, widened}
 use Rattle.rss_top.proofs.Endings.{IsCut, stop_is_cut, damaged_is_cut, layout_is_cut, taken_cut, not_too_long}
 use Rattle.rss_top.proofs.Refusals.{said_is_cut, says_some, tells_no_damage, tells_damage}
 
 -- ---- the store is open
 
 -- what a stop within the opening leaves, seen from a later device
-opening_window : {before opened after : Disk} → Passes before opened (Leaves before) → Continues opened after → Window after before.moment opened.moment (Leaves before)
+opening_window : {before opened after : Disk} {P : Pages → Type 0} → Passes before opened P → Continues opened after → Window after before.moment opened.moment P
 opening_window opening history = record { later = opening.later; each = λ t image lt le left. opening.each t image lt le ((history.past t image le).0 left) }
 
 -- it is in the state in which the tables that the pages hold are opened
@@ -44,17 +45,28 @@ opens_with {pages = pages} {size = size} state begins read opens =
     let same = opens_once _ _ _ _ _ opens read in
     subst (λ (t : Tables). OpensIn pages size t state) same.1 (subst (λ (s : StoreSize). OpensIn pages s state.base state) same.0 begins)
 
+-- pages that open to the same tables
+like_at : {pages image : Pages} {size : StoreSize} {tables : Tables} → OpensTo pages size tables → OpensLike pages image → OpensTo image size tables
+like_at {image = image} {size = size} opens like =
+    let same = opens_once _ _ _ _ _ opens like.was in
+    subst (λ (t : Tables). OpensTo image size t) same.1 (subst (λ (s : StoreSize). OpensTo image s like.tables) same.0 like.is)
+
+-- what a stop within the opening leaves, by the first scene
+leaves_at : {before : Disk} {pages : Pages} (first : State) → OpensTo pages first.size first.base → (image : Pages) → LeavesLike before pages image → MayLeave before (plain first) image
+leaves_at first opens image (inl left) = inl left
+leaves_at first opens image (inr like) = inr (like_at opens like)
+
 module _ {device below : DeviceView} {engine : EngineView} {sink : Stream} {ended : View} {source_old source_new : Stream} {status : Status}
-    (opening : IsOpened device engine) (reads : OnlyReads device below) (ran : RunsScript (record { world = on below sink; shows = engine.shows; is_up = engine.is_up }) ended source_old source_new status) (tells : TellsDamage status sink ended.world.sink) where
+    (opening : IsOpened device engine) (passes : PassesOpening device below) (ran : RunsScript (record { world = on below sink; shows = engine.shows; is_up = engine.is_up }) ended source_old source_new status) (tells : TellsDamage status sink ended.world.sink) where
   still_told : IsTold device.disk → IsTold below.disk
-  still_told told = record { pages = told.pages; is = reads.contents ∙ told.is }
+  still_told told = passes.told told
 
   completes : IsFaultless (on device sink) ended.world source_old source_new → IsTold device.disk → (end : Status) → (end ≡ TooLong → ⊥) → IsScriptEnd (on below sink) ended.world source_old source_new end → (end ≡ Ok) ⊎ (end ≡ NoMemory)
   completes faultless told Ok long cause = inl refl
   completes faultless told NoMemory long cause = inr refl
   completes faultless told ReadFault long cause = absurd (faultless.source cause)
   completes faultless told WriteFault long cause = absurd (faultless.sink cause)
-  completes faultless told DeviceFault long cause = absurd (faultless.device (rises_since reads.later cause))
+  completes faultless told DeviceFault long cause = absurd (faultless.device (rises_since passes.later cause))
   completes faultless told (Damaged place) long cause = absurd (cause (still_told told))
   completes faultless told TooLong long cause = absurd (long refl)
   completes faultless told Words long cause = absurd cause
@@ -70,7 +82,7 @@ module _ {device below : DeviceView} {engine : EngineView} {sink : Stream} {ende
   run_end TooLong cause = tt
   run_end ReadFault cause = cause
   run_end WriteFault cause = cause
-  run_end DeviceFault cause = rises_since reads.later cause
+  run_end DeviceFault cause = rises_since passes.later cause
   run_end (Damaged place) cause = λ pages told. absurd (cause (still_told (record { pages = pages; is = told })))
   run_end Words cause = absurd cause
   run_end (NotAStore place) cause = absurd cause
@@ -84,7 +96,7 @@ module _ {device below : DeviceView} {engine : EngineView} {sink : Stream} {ende
         record {
           first = found.state;
           begins = opens_with found.state found.begins found.reads opens;
-          run = opened below.disk.moment (opening_window (reads.moments known) (ran.passes.history (still_told known))) (end_at known);
+          run = opened below.disk.moment (opening_window (widened (passes.moments pages told) (leaves_at found.state found.reads)) (ran.passes.history (still_told known))) (end_at known);
         };
     complete = λ size tables pages told opens script source short faultless.
         let known : IsTold device.disk = record { pages = pages; is = told } in
@@ -126,21 +138,32 @@ left_alone reads = record { unread = refl; writes = reads.same_writes; moments =
 taken_none : {status : Status} (left : Option (List ℕ)) → IsCut status → IsTaken status left left
 taken_none left is = taken_cut [] (gives_none left) (omega arith) is
 
-module _ {old new : World} {source : Stream} (alone : IsLeftAlone old new source source) where
+-- the opening failed, and a device that holds no store is as it came
+module _ {old new : World} {source : Stream} (moments : Told old.disk (λ pages. Passes old.disk new.disk (LeavesLike old.disk pages))) (alone : Told old.disk (λ pages. IsNoStore pages → IsLeftAlone old new source source)) where
   -- such a state is there in any case
-  unopened_from : {status : Status} {pages : Pages} {size : StoreSize} {tables : Tables} → OpensTo pages size tables → IsFailedOpening status → Passes old.disk new.disk (Leaves old.disk) → new.sink.bytes ≡ old.sink.bytes → IsRunFrom (OpensIn pages size tables) status old new source.bytes source.bytes
-  unopened_from opens failed moments silent = record { first = opening_state opens; begins = opening_in opens; run = unopened failed moments refl silent }
+  unopened_from : {status : Status} {pages : Pages} {size : StoreSize} {tables : Tables} → old.disk.contents ≡ Some pages → OpensTo pages size tables → IsFailedOpening status → new.sink.bytes ≡ old.sink.bytes → IsRunFrom (OpensIn pages size tables) status old new source.bytes source.bytes
+  unopened_from {pages = pages} told opens failed silent = record {
+    first = opening_state opens;
+    begins = opening_in opens;
+    run = unopened failed (widened (moments pages told) (leaves_at (opening_state opens) opens)) refl silent;
+  }
+
+  alone_broken : {place : Place} (pages : Pages) → old.disk.contents ≡ Some pages → IsBrokenAt place pages → IsLeftAlone old new source source
+  alone_broken {place = place} pages told broken = alone pages told (λ size tables opens. store_unbroken opens place broken)
+
+  alone_overfull : (pages : Pages) → old.disk.contents ≡ Some pages → IsOverfull pages → IsLeftAlone old new source source
+  alone_overfull pages told over = alone pages told (λ size tables opens. not_overfull opens.store over)
 
   -- the opening failed
   pub failed_opening : new.sink ≡ old.sink → Rises old.faults new.faults → IsScriptRun DeviceFault old new source source
   failed_opening same rises =
       let silent = ap (λ (s : Stream). s.bytes) same in
       record {
-        run = λ size tables pages told opens. unopened_from opens (inl refl) (alone.moments (record { pages = pages; is = told })) silent;
+        run = λ size tables pages told opens. unopened_from told opens (inl refl) silent;
         complete = λ size tables pages told opens script source short faultless. absurd (faultless.device rises);
-        broken = λ place pages told broken. record { alone = alone; refusal = fails refl silent };
-        overfull = λ pages told over. record { alone = alone; refusal = fails refl silent };
-        no_store = λ pages told none. record { place = Size; refused = inl (record { alone = alone; refusal = fails refl silent }) };
+        broken = λ place pages told broken. record { alone = alone_broken pages told broken; refusal = fails refl silent };
+        overfull = λ pages told over. record { alone = alone_overfull pages told over; refusal = fails refl silent };
+        no_store = λ pages told none. record { place = Size; refused = inl (record { alone = alone pages told none; refusal = fails refl silent }) };
         cause = rises;
         taken = taken_none source.bytes (stop_is_cut (inr (inl refl)));
         tells = record { last = λ place is. absurd (cc) };
@@ -150,16 +173,18 @@ module _ {old new : World} {source : Stream} (alone : IsLeftAlone old new source
   lacked_opening same =
       let silent : (meant : Status) → IsRefusal meant NoMemory old new = λ meant. says (record { later = omega (arith, ap (λ (s : Stream). s.faults) same); how = unsaid refl same }) in
       record {
-        run = λ size tables pages told opens. unopened_from opens (inr refl) (alone.moments (record { pages = pages; is = told })) (ap (λ (s : Stream). s.bytes) same);
+        run = λ size tables pages told opens. unopened_from told opens (inr refl) (ap (λ (s : Stream). s.bytes) same);
         complete = λ size tables pages told opens script source short faultless. inr refl;
-        broken = λ place pages told broken. record { alone = alone; refusal = silent (NotAStore place) };
-        overfull = λ pages told over. record { alone = alone; refusal = silent (Damaged Room) };
-        no_store = λ pages told none. record { place = Size; refused = inl (record { alone = alone; refusal = silent (NotAStore Size) }) };
+        broken = λ place pages told broken. record { alone = alone_broken pages told broken; refusal = silent (NotAStore place) };
+        overfull = λ pages told over. record { alone = alone_overfull pages told over; refusal = silent (Damaged Room) };
+        no_store = λ pages told none. record { place = Size; refused = inl (record { alone = alone pages told none; refusal = silent (NotAStore Size) }) };
         cause = tt;
         taken = taken_none source.bytes (stop_is_cut (inr (inr refl)));
         tells = record { last = λ place is. absurd (cc) };
       }
 
+-- the device was refused, and is as it came
+module _ {old new : World} {source : Stream} (alone : IsLeftAlone old new source source) where
   -- the layout is out of form at this place
   module _ {fault : OpenFault} {place : Place} {status : Status} (is : fault ≡ NoLayout place) (why : Told old.disk (λ pages. DoesNotOpen pages fault))
       (line : Says (NotAStore place) (not_a_store_line place) status old.sink new.sink) where

@@ -7,7 +7,7 @@ use Rattle.rss_base.specs.Streams.{Stream, Gives, IsAllOf}
 use Rattle.rss_base.proofs.Flows.{gives_none, gives_then, gives_kept}
 use Rattle.rss_model.specs.Machine.{State}
 use Rattle.rss_model.specs.Plays.{plain}
-use Rattle.rss_top.specs.Run.{Beginning, OpensAt, ImagesNow, Stopped, IsTaken, IsHalt, IsReadThrough, script_limit}
+use Rattle.rss_top.specs.Run.{Beginning, HoldsAt, ImagesNow, Stopped, IsTaken, IsHalt, IsReadThrough, script_limit}
 use Rattle.rss_top.specs.Lines.{View, Kept, RunsBytes, RunsLast, RunsScript, IsScriptEnd, beginning}
 use Rattle.rss_top.specs.declared.status.Status.{Status}
 use Rattle.rss_top.specs.declared.status.Status.TheVariants.{Ok as Done, NoMemory, TooLong}
@@ -35,7 +35,7 @@ reads_none view source front up empty = record {
 
 -- what a stop leaves at first
 abbrev pub IsOpen : View → Type 0
-IsOpen view = IsTold view.world.disk → (state : State) → view.shows state → ImagesNow view.world.disk (OpensAt (plain state))
+IsOpen view = IsTold view.world.disk → (state : State) → view.shows state → ImagesNow view.world.disk (HoldsAt (plain state))
 
 -- memory ran out before anything was read
 lacks : IsCut NoMemory

@@ -12,7 +12,7 @@ use Rattle.rss_model.specs.Script.{joined, IsUnbroken, last_line}
 use Rattle.rss_model.specs.Plays.{Scene, Made, plain}
 use Rattle.rss_top.proofs.Plays.{played_is_play, play_is_run}
 use Rattle.rss_top.proofs.Ways.{by_stop}
-use Rattle.rss_top.specs.Run.{World, Point, point_now, Beginning, OpensAt, ImagesNow, LineTurn, Played, Story, Stopped, IsStoppedBy, Whole, IsLineFault, EndsLine}
+use Rattle.rss_top.specs.Run.{World, Point, point_now, Beginning, HoldsAt, ImagesNow, LineTurn, Played, Story, Stopped, IsStoppedBy, Whole, IsLineFault, EndsLine}
 use Rattle.rss_top.specs.Run.Played.{none, more}
 use Rattle.rss_top.specs.Lines.{View, LineDone, LineRan, LineStopped, MemoryStopped, beginning}
 use Rattle.rss_top.specs.declared.status.Status.{Status}
@@ -29,7 +29,7 @@ played_later {old = old} {new = new} {P = P} {until = until} passes le (more run
 })
 
 -- the moments of a line, seen from a later device
-turn_of : {earlier later : Disk} {old new : Scene} {line : List ℕ} {made : Made} → LineDone earlier later old line made new → ImagesNow later (OpensAt new) → LineTurn later (point_now old earlier) line made (point_now new later)
+turn_of : {earlier later : Disk} {old new : Scene} {line : List ℕ} {made : Made} → LineDone earlier later old line made new → ImagesNow later (HoldsAt new) → LineTurn later (point_now old earlier) line made (point_now new later)
 turn_of done after = record {
   step = done.step;
   moments = record { later = done.moments.later; each = done.moments.each };
@@ -46,7 +46,7 @@ no_lines P k d lt = absurd (omega arith)
 pub no_bytes : IsUnbroken []
 no_bytes k d lt = absurd (omega arith)
 
-pub story_start : (state : State) (world : World) (source : Stream) → ImagesNow world.disk (OpensAt (plain state)) → Story (beginning state world source) world (plain state) [] []
+pub story_start : (state : State) (world : World) (source : Stream) → ImagesNow world.disk (HoldsAt (plain state)) → Story (beginning state world source) world (plain state) [] []
 story_start state world source opens = record {
   lines = [];
   made = record { turns = []; text = [] };
@@ -161,7 +161,7 @@ module _ (old : View) (state : State) {begin : Beginning} {given left : List ℕ
   pub stopped_by_memory : {new : View} → MemoryStopped old new state → Stopped NoMemory begin new.world (given ++ rest) over
   stopped_by_memory {new = new} stop = stopped_in new NoMemory [] stop.moments (λ is. absurd (no_line_fault is)) (silent stop.same) (record {
     moments = record { later = stop.moments.later; each = stop.moments.each };
-    opens = λ image left. ⊎_elim (λ earlier. story.opens image earlier) (λ within. within) (now stop.moments image left);
+    opens = λ image left. ⊎_elim (λ earlier. (story.opens image earlier).opens) (λ within. within) (now stop.moments image left);
     silent = refl;
   })
 
@@ -172,7 +172,7 @@ module _ (old : View) (state : State) {begin : Beginning} {given left : List ℕ
         next = stop.next;
         step = stop.done.step;
         moments = record { later = stop.done.moments.later; each = stop.done.moments.each };
-        opens = λ image left. ⊎_elim (λ earlier. inl (story.opens image earlier)) (λ within. within) (now stop.done.moments image left);
+        opens = λ image left. ⊎_elim (λ earlier. inl (story.opens image earlier).opens) (λ within. within) (now stop.done.moments image left);
         silent = refl;
       }))
       (λ stop. stopped_in new WriteFault stop.takes.front stop.done.moments (λ _. ends) (takes_then _ _ _ story.made.text stop.takes.front story.takes stop.takes.takes) (record {

@@ -10,7 +10,7 @@ use Rattle.rss_model.specs.Steps.{Answer}
 use Rattle.rss_model.specs.Script.{Spells, line_limit}
 use Rattle.rss_model.specs.Plays.{Scene, Made, plain, LineStep}
 use Rattle.rss_model.specs.Calls.{States, EngineView, GoesOn, IsAnswer, IsFault, IsDamaged, IsUnanswered}
-use Rattle.rss_top.specs.Run.{World, Beginning, point_now, OpensAt, OpensAtEither, ImagesNow, Story, Stopped, Whole, IsTaken, Ended}
+use Rattle.rss_top.specs.Run.{World, Beginning, point_now, OpensAt, HoldsAt, OpensAtEither, ImagesNow, Story, Stopped, Whole, IsTaken, Ended}
 use Rattle.rss_top.specs.declared.status.Status.{Status}
 use Rattle.rss_top.specs.declared.status.Status.TheVariants.{Ok as Done, ReadFault, TooLong, WriteFault, DeviceFault, Damaged, NoMemory}
 
@@ -78,7 +78,7 @@ pub record LineRan (old new : View) (state : State) (line : List ℕ) : Type 0 w
   pub next : State
   pub shows : new.shows next
   pub done : LineDone old.world.disk new.world.disk (plain state) line made (plain next)
-  pub opens : ImagesNow new.world.disk (OpensAt (plain next))
+  pub opens : ImagesNow new.world.disk (HoldsAt (plain next))
   pub takes : Takes old.world.sink.bytes made.text new.world.sink.bytes
 
 -- the device failed within the line
@@ -93,7 +93,7 @@ pub record SinkStopped (old new : View) (state : State) (line : List ℕ) : Type
   pub made : Made
   pub next : Scene
   pub done : LineDone old.world.disk new.world.disk (plain state) line made next
-  pub opens : ImagesNow new.world.disk (OpensAt next)
+  pub opens : ImagesNow new.world.disk (HoldsAt next)
   pub takes : TakesFront old.world.sink.bytes made.text new.world.sink.bytes
 
 -- memory ran out in the line, and no table has changed

@@ -5,7 +5,7 @@ use Rattle.rss_base.specs.Streams.{Stream, Gives, IsAllOf, Takes}
 use Rattle.rss_model.specs.Runs.{Run}
 use Rattle.rss_model.specs.Script.{joined, IsUnbroken, Splits, AreLines}
 use Rattle.rss_model.specs.Plays.{Scene, Made, nothing, both_made, LineStep, Play}
-use Rattle.rss_model.specs.Store.{OpensTo, OpensToEither}
+use Rattle.rss_model.specs.Store.{OpensTo, OpensToEither, HoldsState}
 use Rattle.rss_top.specs.declared.status.Status.{Status}
 use Rattle.rss_top.specs.declared.status.Status.TheVariants.{Ok, ReadFault, TooLong, WriteFault, DeviceFault, NoMemory}
 
@@ -39,7 +39,11 @@ pub record Beginning : Type 0 where
 abbrev pub OpensAt : Scene → Pages → Type 0
 OpensAt scene pages = OpensTo pages scene.state.size scene.state.base
 
--- to those of one of two scenes
+-- and have the overflow pages that its state counts, behind a checkpoint
+abbrev pub HoldsAt : Scene → Pages → Type 0
+HoldsAt scene pages = HoldsState pages scene.state
+
+-- they open to the committed tables of one of two scenes
 abbrev pub OpensAtEither : Scene → Scene → Pages → Type 0
 OpensAtEither old new = OpensToEither old.state.size old.state.base new.state.base
 
@@ -55,13 +59,14 @@ pub record Window (disk : Disk) (from until : ℕ) (P : Pages → Type 0) : Type
   pub later : from ≤ until
   pub each : (t : ℕ) (image : Pages) → from < t → t ≤ until → disk.images t image → P image
 
--- One line of a run. At its moments the pages open to the committed tables before or after it, and
--- at its end to those after it alone.
+-- One line of a run. At its moments the pages open to the committed tables before or after it. At its
+-- end they open to those after it alone; and where no change was made since the last checkpoint, the
+-- state counts their overflow pages.
 pub record LineTurn (disk : Disk) (from : Point) (line : List ℕ) (made : Made) (until : Point)
     : Type 0 where
   pub step : LineStep from.scene line made until.scene
   pub moments : Window disk from.moment until.moment (OpensAtEither from.scene until.scene)
-  pub after : ImagesAt until.moment disk (OpensAt until.scene)
+  pub after : ImagesAt until.moment disk (HoldsAt until.scene)
 
 -- a run over lines
 pub data Played (disk : Disk) (first : Point) : List (List ℕ) → Made → Point → Type 0 where
@@ -80,7 +85,7 @@ pub record Story (begin : Beginning) (now : World) (scene : Scene) (given left :
   pub begun : begin.point.moment ≤ now.disk.moment
   pub splits : Splits given lines left
   pub takes : Takes begin.written made.text now.sink.bytes
-  pub opens : ImagesNow now.disk (OpensAt scene)
+  pub opens : ImagesNow now.disk (HoldsAt scene)
 
 -- ---- how a run ends
 
@@ -94,7 +99,7 @@ pub record Whole (begin : Beginning) (now : World) (given : List ℕ) : Type 0 w
   pub played : Played now.disk begin.point lines made (point_now last now.disk)
   pub are_lines : AreLines given lines
   pub takes : Takes begin.written made.text now.sink.bytes
-  pub opens : ImagesNow now.disk (OpensAt last)
+  pub opens : ImagesNow now.disk (HoldsAt last)
 
 -- between two lines
 pub record Halted (begin : Beginning) (now : World) (given : List ℕ) : Type 0 where
@@ -202,16 +207,20 @@ pub record Ended (status : Status) (begin : Beginning) (now : World) (left : Opt
 abbrev pub IsFailedOpening : Status → Type 0
 IsFailedOpening status = (status ≡ DeviceFault) ⊎ (status ≡ NoMemory)
 
--- One run over a store, from its first scene. A stop at a moment of its opening leaves what it
--- could leave before.
+-- What a stop within the opening of a run may leave: what it could leave before, or pages that open to
+-- the tables of the first scene.
+abbrev pub MayLeave : Disk → Scene → Pages → Type 0
+MayLeave before first image = Leaves before image ⊎ OpensAt first image
+
+-- One run over a store, from its first scene.
 pub data IsRun (status : Status) (first : Scene) (old new : World)
     (left_old left_new : Option (List ℕ)) : Type 0 where
-  -- the opening failed: nothing was read or written
-  unopened : IsFailedOpening status → Passes old.disk new.disk (Leaves old.disk)
+  -- the opening failed: nothing of the script was read, and no reply was written
+  unopened : IsFailedOpening status → Passes old.disk new.disk (MayLeave old.disk first)
       → left_new ≡ left_old → new.sink.bytes ≡ old.sink.bytes
       → IsRun status first old new left_old left_new
   -- the store was open from this moment on, and the script was run
-  opened : (at : ℕ) → Window new.disk old.disk.moment at (Leaves old.disk)
+  opened : (at : ℕ) → Window new.disk old.disk.moment at (MayLeave old.disk first)
       → Ended status
       (record {
         point = record { scene = first; moment = at };

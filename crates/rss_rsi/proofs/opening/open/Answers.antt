@@ -2,7 +2,7 @@ use Rattle.std.proofs.Common.{Err, ap}
 use Rattle.std.proofs.lemmas.Result.{IfOk-weaker, IfErr-weaker}
 use Rattle.rss_buffer.specs.Devices.{buffer_view}
 use Rattle.rss_buffer.specs.Views.{pages_view}
-use Rattle.rss_rsi.proofs.Unopened.{opens_before, notes_before, handed_before}
+use Rattle.rss_rsi.proofs.Unopened.{opens_before, notes_before, handed_back, handed_before}
 use Rattle.rss_rsi.proofs.opening.open.Goals as goal
 
 pub returns-in-Ok-clause-opened : goal.returns-in-Ok-clause-opened
@@ -15,8 +15,5 @@ pub returns-in-Ok-clause-refused : goal.returns-in-Ok-clause-refused
 returns-in-Ok-clause-refused g c = IfErr-weaker c.store_of.result _ _ (λ e is. handed_before c.read_layout.ensures.did.reads is) c.store_of.ensures.refused
 
 pub returns-in-Err-clause-refused : goal.returns-in-Err-clause-refused
-returns-in-Err-clause-refused g c = record {
-  refused = c.in-Err.ensures.refused;
-  cause = λ is. c.in-Err.ensures.did.failed (ap Err is);
-  reads = c.in-Err.ensures.did.reads;
-}
+returns-in-Err-clause-refused g c =
+    handed_back c.in-Err.ensures.refused (λ is. c.in-Err.ensures.did.failed (ap Err is)) c.in-Err.ensures.did.reads

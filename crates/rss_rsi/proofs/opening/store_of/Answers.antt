@@ -13,7 +13,7 @@ use Rattle.rss_rsi.specs.Opening.{IsHandedBack, IsOpened, HasFrames, NotesRooms}
 use Rattle.rss_rsi.specs.Ready.{engine_view}
 use Rattle.rss_rsi.proofs.Opened.{size_is, lacks_tables, opened_ready, opened_shown, opened, notes_rooms}
 use Rattle.rss_rsi.proofs.Refused.{refused_look}
-use Rattle.rss_rsi.proofs.Unopened.{unopened_look, look_device}
+use Rattle.rss_rsi.proofs.Unopened.{unopened_look, look_device, passes_reading, handed_back}
 use Rattle.rss_rsi.proofs.opening.store_of.Goals as goal
 
 -- ---- they spell no tables
@@ -26,17 +26,16 @@ returns-in-Err-clause-refused g c =
     subst (λ (fault : OpenFault). IsHandedBack (g.D.Device.view c.args.device) (g.D.Device.view c.into_device.result) fault) (sym c.from.ensures)
     (subst (λ (d : _). IsHandedBack (g.D.Device.view d) (g.D.Device.view c.into_device.result) (open_error c.in-Err.fault)) c.in_ok-pages.ensures.device
     (subst (λ (d : _). IsHandedBack (g.D.Device.view (device_of c.in_ok-pages.pages)) (g.D.Device.view d) (open_error c.in-Err.fault)) (sym c.into_device.ensures)
-    (record {
-      refused = unopened_look c.in-Err.fault (λ pages told.
-          let has = c.requires.holds pages (back ∙ told) in
-          refused_look c.in-Err.fault has.root_there has.map (omega (arith, c.requires.layout.half, c.requires.layout.slots))
-          (λ place is. lacks_tables c.requires.layout (saveable_by c.in_ok-pages.pages.holds) c.in_ok-pages.ensures.fresh (λ read key. holds_by (buffer_view c.in_ok-pages.pages) key)
-          (λ p read. c.requires.holds p (back ∙ read)) (λ p read. c.in_ok-pages.ensures.held p (back ∙ read))
-          (record { pages = pages; is = told }) ((c.in-Err.ensures.none place (ap Err is)).none (record { pages = pages; is = told })))
-          (λ place is room. (c.in-Err.ensures.none place (ap Err is)).elsewhere room));
-      cause = λ failed. c.in-Err.ensures.did.failed (ap Err (look_device c.in-Err.fault failed));
-      reads = record { contents = reads.contents; moments = reads.moments; same_writes = reads.same_writes; later = reads.later };
-    })))
+    (handed_back
+    (unopened_look c.in-Err.fault (λ pages told.
+    let has = c.requires.holds pages (back ∙ told) in
+    refused_look c.in-Err.fault has.root_there has.map (omega (arith, c.requires.layout.half, c.requires.layout.slots))
+    (λ place is. lacks_tables c.requires.layout (saveable_by c.in_ok-pages.pages.holds) c.in_ok-pages.ensures.fresh (λ read key. holds_by (buffer_view c.in_ok-pages.pages) key)
+    (λ p read. c.requires.holds p (back ∙ read)) (λ p read. c.in_ok-pages.ensures.held p (back ∙ read))
+    (record { pages = pages; is = told }) ((c.in-Err.ensures.none place (ap Err is)).none (record { pages = pages; is = told })))
+    (λ place is room. (c.in-Err.ensures.none place (ap Err is)).elsewhere room)))
+    (λ failed. c.in-Err.ensures.did.failed (ap Err (look_device c.in-Err.fault failed)))
+    (record { contents = reads.contents; moments = reads.moments; same_writes = reads.same_writes; later = reads.later }))))
 
 -- ---- they spell tables
 
@@ -86,9 +85,9 @@ returns-clause-opened g c =
             catalog_is = c.new-session.ensures.catalog;
           })
           (λ settled told. stays_by c.look_through.new.pages.holds settled told) back c.new-2.ensures.up);
-      reads = subst (λ (d : _). OnlyReads (g.D.Device.view d) (g.D.Device.view (device_of c.new-2.result.tuples.pages))) c.in_ok-pages.ensures.device
+      passes = passes_reading (subst (λ (d : _). OnlyReads (g.D.Device.view d) (g.D.Device.view (device_of c.new-2.result.tuples.pages))) c.in_ok-pages.ensures.device
           (subst (λ (pages : _). OnlyReads (g.D.Device.view (device_of c.in_ok-pages.pages)) (g.D.Device.view (device_of pages))) (sym c.new-2.ensures.pages)
-          (record { contents = reads.contents; moments = reads.moments; same_writes = reads.same_writes; later = reads.later }));
+          (record { contents = reads.contents; moments = reads.moments; same_writes = reads.same_writes; later = reads.later })));
     }
 
 pub returns-clause-noted : goal.returns-clause-noted

@@ -3,7 +3,7 @@ use Rattle.std.proofs.lemmas.Iterator.{YieldsList-from_slice}
 use Rattle.std.proofs.lemmas.Iterator.Search.{all_from_yields_List}
 use Rattle.rss_base.specs.TupleTypes.{is_kind}
 use Rattle.rss_base.specs.declared.field.FieldDef.{FieldDef}
-use Rattle.rss_rsi.proofs.Definitions.{kinds_formed}
+use Rattle.rss_rsi.proofs.Defined.{kinds_formed}
 use Rattle.rss_rsi.proofs.session.are_kinds.Goals as goal
 
 pub returns-in-1-to-16 : goal.returns-in-1-to-16

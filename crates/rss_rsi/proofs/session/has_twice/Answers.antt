@@ -2,7 +2,7 @@ use Rattle.std.proofs.Common.{◌∙◌, ◌+◌, Bool, drop, sym, ap}
 use Rattle.std.specs.Prelude.{◌||◌}
 use Rattle.rss_base.specs.TupleTypes.{field_names}
 use Rattle.rss_model.specs.Defining.{has_twice}
-use Rattle.rss_rsi.proofs.Definitions.{twice_step}
+use Rattle.rss_rsi.proofs.Defined.{twice_step}
 use Rattle.rss_rsi.proofs.session.has_twice.Goals as goal
 
 pub loop-place-preserved : goal.loop-place-preserved

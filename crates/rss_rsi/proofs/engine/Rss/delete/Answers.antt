@@ -1,4 +1,5 @@
 use Rattle.std.proofs.Common.{rules, ◌≡◌, ◌∙◌, ℕ, List, refl, sym, ap, subst, arith}
+use Rattle.std.proofs.lemmas.Bool.{true≢false}
 use Rattle.std.specs.Prelude.{Option, Some, None, Err, is_some, IsSome}
 use Rattle.std.proofs.Math.Logic.{∥∥₁_elim}
 use Rattle.std.proofs.lemmas.Option.{none-some, same_Some}
@@ -14,7 +15,7 @@ use Rattle.rss_rsi.specs.declared.session.Session.{Session}
 use Rattle.rss_rsi.proofs.Engines.{goes, fixes_still}
 use Rattle.rss_rsi.proofs.Following.{quiet_in, live_passes, delete_misses, deletes_step}
 use Rattle.rss_rsi.proofs.Joining.{looks_as, goes_looked, goes_after, joined, look_failed}
-use Rattle.rss_rsi.proofs.Answering.{refused_test, refused_so, refused_later}
+use Rattle.rss_rsi.proofs.Answering.{damaged_so, refused_test, refused_so, refused_later, found_down}
 use Rattle.rss_access.proofs.Numbered.{entry_at, name_of}
 use Rattle.rss_rsi.proofs.Readied.{stays_counted, ready_changed, changed_counted}
 use Rattle.rss_access.proofs.Spelling.{some_live, segment_safe}
@@ -23,10 +24,15 @@ use Rattle.rss_rsi.proofs.Tested.{delete_unfit, delete_full}
 use Rattle.rss_rsi.proofs.Changing.{answers_change, shows_change, fails_change}
 use Rattle.rss_rsi.proofs.engine.Rss.delete.Goals as goal
 
-pub returns-in_err-number : goal.returns-in_err-number
-returns-in_err-number g c =
+pub returns-in_err-test_up-clause-did : goal.returns-in_err-test_up-clause-did
+returns-in_err-test_up-clause-did g c =
+    let down = c.in_err-test_up.ensures.down in
+    found_down _ c.from_residual.ensures.1 down.0 (λ up. true≢false (sym down.1 ∙ up))
+
+pub returns-in_err-number-clause-did : goal.returns-in_err-number-clause-did
+returns-in_err-number-clause-did g c =
     let tests = c.in_err-number.ensures.tests in
-    refused_test _ c.from_residual.ensures.1 c.requires tests.1 (λ state shown. delete_unfit state c.args.transaction c.args.relation.now c.args.tid (tests.0 state shown.counts))
+    refused_test _ c.from_residual-in_err-number.ensures.1 c.in_ok-test_up.ensures.up tests.1 (λ state shown. delete_unfit state c.args.transaction c.args.relation.now c.args.tid (tests.0 state shown.counts))
 
 pub relation-requires : goal.relation-requires
 relation-requires g c =
@@ -34,16 +40,16 @@ relation-requires g c =
     let has = entry_at store.session.catalog.listing c.args.relation.now c.in_ok-number.number c.in_ok-number.ensures.known in
     ap is_some has.at
 
-pub returns-in_err-look : goal.returns-in_err-look
-returns-in_err-look g c =
+pub returns-in_err-look-clause-did : goal.returns-in_err-look-clause-did
+returns-in_err-look-clause-did g c =
     let call = Delete c.args.transaction c.args.relation.now c.args.tid in
     let looks = c.in_err-look.ensures.looks in
     let why = err_from_is_err_and c.from_residual-in_err-look.result c.from_residual-in_err-look.ensures.1 in
-    look_failed _ _ (why.1 ∙ ap Err why.2) c.requires looks.on (goes_looked call looks.on tt (λ pages. tt)) looks.ends
+    look_failed _ _ (why.1 ∙ ap Err why.2) c.in_ok-test_up.ensures.up looks.on (goes_looked call looks.on tt (λ pages. tt)) looks.ends
     (λ told state shown. stops_by shown.kept call refl tt (looks.on.moments told state shown))
 
-pub returns-then-not-branch : goal.returns-then-not-branch
-returns-then-not-branch g c =
+pub returns-then-not-branch-clause-did : goal.returns-then-not-branch-clause-did
+returns-then-not-branch-clause-did g c =
     let call = Delete c.args.transaction c.args.relation.now c.args.tid in
     let store = c.args.self.now in
     let mid = c.look.new.self in
@@ -54,13 +60,13 @@ returns-then-not-branch g c =
     let entry = c.relation.result.now in
     let at : relation_at mid.session.catalog.listing number ≡ Some entry = ap (λ (s : Session). relation_at s.catalog.listing number) look.session ∙ c.relation.ensures.is in
     let named = name_of store.session.catalog.listing c.args.relation.now number entry admitted.known c.relation.ensures.is in
-    refused_so _ c.no_tuple.ensures.is c.requires looks.ends looks.on (goes_looked call looks.on tt (λ pages. tt)) c.no_tuple.ensures.short (λ told state shown.
+    refused_so _ c.no_tuple.ensures.is c.in_ok-test_up.ensures.up looks.ends looks.on (goes_looked call looks.on tt (λ pages. tt)) c.no_tuple.ensures.short (λ told state shown.
     let finds = rw c.if-not-branch.true at (look.finds (looks.on.told told)) in
     let none = found_none (looks.on.shows told state shown) number entry at c.args.tid c.look.new.into finds in
     delete_misses state (quiet_in shown) c.args.transaction c.args.relation.now c.args.tid (admitted.tests state shown.counts) (subst (λ (name : Name). HasFound state name c.args.tid None) named none))
 
-pub returns-in_err-test_room : goal.returns-in_err-test_room
-returns-in_err-test_room g c =
+pub returns-in_err-test_room-clause-did : goal.returns-in_err-test_room-clause-did
+returns-in_err-test_room-clause-did g c =
     let call = Delete c.args.transaction c.args.relation.now c.args.tid in
     let store = c.args.self.now in
     let mid = c.look.new.self in
@@ -72,7 +78,7 @@ returns-in_err-test_room g c =
     let at : relation_at mid.session.catalog.listing number ≡ Some entry = ap (λ (s : Session). relation_at s.catalog.listing number) look.session ∙ c.relation.ensures.is in
     let named = name_of store.session.catalog.listing c.args.relation.now number entry admitted.known c.relation.ensures.is in
     let tests = c.in_err-test_room.ensures.tests in
-    refused_later _ c.from_residual-in_err-test_room.ensures.1 c.requires looks.ends looks.on (goes_looked call looks.on tt (λ pages. tt)) tests.1 (λ told state shown.
+    refused_later _ c.from_residual-in_err-test_room.ensures.1 c.in_ok-test_up.ensures.up looks.ends looks.on (goes_looked call looks.on tt (λ pages. tt)) tests.1 (λ told state shown.
     let finds = rw c.if-not-branch.false at (look.finds (looks.on.told told)) in
     let has = found_values (looks.on.shows told state shown) number entry at c.args.tid c.look.new.into finds in
     let live = live_passes state c.args.relation.now c.args.tid has.values (subst (λ (name : Name). HasFound state name c.args.tid (Some has.values)) named has.holds) in
@@ -91,8 +97,8 @@ delete-requires g c =
           subst (λ (o : Option (List ℕ)). IsSome o) (sym (finds.some refl).1) refl;
     }
 
-pub returns-then-live-eq0 : goal.returns-then-live-eq0
-returns-then-live-eq0 g c =
+pub returns-in_err-test_counted-clause-did : goal.returns-in_err-test_counted-clause-did
+returns-in_err-test_counted-clause-did g c =
     let call = Delete c.args.transaction c.args.relation.now c.args.tid in
     let store = c.args.self.now in
     let mid = c.look.new.self in
@@ -104,11 +110,12 @@ returns-then-live-eq0 g c =
     let at : relation_at mid.session.catalog.listing number ≡ Some entry = ap (λ (s : Session). relation_at s.catalog.listing number) look.session ∙ c.relation.ensures.is in
     let named = name_of store.session.catalog.listing c.args.relation.now number entry admitted.known c.relation.ensures.is in
     let one : c.relation-2.result.now ≡ entry = same_Some _ _ (sym c.relation-2.ensures.is ∙ at) in
-    comes_to c.requires (goes_looked call (looks_as looks.on) tt (λ pages. tt)) (record {
+    let lacks = c.in_err-test_counted.ensures.damaged in
+    damaged_so _ c.from_residual-in_err-test_counted.ensures.1 lacks.0 c.in_ok-test_up.ensures.up (goes_looked call (looks_as looks.on) tt (λ pages. tt)) (record {
       sound = λ told. ∥∥₁_elim (mid.shown looks.ends (looks.on.told told)) (λ x y. absurd x) (λ shown_in.
           let finds = rw c.if-not-branch.false at (look.finds (looks.on.told told)) in
           let has = found_values shown_in.shows number entry at c.args.tid c.look.new.into finds in
-          absurd (omega (arith, some_live shown_in.shows.spells number entry at c.args.tid (ap is_some has.holds), c.if-live-eq0.true, ap (λ (r : RelationEntry). r.live) one)));
+          absurd (omega (arith, some_live shown_in.shows.spells number entry at c.args.tid (ap is_some has.holds), lacks.1, ap (λ (r : RelationEntry). r.live) one)));
       down = λ up. absurd (cc);
     })
 
@@ -118,19 +125,19 @@ deleted-requires g c =
     record {
       «open» = λ none. none-some _ (sym none ∙ ap (λ (s : Session). s.transaction) c.in_ok-look.ensures.session ∙ c.in_ok-number.ensures.«open»);
       listed = ap is_some counted.ensures.is;
-      some = λ entry at. omega (arith, c.if-live-eq0.false, ap (λ (r : RelationEntry). r.live) (same_Some _ _ (sym counted.ensures.is ∙ at)));
+      some = λ entry at. omega (arith, c.in_ok-test_counted.ensures.some, ap (λ (r : RelationEntry). r.live) (same_Some _ _ (sym counted.ensures.is ∙ at)));
       room = c.in_ok-test_room.ensures.room;
     }
 
-pub returns-in_err-delete : goal.returns-in_err-delete
-returns-in_err-delete g c =
+pub returns-in_err-delete-clause-did : goal.returns-in_err-delete-clause-did
+returns-in_err-delete-clause-did g c =
     let call = Delete c.args.transaction c.args.relation.now c.args.tid in
     let mid = c.look.new.self in
     let looks = c.in_ok-look.ensures.looks in
     let ready = mid.ready looks.ends in
     let did = c.in_err-delete.ensures.did in
     let cost = goes {call = call} ready.settled_now did.step refl tt (λ pages. tt) in
-    joined _ looks.on c.requires looks.ends (goes_after call refl (λ slots pages since. refl) looks.on cost)
+    joined _ looks.on (λ answer. tt) c.in_ok-test_up.ensures.up looks.ends (goes_after call refl (λ slots pages since. refl) looks.on cost)
     (fails_change ready _ c.from_residual-in_err-delete.ensures.1 looks.ends (λ up. absurd (cc)) refl tt did cost)
 
 pub invariant_of-self-2 : goal.invariant_of-self-2
@@ -158,8 +165,8 @@ invariant_of-self-2 g c =
           (admitted.tests state (subst (λ (s : Session). Counts s state) look.session shown.counts)) (c.in_ok-test_room.ensures.tests state shown.counts) (subst (λ (name : Name). HasFound state name c.args.tid (Some has.values)) named has.holds) put.changes counts);
     }
 
-pub returns : goal.returns
-returns g c =
+pub returns-clause-did : goal.returns-clause-did
+returns-clause-did g c =
     let call = Delete c.args.transaction c.args.relation.now c.args.tid in
     let store = c.args.self.now in
     let mid = c.look.new.self in
@@ -175,9 +182,9 @@ returns g c =
     let counted = c.deleted.ensures in
     let counts = counted.counts entry at in
     let cost = goes {call = call} ready.settled_now put.did.step counted.once.slots tt (λ pages. tt) in
-    joined _ looks.on c.requires looks.ends (goes_after call refl (λ slots pages since. refl) looks.on cost) (comes_to looks.ends cost (answers_change ready put.did.step counted.once (λ told state shown.
+    joined _ looks.on (λ answer. tt) c.in_ok-test_up.ensures.up looks.ends (goes_after call refl (λ slots pages since. refl) looks.on cost) (comes_to looks.ends cost (answers_change ready put.did.step counted.once (λ told state shown.
     let finds = rw c.if-not-branch.false at (look.finds told) in
     let has = found_values shown number entry at c.args.tid c.look.new.into finds in
     deletes_step shown ready (fixes_still ready told shown put.did.step) at c.args.transaction c.args.tid told put.did.step counted.once c.args.relation.now named has.values
     (admitted.tests state (subst (λ (s : Session). Counts s state) look.session shown.counts)) (c.in_ok-test_room.ensures.tests state shown.counts) (subst (λ (name : Name). HasFound state name c.args.tid (Some has.values)) named has.holds) put.changes counts)
-    refl (search rules) refl (changed_counted put.changes counts) refl))
+    (λ told. tt) refl (search rules) refl (changed_counted put.changes counts) refl))

@@ -13,7 +13,7 @@ use Rattle.rss_model.proofs.Tests.{refuses_at}
 use Rattle.rss_rsi.specs.FieldTests.{fields_tests}
 use Rattle.rss_rsi.specs.Sessions.Relists.{relation}
 use Rattle.rss_access.proofs.Recounting.{page_same}
-use Rattle.rss_rsi.proofs.Definitions.{found, not_found, refused, relation_known, fields_taken, relation_many, relation_by_fields, relation_may, redefines, relation_page}
+use Rattle.rss_rsi.proofs.Defined.{found, not_found, refused, relation_known, fields_taken, relation_many, relation_by_fields, relation_may, redefines, relation_page}
 use Rattle.rss_rsi.proofs.session.Session.make_relation.Goals as goal
 use Rattle.rss_rsi.proofs.session.Session.make_relation.Goals.{then-is_some-via-then-is_some, then-is_some-via-else-is_some+then-has_twice}
 

@@ -3,7 +3,7 @@ use Rattle.std.proofs.lemmas.Bool.{true≢false}
 use Rattle.rss_base.specs.declared.call.Call.TheVariants.{MakeSegment}
 use Rattle.rss_model.proofs.Tests.{refuses_at}
 use Rattle.rss_rsi.specs.Sessions.Relists.{segment}
-use Rattle.rss_rsi.proofs.Definitions.{found, not_found, refused, segment_taken, segment_many, segment_may, redefines, segment_pages}
+use Rattle.rss_rsi.proofs.Defined.{found, not_found, refused, segment_taken, segment_many, segment_may, redefines, segment_pages}
 use Rattle.rss_rsi.proofs.session.Session.make_segment.Goals as goal
 
 pub returns-in_err-test_rest : goal.returns-in_err-test_rest
