@@ -14,3 +14,4 @@ pub mod Cut
 pub mod Counted
 pub mod Making
 pub mod Giving
+pub mod Nested

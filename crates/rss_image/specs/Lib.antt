@@ -5,3 +5,4 @@ pub mod Images
 pub mod Seeking
 pub mod Removed
 pub mod Emptied
+pub mod Agreement

@@ -2,6 +2,7 @@
 ghost use Rattle.rss_base.specs.Paged.{Held};
 ghost use Rattle.rss_node.specs.Nodes.{AreNodes};
 ghost use Rattle.rss_image.specs.Images.{nodes_of, HasFewPages, HasFewLevels, SpellOne};
+ghost use Rattle.rss_image.specs.Agreement.{AreImages};
 ghost use Rattle.rss_image.specs.declared.image.Image.{Image as SomeImage};
 
 /// The pages of an image spell one list at most.
@@ -20,4 +21,10 @@ pub fn pages_are_few()
 pub fn levels_are_few()
     ensures { (image : SomeImage) (held : Held) → AreNodes (nodes_of image)
         → HasFewLevels image held }
+{}
+
+/// Where pages spell an image by its rows (`ImageTree`), they are one by its nodes (`IsImage` of
+/// `rss_base`): the same pairs, in the same pages, each once.
+pub fn trees_are_images()
+    ensures { (image : SomeImage) (held : Held) → AreImages image held }
 {}

@@ -14,6 +14,7 @@ pub mod Seeking
 pub mod Counts
 pub mod Once
 pub mod Nesting
+pub mod Shuffles
 pub mod Evening
 pub mod Removing
 pub mod Cutting

@@ -11,7 +11,7 @@ use Rattle.rss_levels.proofs.Pages.{in_left, in_right, in_append}
 
 -- ---- numbers
 
-each_among : (P : ℕ → Type 0) (ns ms : List ℕ) → ((n : ℕ) → IsIn ns n → IsIn ms n) → Each P ms → Each P ns
+pub each_among : (P : ℕ → Type 0) (ns ms : List ℕ) → ((n : ℕ) → IsIn ns n → IsIn ms n) → Each P ms → Each P ns
 each_among P [] ms among all = tt
 each_among P (n ∷ ns) ms among all = (one_of ms n (among n (inl refl)) all, each_among P ns ms (λ m is. among m (inr is)) all)
   where

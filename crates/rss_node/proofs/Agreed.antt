@@ -3,22 +3,24 @@ use Rattle.std.proofs.Common.{◌≡◌, ◌≢◌, ⊎_elim, ◌-◌, ℕ, suc,
 use Rattle.std.specs.Prelude.{flat_map, All}
 use Rattle.std.specs.Int.{w16, w32, to_be_bytes, from_be_bytes}
 use Rattle.std.proofs.lemmas.Nat.{be_bytes_2, be_bytes_4}
-use Rattle.std.proofs.lemmas.List.{take-append-drop, drop-drop, drop-take, take-take, get_or-drop}
+use Rattle.std.proofs.lemmas.List.{take-append-drop, drop-drop, drop-take, take-take, append-nil, drop_all}
 use Rattle.rss_base.specs.Nodes.{node_entry_spelled}
 use Rattle.rss_node.specs.Nodes.{part, entry_from, entries_from}
-use Rattle.rss_node.specs.Pairs.{node_entry, next_from, base_node, nodes_of_node, IsBytes, HasSlot}
+use Rattle.rss_node.specs.Pairs.{IsSpelledTid, pair_bytes, pair_from, key_from, tid_from, node_entry, next_from, base_node, nodes_of_node, HasSlot}
 use Rattle.rss_node.proofs.Headers.{part_low, four, has_room}
+use Rattle.rss_node.proofs.Parts.{low_drop, low_take}
 use Rattle.rss_node.proofs.Codec.{length_entries}
-use Rattle.rss_node.specs.Nodes.{NodeView, node_from, count_of, Spells, IsNodePage}
+use Rattle.rss_node.specs.Nodes.{NodeView, node_from, count_of, Spells, IsNodePage, IsBytes}
 use Rattle.rss_base.specs.Nodes.{NodesOf, IsNodeEntry, next_spelled, node_spelled, IsNodePage as IsBasePage}
 use Rattle.rss_levels.specs.Entries.{Each}
+use Rattle.rss_base.specs.Trees.{pair_cmp}
+use Rattle.std.specs.Ordering.{nat_cmp}
+use Rattle.std.specs.Cmp.Lexicographic.{slice_cmp}
+use Rattle.rss_node.proofs.Ordered.{pairs_ordered}
 use Rattle.std.specs.Prelude.{IfSome}
 use Rattle.std.proofs.lemmas.Bool.{cases_eq, cond-false}
 use Rattle.std.proofs.lemmas.List.{length-map}
 use Rattle.std.proofs.lemmas.List.Elements.{All-nil, All-cons}
-
-drop_bytes : (n : ℕ) (bytes : List ℕ) → IsBytes bytes → IsBytes (drop n bytes)
-drop_bytes n bytes low i = omega (arith, get_or-drop n bytes i 0, low (n + i))
 
 -- some bytes and those behind them
 behind : (bytes : List ℕ) (at count : ℕ) → drop at bytes ≡ part bytes at count ++ drop (at + count) bytes
@@ -67,7 +69,7 @@ entries_back width zero bytes low within = let none : 0 ≡ 0 * (width + 10) = o
 entries_back width (suc count) bytes low within =
     let first : width + 10 ≤ length bytes = omega arith in
     let rest : List ℕ = drop (width + 10) bytes in
-    let more = entries_back width count rest (drop_bytes (width + 10) bytes low) (omega (arith, length-drop (width + 10) bytes)) in
+    let more = entries_back width count rest (low_drop (width + 10) bytes low) (omega (arith, length-drop (width + 10) bytes)) in
     let all : width + 10 + count * (width + 10) ≡ suc count * (width + 10) = omega arith in
     let spelled : List ℕ = flat_map node_entry_spelled (map (node_entry width) (entries_from width count rest)) in
     entry_back width bytes low first
@@ -108,7 +110,10 @@ next_low next low = ⊎_elim
 
 -- ---- a page
 
-module _ (width : ℕ) (page : List ℕ) (formed : IsNodePage width page) (low : IsBytes page) where
+module _ (width : ℕ) (page : List ℕ) (formed : IsNodePage width page) where
+  low : IsBytes page
+  low = formed.bytes
+
   abbrev said : NodeView
   said = node_from width page
 
@@ -133,7 +138,7 @@ module _ (width : ℕ) (page : List ℕ) (formed : IsNodePage width page) (low :
       let count : count_of page * (width + 10) ≤ 4064 = has_room width (count_of page) formed.few in
       let fits : count_of page * (width + 10) ≤ length (drop 32 page) = omega (arith, count, length-drop 32 page, size) in
       let spelled : List ℕ = flat_map node_entry_spelled (map (node_entry width) said.entries) in
-      let entries : drop 32 page ≡ spelled ++ rest = entries_back width (count_of page) (drop 32 page) (drop_bytes 32 page low) fits in
+      let entries : drop 32 page ≡ spelled ++ rest = entries_back width (count_of page) (drop 32 page) (low_drop 32 page low) fits in
       let number = four_back page 4 low (omega (arith, size)) in
       let next = next_back said.next (part page 12 4) (four_back page 12 low (omega (arith, size))) in
       sym (take-append-drop 4 page)
@@ -168,7 +173,7 @@ module _ (width : ℕ) (page : List ℕ) (formed : IsNodePage width page) (low :
   each_entry (suc count) bytes few within slots =
       let first : width + 10 ≤ length bytes = omega arith in
       All-cons (IsNodeEntry width) (node_entry width (entry_from width bytes)) (map (node_entry width) (entries_from width count (drop (width + 10) bytes))) (entry_at_front bytes few first slots.0)
-      (each_entry count (drop (width + 10) bytes) (drop_bytes (width + 10) bytes few) (omega (arith, length-drop (width + 10) bytes)) slots.1)
+      (each_entry count (drop (width + 10) bytes) (low_drop (width + 10) bytes few) (omega (arith, length-drop (width + 10) bytes)) slots.1)
 
   pub is_base_page : Each (HasSlot width) said.entries → IsBasePage whose said.number page (base_node said)
   is_base_page slots =
@@ -178,7 +183,7 @@ module _ (width : ℕ) (page : List ℕ) (formed : IsNodePage width page) (low :
         size = formed.size;
         spelled = ap (take (length spelled)) page_back ∙ take_front spelled rest;
         few = omega (arith, length-map said.entries (node_entry width), entries_long, formed.few);
-        each = each_entry (count_of page) (drop 32 page) (drop_bytes 32 page low) (omega (arith, count, length-drop 32 page, size)) slots;
+        each = each_entry (count_of page) (drop 32 page) (low_drop 32 page low) (omega (arith, count, length-drop 32 page, size)) slots;
         level = low 3;
         next = next_low said.next (part_number page 12 low (omega (arith, size)));
       }
@@ -187,7 +192,65 @@ module _ (width : ℕ) (page : List ℕ) (formed : IsNodePage width page) (low :
       take_front [] ys = refl
       take_front (x ∷ xs) ys = ap (λ (l : List ℕ). x ∷ l) (take_front xs ys)
 
-pub base_page : (page : List ℕ) (node : NodeView) → Spells page node → IsBytes page → Each (HasSlot node.width) node.entries → IsBasePage (nodes_of_node node) node.number page (base_node node)
-base_page page node spells low slots =
+pub base_page : (page : List ℕ) (node : NodeView) → Spells page node → Each (HasSlot node.width) node.entries → IsBasePage (nodes_of_node node) node.number page (base_node node)
+base_page page node spells slots =
     subst (λ (n : NodeView). IsBasePage (nodes_of_node n) n.number page (base_node n)) spells.says
-    (is_base_page node.width page spells.formed low (subst (λ (n : NodeView). Each (HasSlot node.width) n.entries) (sym spells.says) slots))
+    (is_base_page node.width page spells.formed (subst (λ (n : NodeView). Each (HasSlot node.width) n.entries) (sym spells.says) slots))
+
+-- ---- pairs
+
+-- as long as a pair of keys of this width is, and bytes
+pub record IsWhole (width : ℕ) (pair : List ℕ) : Type 0 where
+  pub long : length pair ≡ width + 6
+  pub bytes : IsBytes pair
+
+whole_entries : (width count : ℕ) (bytes : List ℕ) → IsBytes bytes → count * (width + 10) ≤ length bytes → Each (λ e. IsWhole width e.pair) (entries_from width count bytes)
+whole_entries width zero bytes low within = tt
+whole_entries width (suc count) bytes low within = (
+  record { long = length-take-le (width + 6) bytes (omega (arith, within)); bytes = low_take (width + 6) bytes low },
+  whole_entries width count (drop (width + 10) bytes) (low_drop (width + 10) bytes low) (omega (arith, length-drop (width + 10) bytes)),
+)
+
+-- the pairs of a node's entries are whole
+pub whole_page : (page : List ℕ) (node : NodeView) → Spells page node → Each (λ e. IsWhole node.width e.pair) node.entries
+whole_page page node spells =
+    let formed = spells.formed in
+    let count : count_of page * (node.width + 10) ≤ 4064 = has_room node.width (count_of page) formed.few in
+    subst (λ (n : NodeView). Each (λ e. IsWhole node.width e.pair) n.entries) spells.says
+    (whole_entries node.width (count_of page) (drop 32 page) (low_drop 32 page formed.bytes) (omega (arith, count, length-drop 32 page, formed.size)))
+
+-- a pair is the bytes of its key and of its identifier
+pub pair_back : (width : ℕ) (pair : List ℕ) → IsWhole width pair → pair_bytes (key_from width pair) (tid_from width pair) ≡ pair
+pair_back width pair whole =
+    let page = four_back pair width whole.bytes (omega (arith, whole.long)) in
+    let slot = two_back pair (width + 4) whole.bytes (omega (arith, whole.long)) in
+    let none : drop (width + 4 + 2) pair ≡ [] = drop_all (width + 4 + 2) pair (omega (arith, whole.long)) in
+    let last : drop (width + 4) pair ≡ part pair (width + 4) 2 = behind pair (width + 4) 2 ∙ ap (λ (l : List ℕ). part pair (width + 4) 2 ++ l) none ∙ append-nil (part pair (width + 4) 2) in
+    (λ i. take width pair ++ (page i ++ slot i))
+    ∙ ap (λ (l : List ℕ). take width pair ++ (part pair width 4 ++ l)) (sym last)
+    ∙ ap (λ (l : List ℕ). take width pair ++ l) (sym (behind pair width 4))
+    ∙ take-append-drop width pair
+
+pub tid_spelled : (width : ℕ) (pair : List ℕ) → IsWhole width pair → IsSpelledTid (tid_from width pair)
+tid_spelled width pair whole = record {
+  page = part_number pair width whole.bytes (omega (arith, whole.long));
+  slot = short_number (part pair (width + 4) 2) (length-take-le 2 (drop (width + 4) pair) (omega (arith, length-drop (width + 4) pair, whole.long))) (low_take 2 (drop (width + 4) pair) (low_drop (width + 4) pair whole.bytes));
+}
+  where
+    two_low : (a b : ℕ) → a < 256 → b < 256 → a * 256 + b < 2 ^ 16
+    two_low a b x y = omega arith
+
+    short_number : (bytes : List ℕ) → length bytes ≡ 2 → IsBytes bytes → from_be_bytes w16 bytes < 2 ^ 16
+    short_number [] long low = absurd (omega (arith, long))
+    short_number (a ∷ []) long low = absurd (omega (arith, long))
+    short_number (a ∷ b ∷ []) long low = two_low a b (low 0) (low 1)
+    short_number (a ∷ b ∷ c ∷ rest) long low = absurd (omega (arith, long))
+
+-- whole pairs are ordered by their bytes as by their keys, and then by their identifiers
+pub whole_cmp : (width : ℕ) (a b : List ℕ) → IsWhole width a → IsWhole width b → slice_cmp nat_cmp a b ≡ pair_cmp (pair_from width a) (pair_from width b)
+whole_cmp width a b one two =
+    (λ i. slice_cmp nat_cmp (sym (pair_back width a one) i) (sym (pair_back width b two) i))
+    ∙ pairs_ordered (pair_from width a) (pair_from width b) (key_long a one ∙ sym (key_long b two)) (tid_spelled width a one) (tid_spelled width b two)
+  where
+    key_long : (pair : List ℕ) → IsWhole width pair → length (take width pair) ≡ width
+    key_long pair whole = length-take-le width pair (omega (arith, whole.long))

@@ -1,12 +1,13 @@
 -- A page of which the entries and their number are changed.
-use Rattle.std.proofs.Common.{◌≡◌, inl, inr, ℕ, ◌+◌, ◌-◌, ◌*◌, ◌^◌, ◌<◌, ◌≤◌, List, [], ◌∷◌, ◌++◌, length, take, drop, get_or, refl, sym, ◌∙◌, ap, arith, length-take-le, length-drop, length-append}
+use Rattle.std.proofs.Common.{◌≡◌, inl, inr, ℕ, ◌+◌, ◌-◌, ◌*◌, ◌^◌, ◌<◌, ◌≤◌, List, [], ◌∷◌, ◌++◌, length, take, drop, get_or, refl, sym, ◌∙◌, ap, subst, arith, length-take-le, length-drop, length-append}
 use Rattle.std.proofs.lemmas.List.{drop-append-le, drop-take, drop-drop, get_or-take, get_or-drop}
 use Rattle.std.proofs.lemmas.Nat.{from_be_bytes-to_be_bytes_2}
 use Rattle.std.proofs.Math.Nat.{mul-le-mul_right, div-mul-le_self}
 use Rattle.std.specs.Int.{w16, w32, to_be_bytes, from_be_bytes}
 use Rattle.rss_levels.specs.Entries.{Entry, capacity}
 use Rattle.rss_node.specs.Nodes.{NodeView, part, put, entries_from, count_of, node_from, IsNodePage, spliced, with_entries}
-use Rattle.rss_node.proofs.Parts.{before, part_kept, part_put, length-put, behind}
+use Rattle.rss_node.proofs.Parts.{before, part_kept, part_put, length-put, behind, low_append, low_take, low_drop, low_put, low_two, low_four}
+use Rattle.rss_node.specs.Nodes.{IsBytes}
 use Rattle.std.proofs.lemmas.Nat.{from_be_bytes-to_be_bytes_4}
 use Rattle.std.proofs.lemmas.List.{take-take, take-append-drop, get_or_past, length-take}
 use Rattle.std.proofs.lemmas.Bool.{cases_lt}
@@ -38,8 +39,9 @@ says_kept width page page_now kept entries are =
     let next : from_be_bytes w32 (part page_now 12 4) ≡ from_be_bytes w32 (part page 12 4) = ap (from_be_bytes w32) (kept.back 12 4 (omega arith) (omega arith)) in
     λ i. record { width = width; segment = segment i; image = image i; level = level i; number = number i; next = next i; entries = are i }
 
-pub formed_kept : (width : ℕ) (page page_now : List ℕ) → KeepsHeader page page_now → IsNodePage width page → length page_now ≡ 4096 → count_of page_now ≤ capacity width → IsNodePage width page_now
-formed_kept width page page_now kept formed size few = record {
+pub formed_kept : (width : ℕ) (page page_now : List ℕ) → KeepsHeader page page_now → IsNodePage width page → IsBytes page_now → length page_now ≡ 4096 → count_of page_now ≤ capacity width → IsNodePage width page_now
+formed_kept width page page_now kept formed bytes size few = record {
+  bytes = bytes;
   wide = formed.wide;
   narrow = formed.narrow;
   size = size;
@@ -84,12 +86,12 @@ pub record IsSpliced (width : ℕ) (page front : List ℕ) (at removed : ℕ) (n
   pub formed : IsNodePage width front
   pub says : node_from width front ≡ with_entries (node_from width page) (spliced (node_from width page).entries at removed news)
 
-pub spliced_page : (width at removed count now old : ℕ) (page bytes moved front : List ℕ) → IsNodePage width page → old ≡ count_of page → at + removed ≤ old → length bytes ≡ count * (width + 10) → old + count ≤ capacity width + removed
+pub spliced_page : (width at removed count now old : ℕ) (page bytes moved front : List ℕ) → IsNodePage width page → old ≡ count_of page → at + removed ≤ old → IsBytes bytes → length bytes ≡ count * (width + 10) → old + count ≤ capacity width + removed
     → now + removed ≡ old + count
     → moved ≡ take (32 + at * (width + 10)) page ++ (bytes ++ (part page (32 + (at + removed) * (width + 10)) (32 + old * (width + 10) - (32 + (at + removed) * (width + 10))) ++ drop (32 + at * (width + 10) + (length bytes + (32 + old * (width + 10) - (32 + (at + removed) * (width + 10))))) page))
     → front ≡ put moved 8 (to_be_bytes w16 now)
     → IsSpliced width page front at removed (entries_from width count bytes)
-spliced_page width at removed count now old page bytes moved front formed old_is within many room is_now is_moved is_front =
+spliced_page width at removed count now old page bytes moved front formed old_is within low_bytes many room is_now is_moved is_front =
     let size : ℕ = width + 10 in
     let rest : ℕ = old - (at + removed) in
     let body : List ℕ = drop 32 page in
@@ -121,6 +123,8 @@ spliced_page width at removed count now old page bytes moved front formed old_is
     ap (λ (n : ℕ). take n (drop f page)) span_is
     ∙ ap (λ (l : List ℕ). take (rest * size) l) (sym (drop-drop ((at + removed) * size) 32 page)) in
     let many_now : now ≡ at + (count + rest) = omega (arith, is_now) in
+    let low_moved : IsBytes moved = subst IsBytes (sym is_moved) (low_append (take a page) r (low_take a page formed.bytes) (low_append bytes (part page f span ++ junk) low_bytes (low_append (part page f span) junk (low_take span (drop f page) (low_drop f page formed.bytes)) (low_drop (a + (length bytes + span)) page formed.bytes)))) in
+    let low_front : IsBytes front = subst IsBytes (sym is_front) (low_put moved 8 (to_be_bytes w16 now) low_moved (low_two now)) in
     let news : List Entry = entries_from width count bytes in
     let entries : entries_from width (count_of front) (drop 32 front) ≡ spliced (entries_from width (count_of page) body) at removed news =
     ap (λ (n : ℕ). entries_from width n (drop 32 front)) (head.1 ∙ many_now)
@@ -128,7 +132,7 @@ spliced_page width at removed count now old page bytes moved front formed old_is
     ∙ entries_spliced width at removed old count rest body bytes junk whole (omega (arith, length-drop 32 page, fits)) many
     ∙ ap (λ (n : ℕ). spliced (entries_from width n body) at removed news) old_is in
     record {
-      formed = formed_kept width page front head.0 formed head.2 (omega (arith, head.1, now_low));
+      formed = formed_kept width page front head.0 formed low_front head.2 (omega (arith, head.1, now_low));
       says = says_kept width page front head.0 (spliced (entries_from width (count_of page) body) at removed news) entries;
     }
 
@@ -156,6 +160,7 @@ next_page width next page front formed low is =
     let level = byte 3 (omega arith) in
     record {
       formed = record {
+        bytes = subst IsBytes (sym is) (low_put page 12 be formed.bytes (low_four next));
         wide = formed.wide;
         narrow = formed.narrow;
         size = ap length is ∙ length-put page 12 be (omega arith) ∙ long;
@@ -173,8 +178,8 @@ pub record IsBlank (of : Nodes) (level number : ℕ) (page : List ℕ) : Type 0 
   pub formed : IsNodePage of.width page
   pub says : node_from of.width page ≡ blank_node of level number
 
-pub blank_page : (of : Nodes) (level number : ℕ) (page front : List ℕ) → AreNodes of → number < 2 ^ 32 → length page ≡ 4096 → front ≡ put page 0 (header_bytes of level number) → IsBlank of level number front
-blank_page of level number page front wide low long is =
+pub blank_page : (of : Nodes) (level number : ℕ) (page front : List ℕ) → AreNodes of → number < 2 ^ 32 → length page ≡ 4096 → IsBytes page → IsBytes (header_bytes of level number) → front ≡ put page 0 (header_bytes of level number) → IsBlank of level number front
+blank_page of level number page front wide low long page_low head_low is =
     let head : List ℕ = header_bytes of level number in
     let many : length head ≡ 32 = refl in
     let inside : (from count : ℕ) → from + count ≤ 32 → part front from count ≡ part head from count = λ from count lt. let start : from ≡ 0 + from = omega arith in ap (λ (l : List ℕ). part l from count) is ∙ ap (λ (n : ℕ). part (put page 0 head) n count) start ∙ part_inside page 0 head from count (omega arith) (omega arith) in
@@ -190,6 +195,7 @@ blank_page of level number page front wide low long is =
     let level_is = byte 3 (omega arith) in
     record {
       formed = record {
+        bytes = subst IsBytes (sym is) (low_put page 0 head page_low head_low);
         wide = wide.wide;
         narrow = wide.narrow;
         size = ap length is ∙ length-put page 0 head (omega arith) ∙ long;
@@ -203,8 +209,9 @@ blank_page of level number page front wide low long is =
 
 -- ---- a page that is read
 
-pub formed_read : (of : Nodes) (level number : ℕ) (page : List ℕ) → AreNodes of → length page ≡ 4096 → HasForm of level number page → IsNodePage of.width page
-formed_read of level number page wide size form = record {
+pub formed_read : (of : Nodes) (level number : ℕ) (page : List ℕ) → AreNodes of → IsBytes page → length page ≡ 4096 → HasForm of level number page → IsNodePage of.width page
+formed_read of level number page wide low size form = record {
+  bytes = low;
   wide = wide.wide;
   narrow = wide.narrow;
   size = size;

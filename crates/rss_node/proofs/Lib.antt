@@ -4,3 +4,4 @@ pub mod Headers
 pub mod Passed
 pub mod Ordered
 pub mod Agreed
+pub mod Spelled

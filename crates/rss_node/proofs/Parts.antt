@@ -1,8 +1,10 @@
 -- Parts of a page, where some bytes of it are written.
-use Rattle.std.proofs.Common.{◌≡◌, ◌⊎◌, inl, inr, ℕ, ◌+◌, ◌-◌, ◌≤◌, List, ◌++◌, length, take, drop, get_or, replicate, sym, ◌∙◌, ap, arith, length-take-le, length-drop, length-append, append_assoc}
-use Rattle.std.proofs.lemmas.List.{drop_at, take_at, drop-append-le, take-append-le, drop-take, take-take, drop-drop, get_or-take, take-replicate, drop-replicate}
+use Rattle.std.proofs.Common.{◌≡◌, ◌⊎◌, inl, inr, ⊎_elim, ℕ, suc, zero, ◌+◌, ◌-◌, ◌<◌, ◌≤◌, List, [], ◌∷◌, ◌++◌, length, take, drop, get_or, replicate, sym, ◌∙◌, ap, arith, length-take-le, length-drop, length-append, append_assoc}
+use Rattle.std.proofs.lemmas.List.{drop_at, take_at, drop-append-le, take-append-le, drop-take, take-take, drop-drop, get_or-take, get_or-drop, get_or_past, length-take, take-replicate, drop-replicate}
+use Rattle.std.proofs.lemmas.Bool.{cases_lt}
+use Rattle.std.specs.Int.{w16, w32, to_be_bytes}
 use Rattle.std.proofs.Math.Seq.{drop-append-add}
-use Rattle.rss_node.specs.Nodes.{part, put}
+use Rattle.rss_node.specs.Nodes.{part, put, IsBytes}
 
 pub length-put : (page : List ℕ) (at : ℕ) (bytes : List ℕ) → at + length bytes ≤ length page → length (put page at bytes) ≡ length page
 length-put page at bytes within = omega (arith, length-append (take at page ++ bytes) (drop (at + length bytes) page), length-append (take at page) bytes, length-take-le at page (omega arith), length-drop (at + length bytes) page)
@@ -57,3 +59,43 @@ part_inside page at bytes from count within few =
 
 pub part_zeros : (n from count : ℕ) → from + count ≤ n → part (replicate {A = ℕ} n 0) from count ≡ replicate count 0
 part_zeros n from count within = ap (λ (l : List ℕ). take count l) (drop-replicate from n 0) ∙ take-replicate count (n - from) 0 (omega arith)
+
+-- ---- bytes
+
+pub low_append : (xs ys : List ℕ) → IsBytes xs → IsBytes ys → IsBytes (xs ++ ys)
+low_append [] ys one two i = two i
+low_append (x ∷ xs) ys one two zero = one 0
+low_append (x ∷ xs) ys one two (suc i) = low_append xs ys (λ j. one (suc j)) two i
+
+pub low_drop : (n : ℕ) (bytes : List ℕ) → IsBytes bytes → IsBytes (drop n bytes)
+low_drop n bytes low i = omega (arith, get_or-drop n bytes i 0, low (n + i))
+
+pub low_take : (n : ℕ) (bytes : List ℕ) → IsBytes bytes → IsBytes (take n bytes)
+low_take n bytes low i = ⊎_elim
+    (λ (lt : i < n). omega (arith, get_or-take n bytes i 0 lt, low i))
+    (λ (le : n ≤ i). omega (arith, get_or_past (take n bytes) i 0 (omega (arith, length-take n bytes))))
+    (cases_lt i n)
+
+pub low_put : (page : List ℕ) (at : ℕ) (bytes : List ℕ) → IsBytes page → IsBytes bytes → IsBytes (put page at bytes)
+low_put page at bytes one two =
+    low_append (take at page ++ bytes) (drop (at + length bytes) page) (low_append (take at page) bytes (low_take at page one) two) (low_drop (at + length bytes) page one)
+
+low_none : (i : ℕ) → get_or {A = ℕ} [] i 0 < 256
+low_none i = omega (arith, get_or_past {X = ℕ} [] i 0 (omega arith))
+
+pub low_two : (n : ℕ) → IsBytes (to_be_bytes w16 n)
+low_two n zero = omega arith
+low_two n (suc zero) = omega arith
+low_two n (suc (suc i)) = low_none i
+
+pub low_four : (n : ℕ) → IsBytes (to_be_bytes w32 n)
+low_four n zero = omega arith
+low_four n (suc zero) = omega arith
+low_four n (suc (suc zero)) = omega arith
+low_four n (suc (suc (suc zero))) = omega arith
+low_four n (suc (suc (suc (suc i)))) = low_none i
+
+pub low_zeros : (n : ℕ) → IsBytes (replicate n 0)
+low_zeros zero i = low_none i
+low_zeros (suc n) zero = omega arith
+low_zeros (suc n) (suc i) = low_zeros n i

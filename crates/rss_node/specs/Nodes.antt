@@ -1,5 +1,5 @@
 -- A node as the bytes of its page.
-use Rattle.std.specs.Prelude.{◌≡◌, ℕ, suc, zero, ◌+◌, ◌≤◌, Bool, true, false, List, [], ◌∷◌, ◌++◌, length, take, drop, replicate, slice_index, slice_index_or}
+use Rattle.std.specs.Prelude.{◌≡◌, ℕ, suc, zero, ◌+◌, ◌<◌, ◌≤◌, Bool, true, false, List, [], ◌∷◌, ◌++◌, length, take, drop, replicate, get_or, slice_index, slice_index_or}
 use Rattle.std.specs.Int.{w16, w32, to_be_bytes, from_be_bytes}
 use Rattle.rss_base.specs.Sizes.{page_bytes}
 use Rattle.rss_levels.specs.Entries.{Entry, IsLess, capacity}
@@ -48,8 +48,13 @@ node_from width page = record {
   entries = entries_from width (count_of page) (drop 32 page);
 }
 
+-- the numbers are bytes
+abbrev pub IsBytes : List ℕ → Type 0
+IsBytes bytes = (i : ℕ) → get_or bytes i 0 < 256
+
 -- the page is one of a node: its mark, its zeros, and no more entries than it has room for
 pub record IsNodePage (width : ℕ) (page : List ℕ) : Type 0 where
+  pub bytes : IsBytes page
   pub wide : 1 ≤ width
   pub narrow : width ≤ 120
   pub size : length page ≡ page_bytes

@@ -1,12 +1,12 @@
 // The laws of pairs.
-ghost use Rattle.std.specs.Prelude.{◌≡◌, ℕ, List, length};
+ghost use Rattle.std.specs.Prelude.{◌≡◌, ℕ, ◌^◌, ◌<◌, ◌≤◌, List, length};
 ghost use Rattle.std.specs.Ordering.{nat_cmp};
 ghost use Rattle.std.specs.Cmp.Lexicographic.{slice_cmp};
 ghost use Rattle.rss_base.specs.Trees.{Pair, pair_cmp};
-ghost use Rattle.rss_base.specs.Nodes.{IsNodePage};
+ghost use Rattle.rss_base.specs.Nodes.{Node, NodesOf, IsNodePage};
 ghost use Rattle.rss_levels.specs.Entries.{Each};
-ghost use Rattle.rss_node.specs.Nodes.{NodeView, Spells};
-ghost use Rattle.rss_node.specs.Pairs.{IsSpelledTid, pair_bytes, IsBytes, HasSlot, base_node, nodes_of_node};
+ghost use Rattle.rss_node.specs.Nodes.{NodeView, Spells, IsBytes};
+ghost use Rattle.rss_node.specs.Pairs.{IsSpelledTid, pair_bytes, HasSlot, base_node, nodes_of_node, view_of};
 
 /// Pairs are ordered by their bytes as by their keys, and then by their identifiers.
 pub fn pairs_are_ordered()
@@ -14,10 +14,17 @@ pub fn pairs_are_ordered()
         → slice_cmp nat_cmp (pair_bytes a.key a.tid) (pair_bytes b.key b.tid) ≡ pair_cmp a b }
 {}
 
-/// A page that spells a node is a node's page by the definition of the base, where its bytes are
-/// bytes and the identifiers of its entries name entries that a page may have.
+/// A page that spells a node is a node's page by the definition of the base, where the identifiers
+/// of its entries name entries that a page may have.
 pub fn pages_are_node_pages()
-    ensures { (page : List ℕ) (node : NodeView) → Spells page node → IsBytes page
+    ensures { (page : List ℕ) (node : NodeView) → Spells page node
         → Each (HasSlot node.width) node.entries
         → IsNodePage (nodes_of_node node) node.number page (base_node node) }
+{}
+
+/// A node's page by the definition of the base spells a node, where its bytes are bytes.
+pub fn node_pages_spell()
+    ensures { (of : NodesOf) (number : ℕ) (page : List ℕ) (node : Node)
+        → 1 ≤ of.width → of.width ≤ 120 → number < 2 ^ 32 → IsBytes page
+        → IsNodePage of number page node → Spells page (view_of of number node) }
 {}

@@ -3,7 +3,7 @@ ghost use Rattle.std.specs.Prelude.{◌≡◌, ◌↔◌, IsTrue, ◌+◌, ◌*�
 ghost use Rattle.std.specs.Ordering.{nat_cmp};
 ghost use Rattle.std.specs.Cmp.Lexicographic.{slice_cmp};
 ghost use Rattle.rss_levels.specs.Entries.{Entry, capacity};
-ghost use Rattle.rss_node.specs.Nodes.{NodeView, entries_from, spliced, with_entries, with_next, entry_at, Spells, IsPassed, AreNodes, IsNodeOf, blank_node, header_bytes, HasForm};
+ghost use Rattle.rss_node.specs.Nodes.{NodeView, IsBytes, entries_from, spliced, with_entries, with_next, entry_at, Spells, IsPassed, AreNodes, IsNodeOf, blank_node, header_bytes, HasForm};
 
 use crate::bytes::{is_part, part_of, put_and_move, u16_at};
 use crate::pair::{Nodes, Pair};
@@ -33,13 +33,16 @@ impl Model for Node {
 const HEADER: usize = 32;
 
 /// The header of a node without entries.
-fn header(of: Nodes, level: u8, number: u32) -> [u8; HEADER]
-    ensures { result ≡ header_bytes of level number }
+fn header(segment: u8, image: u8, level: u8, number: u32) -> [u8; HEADER]
+    ensures spelled { result
+        ≡ header_bytes (record { segment = segment; image = image; width = 0 }) level number }
+    ensures bytes { IsBytes
+        (header_bytes (record { segment = segment; image = image; width = 0 }) level number) }
 {
     let [a, b, c, d] = number.to_be_bytes();
     [
-        3, of.segment, of.image, level, a, b, c, d, 0, 0, 0, 0, 255, 255, 255, 255, 0, 0, 0, 0, 0,
-        0, 0, 0, 0, 0, 0, 0, 0, 0, 0, 0,
+        3, segment, image, level, a, b, c, d, 0, 0, 0, 0, 255, 255, 255, 255, 0, 0, 0, 0, 0, 0, 0,
+        0, 0, 0, 0, 0, 0, 0, 0, 0,
     ]
 }
 
@@ -62,7 +65,8 @@ impl Node {
         ensures { result ≡ blank_node of level number }
     {
         let mut page = [0u8; PAGE_BYTES];
-        put_bytes(&mut page, 0, &header(of, level, number));
+        let header = header(of.segment, of.image, level, number);
+        put_bytes(&mut page, 0, &header);
         Node {
             page,
             width: of.width,
