@@ -15,3 +15,4 @@ pub mod Counted
 pub mod Making
 pub mod Giving
 pub mod Nested
+pub mod Rowed

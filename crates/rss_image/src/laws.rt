@@ -2,7 +2,7 @@
 ghost use Rattle.rss_base.specs.Paged.{Held};
 ghost use Rattle.rss_node.specs.Nodes.{AreNodes};
 ghost use Rattle.rss_image.specs.Images.{nodes_of, HasFewPages, HasFewLevels, SpellOne};
-ghost use Rattle.rss_image.specs.Agreement.{AreImages};
+ghost use Rattle.rss_image.specs.Agreement.{AreImages, SpellImages};
 ghost use Rattle.rss_image.specs.declared.image.Image.{Image as SomeImage};
 
 /// The pages of an image spell one list at most.
@@ -27,4 +27,10 @@ pub fn levels_are_few()
 /// `rss_base`): the same pairs, in the same pages, each once.
 pub fn trees_are_images()
     ensures { (image : SomeImage) (held : Held) → AreImages image held }
+{}
+
+/// Where pages are an image by its nodes (`IsImage` of `rss_base`), each of them once, they spell it
+/// by its rows (`ImageTree`): the same pairs, in the same pages.
+pub fn images_are_trees()
+    ensures { (image : SomeImage) (held : Held) → SpellImages image held }
 {}
