@@ -1,0 +1,12 @@
+pub mod Bounding
+pub mod Standing
+pub mod Deciding
+pub mod Surveying
+pub mod Moving
+pub mod Keeping
+pub mod Leading
+pub mod Runs
+pub mod Sources
+pub mod Undoing
+pub mod Redoing
+pub mod Recovering

@@ -1,0 +1,5 @@
+pub mod Events
+pub mod Reading
+pub mod Surveys
+pub mod Restarting
+pub mod Walks

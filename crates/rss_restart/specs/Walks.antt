@@ -1,0 +1,138 @@
+-- The way of a restart: one change after another is undone, or done again, as the log tells it.
+use Rattle.std.specs.Prelude.{◌≡◌, ℕ, ◌*◌, ◌≤◌, List, [], ◌∷◌, ◌++◌, map, length, Result, Err, IsErrOf, ⊤}
+use Rattle.std.specs.List.{AllByRecursion}
+use Rattle.rss_base.specs.DiskRule.{IsTold}
+use Rattle.rss_base.specs.Faults.{Rises}
+use Rattle.rss_base.specs.Steps.{PagesStep}
+use Rattle.rss_base.specs.Listings.{Listing}
+use Rattle.rss_base.specs.LogRecords.{BeginsWith}
+use Rattle.rss_base.specs.declared.fault.PageFault.{PageFault}
+use Rattle.rss_base.specs.declared.fault.PageFault.TheVariants.{Device as DeviceFailed, Damaged, NoMemory}
+use Rattle.rss_base.specs.declared.place.Place.{Place}
+use Rattle.rss_base.specs.declared.place.Place.TheVariants.{Log as LogPlace}
+use Rattle.rss_base.specs.declared.change.Change as told
+use Rattle.rss_base.specs.declared.log_record.LogRecord.TheVariants as records
+use Rattle.rss_page.specs.Slotted.{IsHeapKey}
+use Rattle.rss_log.specs.Logs.{LogView, bytes_from}
+use Rattle.rss_model.specs.Tables.{Tables, content}
+use Rattle.rss_model.specs.Changes.{Change}
+use Rattle.rss_model.specs.Fits.{Fits}
+use Rattle.rss_model.specs.Meanings.{IsChangeTold, Means}
+use Rattle.rss_model.specs.Store.{SpellsTables}
+use Rattle.rss_access.specs.Changes.{AccessView, IsTupleRecord, reversed, applied, alter_cost, Alters, Applies, Takes, CanApply}
+use Rattle.rss_restart.specs.declared.restarting.Way.{Way}
+use Rattle.rss_restart.specs.declared.restarting.Way.TheVariants.{Back, Again}
+use Rattle.rss_restart.specs.Surveys.{IsLogPlace}
+use Rattle.rss_restart.specs.Restarting.{KeepsCatalog}
+
+-- ---- one change
+
+-- which way a change is made, and the position of its record
+pub record Turn : Type 0 where
+  pub way : Way
+  pub at : ℕ
+
+abbrev pub turn : Way → ℕ → Turn
+turn way at = record { way = way; at = at }
+
+-- what is applied: where a change is undone, the change turned round
+abbrev pub directed : Way → told.Change → told.Change
+directed Back change = reversed change
+directed Again change = change
+
+-- a fault of a change, by the position of its record
+abbrev pub recorded : ℕ → PageFault → PageFault
+recorded at DeviceFailed = DeviceFailed
+recorded at (Damaged place) = Damaged (LogPlace at)
+recorded at NoMemory = NoMemory
+
+-- the record at a position is that of this change of a tuple
+pub record TellsAt (log : LogView) (at : ℕ) (change : told.Change) : Type 0 where
+  pub by : ℕ
+  pub rest : List ℕ
+  pub begins : BeginsWith (bytes_from log at) (records.Change by change) rest
+  pub tuple : IsTupleRecord change
+
+-- it isn't that of a change of a tuple
+abbrev pub TellsNone : LogView → ℕ → Type 0
+TellsNone log at = (change : told.Change) → TellsAt log at change → ⊥
+
+-- The change at this position is made: it is applied as the log tells it, and takes two pages at most.
+pub record StepsTo (log : LogView) (next : Turn) (old new : AccessView) : Type 0 where
+  pub told_change : told.Change
+  pub tells : TellsAt log next.at told_change
+  pub applies : Applies (directed next.way told_change) old new
+  pub alters : Alters (directed next.way told_change) old new
+  pub takes : Takes 2 old.pages new.pages
+
+-- there are no tables from which it can be made
+abbrev pub NoStep : LogView → Turn → AccessView → Type 0
+NoStep log next at =
+    (told_change : told.Change) → TellsAt log next.at told_change → 2 ≤ at.pages.spare
+    → (tables : Tables) (change : Change)
+    → CanApply at (directed next.way told_change) tables change → ⊥
+
+-- ---- one after another
+
+-- a change that is made: what the log tells of it, and what it means, turned round where it is undone
+pub record Move : Type 0 where
+  pub next : Turn
+  pub told_change : told.Change
+  pub change : Change
+
+abbrev pub turns_of : List Move → List Turn
+turns_of moves = map (λ m. m.next) moves
+
+-- the log tells it, and it means this by the listing
+pub record IsMove (listing : Listing) (log : LogView) (m : Move) : Type 0 where
+  pub tells : TellsAt log m.next.at m.told_change
+  pub is : IsChangeTold listing m.change.by (directed m.next.way m.told_change) m.change
+  pub means : Means listing (directed m.next.way m.told_change) m.change
+
+-- the tables after the changes
+abbrev pub moved : Tables → List Move → Tables
+moved tables [] = tables
+moved tables (m ∷ moves) = moved (applied tables m.change) moves
+
+-- each finds the old content of its item
+abbrev pub MovesFind : Tables → List Move → Type 0
+MovesFind tables [] = ⊤
+MovesFind tables (m ∷ moves) =
+    (content tables.contents m.change.item ≡ m.change.old) × MovesFind (applied tables m.change) moves
+
+-- all tables on the way fit
+abbrev pub MovesFit : ℕ → Tables → List Move → Type 0
+MovesFit slots tables [] = Fits slots tables
+MovesFit slots tables (m ∷ moves) = Fits slots tables × MovesFit slots (applied tables m.change) moves
+
+-- The pages spell these tables, and from them these changes can be made, one after another.
+pub record CanWalk (log : LogView) (at : AccessView) (tables : Tables) (moves : List Move) : Type 0 where
+  pub spells : SpellsTables at.pages.held at.catalog.listing tables
+  pub are : AllByRecursion (IsMove at.catalog.listing log) moves
+  pub find : MovesFind tables moves
+  pub fit : MovesFit at.pages.slots tables moves
+  pub room : 2 * length moves ≤ at.pages.spare
+
+-- What was made is the front of what can be made: the rest can be made from the tables that are then there.
+abbrev pub Leads : LogView → List Turn → AccessView → AccessView → Type 0
+Leads log turns old new =
+    IsTold old.pages.disk → (tables : Tables) (front rest : List Move) → turns_of front ≡ turns
+    → CanWalk log old tables (front ++ rest) → CanWalk log new (moved tables front) rest
+
+-- these can't all be made
+abbrev pub NoWalk : LogView → List Turn → AccessView → Type 0
+NoWalk log turns at =
+    (tables : Tables) (front rest : List Move) → turns_of front ≡ turns
+    → CanWalk log at tables (front ++ rest) → ⊥
+
+-- What making so many changes at most passes on: home and overflow pages alone are touched, each failure of the device has its cause, memory never runs out, and what is damaged is a position of the log.
+pub record Walks {T : Type 0} (log : LogView) (most : ℕ) (old new : AccessView)
+    (result : Result T PageFault) : Type 0 where
+  pub made : ℕ
+  pub few : made ≤ most
+  pub step : PagesStep IsHeapKey (made * alter_cost old.pages.slots)
+      (made * alter_cost old.pages.slots) old.pages new.pages
+  pub keeps : KeepsCatalog old new
+  pub failed : IsErrOf result DeviceFailed → Rises old.pages.faults new.pages.faults
+  pub memory : IsErrOf result NoMemory → ⊥
+  pub place : (place : Place) → result ≡ Err (Damaged place) → IsLogPlace log place

@@ -1,0 +1,8 @@
+//! Restart: the pages of a store, which have the tables of its last checkpoint, brought to the
+//! tables that its log recovers.
+#![tactic(auto)]
+
+mod restarting;
+mod survey;
+
+pub use restarting::restart;
