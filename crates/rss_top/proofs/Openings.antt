@@ -52,9 +52,9 @@ like_at {image = image} {size = size} opens like =
     subst (λ (t : Tables). OpensTo image size t) same.1 (subst (λ (s : StoreSize). OpensTo image s like.tables) same.0 like.is)
 
 -- what a stop within the opening leaves, by the first scene
-leaves_at : {before : Disk} {pages : Pages} (first : State) → OpensTo pages first.size first.base → (image : Pages) → LeavesLike before pages image → MayLeave before (plain first) image
-leaves_at first opens image (inl left) = inl left
-leaves_at first opens image (inr like) = inr (like_at opens like)
+leaves_at : {pages : Pages} (before : Disk) (first : State) → OpensTo pages first.size first.base → (image : Pages) → LeavesLike before pages image → MayLeave before (plain first) image
+leaves_at before first opens image (inl left) = inl left
+leaves_at before first opens image (inr like) = inr (like_at opens like)
 
 module _ {device below : DeviceView} {engine : EngineView} {sink : Stream} {ended : View} {source_old source_new : Stream} {status : Status}
     (opening : IsOpened device engine) (passes : PassesOpening device below) (ran : RunsScript (record { world = on below sink; shows = engine.shows; is_up = engine.is_up }) ended source_old source_new status) (tells : TellsDamage status sink ended.world.sink) where
@@ -96,7 +96,7 @@ module _ {device below : DeviceView} {engine : EngineView} {sink : Stream} {ende
         record {
           first = found.state;
           begins = opens_with found.state found.begins found.reads opens;
-          run = opened below.disk.moment (opening_window (widened (passes.moments pages told) (leaves_at found.state found.reads)) (ran.passes.history (still_told known))) (end_at known);
+          run = opened below.disk.moment (opening_window (widened (passes.moments pages told) (leaves_at device.disk found.state found.reads)) (ran.passes.history (still_told known))) (end_at known);
         };
     complete = λ size tables pages told opens script source short faultless.
         let known : IsTold device.disk = record { pages = pages; is = told } in
@@ -145,7 +145,7 @@ module _ {old new : World} {source : Stream} (moments : Told old.disk (λ pages.
   unopened_from {pages = pages} told opens failed silent = record {
     first = opening_state opens;
     begins = opening_in opens;
-    run = unopened failed (widened (moments pages told) (leaves_at (opening_state opens) opens)) refl silent;
+    run = unopened failed (widened (moments pages told) (leaves_at old.disk (opening_state opens) opens)) refl silent;
   }
 
   alone_broken : {place : Place} (pages : Pages) → old.disk.contents ≡ Some pages → IsBrokenAt place pages → IsLeftAlone old new source source
