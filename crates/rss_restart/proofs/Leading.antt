@@ -23,6 +23,9 @@ use Rattle.rss_access.proofs.Altering.{applies_by}
 use Rattle.rss_access.proofs.Telling.{none_applies}
 use Rattle.rss_restart.specs.declared.restarting.Way.{Way}
 use Rattle.rss_restart.specs.Walks.{Turn, turn, directed, recorded, Move, turns_of, moved, TellsAt, TellsNone, StepsTo, NoStep, CanWalk, Leads, NoWalk, Walks}
+use Rattle.rss_restart.specs.Walks.{Counted}
+use Rattle.rss_restart.specs.Walks.Counted.{counts_none, counts_more}
+use Rattle.rss_catalog.specs.Catalogs.{CatalogView}
 use Rattle.rss_restart.proofs.Keeping.{keeps_itself, keeps_then, keeps_made}
 use Rattle.rss_restart.proofs.Moving.{walks_on, no_step_walks, told_once, directed_tuple}
 
@@ -251,3 +254,12 @@ passed_on {U = U} {result = result} {fault = fault} {place = place} is damaged =
     let same : ◌≡◌ {A = Result U PageFault} (Err fault) (Err (Damaged place)) = sym (why.1 ∙ ap Err why.2) ∙ damaged in
     let one : fault ≡ Damaged place = cc (same) in
     ap Err one
+
+-- ---- the counts
+
+pub counted_both : {log : LogView} {one two : List Turn} {old mid new : CatalogView} → Counted log one old mid → Counted log two mid new → Counted log (one ++ two) old new
+counted_both counts_none rest = rest
+counted_both (counts_more tells at counts front) rest = counts_more tells at counts (counted_both front rest)
+
+pub counted_more : {log : LogView} {turns : List Turn} {next : Turn} {start : CatalogView} {old new : AccessView} → Counted log turns start old.catalog → StepsTo log next old new → Counted log (turns ++ next ∷ []) start new.catalog
+counted_more counted step = counted_both counted (counts_more step.tells step.alters.listed step.alters.counts counts_none)

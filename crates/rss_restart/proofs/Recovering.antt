@@ -26,6 +26,9 @@ use Rattle.rss_restart.specs.declared.restarting.Way.TheVariants.{Back, Again}
 use Rattle.rss_restart.specs.Surveys.{IsLogOf, IsLogPlace, Surveys, redone_at}
 use Rattle.rss_restart.specs.Restarting.{Recovery, CanRestart, RestartPasses, recovered_tables, changes_made}
 use Rattle.rss_restart.specs.Walks.{Turn, turn, Move, turns_of, moved, CanWalk, Leads, NoWalk, Walks}
+use Rattle.rss_restart.specs.Walks.{Counted, turns_in}
+use Rattle.rss_catalog.specs.Catalogs.{CatalogView}
+use Rattle.rss_restart.proofs.Leading.{counted_both}
 use Rattle.rss_restart.proofs.Keeping.{keeps_itself}
 use Rattle.rss_restart.proofs.Runs.{Runs, ground_of, walk_both}
 use Rattle.rss_restart.proofs.Sources.{Stands, stand_all, IsSource, sources}
@@ -134,3 +137,9 @@ passes_walk few walks = record {
   same = λ is. absurd (walks.memory is);
   place = walks.place;
 }
+
+-- ---- what is counted
+
+pub counted_all : {log : LogView} {older newer : List Logged} {undone redone : List ℕ} {old mid new : CatalogView} → Surveys older newer undone redone → Counted log (map (turn Back) undone) old mid → Counted log (map (turn Again) redone) mid new → Counted log (turns_in older newer) old new
+counted_all {log = log} {old = old} {new = new} surveys one two =
+    subst (λ (turns : List Turn). Counted log turns old new) (λ i. map (turn Back) (surveys.undone_is i) ++ map (turn Again) (surveys.redone_is i)) (counted_both one two)

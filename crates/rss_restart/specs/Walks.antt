@@ -1,10 +1,11 @@
 -- The way of a restart: one change after another is undone, or done again, as the log tells it.
-use Rattle.std.specs.Prelude.{◌≡◌, ℕ, ◌*◌, ◌≤◌, List, [], ◌∷◌, ◌++◌, map, length, Result, Err, IsErrOf, ⊤}
+use Rattle.std.specs.Prelude.{◌≡◌, ℕ, ◌*◌, ◌≤◌, List, [], ◌∷◌, ◌++◌, map, length, Result, Err, IsErrOf, ⊤, Some}
 use Rattle.std.specs.List.{AllByRecursion}
 use Rattle.rss_base.specs.DiskRule.{IsTold}
 use Rattle.rss_base.specs.Faults.{Rises}
 use Rattle.rss_base.specs.Steps.{PagesStep}
-use Rattle.rss_base.specs.Listings.{Listing}
+use Rattle.rss_base.specs.Listings.{Listing, relation_at}
+use Rattle.rss_base.specs.declared.relation.RelationEntry.{RelationEntry}
 use Rattle.rss_base.specs.LogRecords.{BeginsWith}
 use Rattle.rss_base.specs.declared.fault.PageFault.{PageFault}
 use Rattle.rss_base.specs.declared.fault.PageFault.TheVariants.{Device as DeviceFailed, Damaged, NoMemory}
@@ -14,15 +15,18 @@ use Rattle.rss_base.specs.declared.change.Change as told
 use Rattle.rss_base.specs.declared.log_record.LogRecord.TheVariants as records
 use Rattle.rss_page.specs.Slotted.{IsHeapKey}
 use Rattle.rss_log.specs.Logs.{LogView, bytes_from}
+use Rattle.rss_catalog.specs.Catalogs.{CatalogView}
 use Rattle.rss_model.specs.Tables.{Tables, content}
 use Rattle.rss_model.specs.Changes.{Change}
 use Rattle.rss_model.specs.Fits.{Fits}
-use Rattle.rss_model.specs.Meanings.{IsChangeTold, Means}
+use Rattle.rss_model.specs.Restart.{losers}
+use Rattle.rss_model.specs.Recovers.{lists_at}
+use Rattle.rss_model.specs.Meanings.{IsChangeTold, Means, Logged, as_entries}
 use Rattle.rss_model.specs.Store.{SpellsTables}
-use Rattle.rss_access.specs.Changes.{AccessView, IsTupleRecord, reversed, applied, alter_cost, Alters, Applies, Takes, CanApply}
+use Rattle.rss_access.specs.Changes.{AccessView, IsTupleRecord, reversed, applied, alter_cost, Alters, Applies, Takes, CanApply, CountsChange, number_told}
 use Rattle.rss_restart.specs.declared.restarting.Way.{Way}
 use Rattle.rss_restart.specs.declared.restarting.Way.TheVariants.{Back, Again}
-use Rattle.rss_restart.specs.Surveys.{IsLogPlace}
+use Rattle.rss_restart.specs.Surveys.{IsLogPlace, redone_at}
 use Rattle.rss_restart.specs.Restarting.{KeepsCatalog}
 
 -- ---- one change
@@ -136,3 +140,20 @@ pub record Walks {T : Type 0} (log : LogView) (most : ℕ) (old new : AccessView
   pub failed : IsErrOf result DeviceFailed → Rises old.pages.faults new.pages.faults
   pub memory : IsErrOf result NoMemory → ⊥
   pub place : (place : Place) → result ≡ Err (Damaged place) → IsLogPlace log place
+
+-- ---- the catalog
+
+-- The counts go with these changes, one after another: each is told at its position, and its relation is listed and counts it.
+pub data Counted (log : LogView) : List Turn → CatalogView → CatalogView → Type 0 where
+  counts_none : {catalog : CatalogView} → Counted log [] catalog catalog
+  counts_more : {next : Turn} {turns : List Turn} {told_change : told.Change} {relation : RelationEntry}
+      {old mid new : CatalogView} → TellsAt log next.at told_change
+      → relation_at old.listing (number_told (directed next.way told_change)) ≡ Some relation
+      → CountsChange (directed next.way told_change) relation old mid
+      → Counted log turns mid new → Counted log (next ∷ turns) old new
+
+-- the changes that are undone, and then those that are done again
+abbrev pub turns_in : List Logged → List Logged → List Turn
+turns_in older newer =
+    map (turn Back) (map (λ l. l.at) (losers (as_entries newer) (lists_at (as_entries older))))
+    ++ map (turn Again) (redone_at newer)

@@ -1,14 +1,15 @@
 // Restart: what is undone, and what is done again.
-ghost use Rattle.std.specs.Prelude.{◌≡◌, ℕ, ◌≤◌, length, map, take, All, IfSome, IfNone, Err, OnOk};
+ghost use Rattle.std.specs.Prelude.{◌≡◌, ℕ, ◌≤◌, length, map, take, List, All, IfSome, IfNone, Err, OnOk};
 ghost use Rattle.rss_base.specs.DiskRule.{IsTold};
 ghost use Rattle.rss_base.specs.declared.fault.PageFault.TheVariants.{Damaged};
 ghost use Rattle.rss_base.specs.declared.place.Place.{Place as AnyPlace};
 ghost use Rattle.rss_tuple.specs.Heaps.{AreHeaps};
+ghost use Rattle.rss_model.specs.Meanings.{Logged};
 ghost use Rattle.rss_access.specs.Changes.{both, IsTupleRecord, CanAlter, Makes};
 ghost use Rattle.rss_restart.specs.Restarting.{Recovered, NoneRecovered, RestartPasses};
-ghost use Rattle.rss_restart.specs.Surveys.{IsChangeAt};
+ghost use Rattle.rss_restart.specs.Surveys.{IsChangeAt, IsLogOf};
 ghost use Rattle.rss_restart.specs.Walks.{turn, directed, recorded, TellsAt, TellsNone, StepsTo, NoStep};
-ghost use Rattle.rss_restart.specs.Walks.{Leads, NoWalk, Walks};
+ghost use Rattle.rss_restart.specs.Walks.{Leads, NoWalk, Walks, Counted, turns_in};
 
 use crate::survey::survey;
 use rss_access::{apply, undo};
@@ -51,6 +52,9 @@ pub fn restart<P: Pages>(
     requires high { checkpoint ≤ log.now.end }
     ensures recovers { OnOk result (Recovered log.now checkpoint
         (both (P.view tuples.old.pages) catalog.old) (both (P.view tuples.new.pages) catalog.new)) }
+    ensures counted { OnOk result ((older newer : List Logged)
+        → IsLogOf catalog.old.listing log.now checkpoint older newer
+        → Counted log.now (turns_in older newer) catalog.old catalog.new) }
     ensures sound { (place : AnyPlace) → result ≡ Err (Damaged place)
         → IsTold (P.view tuples.old.pages).disk
         → NoneRecovered log.now checkpoint (both (P.view tuples.old.pages) catalog.old) }
@@ -76,6 +80,8 @@ fn walk<P: Pages>(
     requires within { All (IsChangeAt log.now) positions.now }
     ensures leads { OnOk result (Leads log.now (map (turn way) positions.now)
         (both (P.view tuples.old.pages) catalog.old) (both (P.view tuples.new.pages) catalog.new)) }
+    ensures counted { OnOk result
+        (Counted log.now (map (turn way) positions.now) catalog.old catalog.new) }
     ensures sound { (place : AnyPlace) → result ≡ Err (Damaged place)
         → IsTold (P.view tuples.old.pages).disk
         → NoWalk log.now (map (turn way) positions.now)

@@ -5,7 +5,7 @@ use Rattle.rss_access.specs.Changes.{both}
 use Rattle.rss_model.specs.Meanings.{Logged}
 use Rattle.rss_restart.specs.Surveys.{Surveys}
 use Rattle.rss_restart.proofs.Leading.{passed_on, walks_then, walks_fail}
-use Rattle.rss_restart.proofs.Recovering.{not_undone, not_redone, recovers_all, few_undone, few_both, passes_walk, passes_nothing}
+use Rattle.rss_restart.proofs.Recovering.{not_undone, not_redone, recovers_all, few_undone, few_both, passes_walk, passes_nothing, counted_all}
 use Rattle.rss_restart.proofs.restarting.restart.Goals as goal
 
 -- of the same positions
@@ -42,3 +42,6 @@ returns-clause-heaps g c = on_ok c.walk-2.result (λ heaps told. heaps (c.in_ok-
 
 pub returns-clause-did : goal.returns-clause-did
 returns-clause-did g c = passes_walk (λ older newer is. few_both (surveyed c.deref.ensures.value c.deref-2.ensures.value (c.in_ok-found.ensures.finds c.args.catalog.now.listing older newer is))) (walks_then c.in_ok-walk.ensures.did c.walk-2.ensures.did)
+
+pub returns-clause-counted : goal.returns-clause-counted
+returns-clause-counted g c = on_ok c.walk-2.result (λ redoes older newer is. counted_all (surveyed c.deref.ensures.value c.deref-2.ensures.value (c.in_ok-found.ensures.finds c.args.catalog.now.listing older newer is)) c.in_ok-walk.ensures.counted redoes) c.walk-2.ensures.counted

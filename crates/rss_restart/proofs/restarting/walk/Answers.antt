@@ -2,13 +2,15 @@ use Rattle.std.proofs.Common.{◌+◌, List, drop, get_or, sym, subst, arith, Ok
 use Rattle.std.specs.Prelude.{map}
 use Rattle.rss_base.specs.DiskRule.{IsTold}
 use Rattle.rss_access.specs.Changes.{both}
-use Rattle.rss_restart.specs.Walks.{Turn, turn, Leads, NoWalk}
-use Rattle.rss_restart.proofs.Leading.{leads_nowhere, leads_more, leads_no_more, turns_more, turns_all, walks_nothing, walks_then, walks_fail, walks_within, passed_on}
+use Rattle.rss_restart.specs.Walks.{Turn, turn, Leads, NoWalk, Counted}
+use Rattle.rss_restart.specs.Walks.Counted.{counts_none}
+use Rattle.rss_restart.proofs.Leading.{counted_more, leads_nowhere, leads_more, leads_no_more, turns_more, turns_all, walks_nothing, walks_then, walks_fail, walks_within, passed_on}
 use Rattle.rss_restart.proofs.restarting.walk.Goals as goal
 
 pub loop-position-init : goal.loop-position-init
 loop-position-init g c = record {
   leads = leads_nowhere (both (g.P.Pages.view c.args.tuples.now.pages) c.args.catalog.now);
+  counted = counts_none;
   heaps = c.requires.heaps;
   went = walks_nothing (both (g.P.Pages.view c.args.tuples.now.pages) c.args.catalog.now);
 }
@@ -22,6 +24,8 @@ loop-position-preserved g c =
     record {
       leads = subst (λ (turns : List Turn). Leads c.args.log.now turns old new) (sym (turns_more c.args.way c.args.positions.now c.loop-position.position-index c.loop-position-test.true))
           (leads_more c.loop-position.invariant.leads still c.in_ok-make.ensures.steps c.in_ok-make.ensures.did.step.passes.slots);
+      counted = subst (λ (turns : List Turn). Counted c.args.log.now turns c.args.catalog.now c.make.new.catalog) (sym (turns_more c.args.way c.args.positions.now c.loop-position.position-index c.loop-position-test.true))
+          (counted_more c.loop-position.invariant.counted c.in_ok-make.ensures.steps);
       heaps = λ told. (c.in_ok-make.ensures.steps.alters.changes.sets (still told)).heaps;
       went = walks_then {result = Ok tt} c.loop-position.invariant.went c.in_ok-make.ensures.did;
     }
