@@ -18,14 +18,14 @@ use Rattle.rss_levels.proofs.Lists.{each_append, each_left, each_right, each_wea
 use Rattle.rss_levels.proofs.Order.{before_trans, before_less, fence_from, zeros_least}
 use Rattle.rss_levels.proofs.Held.{held_append}
 use Rattle.rss_levels.proofs.Shuffles.{same_refl, same_trans, same_append, same_swap}
-use Rattle.rss_node.specs.Nodes.{IsBytes, AreNodes}
+use Rattle.rss_node.specs.Nodes.{AreNodes}
 use Rattle.rss_node.specs.Pairs.{IsSpelledTid, pair_bytes, entry_of, next_number}
 use Rattle.rss_node.specs.declared.pair.Nodes.{Nodes}
 use Rattle.rss_node.proofs.Ordered.{pairs_ordered}
 use Rattle.rss_node.proofs.Spelled.{spelled_page}
 use Rattle.rss_image.specs.Trees.{cells_of, spells}
 use Rattle.rss_image.specs.Images.{nodes_of, has_slot}
-use Rattle.rss_image.specs.Agreement.{base_of, AreNumbered, HoldBytes, HasSameTree}
+use Rattle.rss_image.specs.Agreement.{base_of, AreNumbered, HasSameTree}
 use Rattle.rss_image.specs.declared.image.Image.{Image}
 use Rattle.rss_image.proofs.Putting.{zeros_slot, slot_pair, long_pair}
 use Rattle.rss_image.proofs.Halves.{many}
@@ -223,11 +223,11 @@ module _ (held : Held) (of : Nodes) (fit : AreNodes of) (numbered : AreNumbered 
   abbrev good : List ℕ → Bool
   good pair = has_slot of.width pair
 
-  held_node : (number : ℕ) (node : Node) → ((bytes : List ℕ) → cells number ≡ Some bytes → IsBytes bytes) → IsNodeAt held (base_of of) number node → HoldsAt (spells of) cells node.level number (next_number node.next) (map entry_of node.entries)
-  held_node number node low at = record {
+  held_node : (number : ℕ) (node : Node) → IsNodeAt held (base_of of) number node → HoldsAt (spells of) cells node.level number (next_number node.next) (map entry_of node.entries)
+  held_node number node at = record {
     bytes = at.bytes;
     held = at.there;
-    spells = spelled_page (base_of of) number at.bytes node fit.wide fit.narrow (let below = numbered number at.bytes at.there in omega (arith, below)) (low at.bytes at.there) at.is;
+    spells = spelled_page (base_of of) number at.bytes node fit.wide fit.narrow (let below = numbered number at.bytes at.there in omega (arith, below)) at.is;
   }
 
   -- the rows of a tree of a level, but for the order of leaves
@@ -351,11 +351,11 @@ module _ (held : Held) (of : Nodes) (fit : AreNodes of) (numbered : AreNumbered 
   )
 
   leaf_rows : (n number end : ℕ) (next : Option ℕ) (pairs : List Pair) (low : List ℕ) → good low ≡ true → IsNodeAt held (base_of of) number (record { level = 0; next = next; entries = map base_leaf_entry pairs }) → n ≤ length pairs → next_number next ≡ end
-      → ((bytes : List ℕ) → cells number ≡ Some bytes → IsBytes bytes) → Each (λ p. IsLess (bytes_of p) low → ⊥) pairs → Pairwise IsBelow pairs
+      → Each (λ p. IsLess (bytes_of p) low → ⊥) pairs → Pairwise IsBelow pairs
       → TreeRows 0 n number low (record { pages = number ∷ []; leaves = record { number = number; next = next; pairs = pairs } ∷ [] }) end
-  leaf_rows n number end next pairs low fine at many leads bytes above rises =
+  leaf_rows n number end next pairs low fine at many leads above rises =
       let es : List Entry = map leaf_item pairs in
-      let node = held_node number (record { level = 0; next = next; entries = map base_leaf_entry pairs }) bytes at in
+      let node = held_node number (record { level = 0; next = next; entries = map base_leaf_entry pairs }) at in
       let goods = good_pairs of.width pairs (good_entries of.width (map base_leaf_entry pairs) at.is.each) in
       let long : length es ≡ length pairs = length-map pairs leaf_item in
       let less = items_rise pairs goods rises in
@@ -386,12 +386,12 @@ module _ (held : Held) (of : Nodes) (fit : AreNodes of) (numbered : AreNumbered 
       λ i. record { pair = pair i; child = first.child }
 
   inner_rows : (level n number end : ℕ) (first : NodeEntry) (entries : List NodeEntry) (reached : Reached) (low : List ℕ) → good low ≡ true → IsNodeAt held (base_of of) number (record { level = suc level; next = None; entries = first ∷ entries }) → n ≤ length (first ∷ entries) → IsFirstEntry of.width first
-      → ((bytes : List ℕ) → cells number ≡ Some bytes → IsBytes bytes) → TreesRows level low (first ∷ entries) reached end → TreeRows (suc level) n number low (record { pages = number ∷ reached.pages; leaves = reached.leaves }) end
-  inner_rows level n number end first entries reached low fine at many is_first bytes rest =
+      → TreesRows level low (first ∷ entries) reached end → TreeRows (suc level) n number low (record { pages = number ∷ reached.pages; leaves = reached.leaves }) end
+  inner_rows level n number end first entries reached low fine at many is_first rest =
       let es : List Entry = map entry_of entries in
       let all : List Entry = named low (first ∷ entries) in
       let part : Part = record { number = number; low = low; items = all } in
-      let node = held_node number (record { level = suc level; next = None; entries = first ∷ entries }) bytes at in
+      let node = held_node number (record { level = suc level; next = None; entries = first ∷ entries }) at in
       let there : HoldsAt (spells of) cells (suc level) number no_page (record { pair = zeros of.width; child = first.child } ∷ es) = subst (λ (e : Entry). HoldsAt (spells of) cells (suc level) number no_page (e ∷ es)) (zeros_pair first is_first) node in
       let long : length es ≡ length entries = length-map entries entry_of in
       let goods = good_entries of.width (first ∷ entries) at.is.each in
@@ -498,21 +498,21 @@ module _ (held : Held) (of : Nodes) (fit : AreNodes of) (numbered : AreNumbered 
   filled_one = let most = many of.width fit.narrow in omega (arith, most)
 
   mutual
-    tree_rows : {n level number : ℕ} {reached : Reached} → IsBaseTree held (base_of of) n level number reached → (low : List ℕ) (end : ℕ) → IsBound low (pairs_of reached.leaves) → Pairwise IsBelow (pairs_of reached.leaves) → LeadTo reached.leaves end → HoldBytes cells reached.pages → TreeRows level n number low reached end
-    tree_rows (is_leaf {least = n} {number = number} {next = next} {pairs = pairs} at much) low end bound rises leads bytes =
-        leaf_rows n number end next pairs low bound.fine at much leads.0 bytes.0 (subst (Each (λ p. IsLess (bytes_of p) low → ⊥)) (append-nil pairs) bound.above) (subst (Pairwise IsBelow) (append-nil pairs) rises)
-    tree_rows (is_inner {least = n} {level = level} {number = number} {first = first} {entries = entries} {reached = reached} at much is_first trees) low end bound rises leads bytes =
-        inner_rows level n number end first entries reached low bound.fine at much is_first bytes.0 (trees_rows trees low end (bound.fine, bound.above) (good_entries of.width (first ∷ entries) at.is.each) rises leads bytes.1)
+    tree_rows : {n level number : ℕ} {reached : Reached} → IsBaseTree held (base_of of) n level number reached → (low : List ℕ) (end : ℕ) → IsBound low (pairs_of reached.leaves) → Pairwise IsBelow (pairs_of reached.leaves) → LeadTo reached.leaves end → TreeRows level n number low reached end
+    tree_rows (is_leaf {least = n} {number = number} {next = next} {pairs = pairs} at much) low end bound rises leads =
+        leaf_rows n number end next pairs low bound.fine at much leads.0 (subst (Each (λ p. IsLess (bytes_of p) low → ⊥)) (append-nil pairs) bound.above) (subst (Pairwise IsBelow) (append-nil pairs) rises)
+    tree_rows (is_inner {least = n} {level = level} {number = number} {first = first} {entries = entries} {reached = reached} at much is_first trees) low end bound rises leads =
+        inner_rows level n number end first entries reached low bound.fine at much is_first (trees_rows trees low end (bound.fine, bound.above) (good_entries of.width (first ∷ entries) at.is.each) rises leads)
 
-    trees_rows : {level : ℕ} {bound : Option Pair} {es : List NodeEntry} {reached : Reached} → AreTrees held (base_of of) level bound es reached → (low : List ℕ) (end : ℕ) → Starts bound low es (pairs_of reached.leaves) → Each (λ e. IsGood of.width (pair_of e)) es → Pairwise IsBelow (pairs_of reached.leaves) → LeadTo reached.leaves end → HoldBytes cells reached.pages → TreesRows level low es reached end
-    trees_rows (no_child {level = level}) low end starts goods rises leads bytes = no_rows level end low
-    trees_rows (one_more {level = level} {least = bound} {entry = e} {entries = es} {one = one} {rest = rest} tree between others) low end starts goods rises leads bytes =
+    trees_rows : {level : ℕ} {bound : Option Pair} {es : List NodeEntry} {reached : Reached} → AreTrees held (base_of of) level bound es reached → (low : List ℕ) (end : ℕ) → Starts bound low es (pairs_of reached.leaves) → Each (λ e. IsGood of.width (pair_of e)) es → Pairwise IsBelow (pairs_of reached.leaves) → LeadTo reached.leaves end → TreesRows level low es reached end
+    trees_rows (no_child {level = level}) low end starts goods rises leads = no_rows level end low
+    trees_rows (one_more {level = level} {least = bound} {entry = e} {entries = es} {one = one} {rest = rest} tree between others) low end starts goods rises leads =
         let split = flat_pairs one.leaves rest.leaves in
         let both : Pairwise IsBelow (pairs_of one.leaves ++ pairs_of rest.leaves) = subst (Pairwise IsBelow) split rises in
-        let behind = trees_rows others (next_low es) end (starts_next es (pairs_of rest.leaves) goods.1) goods.1 (pairwise_right IsBelow (pairs_of one.leaves) (pairs_of rest.leaves) both) (lead_right one.leaves rest.leaves end leads) (each_right (λ number. (bytes : List ℕ) → cells number ≡ Some bytes → IsBytes bytes) one.pages rest.pages bytes) in
+        let behind = trees_rows others (next_low es) end (starts_next es (pairs_of rest.leaves) goods.1) goods.1 (pairwise_right IsBelow (pairs_of one.leaves) (pairs_of rest.leaves) both) (lead_right one.leaves rest.leaves end leads) in
         let fine = goods_of tree in
         let bound_is = bound_of bound (limit_of es) low e es (pairs_of one.leaves) (pairs_of rest.leaves) (subst (Starts bound low (e ∷ es)) split starts) between fine in
-        let here = tree_rows tree low (first_leaf rest.leaves end) bound_is (pairwise_left IsBelow (pairs_of one.leaves) (pairs_of rest.leaves) both) (lead_left one.leaves rest.leaves end leads) (each_left (λ number. (bytes : List ℕ) → cells number ≡ Some bytes → IsBytes bytes) one.pages rest.pages bytes) in
+        let here = tree_rows tree low (first_leaf rest.leaves end) bound_is (pairwise_left IsBelow (pairs_of one.leaves) (pairs_of rest.leaves) both) (lead_left one.leaves rest.leaves end leads) in
         beside level end bound low e es one rest (first_leaf rest.leaves end) behind (first_is (leaf_at behind.row behind.lower) rest.leaves end behind.leaves) here between goods.1 fine filled_one
 
   pub stack_of : (pairs : List (List ℕ)) (level : ℕ) (row : Row) (lower : List Row) → length lower ≡ level → IsPile level no_page row lower → IsLeaves pairs (leaf_at row lower) → IsStack (spells of) cells of.width pairs (row ∷ lower)
@@ -551,13 +551,13 @@ zeros_above : (width : ℕ) (pairs : List Pair) → Each (IsGood width) pairs �
 zeros_above width [] goods = tt
 zeros_above width (p ∷ pairs) goods = (zeros_least (bytes_of p) (width + 6) (long_pair width p.key p.tid (bytes_of p) refl goods.0.long), zeros_above width pairs goods.1)
 
-pub same_tree : (image : Image) (held : Held) → AreNodes (nodes_of image) → AreNumbered (cells_of (nodes_of image) held) → (numbers : List ℕ) (pairs : List Pair) → IsImage held (base_of (nodes_of image)) image.root image.levels numbers pairs → AreDifferent numbers → HoldBytes (cells_of (nodes_of image) held) numbers → HasSameTree image held numbers pairs
-same_tree image held fit numbered numbers pairs is different bytes =
+pub same_tree : (image : Image) (held : Held) → AreNodes (nodes_of image) → AreNumbered (cells_of (nodes_of image) held) → (numbers : List ℕ) (pairs : List Pair) → IsImage held (base_of (nodes_of image)) image.root image.levels numbers pairs → AreDifferent numbers → HasSameTree image held numbers pairs
+same_tree image held fit numbered numbers pairs is different =
     let of : Nodes = nodes_of image in
     let goods = goods_of held of fit numbered is.tree in
     let low : List ℕ = zeros image.width in
     let rows = tree_rows held of fit numbered is.tree low no_page (record { fine = zeros_slot image.width; above = zeros_above image.width (pairs_of is.reached.leaves) goods })
-    (subst (Pairwise IsBelow) is.pairs_are (rising_pairs pairs is.rising)) (lead is.reached.leaves is.chained) (subst (HoldBytes (cells_of of held)) is.pages_are bytes) in
+    (subst (Pairwise IsBelow) is.pairs_are (rising_pairs pairs is.rising)) (lead is.reached.leaves is.chained) in
     let leaf : Row = leaf_at (rows.part ∷ []) rows.lower in
     let leaves : IsLeaves (map (λ pair. pair_bytes pair.key pair.tid) pairs) leaf = record {
       pairs_are = leaves_items leaf is.reached.leaves rows.leaves ∙ ap (λ (l : List Pair). map leaf_item l) (sym is.pairs_are) ∙ items_said pairs;

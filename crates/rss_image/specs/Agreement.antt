@@ -4,10 +4,9 @@ use Rattle.rss_base.specs.Paged.{Held}
 use Rattle.rss_base.specs.Nodes.{NodesOf}
 use Rattle.rss_base.specs.Trees.{Pair, IsImage}
 use Rattle.rss_base.specs.Listings.{AreDifferent}
-use Rattle.rss_levels.specs.Entries.{Each}
 use Rattle.rss_levels.specs.Rows.{Cells, no_page}
 use Rattle.rss_levels.specs.Nested.{AreSameNumbers}
-use Rattle.rss_node.specs.Nodes.{IsBytes, AreNodes}
+use Rattle.rss_node.specs.Nodes.{AreNodes}
 use Rattle.rss_node.specs.Pairs.{pair_bytes, pair_from}
 use Rattle.rss_node.specs.declared.pair.Nodes.{Nodes}
 use Rattle.rss_image.specs.Trees.{cells_of}
@@ -32,10 +31,6 @@ pub record IsSameImage {image : Image} {held : Held} {pairs : List (List ℕ)} (
 abbrev pub AreImages : Image → Held → Type 0
 AreImages image held = AreNumbered (cells_of (nodes_of image) held) → (pairs : List (List ℕ)) (tree : ImageTree image held pairs) → IsSameImage tree
 
--- what these pages hold are bytes
-abbrev pub HoldBytes : Cells → List ℕ → Type 0
-HoldBytes cells numbers = Each (λ number. (bytes : List ℕ) → cells number ≡ Some bytes → IsBytes bytes) numbers
-
 -- The same image by its rows: these pairs, in the same pages.
 pub record HasSameTree (image : Image) (held : Held) (numbers : List ℕ) (pairs : List Pair) : Type 0 where
   pub tree : ImageTree image held (map (λ pair. pair_bytes pair.key pair.tid) pairs)
@@ -45,4 +40,4 @@ pub record HasSameTree (image : Image) (held : Held) (numbers : List ℕ) (pairs
 abbrev pub SpellImages : Image → Held → Type 0
 SpellImages image held = AreNodes (nodes_of image) → AreNumbered (cells_of (nodes_of image) held)
     → (numbers : List ℕ) (pairs : List Pair) → IsImage held (base_of (nodes_of image)) image.root image.levels numbers pairs
-    → AreDifferent numbers → HoldBytes (cells_of (nodes_of image) held) numbers → HasSameTree image held numbers pairs
+    → AreDifferent numbers → HasSameTree image held numbers pairs

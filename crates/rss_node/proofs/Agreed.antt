@@ -3,14 +3,14 @@ use Rattle.std.proofs.Common.{◌≡◌, ◌≢◌, ⊎_elim, ◌-◌, ℕ, suc,
 use Rattle.std.specs.Prelude.{flat_map, All}
 use Rattle.std.specs.Int.{w16, w32, to_be_bytes, from_be_bytes}
 use Rattle.std.proofs.lemmas.Nat.{be_bytes_2, be_bytes_4}
-use Rattle.std.proofs.lemmas.List.{take-append-drop, drop-drop, drop-take, take-take, append-nil, drop_all}
+use Rattle.std.proofs.lemmas.List.{take-append-drop, drop-drop, drop-take, take-take, append-nil, drop_all, get_or-take, get_or-drop}
 use Rattle.rss_base.specs.Nodes.{node_entry_spelled}
 use Rattle.rss_node.specs.Nodes.{part, entry_from, entries_from}
 use Rattle.rss_node.specs.Pairs.{IsSpelledTid, pair_bytes, pair_from, key_from, tid_from, node_entry, next_from, base_node, nodes_of_node, HasSlot}
-use Rattle.rss_node.proofs.Headers.{part_low, four, has_room}
+use Rattle.rss_node.proofs.Headers.{four, has_room}
 use Rattle.rss_node.proofs.Parts.{low_drop, low_take}
 use Rattle.rss_node.proofs.Codec.{length_entries}
-use Rattle.rss_node.specs.Nodes.{NodeView, node_from, count_of, Spells, IsNodePage, IsBytes}
+use Rattle.rss_node.specs.Nodes.{NodeView, node_from, count_of, Spells, IsNodePage, IsBytes, AreSpelled}
 use Rattle.rss_base.specs.Nodes.{NodesOf, IsNodeEntry, next_spelled, node_spelled, IsNodePage as IsBasePage}
 use Rattle.rss_levels.specs.Entries.{Each}
 use Rattle.rss_base.specs.Trees.{pair_cmp}
@@ -26,12 +26,6 @@ use Rattle.std.proofs.lemmas.List.Elements.{All-nil, All-cons}
 behind : (bytes : List ℕ) (at count : ℕ) → drop at bytes ≡ part bytes at count ++ drop (at + count) bytes
 behind bytes at count = sym (take-append-drop count (drop at bytes)) ∙ ap (λ (l : List ℕ). part bytes at count ++ l) (drop-drop count at bytes)
 
-four_back : (bytes : List ℕ) (at : ℕ) → IsBytes bytes → at + 4 ≤ length bytes → to_be_bytes w32 (from_be_bytes w32 (part bytes at 4)) ≡ part bytes at 4
-four_back bytes at low within = be_bytes_4 (part bytes at 4) (from_be_bytes w32 (part bytes at 4)) (length-take-le 4 (drop at bytes) (omega (arith, length-drop at bytes, within))) (λ i. part_low bytes at 4 i low) refl
-
-two_back : (bytes : List ℕ) (at : ℕ) → IsBytes bytes → at + 2 ≤ length bytes → to_be_bytes w16 (from_be_bytes w16 (part bytes at 2)) ≡ part bytes at 2
-two_back bytes at low within = be_bytes_2 (part bytes at 2) (from_be_bytes w16 (part bytes at 2)) (length-take-le 2 (drop at bytes) (omega (arith, length-drop at bytes, within))) (λ i. part_low bytes at 2 i low) refl
-
 -- a part of the front of bytes
 front_part : (bytes : List ℕ) (size at count : ℕ) → at + count ≤ size → part (take size bytes) at count ≡ part bytes at count
 front_part bytes size at count within =
@@ -40,15 +34,29 @@ front_part bytes size at count within =
     ∙ ap (take count) (drop-take at (size - at) bytes)
     ∙ take-take count (size - at) (drop at bytes) (omega arith)
 
+-- some of the bytes of a part
+low_front : (bytes : List ℕ) (at size count : ℕ) → IsBytes (part bytes at size) → count ≤ size → IsBytes (part bytes at count)
+low_front bytes at size count low few = subst IsBytes (take-take count size (drop at bytes) few) (low_take count (part bytes at size) low)
+
+low_within : (bytes : List ℕ) (at size from count : ℕ) → IsBytes (part bytes at size) → from + count ≤ size → IsBytes (part bytes (at + from) count)
+low_within bytes at size from count low few =
+    subst IsBytes (front_part (drop at bytes) size from count few ∙ ap (λ (l : List ℕ). take count l) (drop-drop from at bytes)) (low_take count (drop from (part bytes at size)) (low_drop from (part bytes at size) low))
+
+four_back : (bytes : List ℕ) (at : ℕ) → IsBytes (part bytes at 4) → at + 4 ≤ length bytes → to_be_bytes w32 (from_be_bytes w32 (part bytes at 4)) ≡ part bytes at 4
+four_back bytes at low within = be_bytes_4 (part bytes at 4) (from_be_bytes w32 (part bytes at 4)) (length-take-le 4 (drop at bytes) (omega (arith, length-drop at bytes, within))) low refl
+
+two_back : (bytes : List ℕ) (at : ℕ) → IsBytes (part bytes at 2) → at + 2 ≤ length bytes → to_be_bytes w16 (from_be_bytes w16 (part bytes at 2)) ≡ part bytes at 2
+two_back bytes at low within = be_bytes_2 (part bytes at 2) (from_be_bytes w16 (part bytes at 2)) (length-take-le 2 (drop at bytes) (omega (arith, length-drop at bytes, within))) low refl
+
 -- the entry at the front of bytes is what stands there
-entry_back : (width : ℕ) (bytes : List ℕ) → IsBytes bytes → width + 10 ≤ length bytes → bytes ≡ node_entry_spelled (node_entry width (entry_from width bytes)) ++ drop (width + 10) bytes
+entry_back : (width : ℕ) (bytes : List ℕ) → IsBytes (part bytes width 10) → width + 10 ≤ length bytes → bytes ≡ node_entry_spelled (node_entry width (entry_from width bytes)) ++ drop (width + 10) bytes
 entry_back width bytes low within =
     let key : take width (take (width + 6) bytes) ≡ take width bytes = take-take width (width + 6) bytes (omega arith) in
     let page_part : part (take (width + 6) bytes) width 4 ≡ part bytes width 4 = front_part bytes (width + 6) width 4 (omega arith) in
     let slot_part : part (take (width + 6) bytes) (width + 4) 2 ≡ part bytes (width + 4) 2 = front_part bytes (width + 6) (width + 4) 2 (omega arith) in
-    let page : to_be_bytes w32 (from_be_bytes w32 (part (take (width + 6) bytes) width 4)) ≡ part bytes width 4 = ap (λ (l : List ℕ). to_be_bytes w32 (from_be_bytes w32 l)) page_part ∙ four_back bytes width low (omega arith) in
-    let slot : to_be_bytes w16 (from_be_bytes w16 (part (take (width + 6) bytes) (width + 4) 2)) ≡ part bytes (width + 4) 2 = ap (λ (l : List ℕ). to_be_bytes w16 (from_be_bytes w16 l)) slot_part ∙ two_back bytes (width + 4) low (omega arith) in
-    let child : to_be_bytes w32 (from_be_bytes w32 (part bytes (width + 6) 4)) ≡ part bytes (width + 6) 4 = four_back bytes (width + 6) low (omega arith) in
+    let page : to_be_bytes w32 (from_be_bytes w32 (part (take (width + 6) bytes) width 4)) ≡ part bytes width 4 = ap (λ (l : List ℕ). to_be_bytes w32 (from_be_bytes w32 l)) page_part ∙ four_back bytes width (low_front bytes width 10 4 low (omega arith)) (omega arith) in
+    let slot : to_be_bytes w16 (from_be_bytes w16 (part (take (width + 6) bytes) (width + 4) 2)) ≡ part bytes (width + 4) 2 = ap (λ (l : List ℕ). to_be_bytes w16 (from_be_bytes w16 l)) slot_part ∙ two_back bytes (width + 4) (low_within bytes width 10 4 2 low (omega arith)) (omega arith) in
+    let child : to_be_bytes w32 (from_be_bytes w32 (part bytes (width + 6) 4)) ≡ part bytes (width + 6) 4 = four_back bytes (width + 6) (low_within bytes width 10 6 4 low (omega arith)) (omega arith) in
     let six : width + 4 + 2 ≡ width + 6 = omega arith in
     let ten : width + 6 + 4 ≡ width + 10 = omega arith in
     let rest : List ℕ = drop (width + 10) bytes in
@@ -64,15 +72,15 @@ entry_back width bytes low within =
         ap (λ (l : List ℕ). a ++ l) (ap (λ (l : List ℕ). b ++ l) (sym (append_assoc c d e)) ∙ sym (append_assoc b (c ++ d) e) ∙ ap (λ (l : List ℕ). l ++ e) (sym (append_assoc b c d)))
         ∙ sym (append_assoc a ((b ++ c) ++ d) e)
 
-pub entries_back : (width count : ℕ) (bytes : List ℕ) → IsBytes bytes → count * (width + 10) ≤ length bytes → bytes ≡ flat_map node_entry_spelled (map (node_entry width) (entries_from width count bytes)) ++ drop (count * (width + 10)) bytes
+pub entries_back : (width count : ℕ) (bytes : List ℕ) → AreSpelled width count bytes → count * (width + 10) ≤ length bytes → bytes ≡ flat_map node_entry_spelled (map (node_entry width) (entries_from width count bytes)) ++ drop (count * (width + 10)) bytes
 entries_back width zero bytes low within = let none : 0 ≡ 0 * (width + 10) = omega arith in ap (λ (n : ℕ). drop n bytes) none
 entries_back width (suc count) bytes low within =
     let first : width + 10 ≤ length bytes = omega arith in
     let rest : List ℕ = drop (width + 10) bytes in
-    let more = entries_back width count rest (low_drop (width + 10) bytes low) (omega (arith, length-drop (width + 10) bytes)) in
+    let more = entries_back width count rest low.1 (omega (arith, length-drop (width + 10) bytes)) in
     let all : width + 10 + count * (width + 10) ≡ suc count * (width + 10) = omega arith in
     let spelled : List ℕ = flat_map node_entry_spelled (map (node_entry width) (entries_from width count rest)) in
-    entry_back width bytes low first
+    entry_back width bytes low.0 first
     ∙ ap (λ (l : List ℕ). node_entry_spelled (node_entry width (entry_from width bytes)) ++ l) (more ∙ ap (λ (l : List ℕ). spelled ++ l) (drop-drop (count * (width + 10)) (width + 10) bytes ∙ ap (λ (n : ℕ). drop n bytes) all))
     ∙ sym (append_assoc (node_entry_spelled (node_entry width (entry_from width bytes))) spelled (drop (suc count * (width + 10)) bytes))
 
@@ -90,8 +98,8 @@ number_low (a ∷ b ∷ c ∷ []) long low = absurd (omega (arith, long))
 number_low (a ∷ b ∷ c ∷ d ∷ []) long low = four_low a b c d (low 0) (low 1) (low 2) (low 3)
 number_low (a ∷ b ∷ c ∷ d ∷ e ∷ rest) long low = absurd (omega (arith, long))
 
-part_number : (page : List ℕ) (at : ℕ) → IsBytes page → at + 4 ≤ length page → from_be_bytes w32 (part page at 4) < 2 ^ 32
-part_number page at low within = number_low (part page at 4) (length-take-le 4 (drop at page) (omega (arith, length-drop at page, within))) (λ i. part_low page at 4 i low)
+part_number : (page : List ℕ) (at : ℕ) → IsBytes (part page at 4) → at + 4 ≤ length page → from_be_bytes w32 (part page at 4) < 2 ^ 32
+part_number page at low within = number_low (part page at 4) (length-take-le 4 (drop at page) (omega (arith, length-drop at page, within))) low
 
 next_back : (next : ℕ) (bytes : List ℕ) → to_be_bytes w32 next ≡ bytes → next_spelled (next_from next) ≡ bytes
 next_back next bytes is = ⊎_elim
@@ -111,9 +119,6 @@ next_low next low = ⊎_elim
 -- ---- a page
 
 module _ (width : ℕ) (page : List ℕ) (formed : IsNodePage width page) where
-  low : IsBytes page
-  low = formed.bytes
-
   abbrev said : NodeView
   said = node_from width page
 
@@ -127,7 +132,7 @@ module _ (width : ℕ) (page : List ℕ) (formed : IsNodePage width page) where
   entries_long = length_entries width (count_of page) (drop 32 page)
 
   count_spelled : to_be_bytes w16 (length (map (node_entry width) said.entries)) ≡ part page 8 2
-  count_spelled = ap (to_be_bytes w16) (length-map said.entries (node_entry width) ∙ entries_long) ∙ two_back page 8 low (omega (arith, size))
+  count_spelled = ap (to_be_bytes w16) (length-map said.entries (node_entry width) ∙ entries_long) ∙ two_back page 8 (low_within page 3 13 5 2 formed.header (omega arith)) (omega (arith, size))
 
   -- what stands behind the entries
   abbrev rest : List ℕ
@@ -138,9 +143,9 @@ module _ (width : ℕ) (page : List ℕ) (formed : IsNodePage width page) where
       let count : count_of page * (width + 10) ≤ 4064 = has_room width (count_of page) formed.few in
       let fits : count_of page * (width + 10) ≤ length (drop 32 page) = omega (arith, count, length-drop 32 page, size) in
       let spelled : List ℕ = flat_map node_entry_spelled (map (node_entry width) said.entries) in
-      let entries : drop 32 page ≡ spelled ++ rest = entries_back width (count_of page) (drop 32 page) (low_drop 32 page low) fits in
-      let number = four_back page 4 low (omega (arith, size)) in
-      let next = next_back said.next (part page 12 4) (four_back page 12 low (omega (arith, size))) in
+      let entries : drop 32 page ≡ spelled ++ rest = entries_back width (count_of page) (drop 32 page) formed.entries fits in
+      let number = four_back page 4 (low_within page 3 13 1 4 formed.header (omega arith)) (omega (arith, size)) in
+      let next = next_back said.next (part page 12 4) (four_back page 12 (low_within page 3 13 9 4 formed.header (omega arith)) (omega (arith, size))) in
       sym (take-append-drop 4 page)
       ∙ (λ i. four page (omega (arith, size)) i ++ drop 4 page)
       ∙ ap (λ (b : ℕ). b ∷ get_or page 1 0 ∷ get_or page 2 0 ∷ get_or page 3 0 ∷ drop 4 page) formed.mark
@@ -160,20 +165,20 @@ module _ (width : ℕ) (page : List ℕ) (formed : IsNodePage width page) where
           ∙ ap (λ (l : List ℕ). a ++ l) (sym (append_assoc b (0 ∷ 0 ∷ (c ++ (d ++ e))) f))
           ∙ sym (append_assoc a (b ++ 0 ∷ 0 ∷ (c ++ (d ++ e))) f)
 
-  entry_at_front : (bytes : List ℕ) → IsBytes bytes → width + 10 ≤ length bytes → HasSlot width (entry_from width bytes) → IsNodeEntry width (node_entry width (entry_from width bytes))
+  entry_at_front : (bytes : List ℕ) → IsBytes (part bytes width 10) → width + 10 ≤ length bytes → HasSlot width (entry_from width bytes) → IsNodeEntry width (node_entry width (entry_from width bytes))
   entry_at_front bytes few within slot = record {
     key = length-take-le width (take (width + 6) bytes) (omega (arith, length-take-le (width + 6) bytes (omega (arith, within))));
-    page = subst (λ (l : List ℕ). from_be_bytes w32 l < 2 ^ 32) (sym (front_part bytes (width + 6) width 4 (omega arith))) (part_number bytes width few (omega (arith, within)));
+    page = subst (λ (l : List ℕ). from_be_bytes w32 l < 2 ^ 32) (sym (front_part bytes (width + 6) width 4 (omega arith))) (part_number bytes width (low_front bytes width 10 4 few (omega arith)) (omega (arith, within)));
     slot = slot;
-    child = part_number bytes (width + 6) few (omega (arith, within));
+    child = part_number bytes (width + 6) (low_within bytes width 10 6 4 few (omega arith)) (omega (arith, within));
   }
 
-  each_entry : (count : ℕ) (bytes : List ℕ) → IsBytes bytes → count * (width + 10) ≤ length bytes → Each (HasSlot width) (entries_from width count bytes) → All (IsNodeEntry width) (map (node_entry width) (entries_from width count bytes))
+  each_entry : (count : ℕ) (bytes : List ℕ) → AreSpelled width count bytes → count * (width + 10) ≤ length bytes → Each (HasSlot width) (entries_from width count bytes) → All (IsNodeEntry width) (map (node_entry width) (entries_from width count bytes))
   each_entry zero bytes few within slots = All-nil (IsNodeEntry width)
   each_entry (suc count) bytes few within slots =
       let first : width + 10 ≤ length bytes = omega arith in
-      All-cons (IsNodeEntry width) (node_entry width (entry_from width bytes)) (map (node_entry width) (entries_from width count (drop (width + 10) bytes))) (entry_at_front bytes few first slots.0)
-      (each_entry count (drop (width + 10) bytes) (low_drop (width + 10) bytes few) (omega (arith, length-drop (width + 10) bytes)) slots.1)
+      All-cons (IsNodeEntry width) (node_entry width (entry_from width bytes)) (map (node_entry width) (entries_from width count (drop (width + 10) bytes))) (entry_at_front bytes few.0 first slots.0)
+      (each_entry count (drop (width + 10) bytes) few.1 (omega (arith, length-drop (width + 10) bytes)) slots.1)
 
   pub is_base_page : Each (HasSlot width) said.entries → IsBasePage whose said.number page (base_node said)
   is_base_page slots =
@@ -183,9 +188,9 @@ module _ (width : ℕ) (page : List ℕ) (formed : IsNodePage width page) where
         size = formed.size;
         spelled = ap (take (length spelled)) page_back ∙ take_front spelled rest;
         few = omega (arith, length-map said.entries (node_entry width), entries_long, formed.few);
-        each = each_entry (count_of page) (drop 32 page) (low_drop 32 page low) (omega (arith, count, length-drop 32 page, size)) slots;
-        level = low 3;
-        next = next_low said.next (part_number page 12 low (omega (arith, size)));
+        each = each_entry (count_of page) (drop 32 page) formed.entries (omega (arith, count, length-drop 32 page, size)) slots;
+        level = omega (arith, get_or-take 13 (drop 3 page) 0 0 (omega arith), get_or-drop 3 page 0 0, formed.header 0);
+        next = next_low said.next (part_number page 12 (low_within page 3 13 9 4 formed.header (omega arith)) (omega (arith, size)));
       }
     where
       take_front : (xs ys : List ℕ) → take (length xs) (xs ++ ys) ≡ xs
@@ -199,16 +204,16 @@ base_page page node spells slots =
 
 -- ---- pairs
 
--- as long as a pair of keys of this width is, and bytes
+-- as long as a pair of keys of this width is, with bytes behind the key
 pub record IsWhole (width : ℕ) (pair : List ℕ) : Type 0 where
   pub long : length pair ≡ width + 6
-  pub bytes : IsBytes pair
+  pub bytes : IsBytes (part pair width 6)
 
-whole_entries : (width count : ℕ) (bytes : List ℕ) → IsBytes bytes → count * (width + 10) ≤ length bytes → Each (λ e. IsWhole width e.pair) (entries_from width count bytes)
+whole_entries : (width count : ℕ) (bytes : List ℕ) → AreSpelled width count bytes → count * (width + 10) ≤ length bytes → Each (λ e. IsWhole width e.pair) (entries_from width count bytes)
 whole_entries width zero bytes low within = tt
 whole_entries width (suc count) bytes low within = (
-  record { long = length-take-le (width + 6) bytes (omega (arith, within)); bytes = low_take (width + 6) bytes low },
-  whole_entries width count (drop (width + 10) bytes) (low_drop (width + 10) bytes low) (omega (arith, length-drop (width + 10) bytes)),
+  record { long = length-take-le (width + 6) bytes (omega (arith, within)); bytes = subst IsBytes (sym (front_part bytes (width + 6) width 6 (omega arith))) (low_front bytes width 10 6 low.0 (omega arith)) },
+  whole_entries width count (drop (width + 10) bytes) low.1 (omega (arith, length-drop (width + 10) bytes)),
 )
 
 -- the pairs of a node's entries are whole
@@ -217,13 +222,13 @@ whole_page page node spells =
     let formed = spells.formed in
     let count : count_of page * (node.width + 10) ≤ 4064 = has_room node.width (count_of page) formed.few in
     subst (λ (n : NodeView). Each (λ e. IsWhole node.width e.pair) n.entries) spells.says
-    (whole_entries node.width (count_of page) (drop 32 page) (low_drop 32 page formed.bytes) (omega (arith, count, length-drop 32 page, formed.size)))
+    (whole_entries node.width (count_of page) (drop 32 page) formed.entries (omega (arith, count, length-drop 32 page, formed.size)))
 
 -- a pair is the bytes of its key and of its identifier
 pub pair_back : (width : ℕ) (pair : List ℕ) → IsWhole width pair → pair_bytes (key_from width pair) (tid_from width pair) ≡ pair
 pair_back width pair whole =
-    let page = four_back pair width whole.bytes (omega (arith, whole.long)) in
-    let slot = two_back pair (width + 4) whole.bytes (omega (arith, whole.long)) in
+    let page = four_back pair width (low_front pair width 6 4 whole.bytes (omega arith)) (omega (arith, whole.long)) in
+    let slot = two_back pair (width + 4) (low_within pair width 6 4 2 whole.bytes (omega arith)) (omega (arith, whole.long)) in
     let none : drop (width + 4 + 2) pair ≡ [] = drop_all (width + 4 + 2) pair (omega (arith, whole.long)) in
     let last : drop (width + 4) pair ≡ part pair (width + 4) 2 = behind pair (width + 4) 2 ∙ ap (λ (l : List ℕ). part pair (width + 4) 2 ++ l) none ∙ append-nil (part pair (width + 4) 2) in
     (λ i. take width pair ++ (page i ++ slot i))
@@ -233,8 +238,8 @@ pair_back width pair whole =
 
 pub tid_spelled : (width : ℕ) (pair : List ℕ) → IsWhole width pair → IsSpelledTid (tid_from width pair)
 tid_spelled width pair whole = record {
-  page = part_number pair width whole.bytes (omega (arith, whole.long));
-  slot = short_number (part pair (width + 4) 2) (length-take-le 2 (drop (width + 4) pair) (omega (arith, length-drop (width + 4) pair, whole.long))) (low_take 2 (drop (width + 4) pair) (low_drop (width + 4) pair whole.bytes));
+  page = part_number pair width (low_front pair width 6 4 whole.bytes (omega arith)) (omega (arith, whole.long));
+  slot = short_number (part pair (width + 4) 2) (length-take-le 2 (drop (width + 4) pair) (omega (arith, length-drop (width + 4) pair, whole.long))) (low_within pair width 6 4 2 whole.bytes (omega arith));
 }
   where
     two_low : (a b : ℕ) → a < 256 → b < 256 → a * 256 + b < 2 ^ 16

@@ -1,5 +1,5 @@
 -- A page of which the entries and their number are changed.
-use Rattle.std.proofs.Common.{◌≡◌, inl, inr, ℕ, ◌+◌, ◌-◌, ◌*◌, ◌^◌, ◌<◌, ◌≤◌, List, [], ◌∷◌, ◌++◌, length, take, drop, get_or, refl, sym, ◌∙◌, ap, subst, arith, length-take-le, length-drop, length-append}
+use Rattle.std.proofs.Common.{◌≡◌, inl, inr, ℕ, suc, zero, ◌+◌, ◌-◌, ◌*◌, ◌^◌, ◌<◌, ◌≤◌, List, [], ◌∷◌, ◌++◌, length, take, drop, get_or, refl, sym, ◌∙◌, ap, subst, arith, length-take-le, length-drop, length-append}
 use Rattle.std.proofs.lemmas.List.{drop-append-le, drop-take, drop-drop, get_or-take, get_or-drop}
 use Rattle.std.proofs.lemmas.Nat.{from_be_bytes-to_be_bytes_2}
 use Rattle.std.proofs.Math.Nat.{mul-le-mul_right, div-mul-le_self}
@@ -7,7 +7,7 @@ use Rattle.std.specs.Int.{w16, w32, to_be_bytes, from_be_bytes}
 use Rattle.rss_levels.specs.Entries.{Entry, capacity}
 use Rattle.rss_node.specs.Nodes.{NodeView, part, put, entries_from, count_of, node_from, IsNodePage, spliced, with_entries}
 use Rattle.rss_node.proofs.Parts.{before, part_kept, part_put, length-put, behind, low_append, low_take, low_drop, low_put, low_two, low_four}
-use Rattle.rss_node.specs.Nodes.{IsBytes}
+use Rattle.rss_node.specs.Nodes.{IsBytes, AreSpelled}
 use Rattle.std.proofs.lemmas.Nat.{from_be_bytes-to_be_bytes_4}
 use Rattle.std.proofs.lemmas.List.{take-take, take-append-drop, get_or_past, length-take}
 use Rattle.std.proofs.lemmas.Bool.{cases_lt}
@@ -21,6 +21,16 @@ use Rattle.rss_node.proofs.Codec.{entries_spliced}
 
 byte_part : (page : List ℕ) (i : ℕ) → get_or page i 0 ≡ get_or (part page i 1) 0 0
 byte_part page i = ap (λ (n : ℕ). get_or page n 0) (omega arith) ∙ sym (get_or-drop i page 0 0) ∙ sym (get_or-take 1 (drop i page) 0 0 (omega arith))
+
+header_low : (page : List ℕ) → IsBytes page → IsBytes (part page 3 13)
+header_low page low = low_take 13 (drop 3 page) (low_drop 3 page low)
+
+entries_low : (width count : ℕ) (bytes : List ℕ) → IsBytes bytes → AreSpelled width count bytes
+entries_low width zero bytes low = tt
+entries_low width (suc count) bytes low = (low_take 10 (drop width bytes) (low_drop width bytes low), entries_low width count (drop (width + 10) bytes) (low_drop (width + 10) bytes low))
+
+page_low : (width : ℕ) (page : List ℕ) → IsBytes page → AreSpelled width (count_of page) (drop 32 page)
+page_low width page low = entries_low width (count_of page) (drop 32 page) (low_drop 32 page low)
 
 -- the parts of the header, but for the number of entries
 pub record KeepsHeader (page page_now : List ℕ) : Type 0 where
@@ -41,7 +51,8 @@ says_kept width page page_now kept entries are =
 
 pub formed_kept : (width : ℕ) (page page_now : List ℕ) → KeepsHeader page page_now → IsNodePage width page → IsBytes page_now → length page_now ≡ 4096 → count_of page_now ≤ capacity width → IsNodePage width page_now
 formed_kept width page page_now kept formed bytes size few = record {
-  bytes = bytes;
+  header = header_low page_now bytes;
+  entries = page_low width page_now bytes;
   wide = formed.wide;
   narrow = formed.narrow;
   size = size;
@@ -84,14 +95,15 @@ counted width now page moved front size long same low is =
 
 pub record IsSpliced (width : ℕ) (page front : List ℕ) (at removed : ℕ) (news : List Entry) : Type 0 where
   pub formed : IsNodePage width front
+  pub bytes : IsBytes front
   pub says : node_from width front ≡ with_entries (node_from width page) (spliced (node_from width page).entries at removed news)
 
-pub spliced_page : (width at removed count now old : ℕ) (page bytes moved front : List ℕ) → IsNodePage width page → old ≡ count_of page → at + removed ≤ old → IsBytes bytes → length bytes ≡ count * (width + 10) → old + count ≤ capacity width + removed
+pub spliced_page : (width at removed count now old : ℕ) (page bytes moved front : List ℕ) → IsNodePage width page → IsBytes page → old ≡ count_of page → at + removed ≤ old → IsBytes bytes → length bytes ≡ count * (width + 10) → old + count ≤ capacity width + removed
     → now + removed ≡ old + count
     → moved ≡ take (32 + at * (width + 10)) page ++ (bytes ++ (part page (32 + (at + removed) * (width + 10)) (32 + old * (width + 10) - (32 + (at + removed) * (width + 10))) ++ drop (32 + at * (width + 10) + (length bytes + (32 + old * (width + 10) - (32 + (at + removed) * (width + 10))))) page))
     → front ≡ put moved 8 (to_be_bytes w16 now)
     → IsSpliced width page front at removed (entries_from width count bytes)
-spliced_page width at removed count now old page bytes moved front formed old_is within low_bytes many room is_now is_moved is_front =
+spliced_page width at removed count now old page bytes moved front formed low_page old_is within low_bytes many room is_now is_moved is_front =
     let size : ℕ = width + 10 in
     let rest : ℕ = old - (at + removed) in
     let body : List ℕ = drop 32 page in
@@ -123,7 +135,7 @@ spliced_page width at removed count now old page bytes moved front formed old_is
     ap (λ (n : ℕ). take n (drop f page)) span_is
     ∙ ap (λ (l : List ℕ). take (rest * size) l) (sym (drop-drop ((at + removed) * size) 32 page)) in
     let many_now : now ≡ at + (count + rest) = omega (arith, is_now) in
-    let low_moved : IsBytes moved = subst IsBytes (sym is_moved) (low_append (take a page) r (low_take a page formed.bytes) (low_append bytes (part page f span ++ junk) low_bytes (low_append (part page f span) junk (low_take span (drop f page) (low_drop f page formed.bytes)) (low_drop (a + (length bytes + span)) page formed.bytes)))) in
+    let low_moved : IsBytes moved = subst IsBytes (sym is_moved) (low_append (take a page) r (low_take a page low_page) (low_append bytes (part page f span ++ junk) low_bytes (low_append (part page f span) junk (low_take span (drop f page) (low_drop f page low_page)) (low_drop (a + (length bytes + span)) page low_page)))) in
     let low_front : IsBytes front = subst IsBytes (sym is_front) (low_put moved 8 (to_be_bytes w16 now) low_moved (low_two now)) in
     let news : List Entry = entries_from width count bytes in
     let entries : entries_from width (count_of front) (drop 32 front) ≡ spliced (entries_from width (count_of page) body) at removed news =
@@ -133,6 +145,7 @@ spliced_page width at removed count now old page bytes moved front formed old_is
     ∙ ap (λ (n : ℕ). spliced (entries_from width n body) at removed news) old_is in
     record {
       formed = formed_kept width page front head.0 formed low_front head.2 (omega (arith, head.1, now_low));
+      bytes = low_front;
       says = says_kept width page front head.0 (spliced (entries_from width (count_of page) body) at removed news) entries;
     }
 
@@ -140,10 +153,11 @@ spliced_page width at removed count now old page bytes moved front formed old_is
 
 pub record IsRenexted (width next : ℕ) (page front : List ℕ) : Type 0 where
   pub formed : IsNodePage width front
+  pub bytes : IsBytes front
   pub says : node_from width front ≡ with_next (node_from width page) next
 
-pub next_page : (width next : ℕ) (page front : List ℕ) → IsNodePage width page → next < 2 ^ 32 → front ≡ put page 12 (to_be_bytes w32 next) → IsRenexted width next page front
-next_page width next page front formed low is =
+pub next_page : (width next : ℕ) (page front : List ℕ) → IsNodePage width page → IsBytes page → next < 2 ^ 32 → front ≡ put page 12 (to_be_bytes w32 next) → IsRenexted width next page front
+next_page width next page front formed low_page low is =
     let long : length page ≡ 4096 = formed.size in
     let be : List ℕ = to_be_bytes w32 next in
     let four : length be ≡ 4 = refl in
@@ -158,9 +172,12 @@ next_page width next page front formed low is =
     let segment = byte 1 (omega arith) in
     let image = byte 2 (omega arith) in
     let level = byte 3 (omega arith) in
+    let low_front : IsBytes front = subst IsBytes (sym is) (low_put page 12 be low_page (low_four next)) in
     record {
+      bytes = low_front;
       formed = record {
-        bytes = subst IsBytes (sym is) (low_put page 12 be formed.bytes (low_four next));
+        header = header_low front low_front;
+        entries = page_low width front low_front;
         wide = formed.wide;
         narrow = formed.narrow;
         size = ap length is ∙ length-put page 12 be (omega arith) ∙ long;
@@ -176,10 +193,11 @@ next_page width next page front formed low is =
 
 pub record IsBlank (of : Nodes) (level number : ℕ) (page : List ℕ) : Type 0 where
   pub formed : IsNodePage of.width page
+  pub bytes : IsBytes page
   pub says : node_from of.width page ≡ blank_node of level number
 
 pub blank_page : (of : Nodes) (level number : ℕ) (page front : List ℕ) → AreNodes of → number < 2 ^ 32 → length page ≡ 4096 → IsBytes page → IsBytes (header_bytes of level number) → front ≡ put page 0 (header_bytes of level number) → IsBlank of level number front
-blank_page of level number page front wide low long page_low head_low is =
+blank_page of level number page front wide low long zeros_low head_low is =
     let head : List ℕ = header_bytes of level number in
     let many : length head ≡ 32 = refl in
     let inside : (from count : ℕ) → from + count ≤ 32 → part front from count ≡ part head from count = λ from count lt. let start : from ≡ 0 + from = omega arith in ap (λ (l : List ℕ). part l from count) is ∙ ap (λ (n : ℕ). part (put page 0 head) n count) start ∙ part_inside page 0 head from count (omega arith) (omega arith) in
@@ -193,9 +211,12 @@ blank_page of level number page front wide low long page_low head_low is =
     let segment = byte 1 (omega arith) in
     let image = byte 2 (omega arith) in
     let level_is = byte 3 (omega arith) in
+    let low_front : IsBytes front = subst IsBytes (sym is) (low_put page 0 head zeros_low head_low) in
     record {
+      bytes = low_front;
       formed = record {
-        bytes = subst IsBytes (sym is) (low_put page 0 head page_low head_low);
+        header = header_low front low_front;
+        entries = page_low of.width front low_front;
         wide = wide.wide;
         narrow = wide.narrow;
         size = ap length is ∙ length-put page 0 head (omega arith) ∙ long;
@@ -211,7 +232,8 @@ blank_page of level number page front wide low long page_low head_low is =
 
 pub formed_read : (of : Nodes) (level number : ℕ) (page : List ℕ) → AreNodes of → IsBytes page → length page ≡ 4096 → HasForm of level number page → IsNodePage of.width page
 formed_read of level number page wide low size form = record {
-  bytes = low;
+  header = header_low page low;
+  entries = page_low of.width page low;
   wide = wide.wide;
   narrow = wide.narrow;
   size = size;

@@ -52,9 +52,13 @@ node_from width page = record {
 abbrev pub IsBytes : List ℕ → Type 0
 IsBytes bytes = (i : ℕ) → get_or bytes i 0 < 256
 
--- the page is one of a node: its mark, its zeros, and no more entries than it has room for
+-- the identifiers and the children of so many entries are spelled by bytes
+abbrev pub AreSpelled : ℕ → ℕ → List ℕ → Type 0
+AreSpelled width zero bytes = Unit {0}
+AreSpelled width (suc count) bytes = IsBytes (part bytes width 10) × AreSpelled width count (drop (width + 10) bytes)
+
+-- the page is one of a node: its mark, its zeros, no more entries than it has room for, and bytes where it spells numbers
 pub record IsNodePage (width : ℕ) (page : List ℕ) : Type 0 where
-  pub bytes : IsBytes page
   pub wide : 1 ≤ width
   pub narrow : width ≤ 120
   pub size : length page ≡ page_bytes
@@ -62,6 +66,13 @@ pub record IsNodePage (width : ℕ) (page : List ℕ) : Type 0 where
   pub gap : part page 10 2 ≡ replicate 2 0
   pub rest : part page 16 16 ≡ replicate 16 0
   pub few : count_of page ≤ capacity width
+  pub header : IsBytes (part page 3 13)
+  pub entries : AreSpelled width (count_of page) (drop 32 page)
+
+-- a page in memory that is one of a node
+pub record IsOwnPage (width : ℕ) (page : List ℕ) : Type 0 where
+  pub formed : IsNodePage width page
+  pub bytes : IsBytes page
 
 -- the page says this of a node
 pub record Spells (page : List ℕ) (node : NodeView) : Type 0 where

@@ -5,7 +5,7 @@ ghost use Rattle.std.specs.Cmp.Lexicographic.{slice_cmp};
 ghost use Rattle.rss_base.specs.Trees.{Pair, pair_cmp};
 ghost use Rattle.rss_base.specs.Nodes.{Node, NodesOf, IsNodePage};
 ghost use Rattle.rss_levels.specs.Entries.{Each};
-ghost use Rattle.rss_node.specs.Nodes.{NodeView, Spells, IsBytes};
+ghost use Rattle.rss_node.specs.Nodes.{NodeView, Spells};
 ghost use Rattle.rss_node.specs.Pairs.{IsSpelledTid, pair_bytes, HasSlot, base_node, nodes_of_node, view_of};
 
 /// Pairs are ordered by their bytes as by their keys, and then by their identifiers.
@@ -22,9 +22,9 @@ pub fn pages_are_node_pages()
         → IsNodePage (nodes_of_node node) node.number page (base_node node) }
 {}
 
-/// A node's page by the definition of the base spells a node, where its bytes are bytes.
+/// A node's page by the definition of the base spells a node.
 pub fn node_pages_spell()
     ensures { (of : NodesOf) (number : ℕ) (page : List ℕ) (node : Node)
-        → 1 ≤ of.width → of.width ≤ 120 → number < 2 ^ 32 → IsBytes page
+        → 1 ≤ of.width → of.width ≤ 120 → number < 2 ^ 32
         → IsNodePage of number page node → Spells page (view_of of number node) }
 {}

@@ -20,13 +20,13 @@ pub struct Node {
 }
 
 impl Model for Node {
-    ghost use Rattle.rss_node.specs.Nodes.{NodeView, node_from, IsNodePage};
+    ghost use Rattle.rss_node.specs.Nodes.{NodeView, node_from, IsOwnPage};
 
     ghost Value = { NodeView };
 
     ghost view = { λ a. node_from a.width a.page };
 
-    ghost invariant = { λ a. IsNodePage a.width a.page };
+    ghost invariant = { λ a. IsOwnPage a.width a.page };
 }
 
 /// How many bytes the header has.

@@ -11,4 +11,4 @@ pub returns : goal.returns
 returns c = (blanked c).says
 
 pub invariant_of-result : goal.invariant_of-result
-invariant_of-result c = (blanked c).formed
+invariant_of-result c = record { formed = (blanked c).formed; bytes = (blanked c).bytes }

@@ -33,7 +33,7 @@ returns c =
     let same : c.self.inside.width ≡ from.width = width_is _ _ c.self.view_is ∙ own in
     let old : ℕ = count_of from.page in
     let long : length c.args.from.now.entries ≡ old = sym (ap (λ (n : NodeView). length n.entries) c.from.view_is) ∙ length_entries from.width old (drop 32 from.page) in
-    let fits = has_room from.width old c.from.invariant.few in
+    let fits = has_room from.width old c.from.invariant.formed.few in
     let key : entries_from node.width c.args.count c.part_of-bytes.result.now ≡ take c.args.count (drop c.args.start c.args.from.now.entries) =
     ap (λ (w : ℕ). entries_from w c.args.count c.part_of-bytes.result.now) own
     ∙ ap (λ (l : List ℕ). entries_from from.width c.args.count l) (c.part_of-bytes.ensures ∙ ap (λ (w : ℕ). part from.page (32 + c.args.start * (w + 10)) (c.args.count * (w + 10))) same)

@@ -10,4 +10,4 @@ pub returns-clause-few : goal.returns-clause-few
 returns-clause-few c =
     let long = sym (ap (λ (n : NodeView). length n.entries) c.self.view_is) ∙ length_entries c.self.inside.width (count_of c.self.inside.page) (drop 32 c.self.inside.page) in
     let wide : c.args.self.now.width ≡ c.self.inside.width = sym (ap (λ (n : NodeView). n.width) c.self.view_is) in
-    rw (long, wide) c.self.invariant.few
+    rw (long, wide) c.self.invariant.formed.few

@@ -18,7 +18,7 @@ returns-clause-long c =
     let width = c.self.inside.width in
     let page = c.self.inside.page in
     let long : length c.args.self.now.entries ≡ count_of page = sym (ap (λ (n : NodeView). length n.entries) c.self.view_is) ∙ length_entries width (count_of page) (drop 32 page) in
-    let fits = has_room width (count_of page) c.self.invariant.few in
+    let fits = has_room width (count_of page) c.self.invariant.formed.few in
     let more = grows width (c.args.at + 1) (count_of page) (omega (arith, long, c.requires)) in
     let start : ℕ = 32 + c.args.at * (width + 10) in
     ap length (spelled c ∙ c.part_of.ensures)

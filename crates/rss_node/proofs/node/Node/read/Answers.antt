@@ -3,7 +3,7 @@ use Rattle.rss_node.proofs.Headers.{formed_read, is_read, not_read}
 use Rattle.rss_node.proofs.node.Node.read.Goals as goal
 
 pub invariant_of-result : goal.invariant_of-result
-invariant_of-result c = formed_read c.args.of c.args.level c.args.number c.args.page.now c.requires c.fits-page c.told-page (c.if-has_form.ensures.0 refl)
+invariant_of-result c = record { formed = formed_read c.args.of c.args.level c.args.number c.args.page.now c.requires c.fits-page c.told-page (c.if-has_form.ensures.0 refl); bytes = c.fits-page }
 
 pub returns-then-has_form : goal.returns-then-has_form
 returns-then-has_form c = record {

@@ -26,10 +26,10 @@ is_spliced c =
     let now : ℕ = old + c.args.count - c.args.removed in
     let long : old ≡ count_of c.self.inside.page = c.count-old.ensures.count ∙ sym (ap (λ (n : NodeView). length n.entries) c.self.view_is) ∙ length_entries c.self.inside.width (count_of c.self.inside.page) (drop 32 c.self.inside.page) in
     let room : old + c.args.count ≤ capacity c.self.inside.width + c.args.removed = (let room = rw w at c.requires.room in rw c.count-old.ensures.count room) in
-    spliced_page c.self.inside.width c.args.at c.args.removed c.args.count now old c.self.inside.page c.args.bytes.now c.put_and_move.new.page c.put_bytes.new.page c.self.invariant long (omega (arith, c.requires.within, c.count-old.ensures.count)) (λ i. (c.type_inv.bytes i).fits) (rw w at c.requires.bytes) room (omega (arith, c.requires.within, c.count-old.ensures.count)) c.put_and_move.ensures (c.put_bytes.ensures ∙ ap (λ (l : List ℕ). put c.put_and_move.new.page 8 l) c.to_be_bytes.ensures)
+    spliced_page c.self.inside.width c.args.at c.args.removed c.args.count now old c.self.inside.page c.args.bytes.now c.put_and_move.new.page c.put_bytes.new.page c.self.invariant.formed c.self.invariant.bytes long (omega (arith, c.requires.within, c.count-old.ensures.count)) (λ i. (c.type_inv.bytes i).fits) (rw w at c.requires.bytes) room (omega (arith, c.requires.within, c.count-old.ensures.count)) c.put_and_move.ensures (c.put_bytes.ensures ∙ ap (λ (l : List ℕ). put c.put_and_move.new.page 8 l) c.to_be_bytes.ensures)
 
 pub invariant_of-self : goal.invariant_of-self
-invariant_of-self c = (is_spliced c).formed
+invariant_of-self c = record { formed = (is_spliced c).formed; bytes = (is_spliced c).bytes }
 
 pub returns : goal.returns
 returns c =
