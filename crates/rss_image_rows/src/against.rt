@@ -15,8 +15,8 @@ enum Order {
     Rising,
 }
 
-/// A width, how many pairs there come to be, in what order, after how many steps all pages are
-/// tested, and how many levels there come to be.
+/// A width, how many pairs are put, in what order, after how many steps all pages are tested, and how
+/// many levels there come to be.
 #[derive(Clone, Copy, Debug)]
 struct Case {
     width: u8,
@@ -26,7 +26,7 @@ struct Case {
     levels: u8,
 }
 
-const CASES: [Case; 6] = [
+const CASES: [Case; 7] = [
     Case {
         width: 120,
         pairs: 1000,
@@ -50,6 +50,13 @@ const CASES: [Case; 6] = [
     },
     Case {
         width: 20,
+        pairs: 18_000,
+        order: Order::Random,
+        turn: 1999,
+        levels: 3,
+    },
+    Case {
+        width: 20,
         pairs: 9600,
         order: Order::Rising,
         turn: 801,
@@ -64,10 +71,10 @@ const CASES: [Case; 6] = [
     },
     Case {
         width: 8,
-        pairs: 3000,
-        order: Order::Rising,
-        turn: 301,
-        levels: 2,
+        pairs: 50_000,
+        order: Order::Random,
+        turn: 3999,
+        levels: 3,
     },
 ];
 
@@ -79,6 +86,7 @@ struct Beside {
     list: Vec<Code>,
     steps: u32,
     levels: u8,
+    spare: u32,
 }
 
 impl Beside {
@@ -92,6 +100,7 @@ impl Beside {
             list,
             steps: 0,
             levels: 1,
+            spare: 0,
         })
     }
 
@@ -126,7 +135,8 @@ impl Beside {
         Ok(())
     }
 
-    /// Looks for pairs near one, and now and then tests all pages.
+    /// Looks for pairs near one, and tests all pages where a page was taken or given, and now and
+    /// then.
     fn look(&mut self, alloc: Global, code: Code, turn: u32) -> Result<(), Fail> {
         let key = code & 0xffff_ffff_0000_0000;
         let (Ok(first) | Err(first)) = self.place(key);
@@ -139,7 +149,10 @@ impl Beside {
         let above = self.list.get(next).copied();
         assert_same(&after(&self.image, &mut self.pages, code)?, &above, code)?;
         self.steps = self.steps.saturating_add(1);
-        if turn > 0 && self.steps % turn == 0 {
+        let spare = self.pages.spare();
+        let moved = spare != self.spare;
+        self.spare = spare;
+        if moved || turn > 0 && self.steps % turn == 0 {
             test_pages(alloc, &mut self.pages, &self.image, self.list.as_slice())?;
         }
         Ok(())
