@@ -1,6 +1,5 @@
 -- The words of the command line. The first is the program's own name.
 use Rattle.std.specs.Prelude.{◌≡◌, ℕ, ◌^◌, ◌<◌, List, [], length, slice_index_or, codes, decimal}
-use Rattle.rss_rsi.specs.Formatted.{AreSizes}
 
 -- `run` and a file
 pub record AreRun (words : List (List ℕ)) : Type 0 where
@@ -19,10 +18,3 @@ pub record AreFormat (words : List (List ℕ)) (slots log_pages : ℕ) : Type 0 
 pub data IsCommand (words : List (List ℕ)) : Type 0 where
   run : AreRun words → IsCommand words
   format : {slots log_pages : ℕ} → AreFormat words slots log_pages → IsCommand words
-
--- a format of a size that no store has
-pub record IsOfWrongSize (words : List (List ℕ)) : Type 0 where
-  pub slots : ℕ
-  pub log_pages : ℕ
-  pub are_format : AreFormat words slots log_pages
-  pub wrong : AreSizes slots log_pages → ⊥
