@@ -38,8 +38,8 @@ enum Way {
 ///
 /// A record that is out of form, or that tells no change of a tuple where one is to be made, a
 /// change that isn't found as it is told, and one for which no two pages are spare, are `Damaged`
-/// at the record's position. After such a fault, or one of the device, some of the changes are made;
-/// where memory ran out, none is.
+/// at the record's position. Whether a Checkpoint record stands at `checkpoint` isn't tested. After
+/// such a fault, or one of the device, some of the changes are made; where memory ran out, none is.
 pub fn restart<P: Pages>(
     alloc: Global,
     tuples: &mut Store<P>,
