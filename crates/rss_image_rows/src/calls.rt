@@ -6,8 +6,8 @@ ghost use Rattle.rss_image.specs.Images.{nodes_of};
 use crate::pairs::{Code, code_from, key_of, tid_of};
 use rss_base::{PageFault, Pages};
 use rss_device::MemPages;
-use rss_images::Untold;
 use rss_image::Image;
+use rss_images::Untold;
 use std::alloc::Global;
 use std::test::Fail;
 
