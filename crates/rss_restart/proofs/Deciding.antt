@@ -7,7 +7,7 @@ use Rattle.std.proofs.lemmas.List.{map-append, reverse-append}
 use Rattle.rss_base.specs.Listings.{Listing}
 use Rattle.rss_base.specs.declared.log_record.LogRecord.{LogRecord}
 use Rattle.rss_base.specs.LogRecords.{record_size, ArePlaced}
-use Rattle.rss_log.proofs.Parsing.{some_bytes, placed_length}
+use Rattle.rss_record.proofs.Parsing.{some_bytes, placed_length}
 use Rattle.rss_model.specs.Records.{LogEntry, Changed, Restore, End, Abort, Checkpoint, Listed, listed, list_after, is_by, is_cut}
 use Rattle.rss_model.specs.Restart.{survives_by, survives, stays, losers}
 use Rattle.rss_model.specs.Recovers.{lists_at}

@@ -4,7 +4,7 @@ use Rattle.std.proofs.lemmas.List.{drop_at, drop_all, map-append}
 use Rattle.rss_base.specs.declared.log_record.LogRecord.{LogRecord}
 use Rattle.rss_base.specs.LogRecords.{record_bytes, record_size, Placed, spelled, ArePlaced, BeginsWith}
 use Rattle.rss_record.proofs.Records.{one_front}
-use Rattle.rss_log.proofs.Parsing.{some_bytes, spelled-append, placed_append, placed_length, placed_split, parses_drop}
+use Rattle.rss_record.proofs.Parsing.{some_bytes, spelled-append, placed_append, placed_length, placed_split, parses_drop}
 use Rattle.rss_log.specs.Logs.{LogView, IsLog, piece_start, bytes_from, HasRecords}
 use Rattle.rss_restart.specs.declared.survey.walk.Placed.{Placed as PlacedEvent}
 use Rattle.rss_restart.specs.Reading.{Stand, Finds, Reads, event_at}

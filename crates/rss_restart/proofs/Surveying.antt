@@ -10,7 +10,7 @@ use Rattle.rss_base.specs.declared.log_record.LogRecord.{LogRecord}
 use Rattle.rss_base.specs.declared.log_record.LogRecord.TheVariants as records
 use Rattle.rss_base.specs.LogRecords.{record_size, Placed, BeginsWith}
 use Rattle.rss_log.specs.Logs.{LogView, IsLog, HasRecords, bytes_from}
-use Rattle.rss_log.proofs.Parsing.{placed_length}
+use Rattle.rss_record.proofs.Parsing.{placed_length}
 use Rattle.rss_model.specs.Meanings.{Logged, Says, as_bytes}
 use Rattle.rss_model.proofs.LogLists.{all_front, all_back, all_append}
 use Rattle.rss_restart.specs.declared.survey.walk.Placed.{Placed as PlacedEvent}
