@@ -12,6 +12,7 @@ pub mod Endings
 pub mod Committing
 pub mod Modes
 pub mod Saving
+pub mod Sparing
 pub mod Stamps
 pub mod Cases
 pub mod LogLists

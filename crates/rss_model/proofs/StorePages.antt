@@ -91,7 +91,7 @@ plain_kind listing key (inl system) = inl system
 plain_kind listing key (inr heap) = inr heap.1
 
 -- a map has only pages that there may be
-map_allowed : {slots : ℕ} {pages : Pages} {first : ℕ} {owners : List (Option PageKey)} → IsMap slots pages first owners → (s : ℕ) (key : PageKey) → owner_of owners s ≡ Some key → IsKey slots key
+pub map_allowed : {slots : ℕ} {pages : Pages} {first : ℕ} {owners : List (Option PageKey)} → IsMap slots pages first owners → (s : ℕ) (key : PageKey) → owner_of owners s ≡ Some key → IsKey slots key
 map_allowed {slots = slots} {owners = owners} map s key owned = elim (cases_lt s (length owners)) [
   | inl low ↦ subst (λ (o : Option PageKey). IfSome o (IsKey slots)) owned (map.begins.entries s low).allowed
   | inr past ↦ absurd (none-some key (sym (get_or_past owners s None past) ∙ owned))

@@ -22,6 +22,7 @@ pub mod Machine
 pub mod Callers
 pub mod Needs
 pub mod Rules
+pub mod Spares
 pub mod Defining
 pub mod Refusals
 pub mod Steps

@@ -14,6 +14,7 @@ ghost use Rattle.rss_model.specs.Kept.{SavingNeedsNoMore, StepsKeep, RestKeeps, 
 ghost use Rattle.rss_model.specs.Locks.{JoinDisagrees};
 ghost use Rattle.rss_model.specs.Steps.{FreeIsFound};
 ghost use Rattle.rss_model.specs.Serial.{IsSerial};
+ghost use Rattle.rss_model.specs.Spares.{NumberLeavesRoom, SparesTwo, MakesOnceMore, times_in_restart, times_in_session};
 
 /// Only the end of a transaction and a call that defines change the committed tables. The end
 /// brings in that transaction's own changes and no others, so a transaction that never ends leaves
@@ -63,6 +64,15 @@ pub fn kept_tables()
 /// Each step leaves room for all pages: a way back always has it.
 pub fn room_is_kept()
     ensures { StepsKeepRoom }
+{}
+
+/// From a checkpoint on, there are two spare pages for each change that is still to be made, undone
+/// or made again, in a restart and in a session, as long as none has taken more than two.
+pub fn pages_are_spare()
+    ensures number { NumberLeavesRoom }
+    ensures restart { SparesTwo times_in_restart }
+    ensures session { SparesTwo times_in_session }
+    ensures more { MakesOnceMore }
 {}
 
 /// From where nothing is open, a run commits what its transactions commit one after another, in

@@ -1,0 +1,85 @@
+-- That there is always room: two spare pages for each change that is made, undone or made again.
+use Rattle.std.specs.Prelude.{◌≡◌, ℕ, ◌+◌, ◌*◌, ◌≤◌}
+use Rattle.rss_base.specs.PageMap.{page_count}
+use Rattle.rss_base.specs.Paged.{mapped_pages}
+use Rattle.rss_base.specs.Sizes.{system_pages}
+use Rattle.rss_base.specs.Steps.{PagesView}
+use Rattle.rss_model.specs.Tables.{Definitions}
+use Rattle.rss_model.specs.Meter.{Meter, room_number}
+
+-- heap: how many pages the heap had at the last checkpoint.
+-- surviving: how many changes of open transactions survived there.
+-- since: how many changes were made since then, undone ones included.
+pub record ChangeCounts : Type 0 where
+  pub heap : ℕ
+  pub surviving : ℕ
+  pub since : ℕ
+
+abbrev pub change_counts : Meter → ChangeCounts
+change_counts meter = record { heap = meter.heap; surviving = meter.surviving; since = meter.since }
+
+-- slots: how many the store has.
+-- saved: how many pages the last checkpoint has, each in a slot that is kept for it.
+-- mapped: how many pages there are now, each in a slot of its own.
+-- spare: how many more can be taken.
+pub record PageCounts : Type 0 where
+  pub slots : ℕ
+  pub saved : ℕ
+  pub mapped : ℕ
+  pub spare : ℕ
+
+abbrev pub page_counts : PagesView → PageCounts
+page_counts pages = record {
+  slots = pages.slots;
+  saved = page_count pages.backing.shadow;
+  mapped = mapped_pages pages.slots pages.mapped;
+  spare = pages.spare;
+}
+
+-- each slot is spare, or one page's
+abbrev pub AreAllCounted : PageCounts → Type 0
+AreAllCounted pages = pages.spare + pages.mapped + pages.saved ≡ pages.slots
+
+-- there are as many slots as these changes may need, without images
+abbrev pub HasRoomFor : ChangeCounts → PageCounts → Type 0
+HasRoomFor counts pages =
+    2 * (counts.heap + 2 * counts.surviving + 4 * counts.since + system_pages) ≤ pages.slots
+
+-- Since the checkpoint, changes were made, undone or made again so many times, and each time took two pages at most.
+pub record HasMade (counts : ChangeCounts) (times : ℕ) (pages : PageCounts) : Type 0 where
+  pub before : pages.saved ≤ counts.heap + system_pages
+  pub now : pages.mapped ≤ counts.heap + system_pages + 2 * times
+  pub all : AreAllCounted pages
+
+-- A restart undoes each change or makes it again, once at most.
+abbrev pub times_in_restart : ChangeCounts → ℕ
+times_in_restart counts = counts.surviving + counts.since
+
+-- A session makes the changes since the checkpoint, and takes back each of these and of those that survived there, once at most.
+abbrev pub times_in_session : ChangeCounts → ℕ
+times_in_session counts = counts.since + (counts.surviving + counts.since)
+
+-- Once more two pages are taken at most. The checkpoint's pages keep their slots.
+pub record TakesTwo (old new : PageCounts) : Type 0 where
+  pub slots : new.slots ≡ old.slots
+  pub saved : new.saved ≡ old.saved
+  pub mapped : new.mapped ≤ old.mapped + 2
+  pub all : AreAllCounted new
+
+-- ---- laws
+
+-- the room number is large enough
+abbrev pub NumberLeavesRoom : Type 0
+NumberLeavesRoom = (definitions : Definitions) (meter : Meter) (pages : PageCounts)
+    → room_number definitions meter ≤ pages.slots → HasRoomFor (change_counts meter) pages
+
+-- there are two spare pages for each time that is still to come
+abbrev pub SparesTwo : (ChangeCounts → ℕ) → Type 0
+SparesTwo most = (counts : ChangeCounts) (pages : PageCounts) (times more : ℕ)
+    → HasRoomFor counts pages → HasMade counts times pages
+    → times + more ≤ most counts → 2 * more ≤ pages.spare
+
+-- and each time leaves it so
+abbrev pub MakesOnceMore : Type 0
+MakesOnceMore = (counts : ChangeCounts) (times : ℕ) (old new : PageCounts)
+    → HasMade counts times old → TakesTwo old new → HasMade counts (times + 1) new
