@@ -10,3 +10,4 @@ pub mod Sources
 pub mod Undoing
 pub mod Redoing
 pub mod Recovering
+pub mod Opening

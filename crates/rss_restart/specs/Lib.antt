@@ -2,4 +2,5 @@ pub mod Events
 pub mod Reading
 pub mod Surveys
 pub mod Restarting
+pub mod Opened
 pub mod Walks

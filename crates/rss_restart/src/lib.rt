@@ -2,7 +2,9 @@
 //! tables that its log recovers.
 #![tactic(auto)]
 
+mod laws;
 mod restarting;
 mod survey;
 
+pub use laws::stores_can_restart;
 pub use restarting::restart;

@@ -1,0 +1,130 @@
+-- A store that was opened can be restarted: its log is the one in memory, and there is room for each change.
+use Rattle.std.proofs.Common.{◌≡◌, ℕ, ◌+◌, ◌-◌, ◌*◌, ◌%◌, ◌≤◌, Bool, true, List, [], ◌∷◌, ◌++◌, length, refl, sym, ◌∙◌, ap, subst, arith}
+use Rattle.std.specs.Prelude.{count_by, drop, not}
+use Rattle.std.proofs.lemmas.List.Sums.{sum_by-cons, length-filter, count_by-le-length}
+use Rattle.rss_base.specs.DiskRule.{Pages}
+use Rattle.rss_base.specs.Listings.{Listing}
+use Rattle.rss_base.specs.LogPages.{log_bytes}
+use Rattle.rss_base.specs.LogRecords.{Parses, ArePlaced}
+use Rattle.rss_base.specs.PageMap.{page_count}
+use Rattle.rss_base.specs.Paged.{Held, mapped_pages}
+use Rattle.rss_base.specs.Sizes.{piece_bytes}
+use Rattle.rss_base.specs.StoredPages.{mapped_by}
+use Rattle.rss_base.proofs.Counts.{mapped_pages-owners}
+use Rattle.rss_log.specs.Logs.{LogView, piece_start, bytes_from}
+use Rattle.rss_tuple.specs.Directory.{homes, overflows}
+use Rattle.rss_tuple.specs.Heaps.{IsHeap, AreLinked}
+use Rattle.rss_model.specs.Records.{LogEntry, Changed, Restore, End, Abort, Checkpoint, Listed}
+use Rattle.rss_model.specs.Restart.{stays}
+use Rattle.rss_model.specs.Recovers.{WayFits}
+use Rattle.rss_model.specs.Meanings.{Logged, as_bytes, as_entries, is_redone, IsLogged}
+use Rattle.rss_model.specs.Spares.{change_counts, page_counts, HasMade}
+use Rattle.rss_model.specs.Store.{Stored, SpellsTables, held_in, listed_at, is_change, meter_of, IsStore}
+use Rattle.rss_model.proofs.Counts.{one_if}
+use Rattle.rss_model.proofs.LogLists.{by_test}
+use Rattle.rss_model.proofs.Sparing.{number_leaves_room, spare_in_restart}
+use Rattle.rss_model.proofs.StorePages.{map_allowed, pages_counted}
+use Rattle.rss_access.specs.Changes.{AccessView}
+use Rattle.rss_restart.specs.Surveys.{redone_at}
+use Rattle.rss_restart.specs.Restarting.{changes_made, CanRestart}
+use Rattle.rss_restart.specs.Opened.{IsOpened, recovery_of, MayCall, CanRestartOpened, MayCallOpened, RestartGivesTables}
+
+-- ---- how many changes are undone or done again
+
+change_first : (l : Logged) (later : List Logged) → is_redone l.is l.at later ≡ true → one_if (is_change l.is) ≡ 1
+change_first l later is = by l.is l.at is
+  where
+    by : (e : LogEntry) (at : ℕ) → is_redone e at later ≡ true → one_if (is_change e) ≡ 1
+    by (Changed c) at e = refl
+    by (Restore t first) at e = absurd (cc (e))
+    by (End t) at e = absurd (cc (e))
+    by (Abort t) at e = absurd (cc (e))
+    by (Checkpoint named) at e = absurd (cc (e))
+
+few_redone : (newer : List Logged) → length (redone_at newer) ≤ count_by (λ l. is_change l.is) newer
+few_redone [] = omega arith
+few_redone (l ∷ later) =
+    let more = sum_by-cons (λ (m : Logged). one_if (is_change m.is)) l later in
+    by_test (is_redone l.is l.at later)
+    (λ e. rw e (omega (arith, few_redone later, change_first l later e, more)))
+    (λ e. rw e (omega (arith, few_redone later, more)))
+
+-- no more than survived at the checkpoint and were made since
+few_changes : (stored : Stored) → changes_made stored.older stored.newer ≤ (meter_of stored).surviving + (meter_of stored).since
+few_changes stored =
+    let p : Listed → Bool = λ l. not (stays (as_entries stored.newer) l) in
+    omega (arith, few_redone stored.newer, length-filter p (listed_at stored), count_by-le-length p (listed_at stored))
+
+-- ---- the pages of a store that was opened
+
+module _ {pages : Pages} {stored : Stored} {at : AccessView} {log : LogView} (store : IsStore pages stored) (opened : IsOpened pages stored at log) where
+  mapped_once : mapped_pages at.pages.slots at.pages.mapped ≡ page_count stored.owners
+  mapped_once =
+      (λ i. mapped_pages (opened.slots i) (opened.mapped i))
+      ∙ mapped_pages-owners stored.root.slots stored.owners (mapped_by stored.owners) (λ slot key owned. map_allowed store.map slot key owned) store.map.begins.distinct (λ key. refl)
+
+  none_made : HasMade (change_counts (meter_of stored)) 0 (page_counts at.pages)
+  none_made =
+      let count = pages_counted stored.root stored.owners pages store.map store.system store.spells in
+      record {
+        before = omega (arith, ap page_count opened.shadow, count);
+        now = omega (arith, mapped_once, count);
+        all = opened.counted;
+      }
+
+  room : 2 * changes_made stored.older stored.newer ≤ at.pages.spare
+  room = spare_in_restart (change_counts (meter_of stored)) (page_counts at.pages) 0 (changes_made stored.older stored.newer)
+      (number_leaves_room stored.saved.definitions (meter_of stored) (page_counts at.pages) (omega (arith, store.room, opened.slots))) none_made (omega (arith, few_changes stored))
+
+  -- ---- its log
+
+  bytes_are : bytes_from log log.head ≡ log_bytes pages stored.root
+  bytes_are =
+      let front : log.head - piece_start log.head ≡ stored.root.head % piece_bytes = omega (arith, opened.head) in
+      λ i. drop (front i) (opened.kept i)
+
+  parses : Parses (bytes_from log log.head) log.head (as_bytes (stored.older ++ stored.newer)) log.end
+  parses = subst (λ (bytes : List ℕ). Parses bytes log.head (as_bytes (stored.older ++ stored.newer)) log.end) (sym bytes_are)
+      (subst (λ (n : ℕ). Parses (log_bytes pages stored.root) n (as_bytes (stored.older ++ stored.newer)) log.end) (sym opened.head)
+      (subst (λ (n : ℕ). Parses (log_bytes pages stored.root) stored.root.head (as_bytes (stored.older ++ stored.newer)) n) (sym opened.end) store.log.parses))
+
+  means : IsLogged at.catalog.listing (listed_at stored) stored.older stored.newer
+  means = subst (λ (l : Listing). IsLogged l (listed_at stored) stored.older stored.newer) (sym opened.listing) store.log.logged
+
+  -- ---- all of it
+
+  may_call : MayCall at log stored.root.checkpoint
+  may_call =
+      let formed = store.root_there.there.formed in
+      record {
+        low = omega (arith, opened.head, formed.head_first);
+        high = omega (arith, opened.end, formed.before_end);
+        heaps = λ none. record {
+          formed = λ key bytes heap is. subst (IsHeap key bytes) (sym (none key)) (store.spells.formed key bytes heap (sym (ap (λ (h : Held). h key) opened.held) ∙ is));
+          linked = λ segment. subst (λ (h : Held). AreLinked (homes h segment) (overflows h segment)) (sym opened.held) (store.spells.linked segment);
+        };
+      }
+
+  can_restart : CanRestart at log stored.root.checkpoint (recovery_of stored)
+  can_restart = record {
+    spells = subst (λ (h : Held). SpellsTables h at.catalog.listing stored.saved) (sym opened.held)
+        (subst (λ (l : Listing). SpellsTables (held_in pages stored) l stored.saved) (sym opened.listing) store.spells);
+    records = record {
+      records = parses;
+      placed = subst (λ (n : ℕ). ArePlaced n (as_bytes stored.older) stored.root.checkpoint) (sym opened.head) store.log.checkpoint;
+      say = means.say;
+    };
+    means = means;
+    recovers = store.log.recovers;
+    way = subst (λ (n : ℕ). WayFits n stored.saved (as_entries stored.older) (as_entries stored.newer)) (sym opened.slots) store.log.way;
+    room = room;
+  }
+
+pub stores_restart : (at : AccessView) (log : LogView) → CanRestartOpened at log
+stores_restart at log pages stored store opened = can_restart store opened
+
+pub may_call_opened : (at : AccessView) (log : LogView) → MayCallOpened at log
+may_call_opened at log pages stored store opened = may_call store opened
+
+pub gives_tables : RestartGivesTables
+gives_tables pages stored store = λ i. record { definitions = sym store.log.definitions i; contents = stored.tables.contents }
