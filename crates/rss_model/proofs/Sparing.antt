@@ -3,7 +3,7 @@ use Rattle.std.proofs.Common.{ℕ, ◌+◌, ◌≤◌, ap, arith}
 use Rattle.rss_base.specs.PageMap.{page_count}
 use Rattle.rss_base.specs.Paged.{Backing, mapped_pages}
 use Rattle.rss_base.specs.Steps.{PagesView, Keys, PagesStep, AreCounted}
-use Rattle.rss_model.specs.Spares.{page_counts, times_in_restart, times_in_session, TakesTwo, NumberLeavesRoom, SparesTwo, MakesOnceMore}
+use Rattle.rss_model.specs.Spares.{ChangeCounts, PageCounts, HasMade, with_one, SessionBegins, SessionChanges, SessionGoesBack, SessionForgets, SparesForAll, SparesForNext, page_counts, times_in_restart, times_in_session, TakesTwo, NumberLeavesRoom, SparesTwo, MakesOnceMore}
 
 pub number_leaves_room : NumberLeavesRoom
 number_leaves_room definitions meter pages room = omega (arith, room)
@@ -29,3 +29,36 @@ takes_two step counted two = record {
   mapped = two;
   all = counted;
 }
+
+-- ---- a session
+
+pub session_begins : SessionBegins
+session_begins counts pages made = record { times = 0; made = made; few = omega arith }
+
+-- one change more is allowed
+made_with_one : (counts : ChangeCounts) (times : ℕ) (pages : PageCounts) → HasMade counts times pages → HasMade (with_one counts) times pages
+made_with_one counts times pages made = record { before = made.before; now = made.now; all = made.all }
+
+pub session_changes : SessionChanges
+session_changes counts listed old new is takes = record {
+  times = is.times + 1;
+  made = once_more (with_one counts) is.times old new (made_with_one counts is.times old is.made) takes;
+  few = omega (arith, is.few);
+}
+
+pub session_goes_back : SessionGoesBack
+session_goes_back counts listed old new is takes = record {
+  times = is.times + 1;
+  made = once_more counts is.times old new is.made takes;
+  few = omega (arith, is.few);
+}
+
+pub session_forgets : SessionForgets
+session_forgets counts listed fewer pages is le = record { times = is.times; made = is.made; few = omega (arith, is.few, le) }
+
+pub spare_for_all : SparesForAll
+spare_for_all counts listed pages room is = spare_in_session counts pages is.times listed room is.made is.few
+
+pub spare_for_next : SparesForNext
+spare_for_next counts listed pages room is =
+    spare_in_session (with_one counts) pages is.times (1 + (listed + 1)) room (made_with_one counts is.times pages is.made) (omega (arith, is.few))

@@ -83,3 +83,43 @@ SparesTwo most = (counts : ChangeCounts) (pages : PageCounts) (times more : ℕ)
 abbrev pub MakesOnceMore : Type 0
 MakesOnceMore = (counts : ChangeCounts) (times : ℕ) (old new : PageCounts)
     → HasMade counts times old → TakesTwo old new → HasMade counts (times + 1) new
+
+-- ---- what a session keeps
+
+-- one change more since the checkpoint
+abbrev pub with_one : ChangeCounts → ChangeCounts
+with_one counts = record counts { since = counts.since + 1 }
+
+-- So many changes are listed, each of which may still be taken back. With these it comes to no more times than a session may have.
+pub record IsInSession (counts : ChangeCounts) (listed : ℕ) (pages : PageCounts) : Type 0 where
+  pub times : ℕ
+  pub made : HasMade counts times pages
+  pub few : times + listed ≤ times_in_session counts
+
+-- It begins at a checkpoint; a change is made; one is taken back; or some are listed no more.
+abbrev pub SessionBegins : Type 0
+SessionBegins = (counts : ChangeCounts) (pages : PageCounts) → HasMade counts 0 pages
+    → IsInSession counts counts.surviving pages
+
+abbrev pub SessionChanges : Type 0
+SessionChanges = (counts : ChangeCounts) (listed : ℕ) (old new : PageCounts)
+    → IsInSession counts listed old → TakesTwo old new → IsInSession (with_one counts) (listed + 1) new
+
+abbrev pub SessionGoesBack : Type 0
+SessionGoesBack = (counts : ChangeCounts) (listed : ℕ) (old new : PageCounts)
+    → IsInSession counts (listed + 1) old → TakesTwo old new → IsInSession counts listed new
+
+abbrev pub SessionForgets : Type 0
+SessionForgets = (counts : ChangeCounts) (listed fewer : ℕ) (pages : PageCounts)
+    → IsInSession counts listed pages → fewer ≤ listed → IsInSession counts fewer pages
+
+-- there is room for taking back all that are listed
+abbrev pub SparesForAll : Type 0
+SparesForAll = (counts : ChangeCounts) (listed : ℕ) (pages : PageCounts)
+    → HasRoomFor counts pages → IsInSession counts listed pages → 2 * listed ≤ pages.spare
+
+-- and, where the next change is allowed, for it, and for taking back it and all that are listed
+abbrev pub SparesForNext : Type 0
+SparesForNext = (counts : ChangeCounts) (listed : ℕ) (pages : PageCounts)
+    → HasRoomFor (with_one counts) pages → IsInSession counts listed pages
+    → 2 * (1 + (listed + 1)) ≤ pages.spare

@@ -15,6 +15,7 @@ ghost use Rattle.rss_model.specs.Locks.{JoinDisagrees};
 ghost use Rattle.rss_model.specs.Steps.{FreeIsFound};
 ghost use Rattle.rss_model.specs.Serial.{IsSerial};
 ghost use Rattle.rss_model.specs.Spares.{NumberLeavesRoom, SparesTwo, MakesOnceMore, times_in_restart, times_in_session};
+ghost use Rattle.rss_model.specs.Spares.{SessionBegins, SessionChanges, SessionGoesBack, SessionForgets, SparesForAll, SparesForNext};
 
 /// Only the end of a transaction and a call that defines change the committed tables. The end
 /// brings in that transaction's own changes and no others, so a transaction that never ends leaves
@@ -73,6 +74,17 @@ pub fn pages_are_spare()
     ensures restart { SparesTwo times_in_restart }
     ensures session { SparesTwo times_in_session }
     ensures more { MakesOnceMore }
+{}
+
+/// What a session keeps from a checkpoint on, whatever it makes and takes back: so there is room for
+/// taking back all changes that are listed, and for the next one where the room number allows it.
+pub fn sessions_have_room()
+    ensures begins { SessionBegins }
+    ensures changes { SessionChanges }
+    ensures goes_back { SessionGoesBack }
+    ensures forgets { SessionForgets }
+    ensures back { SparesForAll }
+    ensures next { SparesForNext }
 {}
 
 /// From where nothing is open, a run commits what its transactions commit one after another, in

@@ -8,7 +8,7 @@ mod laws;
 pub use engine::Engine;
 pub use laws::{
     free_identifiers, joined_locks, kept_tables, pages_are_spare, restart_of_a_store,
-    restart_recovers, room_is_kept, room_rule, runs_are_serial, steps_keep, stores_have_room,
-    stores_open_once, tables_fit, tables_of_now, ties_are_kept, ties_recover, undo_turns_back,
-    what_commits,
+    restart_recovers, room_is_kept, room_rule, runs_are_serial, sessions_have_room, steps_keep,
+    stores_have_room, stores_open_once, tables_fit, tables_of_now, ties_are_kept, ties_recover,
+    undo_turns_back, what_commits,
 };
