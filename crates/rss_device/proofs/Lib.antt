@@ -1,4 +1,5 @@
 mod Events
+mod FileRuns
 mod Images
 mod Places
 mod Runs

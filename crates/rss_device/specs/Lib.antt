@@ -7,3 +7,4 @@ pub mod MemSource
 pub mod MemSink
 pub mod MemPages
 pub mod MemPagesLaws
+pub mod Files

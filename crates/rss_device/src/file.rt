@@ -119,7 +119,7 @@ fn opened<'f, S: StoreFiles>(
     path: &str,
     file: &'f mut Option<LockedFile<S::File>>,
     make: bool,
-) -> io::Result<&'f LockedFile<S::File>> {
+) -> io::Result<&'f mut LockedFile<S::File>> {
     let open = match file.take() {
         Some(open) => open,
         None => LockedFile::open(files, path, make)?,

@@ -1,7 +1,9 @@
 // A file of pages that this process alone works on.
-ghost use Rattle.std.specs.Prelude.{◌≡◌, ◌≢◌, ◌-◌, ◌*◌, ◌/◌, ◌%◌, ◌^◌, ◌<◌, ◌≤◌, ◌<ℤ◌, pos, Ok};
-ghost use Rattle.std.specs.Prelude.{IfOk, IsOk, IsTrue};
-ghost use Rattle.rss_base.specs.Sizes.{page_bytes, head_pages};
+ghost use Rattle.std.specs.Prelude.{◌≡◌, ◌*◌, ◌^◌, ◌<◌, ◌<ℤ◌, pos, length, Ok};
+ghost use Rattle.std.specs.Prelude.{IfOk, IfSome, IsOk, IsTrue, OnOk};
+ghost use Rattle.rss_base.specs.Sizes.{page_bytes};
+ghost use Rattle.rss_device.specs.Files.{Turns, IsCutFrom, IsPageCount};
+ghost use Rattle.rss_device.specs.Files.{HoldsPage, HoldsPages, ArePagesWritten};
 
 use crate::store_file::{StoreFile, StoreFiles, folder_of};
 use rss_base::{HEAD_PAGES, PAGE_BYTES, Page};
@@ -18,8 +20,8 @@ const PAGE_LENGTH: u64 = PAGE_BYTES as u64;
 #[derive(Drop)]
 pub(crate) struct LockedFile<F: StoreFile> {
     file: F,
-    ghost apart: { pos 2 <ℤ F.descriptor_of file },
-    ghost locked: { IsTrue (F.is_locked file) },
+    ghost apart: { pos 2 <ℤ (F.view file).descriptor },
+    ghost locked: { IsTrue (F.view file).is_locked },
 }
 
 impl<F: StoreFile> LockedFile<F> {
@@ -36,30 +38,50 @@ impl<F: StoreFile> LockedFile<F> {
         })
     }
 
-    pub(crate) fn pages(&self) -> io::Result<u64> {
-        Ok(pages_in(self.file.metadata()?.len()))
+    /// How many pages it has. Where it holds pages enough for a store and ends within a page, this
+    /// is `u64::MAX`, which is the size of no store.
+    pub(crate) fn pages(&self) -> io::Result<u64>
+        ensures { IfOk result (λ n. IfSome (F.view self.now.file).bytes (λ held.
+            IsPageCount (length held) n)) }
+    {
+        Ok(pages_in(self.file.length()?))
     }
 
-    pub(crate) fn set_pages(&self, pages: u64) -> io::Result<()> {
-        self.file.set_len(offset(pages)?)
+    /// Makes it so many pages. Those that are new are zeros. After a failure it has any length.
+    pub(crate) fn set_pages(&mut self, pages: u64) -> io::Result<()>
+        ensures length { OnOk result (IfSome (F.view self.new.file).bytes (λ held.
+            length held ≡ pages * page_bytes)) }
+        ensures kept { Turns IsCutFrom (F.view self.old.file).bytes (F.view self.new.file).bytes }
+    {
+        self.file.set_length(offset(pages)?)
     }
 
-    pub(crate) fn read(&self, at: u64, into: &mut Page) -> io::Result<()> {
-        self.file.read_exact_at(into, offset(at)?)
+    pub(crate) fn read(&self, at: u64, into: &mut Page) -> io::Result<()>
+        ensures { OnOk result (IfSome (F.view self.now.file).bytes (HoldsPage at into.new)) }
+    {
+        self.file.read_from(offset(at)?, into)
     }
 
-    pub(crate) fn write(&self, at: u64, from: &Page) -> io::Result<()> {
-        self.file.write_all_at(from, offset(at)?)
+    pub(crate) fn write(&mut self, at: u64, from: &Page) -> io::Result<()>
+        ensures written { OnOk result (IfSome (F.view self.new.file).bytes (HoldsPage at from.now)) }
+        ensures others { Turns (ArePagesWritten at 1)
+            (F.view self.old.file).bytes (F.view self.new.file).bytes }
+    {
+        self.file.write_from(offset(at)?, from)
     }
 
     /// Writes pages one behind the other, which the system is given all at once.
-    pub(crate) fn write_run(&self, at: u64, from: &[Page]) -> io::Result<()> {
-        self.file.write_all_at(from.as_flattened(), offset(at)?)
+    pub(crate) fn write_run(&mut self, at: u64, from: &[Page]) -> io::Result<()>
+        ensures written { OnOk result (IfSome (F.view self.new.file).bytes (HoldsPages at from.now)) }
+        ensures others { Turns (ArePagesWritten at (length from.now))
+            (F.view self.old.file).bytes (F.view self.new.file).bytes }
+    {
+        self.file.write_from(offset(at)?, from.as_flattened())
     }
 
     /// Brings the pages and the size of the file to the disk.
     pub(crate) fn sync(&self) -> io::Result<()> {
-        self.file.sync_data()
+        self.file.sync()
     }
 }
 
@@ -78,15 +100,16 @@ fn open_or_make<S: StoreFiles>(files: &S, path: &str, make: bool) -> io::Result<
 /// closed the system gives its descriptor to the next file that is opened, and what is written to
 /// the stream would go into that file.
 fn away_from_streams<F: StoreFile>(file: F) -> io::Result<F>
-    ensures above { IfOk result (λ file. pos 2 <ℤ F.descriptor_of file) }
-    ensures same { pos 2 <ℤ F.descriptor_of file → result ≡ Ok file }
+    ensures above { IfOk result (λ moved. pos 2 <ℤ (F.view moved).descriptor) }
+    ensures same { pos 2 <ℤ (F.view file).descriptor → result ≡ Ok file }
+    ensures bytes { IfOk result (λ moved. (F.view moved).bytes ≡ (F.view file).bytes) }
 {
     if file.descriptor() > LAST_STREAM {
         return Ok(file);
     }
-    let clone = file.try_clone()?;
-    if clone.descriptor() > LAST_STREAM {
-        Ok(clone)
+    let moved = file.under_another()?;
+    if moved.descriptor() > LAST_STREAM {
+        Ok(moved)
     } else {
         Err(io::Error::from(ErrorKind::Unsupported))
     }
@@ -95,10 +118,7 @@ fn away_from_streams<F: StoreFile>(file: F) -> io::Result<F>
 /// How many pages a file of this length holds. One that holds pages enough for a store and ends
 /// within a page has `u64::MAX`, which is the size of no store.
 fn pages_in(bytes: u64) -> u64
-    ensures whole { bytes % page_bytes ≡ 0 → result * page_bytes ≡ bytes }
-    ensures few { bytes < head_pages * page_bytes → result ≡ bytes / page_bytes }
-    ensures torn { head_pages * page_bytes ≤ bytes → bytes % page_bytes ≢ 0
-        → result ≡ 2 ^ 64 - 1 }
+    ensures { IsPageCount bytes result }
 {
     let pages = bytes / PAGE_LENGTH;
     if pages < HEAD_PAGES || bytes % PAGE_LENGTH == 0 {
