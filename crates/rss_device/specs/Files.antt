@@ -1,15 +1,18 @@
 -- What there is to see of an open file, and what a call leaves of the bytes that it is known to hold.
+-- A file of the system tells nothing of its bytes, of its lock and of the disk.
 use Rattle.std.specs.Prelude.{◌≡◌, ◌≢◌, ◌⊎◌, ℕ, ℤ, ◌+◌, ◌-◌, ◌*◌, ◌/◌, ◌%◌, ◌^◌, ◌<◌, ◌≤◌, max, Bool, List, length, slice_index, Option, Some, None, ⊤}
 use Rattle.rss_base.specs.Sizes.{page_bytes, head_pages}
 use Rattle.rss_base.specs.DiskRule.{Pages, page}
 
--- bytes: what it holds, where that is known. A file of the system tells nothing of it.
+-- bytes: what it holds, where that is known.
 -- descriptor: the number of its descriptor.
 -- is_locked: no other opening of it that asks for its lock has it.
+-- is_synced: what it holds outlasts a stop.
 pub record FileView : Type 0 where
   pub bytes : Option (List ℕ)
   pub descriptor : ℤ
   pub is_locked : Bool
+  pub is_synced : Bool
 
 -- it has this descriptor still, and its lock if it had it
 pub record IsSameOpening (old new : FileView) : Type 0 where

@@ -80,7 +80,10 @@ impl<F: StoreFile> LockedFile<F> {
     }
 
     /// Brings the pages and the size of the file to the disk.
-    pub(crate) fn sync(&self) -> io::Result<()> {
+    pub(crate) fn sync(&mut self) -> io::Result<()>
+        ensures synced { OnOk result (IsTrue (F.view self.new.file).is_synced) }
+        ensures kept { (F.view self.new.file).bytes ≡ (F.view self.old.file).bytes }
+    {
         self.file.sync()
     }
 }

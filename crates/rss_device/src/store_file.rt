@@ -1,5 +1,5 @@
 // What a device in a file asks of the system.
-ghost use Rattle.std.specs.Prelude.{◌≡◌, None, true, length, IfOk, IfSome, OnOk};
+ghost use Rattle.std.specs.Prelude.{◌≡◌, None, true, length, IfOk, IfSome, IsTrue, OnOk};
 ghost use Rattle.std.specs.Fd.{file_raw_fd};
 ghost use Rattle.rss_device.specs.Files.{FileView, IsSameOpening, Turns, Holds, IsWrittenIn, IsCutFrom};
 
@@ -52,7 +52,10 @@ pub trait StoreFile: Drop {
         ensures same { IsSameOpening (view self.old) (view self.new) };
 
     /// Brings its bytes and its length to the disk.
-    fn sync(&self) -> io::Result<()>;
+    fn sync(&mut self) -> io::Result<()>
+        ensures synced { OnOk result (IsTrue (view self.new).is_synced) }
+        ensures kept { (view self.new).bytes ≡ (view self.old).bytes }
+        ensures same { IsSameOpening (view self.old) (view self.new) };
 }
 
 /// A system with files that may hold stores.
@@ -73,6 +76,7 @@ impl StoreFile for File {
       bytes = None;
       descriptor = file_raw_fd file;
       is_locked = true;
+      is_synced = true;
     } };
 
     fn descriptor(&self) -> i32 {
@@ -104,7 +108,7 @@ impl StoreFile for File {
         self.write_all_at(from, at)
     }
 
-    fn sync(&self) -> io::Result<()> {
+    fn sync(&mut self) -> io::Result<()> {
         self.sync_data()
     }
 }
