@@ -1,5 +1,5 @@
 // Files that fail, and files that another opening has.
-ghost use Rattle.std.specs.Prelude.{◌≤◌, true, IfOk};
+ghost use Rattle.std.specs.Prelude.{◌≤◌, None, true, IfOk};
 
 use crate::adapters::{assert_three, has_three, new_path, write_three};
 use crate::harness::NEVER;
@@ -7,7 +7,7 @@ use rss_asserts::assert_same;
 use rss_base::{Device, Failed};
 use rss_device::{FileDevice, StoreFile, StoreFiles};
 use std::cell::Cell;
-use std::fs::{File, Metadata, OpenFile};
+use std::fs::File;
 use std::io::ErrorKind;
 use std::os::unix::fs::FileExt;
 use std::rt::Files;
@@ -119,50 +119,57 @@ impl FileExt for FaultyFile<'_> {
     }
 }
 
-impl OpenFile for FaultyFile<'_> {
-    fn metadata(&self) -> io::Result<Metadata> {
-        self.plan.begin()?;
-        self.file.metadata()
-    }
-
-    fn set_len(&self, size: u64) -> io::Result<()> {
-        self.plan.begin()?;
-        self.file.set_len(size)
-    }
-
-    fn sync_all(&self) -> io::Result<()> {
-        self.plan.begin()?;
-        self.file.sync_all()
-    }
-
-    fn sync_data(&self) -> io::Result<()> {
-        self.plan.begin()?;
-        self.file.sync_data()
-    }
-
-    fn try_clone(&self) -> io::Result<Self> {
-        self.plan.begin()?;
-        Ok(FaultyFile {
-            file: self.file.try_clone()?,
-            descriptor: self.plan.cloned,
-            plan: self.plan,
-        })
-    }
-}
-
 impl StoreFile for FaultyFile<'_> {
-    ghost descriptor_of = { λ f. f.descriptor };
-
-    ghost is_locked = { λ f. true };
+    ghost view = { λ f. record {
+      bytes = None;
+      descriptor = f.descriptor;
+      is_locked = true;
+      is_synced = true;
+    } };
 
     fn descriptor(&self) -> i32 {
         self.descriptor
     }
 
+    fn under_another(self) -> io::Result<Self> {
+        self.plan.begin()?;
+        Ok(FaultyFile {
+            file: self.file.under_another()?,
+            descriptor: self.plan.cloned,
+            plan: self.plan,
+        })
+    }
+
     fn locked(self) -> io::Result<Self> {
         self.plan.begin()?;
-        self.file.try_lock()?;
-        Ok(self)
+        Ok(FaultyFile {
+            file: self.file.locked()?,
+            descriptor: self.descriptor,
+            plan: self.plan,
+        })
+    }
+
+    fn length(&self) -> io::Result<u64> {
+        self.plan.begin()?;
+        self.file.length()
+    }
+
+    fn set_length(&mut self, bytes: u64) -> io::Result<()> {
+        self.plan.begin()?;
+        self.file.set_length(bytes)
+    }
+
+    fn read_from(&self, at: u64, into: &mut [u8]) -> io::Result<()> {
+        self.read_exact_at(into, at)
+    }
+
+    fn write_from(&mut self, at: u64, from: &[u8]) -> io::Result<()> {
+        self.write_all_at(from, at)
+    }
+
+    fn sync(&mut self) -> io::Result<()> {
+        self.plan.begin()?;
+        self.file.sync()
     }
 }
 
