@@ -14,7 +14,7 @@ use Rattle.rss_levels.specs.Entries.{Entry, IsLess, Each, Pairwise, zeros, least
 use Rattle.rss_levels.specs.Rows.{Part, Row, Cells, HoldsAt, HoldsRow, IsStack, IsLeaves, IsAbove, Mark, IsBefore, HasHead, fence, item, marks, marks_of, items, name, names, numbers, first, leaf_entry, no_page, pages}
 use Rattle.rss_levels.specs.Nested.{AreSameNumbers}
 use Rattle.rss_levels.specs.Spots.{IsMade, AreMade}
-use Rattle.rss_levels.proofs.Lists.{each_append, each_left, each_right, each_weaker, pairwise_append, pairwise_left, pairwise_right}
+use Rattle.rss_levels.proofs.Lists.{each_append, each_left, each_map, each_right, each_two, each_weaker, pairwise_append, pairwise_left, pairwise_right}
 use Rattle.rss_levels.proofs.Order.{before_trans, before_less, fence_from, zeros_least}
 use Rattle.rss_levels.proofs.Held.{held_append}
 use Rattle.rss_levels.proofs.Shuffles.{same_refl, same_trans, same_append, same_swap}
@@ -116,14 +116,6 @@ good_slot width pair good = slot_pair width pair.key pair.tid (bytes_of pair) re
 each_of : {X : Type 0} (P : X → Type 0) (xs : List X) → All P xs → Each P xs
 each_of P [] all = tt
 each_of P (x ∷ xs) all = (All-head P x xs all, each_of P xs (All-tail P x xs all))
-
-each_both : {X : Type 0} (P Q R : X → Type 0) (xs : List X) → ((x : X) → P x → Q x → R x) → Each P xs → Each Q xs → Each R xs
-each_both P Q R [] gives one two = tt
-each_both P Q R (x ∷ xs) gives one two = (gives x one.0 two.0, each_both P Q R xs gives one.1 two.1)
-
-each_map : {X Y : Type 0} (P : Y → Type 0) (f : X → Y) (xs : List X) → Each (λ x. P (f x)) xs → Each P (map f xs)
-each_map P f [] all = tt
-each_map P f (x ∷ xs) all = (all.0, each_map P f xs all.1)
 
 rising_pairs : (pairs : List Pair) → AreRising pairs → Pairwise IsBelow pairs
 rising_pairs [] all = tt
@@ -346,7 +338,7 @@ module _ (held : Held) (of : Nodes) (fit : AreNodes of) (numbered : AreNumbered 
   items_rise : (pairs : List Pair) → Each (IsGood of.width) pairs → Pairwise IsBelow pairs → Pairwise (λ a b. IsLess a.pair b.pair) (map leaf_item pairs)
   items_rise [] fine all = tt
   items_rise (p ∷ pairs) fine all = (
-    each_map (λ b. IsLess (bytes_of p) b.pair) leaf_item pairs (each_both (IsGood of.width) (IsBelow p) (λ q. IsLess (bytes_of p) (bytes_of q)) pairs (λ q two below. less_of of.width p q fine.0 two below) fine.1 all.0),
+    each_map (λ b. IsLess (bytes_of p) b.pair) leaf_item pairs (each_two (IsGood of.width) (IsBelow p) (λ q. IsLess (bytes_of p) (bytes_of q)) pairs (λ q two below. less_of of.width p q fine.0 two below) fine.1 all.0),
     items_rise pairs fine.1 all.1,
   )
 
@@ -437,14 +429,14 @@ module _ (held : Held) (of : Nodes) (fit : AreNodes of) (numbered : AreNumbered 
   bound_of None limit low e es one rest starts between goods = record { fine = starts.0; above = each_left (λ p. IsLess (bytes_of p) low → ⊥) one rest starts.1 }
   bound_of (Some least) limit low e es one rest starts between goods = record {
     fine = ap good starts.0 ∙ good_slot of.width least starts.1;
-    above = each_both (IsGood of.width) (IsAtOrAbove (Some least)) (λ p. IsLess (bytes_of p) low → ⊥) one
+    above = each_two (IsGood of.width) (IsAtOrAbove (Some least)) (λ p. IsLess (bytes_of p) low → ⊥) one
         (λ p fine above less. never_less of.width p least fine starts.1 above (subst (IsLess (bytes_of p)) starts.0 less)) goods (each_of (IsAtOrAbove (Some least)) one between.low);
   }
 
   -- the pairs under one node are below the next one's entry
   under_next : (bound : Option Pair) (e : NodeEntry) (es : List NodeEntry) (one : List Pair) → LiesBetween bound (limit_of (e ∷ es)) one → IsGood of.width (pair_of e) → Each (IsGood of.width) one → Each (λ d. IsLess d.pair (bytes_of (pair_of e))) (map leaf_item one)
   under_next bound e es one between fine goods = each_map (λ (d : Entry). IsLess d.pair (bytes_of (pair_of e))) leaf_item one
-      (each_both (IsGood of.width) (IsBelowLimit (Some (pair_of e))) (λ p. IsLess (bytes_of p) (bytes_of (pair_of e))) one (λ p here below. less_of of.width p (pair_of e) here fine below) goods (each_of (IsBelowLimit (Some (pair_of e))) one between.high))
+      (each_two (IsGood of.width) (IsBelowLimit (Some (pair_of e))) (λ p. IsLess (bytes_of p) (bytes_of (pair_of e))) one (λ p here below. less_of of.width p (pair_of e) here fine below) goods (each_of (IsBelowLimit (Some (pair_of e))) one between.high))
 
   -- one node beside others
   beside : (level end : ℕ) (bound : Option Pair) (low : List ℕ) (e : NodeEntry) (es : List NodeEntry) (one others : Reached) (mid : ℕ) → (rest : TreesRows level (next_low es) es others end) → mid ≡ first (leaf_at rest.row rest.lower) end → TreeRows level (least of.width) e.child low one mid

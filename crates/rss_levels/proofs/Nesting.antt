@@ -11,6 +11,10 @@ use Rattle.rss_levels.proofs.Pages.{in_left, in_right, in_append}
 
 -- ---- numbers
 
+pub turned : (xs ys : List ℕ) → Each (λ x. Each (λ y. x ≢ y) ys) xs → Each (λ y. Each (λ x. y ≢ x) xs) ys
+turned xs [] all = tt
+turned xs (y ∷ ys) all = (each_weaker (λ x. Each (λ z. x ≢ z) (y ∷ ys)) (λ x. y ≢ x) xs (λ x far is. far.0 (sym is)) all, turned xs ys (each_weaker (λ x. Each (λ z. x ≢ z) (y ∷ ys)) (λ x. Each (λ z. x ≢ z) ys) xs (λ x far. far.1) all))
+
 pub each_among : (P : ℕ → Type 0) (ns ms : List ℕ) → ((n : ℕ) → IsIn ns n → IsIn ms n) → Each P ms → Each P ns
 each_among P [] ms among all = tt
 each_among P (n ∷ ns) ms among all = (one_of ms n (among n (inl refl)) all, each_among P ns ms (λ m is. among m (inr is)) all)
@@ -46,10 +50,6 @@ same_nested number row one rest more same = record {
   where
     spread : (n : ℕ) → IsIn row n ⊎ IsIn rest n → IsIn (row ++ (one ++ rest)) n
     spread n is = ⊎_elim (λ (left : IsIn row n). in_left row (one ++ rest) n left) (λ (right : IsIn rest n). in_right row (one ++ rest) n (in_right one rest n right)) is
-
-    turned : (xs ys : List ℕ) → Each (λ x. Each (λ y. x ≢ y) ys) xs → Each (λ y. Each (λ x. y ≢ x) xs) ys
-    turned xs [] all = tt
-    turned xs (y ∷ ys) all = (each_weaker (λ x. Each (λ z. x ≢ z) (y ∷ ys)) (λ x. y ≢ x) xs (λ x far is. far.0 (sym is)) all, turned xs ys (each_weaker (λ x. Each (λ z. x ≢ z) (y ∷ ys)) (λ x. Each (λ z. x ≢ z) ys) xs (λ x far. far.1) all))
 
     both : (xs : List ℕ) → Each (λ x. Each (λ y. x ≢ y) row) xs → Each (λ x. Each (λ y. x ≢ y) rest) xs → Each (λ x. Each (λ y. x ≢ y) more) xs
     both [] far near = tt

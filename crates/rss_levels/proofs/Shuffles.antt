@@ -3,7 +3,7 @@ use Rattle.std.proofs.Common.{◌≢◌, ⊎_elim, ℕ, List, [], ◌∷◌, ◌
 use Rattle.rss_levels.specs.Entries.{Each, IsIn}
 use Rattle.rss_levels.specs.Nested.{AreSameNumbers}
 use Rattle.rss_levels.proofs.Lists.{each_append, each_left, each_right, each_weaker, pairwise_append, pairwise_left, pairwise_right, pairwise_cross}
-use Rattle.rss_levels.proofs.Nesting.{each_among}
+use Rattle.rss_levels.proofs.Nesting.{each_among, turned}
 use Rattle.rss_levels.proofs.Pages.{in_left, in_right, in_append}
 
 pub same_refl : (a : List ℕ) → AreSameNumbers a a
@@ -19,10 +19,6 @@ same_append a b c d one two = record {
   distinct = λ all. pairwise_append (λ x y. x ≢ y) a c (one.distinct (pairwise_left (λ x y. x ≢ y) b d all)) (two.distinct (pairwise_right (λ x y. x ≢ y) b d all))
       (each_among (λ x. Each (λ y. x ≢ y) c) a b one.into (each_weaker (λ x. Each (λ y. x ≢ y) d) (λ x. Each (λ y. x ≢ y) c) b (λ x far. each_among (λ y. x ≢ y) c d two.into far) (pairwise_cross (λ x y. x ≢ y) b d all)));
 }
-
-pub turned : (xs ys : List ℕ) → Each (λ x. Each (λ y. x ≢ y) ys) xs → Each (λ y. Each (λ x. y ≢ x) xs) ys
-turned xs [] all = tt
-turned xs (y ∷ ys) all = (each_weaker (λ x. Each (λ z. x ≢ z) (y ∷ ys)) (λ x. y ≢ x) xs (λ x far is. far.0 (sym is)) all, turned xs ys (each_weaker (λ x. Each (λ z. x ≢ z) (y ∷ ys)) (λ x. Each (λ z. x ≢ z) ys) xs (λ x far. far.1) all))
 
 pub same_swap : (a b c d : List ℕ) → AreSameNumbers ((a ++ b) ++ (c ++ d)) ((a ++ c) ++ (b ++ d))
 same_swap a b c d = record {
