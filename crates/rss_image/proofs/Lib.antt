@@ -16,3 +16,4 @@ pub mod Making
 pub mod Giving
 pub mod Nested
 pub mod Rowed
+pub mod Numbered

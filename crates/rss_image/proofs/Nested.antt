@@ -17,12 +17,12 @@ use Rattle.rss_levels.specs.Entries.{Entry, IsLess, Each, Pairwise, zeros, least
 use Rattle.rss_levels.specs.Rows.{Part, Row, Cells, HoldsAt, HoldsRow, IsStack, IsLeaves, Mark, IsBefore, Begins, fence, item, marks, marks_of, items, name, names, first, link, leaf_entry, stored, no_page}
 use Rattle.rss_levels.specs.Nested.{AreSameNumbers, IsUnder, AreUnder, leaf_under, inner_under, none_under, more_under}
 use Rattle.rss_levels.specs.Spots.{IsMade, AreMade}
-use Rattle.rss_levels.proofs.Lists.{each_append, each_left, each_right, each_weaker, pairwise_left, pairwise_right, pairwise_cross}
+use Rattle.rss_levels.proofs.Lists.{each_append, each_left, each_right, each_two, each_weaker, pairwise_left, pairwise_right, pairwise_cross}
 use Rattle.rss_levels.proofs.Order.{before_trans, before_less, less_never, less_fence, less_fences, less_item}
 use Rattle.rss_levels.proofs.Nesting.{StackUnder, stack_under}
-use Rattle.rss_node.specs.Pairs.{pair_from, tid_from, key_from, node_entry, next_from, HasSlot}
+use Rattle.rss_node.specs.Pairs.{IsWhole, pair_from, tid_from, key_from, node_entry, next_from, HasSlot}
 use Rattle.rss_node.specs.declared.pair.Nodes.{Nodes}
-use Rattle.rss_node.proofs.Agreed.{IsWhole, base_page, whole_page, whole_cmp}
+use Rattle.rss_node.proofs.Agreed.{base_page, whole_page, whole_cmp}
 use Rattle.rss_image.specs.Trees.{cells_of, spells, node_of}
 use Rattle.rss_image.specs.Images.{nodes_of, has_slot, ImageTree, pages_of}
 use Rattle.rss_image.specs.Agreement.{base_of, AreNumbered, IsSameImage}
@@ -147,10 +147,6 @@ all_of : {X Y : Type 0} (P : Y → Type 0) (f : X → Y) (xs : List X) → Each 
 all_of P f [] all = All-nil P
 all_of P f (x ∷ xs) all = All-cons P (f x) (map f xs) all.0 (all_of P f xs all.1)
 
-each_both : {X : Type 0} (P Q R : X → Type 0) (xs : List X) → ((x : X) → P x → Q x → R x) → Each P xs → Each Q xs → Each R xs
-each_both P Q R [] gives one two = tt
-each_both P Q R (x ∷ xs) gives one two = (gives x one.0 two.0, each_both P Q R xs gives one.1 two.1)
-
 -- ---- nodes, with what stands under them
 
 -- the row begins with a leaf of this bound
@@ -271,12 +267,12 @@ module _ (held : Held) (of : Nodes) where
       free [] = tt
       free (e ∷ es) = (tt, free es)
   low_pairs (Some bound) low es is whole above = all_of (IsAtOrAbove (Some bound)) (λ e. pair_from of.width e.pair) es
-      (each_both (λ e. IsWhole of.width e.pair) (λ e. IsLess e.pair low → ⊥) (λ e. IsAtOrAbove (Some bound) (pair_from of.width e.pair)) es
+      (each_two (λ e. IsWhole of.width e.pair) (λ e. IsLess e.pair low → ⊥) (λ e. IsAtOrAbove (Some bound) (pair_from of.width e.pair)) es
       (λ e one two below. never_below of.width e.pair low one is.1 two (subst (IsBelow (pair_from of.width e.pair)) is.0 below)) whole above)
 
   high_pairs : (bound : Pair) (low : List ℕ) (es : List Entry) → bound ≡ pair_from of.width low → IsWhole of.width low → Each (λ e. IsWhole of.width e.pair) es → Each (λ e. IsLess e.pair low) es → All (IsBelowLimit (Some bound)) (map (λ e. pair_from of.width e.pair) es)
   high_pairs bound low es is fine whole under = all_of (IsBelowLimit (Some bound)) (λ e. pair_from of.width e.pair) es
-      (each_both (λ e. IsWhole of.width e.pair) (λ e. IsLess e.pair low) (λ e. IsBelowLimit (Some bound) (pair_from of.width e.pair)) es
+      (each_two (λ e. IsWhole of.width e.pair) (λ e. IsLess e.pair low) (λ e. IsBelowLimit (Some bound) (pair_from of.width e.pair)) es
       (λ e one two. subst (IsBelow (pair_from of.width e.pair)) (sym is) (less_below of.width e.pair low one fine two)) whole under)
 
   free_pairs : (pairs : List Pair) → All (IsBelowLimit None) pairs
@@ -372,7 +368,7 @@ different (n ∷ ns) apart (suc j) (suc k) one two same = ap (λ (i : ℕ). suc 
 rising : (width : ℕ) (es : List Entry) → Each (λ e. IsWhole width e.pair) es → Pairwise (λ a b. IsLess a.pair b.pair) es → AreRising (map (λ e. pair_from width e.pair) es)
 rising width [] whole rises = tt
 rising width (e ∷ es) whole rises = (
-  all_of (IsBelow (pair_from width e.pair)) (λ d. pair_from width d.pair) es (each_both (λ d. IsWhole width d.pair) (λ d. IsLess e.pair d.pair) (λ d. IsBelow (pair_from width e.pair) (pair_from width d.pair)) es (λ d one two. less_below width e.pair d.pair whole.0 one two) whole.1 rises.0),
+  all_of (IsBelow (pair_from width e.pair)) (λ d. pair_from width d.pair) es (each_two (λ d. IsWhole width d.pair) (λ d. IsLess e.pair d.pair) (λ d. IsBelow (pair_from width e.pair) (pair_from width d.pair)) es (λ d one two. less_below width e.pair d.pair whole.0 one two) whole.1 rises.0),
   rising width es whole.1 rises.1,
 )
 

@@ -1,9 +1,14 @@
 // The laws of images.
 ghost use Rattle.rss_base.specs.Paged.{Held};
+ghost use Rattle.rss_base.specs.DiskRule.{IsTold};
 ghost use Rattle.rss_node.specs.Nodes.{AreNodes};
+ghost use Rattle.rss_node.specs.declared.pair.Nodes.{Nodes as SomeNodes};
+ghost use Rattle.rss_image.specs.Trees.{cells_of};
 ghost use Rattle.rss_image.specs.Images.{nodes_of, HasFewPages, HasFewLevels, SpellOne};
-ghost use Rattle.rss_image.specs.Agreement.{AreImages, SpellImages};
+ghost use Rattle.rss_image.specs.Agreement.{AreNumbered, AreImages, SpellImages};
 ghost use Rattle.rss_image.specs.declared.image.Image.{Image as SomeImage};
+
+use rss_base::Pages;
 
 /// The pages of an image spell one list at most.
 pub fn spelled_once()
@@ -22,6 +27,15 @@ pub fn levels_are_few()
     ensures { (image : SomeImage) (held : Held) → AreNodes (nodes_of image)
         → HasFewLevels image held }
 {}
+
+/// A page's number is below the number of slots, so no image page has the number that stands for no
+/// next leaf, or a greater one.
+pub fn pages_are_numbered<P: Pages>(pages: &P)
+    ensures { (of : SomeNodes) → IsTold (P.view pages.now).disk
+        → AreNumbered (cells_of of (P.view pages.now).held) }
+{
+    let _count = pages.slots();
+}
 
 /// Where pages spell an image by its rows (`ImageTree`), they are one by its nodes (`IsImage` of
 /// `rss_base`): the same pairs, in the same pages, each once.

@@ -2,18 +2,19 @@
 use Rattle.std.proofs.Common.{◌≡◌, ◌≢◌, ⊎_elim, ◌-◌, ℕ, suc, zero, ◌+◌, ◌*◌, ◌^◌, ◌<◌, ◌≤◌, List, [], ◌∷◌, ◌++◌, length, take, drop, map, get_or, replicate, Option, Some, None, false, ◌==◌, rules, refl, sym, ◌∙◌, ap, subst, arith, length-take-le, length-drop, append_assoc}
 use Rattle.std.specs.Prelude.{flat_map, All}
 use Rattle.std.specs.Int.{w16, w32, to_be_bytes, from_be_bytes}
-use Rattle.std.proofs.lemmas.Nat.{be_bytes_2, be_bytes_4}
-use Rattle.std.proofs.lemmas.List.{take-append-drop, drop-drop, drop-take, take-take, append-nil, drop_all, get_or-take, get_or-drop}
+use Rattle.std.proofs.lemmas.Nat.{be_bytes_2, be_bytes_4, from_be_bytes-to_be_bytes_2, from_be_bytes-to_be_bytes_4}
+use Rattle.std.proofs.lemmas.List.{take-append-drop, take_at, drop_at, drop-drop, drop-take, take-take, append-nil, drop_all, get_or-take, get_or-drop}
 use Rattle.rss_base.specs.Nodes.{node_entry_spelled}
 use Rattle.rss_node.specs.Nodes.{part, entry_from, entries_from}
-use Rattle.rss_node.specs.Pairs.{IsSpelledTid, pair_bytes, pair_from, key_from, tid_from, node_entry, next_from, base_node, nodes_of_node, HasSlot}
+use Rattle.rss_node.specs.Pairs.{IsSpelledTid, IsWhole, pair_bytes, pair_from, key_from, tid_from, node_entry, next_from, base_node, nodes_of_node, HasSlot}
 use Rattle.rss_node.proofs.Headers.{four, has_room}
 use Rattle.rss_node.proofs.Parts.{low_drop, low_take}
 use Rattle.rss_node.proofs.Codec.{length_entries}
 use Rattle.rss_node.specs.Nodes.{NodeView, node_from, count_of, Spells, IsNodePage, IsBytes, AreSpelled}
 use Rattle.rss_base.specs.Nodes.{NodesOf, IsNodeEntry, next_spelled, node_spelled, IsNodePage as IsBasePage}
 use Rattle.rss_levels.specs.Entries.{Each}
-use Rattle.rss_base.specs.Trees.{pair_cmp}
+use Rattle.rss_base.specs.LogRecords.{tid_bytes}
+use Rattle.rss_base.specs.Trees.{Pair, pair_cmp}
 use Rattle.std.specs.Ordering.{nat_cmp}
 use Rattle.std.specs.Cmp.Lexicographic.{slice_cmp}
 use Rattle.rss_node.proofs.Ordered.{pairs_ordered}
@@ -204,11 +205,6 @@ base_page page node spells slots =
 
 -- ---- pairs
 
--- as long as a pair of keys of this width is, with bytes behind the key
-pub record IsWhole (width : ℕ) (pair : List ℕ) : Type 0 where
-  pub long : length pair ≡ width + 6
-  pub bytes : IsBytes (part pair width 6)
-
 whole_entries : (width count : ℕ) (bytes : List ℕ) → AreSpelled width count bytes → count * (width + 10) ≤ length bytes → Each (λ e. IsWhole width e.pair) (entries_from width count bytes)
 whole_entries width zero bytes low within = tt
 whole_entries width (suc count) bytes low within = (
@@ -235,6 +231,19 @@ pair_back width pair whole =
     ∙ ap (λ (l : List ℕ). take width pair ++ (part pair width 4 ++ l)) (sym last)
     ∙ ap (λ (l : List ℕ). take width pair ++ l) (sym (behind pair width 4))
     ∙ take-append-drop width pair
+
+-- the bytes of a key and of an identifier say these
+pub pair_said : (width : ℕ) (pair : Pair) → length pair.key ≡ width → IsSpelledTid pair.tid → pair_from width (pair_bytes pair.key pair.tid) ≡ pair
+pair_said width pair long spelled =
+    let key : List ℕ = pair.key in
+    let tid : List ℕ = tid_bytes pair.tid in
+    let front : take width (key ++ tid) ≡ key = take_at key tid width long in
+    let back : drop width (key ++ tid) ≡ tid = drop_at key tid width long in
+    let page : from_be_bytes w32 (take 4 (drop width (key ++ tid))) ≡ pair.tid.page =
+    ap (λ (l : List ℕ). from_be_bytes w32 (take 4 l)) back ∙ from_be_bytes-to_be_bytes_4 pair.tid.page spelled.page in
+    let slot : from_be_bytes w16 (take 2 (drop (width + 4) (key ++ tid))) ≡ pair.tid.slot =
+    ap (λ (l : List ℕ). from_be_bytes w16 (take 2 l)) (sym (drop-drop 4 width (key ++ tid)) ∙ ap (drop 4) back) ∙ from_be_bytes-to_be_bytes_2 pair.tid.slot spelled.slot in
+    λ i. record { key = front i; tid = record { page = page i; slot = slot i } }
 
 pub tid_spelled : (width : ℕ) (pair : List ℕ) → IsWhole width pair → IsSpelledTid (tid_from width pair)
 tid_spelled width pair whole = record {

@@ -1,12 +1,12 @@
 -- A pair as bytes.
-use Rattle.std.specs.Prelude.{ℕ, List, ◌++◌, ◌<◌, ◌^◌, ◌+◌, ◌==◌, if◌then◌else◌, take, drop, map, Option, Some, None}
+use Rattle.std.specs.Prelude.{◌≡◌, ℕ, List, ◌++◌, ◌<◌, ◌^◌, ◌+◌, ◌==◌, if◌then◌else◌, length, take, drop, map, Option, Some, None}
 use Rattle.std.specs.Int.{w16, w32, from_be_bytes}
 use Rattle.rss_base.specs.Sizes.{page_entries}
 use Rattle.rss_base.specs.Nodes.{NodeEntry, Node, NodesOf}
 use Rattle.rss_base.specs.Trees.{Pair}
 use Rattle.rss_levels.specs.Entries.{Entry}
 use Rattle.rss_levels.specs.Rows.{no_page}
-use Rattle.rss_node.specs.Nodes.{NodeView}
+use Rattle.rss_node.specs.Nodes.{NodeView, IsBytes, part}
 use Rattle.rss_base.specs.LogRecords.{tid_bytes}
 use Rattle.rss_base.specs.declared.tid.Tid.{Tid}
 
@@ -18,6 +18,11 @@ pair_bytes key tid = key ++ tid_bytes tid
 pub record IsSpelledTid (tid : Tid) : Type 0 where
   pub page : tid.page < 2 ^ 32
   pub slot : tid.slot < 2 ^ 16
+
+-- as long as a pair of keys of this width is, with bytes behind the key
+pub record IsWhole (width : ℕ) (pair : List ℕ) : Type 0 where
+  pub long : length pair ≡ width + 6
+  pub bytes : IsBytes (part pair width 6)
 
 -- ---- a node by its definition in the base
 

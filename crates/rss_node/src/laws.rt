@@ -6,12 +6,22 @@ ghost use Rattle.rss_base.specs.Trees.{Pair, pair_cmp};
 ghost use Rattle.rss_base.specs.Nodes.{Node, NodesOf, IsNodePage};
 ghost use Rattle.rss_levels.specs.Entries.{Each};
 ghost use Rattle.rss_node.specs.Nodes.{NodeView, Spells};
-ghost use Rattle.rss_node.specs.Pairs.{IsSpelledTid, pair_bytes, HasSlot, base_node, nodes_of_node, view_of};
+ghost use Rattle.rss_node.specs.Pairs.{IsSpelledTid, IsWhole, pair_bytes, pair_from, key_from, tid_from};
+ghost use Rattle.rss_node.specs.Pairs.{HasSlot, base_node, nodes_of_node, view_of};
 
 /// Pairs are ordered by their bytes as by their keys, and then by their identifiers.
 pub fn pairs_are_ordered()
     ensures { (a b : Pair) → length a.key ≡ length b.key → IsSpelledTid a.tid → IsSpelledTid b.tid
         → slice_cmp nat_cmp (pair_bytes a.key a.tid) (pair_bytes b.key b.tid) ≡ pair_cmp a b }
+{}
+
+/// What the bytes of a pair say is the pair, and bytes that can be a pair's are those of the pair that
+/// they say.
+pub fn pairs_are_their_bytes()
+    ensures said { (width : ℕ) (pair : Pair) → length pair.key ≡ width → IsSpelledTid pair.tid
+        → pair_from width (pair_bytes pair.key pair.tid) ≡ pair }
+    ensures back { (width : ℕ) (bytes : List ℕ) → IsWhole width bytes
+        → pair_bytes (key_from width bytes) (tid_from width bytes) ≡ bytes }
 {}
 
 /// A page that spells a node is a node's page by the definition of the base, where the identifiers
