@@ -30,8 +30,8 @@ pub record Holds (at : ℕ) (bytes held : List ℕ) : Type 0 where
   pub within : (k : ℕ) → k < length bytes → at + k < length held
   pub each : (k : ℕ) → k < length bytes → slice_index held (at + k) ≡ slice_index bytes k
 
--- All bytes but so many, from this place on, are as they were, and none is gone. The file may be
--- longer, but ends with these bytes then, and any between its old end and this place are zeros.
+-- All bytes but so many, from this place on, are as they were, and none is gone. The file grows no
+-- further than these, and what is new in front of them is zeros, as a byte past the end reads.
 pub record IsWrittenIn (at count : ℕ) (before after : List ℕ) : Type 0 where
   pub others : (q : ℕ) → (q < at) ⊎ (at + count ≤ q) → slice_index after q ≡ slice_index before q
   pub longer : length before ≤ length after
