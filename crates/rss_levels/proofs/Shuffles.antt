@@ -1,5 +1,5 @@
 -- The same numbers, in another order.
-use Rattle.std.proofs.Common.{◌≢◌, ⊎_elim, ℕ, List, [], ◌∷◌, ◌++◌, sym}
+use Rattle.std.proofs.Common.{◌≢◌, ⊎_elim, ℕ, List, [], ◌∷◌, ◌++◌}
 use Rattle.rss_levels.specs.Entries.{Each, IsIn}
 use Rattle.rss_levels.specs.Nested.{AreSameNumbers}
 use Rattle.rss_levels.proofs.Lists.{each_append, each_left, each_right, each_weaker, pairwise_append, pairwise_left, pairwise_right, pairwise_cross}
