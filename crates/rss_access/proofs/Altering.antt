@@ -4,7 +4,7 @@ use Rattle.std.specs.Prelude.{Option, Some, option_map, OnOk, Result, Ok, Err}
 use Rattle.std.proofs.lemmas.Bool.{cases_eq}
 use Rattle.std.proofs.lemmas.Option.{same_Some}
 use Rattle.rss_base.specs.DiskRule.{IsTold}
-use Rattle.rss_base.specs.Paged.{Mapped, Held, Backing, mapped_pages}
+use Rattle.rss_base.specs.Paged.{Mapped, Held, Backing, mapped_of, mapped_pages}
 use Rattle.rss_base.specs.PageMap.{page_count}
 use Rattle.rss_base.specs.Steps.{PagesView, PagesStep, Keys, AreCounted, no_page}
 use Rattle.rss_base.specs.Listings.{Listing, ListingFits, relation_at}
@@ -15,6 +15,7 @@ use Rattle.rss_base.specs.declared.item.Item.TheVariants.{Tuple as TupleItem}
 use Rattle.rss_base.specs.declared.fault.PageFault.{PageFault}
 use Rattle.rss_base.specs.declared.place.Place.{Place}
 use Rattle.rss_base.specs.declared.key.PageKey.{PageKey}
+use Rattle.rss_base.specs.declared.key.Space.TheVariants.{Overflow}
 use Rattle.rss_base.specs.declared.relation.RelationEntry.{RelationEntry}
 use Rattle.rss_base.specs.declared.change.Change as told
 use Rattle.rss_base.specs.declared.change.Change.TheVariants.{Insert, Delete, Update, Connect, Disconnect}
@@ -22,9 +23,10 @@ use Rattle.rss_base.proofs.Steps.{all_mapped, all_held}
 use Rattle.rss_tuple.specs.Checked.{pages_of}
 use Rattle.rss_tuple.specs.Directory.{bodies_of, with_body}
 use Rattle.rss_catalog.specs.Catalogs.{CatalogView}
-use Rattle.rss_model.specs.Items.{Values}
+use Rattle.rss_model.specs.Items.{Content, Values}
 use Rattle.rss_model.specs.Tables.{Contents, Tables, put, tuple_count, is_tuple_of}
 use Rattle.rss_model.specs.Changes.{Change}
+use Rattle.rss_model.specs.Meter.{MayLead}
 use Rattle.rss_model.specs.Store.{SpellsTables, Defines, AreCounts, plain_body as body_of}
 use Rattle.rss_model.proofs.Codes.{name_total, name_apart}
 use Rattle.rss_model.proofs.Contents.{not_tied}
@@ -33,7 +35,7 @@ use Rattle.rss_access.specs.Changes.{IsTupleRecord, number_told, tid_told, body_
 use Rattle.rss_access.specs.Tuples.{body_at, size_of_body, ChangesTuple}
 use Rattle.rss_access.proofs.Numbered.{names_apart, counted_or_old, counted_defines}
 use Rattle.rss_access.proofs.Recounting.{Recounts, recounts_itself, recounts_listed}
-use Rattle.rss_access.proofs.Spelling.{IsChange, spells_changed, with_tuple, mapped_changed}
+use Rattle.rss_access.proofs.Spelling.{IsChange, spells_changed, may_lead, with_tuple, mapped_changed}
 use Rattle.rss_access.proofs.Telling.{Reads, reads, holds_old, count_is, can_turned, none_applies, reversed_tuple}
 
 -- ---- the listing
@@ -98,38 +100,54 @@ told_pages listing told_change at key is = subst (λ (found : Option RelationEnt
 pub pages_are_told : (listing : Listing) (told_change : told.Change) {relation : RelationEntry} → relation_at listing (number_told told_change) ≡ Some relation → (key : PageKey) → pages_of relation.segment key → pages_told listing told_change key
 pages_are_told listing told_change at key is = subst (λ (found : Option RelationEntry). pages_of_relation found key) (sym at) is
 
--- the pages spell the tables with the change applied
-pub alters_tables : {cost : ℕ} {old new : AccessView} {told_change : told.Change} → IsTupleRecord told_change → PagesStep (pages_told old.catalog.listing told_change) cost cost old.pages new.pages → Alters told_change old new
-    → IsTold old.pages.disk → (tables : Tables) (change : Change) → CanApply old told_change tables change → SpellsTables new.pages.held new.catalog.listing (applied tables change)
-alters_tables {old = old} {new = new} {told_change = told_change} is step alters told tables change can =
-    subst (λ (t : Tables). SpellsTables new.pages.held new.catalog.listing t) same_tables
-    (spells_changed can.spells changed (holds_old can r) lists.recounts lists.fits lists.defines (subst (λ (c : Contents). AreCounts new.catalog.listing c) (sym same_contents) lists.counts))
+-- the tables with the tuple that the change leaves
+applied_tuple : {listing : Listing} {told_change : told.Change} {change : Change} (tables : Tables) (r : Reads listing told_change change) → with_tuple tables r.relation.name (tid_told told_change) r.next ≡ applied tables change
+applied_tuple {told_change = told_change} {change = change} tables r = ap (λ (c : Contents). record { definitions = tables.definitions; contents = c }) same_contents
   where
-    r : Reads old.catalog.listing told_change change
-    r = reads can.spells.listed told_change change is can.tells can.means
-
-    one : alters.relation ≡ r.relation
-    one = same_Some _ _ (sym alters.listed ∙ r.at)
-
-    lists : Relists (number_told told_change) r.relation tables (put tables.contents change.item change.new) old.catalog.listing new.catalog.listing
-    lists = relists told_change new.catalog is can r (subst (λ (e : RelationEntry). CountsChange told_change e old.catalog new.catalog) one alters.counts)
-
-    changed : IsChange old.pages new.pages old.catalog.listing (number_told told_change) r.relation (tid_told told_change) r.was r.next
-    changed = record {
-      at = r.at;
-      told = told;
-      slots = step.passes.slots;
-      held_off = λ key off. step.held_off told key (λ touched. off (told_pages old.catalog.listing told_change r.at key touched));
-      changes = subst (λ (body : Option (List ℕ)). ChangesTuple r.relation.segment (tid_told told_change) body old.pages new.pages) r.after (subst (λ (e : RelationEntry). ChangesTuple e.segment (tid_told told_change) (body_after told_change) old.pages new.pages) one alters.changes);
-      storable = r.storable;
-      absent = λ none. ap (λ (e : RelationEntry). body_at old.pages e.segment (tid_told told_change)) (sym one) ∙ alters.found told ∙ r.before ∙ ap (option_map (body_of (number_told told_change))) none;
-    }
-
     same_contents : put tables.contents (TupleItem r.relation.name (tid_told told_change)) (option_map Values r.next) ≡ put tables.contents change.item change.new
     same_contents = ap (λ (item : Item). put tables.contents item (option_map Values r.next)) (sym r.item) ∙ ap (put tables.contents change.item) (sym r.new)
 
-    same_tables : with_tuple tables r.relation.name (tid_told told_change) r.next ≡ applied tables change
-    same_tables = ap (λ (c : Contents). record { definitions = tables.definitions; contents = c }) same_contents
+module _ {cost : ℕ} {old new : AccessView} {told_change : told.Change} (is : IsTupleRecord told_change) (step : PagesStep (pages_told old.catalog.listing told_change) cost cost old.pages new.pages) (alters : Alters told_change old new) (told : IsTold old.pages.disk) (tables : Tables) (change : Change) (can : CanApply old told_change tables change) where
+  r : Reads old.catalog.listing told_change change
+  r = reads can.spells.listed told_change change is can.tells can.means
+
+  one : alters.relation ≡ r.relation
+  one = same_Some _ _ (sym alters.listed ∙ r.at)
+
+  lists : Relists (number_told told_change) r.relation tables (put tables.contents change.item change.new) old.catalog.listing new.catalog.listing
+  lists = relists told_change new.catalog is can r (subst (λ (e : RelationEntry). CountsChange told_change e old.catalog new.catalog) one alters.counts)
+
+  changed : IsChange old.pages new.pages old.catalog.listing (number_told told_change) r.relation (tid_told told_change) r.was r.next
+  changed = record {
+    at = r.at;
+    told = told;
+    slots = step.passes.slots;
+    held_off = λ key off. step.held_off told key (λ touched. off (told_pages old.catalog.listing told_change r.at key touched));
+    changes = subst (λ (body : Option (List ℕ)). ChangesTuple r.relation.segment (tid_told told_change) body old.pages new.pages) r.after (subst (λ (e : RelationEntry). ChangesTuple e.segment (tid_told told_change) (body_after told_change) old.pages new.pages) one alters.changes);
+    storable = r.storable;
+    absent = λ none. ap (λ (e : RelationEntry). body_at old.pages e.segment (tid_told told_change)) (sym one) ∙ alters.found told ∙ r.before ∙ ap (option_map (body_of (number_told told_change))) none;
+  }
+
+  -- the pages spell the tables with the change applied
+  pub alters_tables : SpellsTables new.pages.held new.catalog.listing (applied tables change)
+  alters_tables =
+      subst (λ (t : Tables). SpellsTables new.pages.held new.catalog.listing t) (applied_tuple tables r)
+      (spells_changed can.spells changed (holds_old can r) lists.recounts lists.fits lists.defines (subst (λ (c : Contents). AreCounts new.catalog.listing c) (ap (λ (t : Tables). t.contents) (sym (applied_tuple tables r))) lists.counts))
+
+  abbrev before : ℕ
+  before = mapped_of old.pages.mapped Overflow old.pages.slots
+
+  abbrev after : ℕ
+  after = mapped_of new.pages.mapped Overflow new.pages.slots
+
+  -- there may be as many overflow pages then
+  pub alters_leads : MayLead (applied tables change) change.item change.old change.new before after
+  alters_leads =
+      subst (λ (t : Tables). MayLead t change.item change.old change.new before after) (applied_tuple tables r)
+      (subst (λ (o : Option Content). MayLead (with_tuple tables r.relation.name (tid_told told_change) r.next) change.item o change.new before after) (sym r.old)
+      (subst (λ (o : Option Content). MayLead (with_tuple tables r.relation.name (tid_told told_change) r.next) change.item (option_map Values r.was) o before after) (sym r.new)
+      (subst (λ (item : Item). MayLead (with_tuple tables r.relation.name (tid_told told_change) r.next) item (option_map Values r.was) (option_map Values r.next) before after) (sym r.item)
+      (may_lead can.spells changed (holds_old can r)))))
 
 -- ---- pages that were looked at first
 

@@ -1,5 +1,5 @@
 -- Writes outside the data slots leave what pages hold, and those outside a map area leave its map.
-use Rattle.std.proofs.Common.{◌≡◌, ◌≢◌, ℕ, ◌+◌, ◌*◌, ◌/◌, ◌%◌, ◌<◌, ◌≤◌, Bool, true, false, List, length, take, drop, Option, Some, None, option_map, refl, sym, ◌∙◌, ap, subst, arith}
+use Rattle.std.proofs.Common.{◌≡◌, ◌≢◌, ⊎_elim, ℕ, ◌+◌, ◌*◌, ◌/◌, ◌%◌, ◌<◌, ◌≤◌, Bool, true, false, List, length, take, drop, Option, Some, None, option_map, refl, sym, ◌∙◌, ap, subst, arith}
 use Rattle.std.proofs.Math.Path.{fun_ext}
 use Rattle.std.proofs.lemmas.Option.{same_Some}
 use Rattle.rss_base.specs.Devices.{DeviceView}
@@ -9,6 +9,7 @@ use Rattle.rss_base.specs.PageMap.{IsMap, IsTable, entry_at, page_count}
 use Rattle.rss_base.specs.Paged.{HasFixed}
 use Rattle.rss_base.specs.declared.key.PageKey.{PageKey}
 use Rattle.rss_pagemap.proofs.Written.{area_ends}
+use Rattle.rss_root.specs.Roots.{IsSwitchPlace}
 use Rattle.rss_shadow.specs.Maps.{Maps}
 use Rattle.rss_buffer.specs.Frames.{FrameOf, Frame, least_frames}
 use Rattle.rss_buffer.specs.Slots.{held_in, held_by, fixed_by}
@@ -109,6 +110,9 @@ unsynced-at {b = b} {places = places} device {settled = settled} past low only a
 module _ {b : BufferView} (buffer : IsBuffer b) where
   pub heads_below : (q : ℕ) → IsHeadPage q → q < b.first
   heads_below q head = omega (arith, head, buffer.laid_out.place)
+
+  pub switched_below : {other : ℕ} → other < 3 → (q : ℕ) → IsSwitchPlace other q → q < b.first
+  switched_below low q is = heads_below q (⊎_elim (λ selector. omega (arith, selector)) (λ root. omega (arith, root)) is)
 
   pub area_below : {area : ℕ} → area < 2 → (q : ℕ) → IsAreaPage (length b.maps.current) area q → q < b.first
   area_below {area = area} two q = below_slots (length b.maps.current) b.log_pages area b.first q two buffer.laid_out.place

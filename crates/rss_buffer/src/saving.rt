@@ -6,7 +6,7 @@ ghost use Rattle.rss_base.specs.PageMap.{page_count};
 ghost use Rattle.rss_base.specs.Paged.{WritesWaiting, LeavesFixed};
 ghost use Rattle.rss_base.specs.StoredPages.{StandInSlots, SavesPages};
 ghost use Rattle.rss_base.specs.declared.key.PageKey.{PageKey as Key};
-ghost use Rattle.rss_root.specs.Roots.{IsPhase, IsSwitched};
+ghost use Rattle.rss_root.specs.Roots.{IsPhase, IsSwitchPlace, IsSwitched};
 ghost use Rattle.rss_buffer.specs.Buffered.{NoneChanged, WritesPages};
 ghost use Rattle.rss_buffer.specs.Gathered.{IsWritten};
 ghost use Rattle.rss_buffer.specs.Saved.{IsSaveable, AreWritten, unsynced};
@@ -120,6 +120,8 @@ pub trait Saving: Pages {
             ((Self.view self.new).backing.area ≡ (Self.view self.old).backing.area) }
         ensures shadow { (Self.view self.new).backing.shadow ≡ (Self.view self.old).backing.shadow }
         ensures settled { OnOk result ((Self.view self.new).settled ≡ true) }
+        ensures only { WritesIn (IsSwitchPlace (3 - valid))
+            (Self.view self.old).disk (Self.view self.new).disk }
         ensures writes { (Self.view self.new).writes ≤ (Self.view self.old).writes + 2 }
         ensures did { SavingCall (Self.view self.old) (Self.view self.new) (saving self.old)
             (saving self.new) result };

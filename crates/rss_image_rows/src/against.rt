@@ -1,7 +1,7 @@
 // Inserts and removes at random, beside a sorted list.
 use crate::calls::{Tried, after, create, destroy, empty, insert, remove, seek};
 use crate::pairs::{Code, code_of};
-use crate::tested::test_pages;
+use crate::tested::{Tested, test_pages};
 use rss_asserts::{Draws, assert_same};
 use rss_base::Pages;
 use rss_image::Image;
@@ -15,8 +15,8 @@ enum Order {
     Rising,
 }
 
-/// A width, how many pairs are put, in what order, after how many steps all pages are tested, and how
-/// many levels there come to be.
+/// A width, how many pairs are put, in what order, after how many steps all pages are tested anew, and
+/// how many levels there come to be.
 #[derive(Clone, Copy, Debug)]
 struct Case {
     width: u8,
@@ -86,7 +86,7 @@ struct Beside {
     list: Vec<Code>,
     steps: u32,
     levels: u8,
-    spare: u32,
+    tested: Tested,
 }
 
 impl Beside {
@@ -100,7 +100,7 @@ impl Beside {
             list,
             steps: 0,
             levels: 1,
-            spare: 0,
+            tested: Tested::new(alloc)?,
         })
     }
 
@@ -135,8 +135,7 @@ impl Beside {
         Ok(())
     }
 
-    /// Looks for pairs near one, and tests all pages where a page was taken or given, and now and
-    /// then.
+    /// Looks for pairs near one, and tests the pages.
     fn look(&mut self, alloc: Global, code: Code, turn: u32) -> Result<(), Fail> {
         let key = code & 0xffff_ffff_0000_0000;
         let (Ok(first) | Err(first)) = self.place(key);
@@ -149,13 +148,15 @@ impl Beside {
         let above = self.list.get(next).copied();
         assert_same(&after(&self.image, &mut self.pages, code)?, &above, code)?;
         self.steps = self.steps.saturating_add(1);
-        let spare = self.pages.spare();
-        let moved = spare != self.spare;
-        self.spare = spare;
-        if moved || turn > 0 && self.steps % turn == 0 {
-            test_pages(alloc, &mut self.pages, &self.image, self.list.as_slice())?;
+        if turn > 0 && self.steps % turn == 0 {
+            self.tested.forget_all();
         }
-        Ok(())
+        self.test(alloc)
+    }
+
+    fn test(&mut self, alloc: Global) -> Result<(), Fail> {
+        let list = self.list.as_slice();
+        test_pages(alloc, &mut self.pages, &self.image, &mut self.tested, list)
     }
 }
 
@@ -190,7 +191,8 @@ fn run(alloc: Global, case: Case) -> Result<(), Fail> {
     }
     assert_same(&tried.list.is_empty(), &true, case)?;
     assert_same(&tried.image.levels, &1, case)?;
-    test_pages(alloc, &mut tried.pages, &tried.image, &[])
+    tried.tested.forget_all();
+    tried.test(alloc)
 }
 
 #[test]

@@ -4,6 +4,7 @@ ghost use Rattle.rss_node.specs.Nodes.{AreNodes};
 ghost use Rattle.rss_image.specs.Images.{nodes_of};
 
 use crate::pairs::{Code, code_from, key_of, tid_of};
+use crate::watched::Watched;
 use rss_base::{PageFault, Pages};
 use rss_device::MemPages;
 use rss_image::Image;
@@ -19,7 +20,7 @@ const SEGMENT: u8 = 2;
 const NUMBER: u8 = 5;
 
 /// Pages in memory.
-pub(crate) type Tried = Untold<MemPages>;
+pub(crate) type Tried = Watched<Untold<MemPages>>;
 
 /// Why a call was not made, or not answered.
 #[derive(Clone, Copy, Debug, PartialEq)]
@@ -37,7 +38,7 @@ impl From<PageFault> for Undone {
 
 pub(crate) fn empty(alloc: Global) -> Result<Tried, Fail> {
     let pages = MemPages::new(alloc, SLOTS)?;
-    Ok(Untold::new(pages))
+    Ok(Watched::new(alloc, Untold::new(pages))?)
 }
 
 fn is_image(image: &Image) -> bool

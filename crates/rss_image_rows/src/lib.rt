@@ -10,4 +10,6 @@ mod pairs;
 #[cfg(test)]
 mod tested;
 #[cfg(test)]
+mod watched;
+#[cfg(test)]
 mod widths;

@@ -1,7 +1,7 @@
 // The widths at which the count of a node changes.
 use crate::calls::{create, empty, insert};
 use crate::pairs::{Code, code_of};
-use crate::tested::{most, test_pages};
+use crate::tested::{Tested, most, test_pages};
 use rss_asserts::assert_same;
 use std::alloc::Global;
 use std::test::Fail;
@@ -36,7 +36,8 @@ fn fill(alloc: Global, width: u8, count: u16) -> Result<(), Fail> {
         list.push(code)?;
     }
     assert_same(&image.levels, &2, width)?;
-    test_pages(alloc, &mut pages, &image, list.as_slice())
+    let mut tested = Tested::new(alloc)?;
+    test_pages(alloc, &mut pages, &image, &mut tested, list.as_slice())
 }
 
 #[test]

@@ -42,7 +42,7 @@ pub plain_solid : (word : List ℕ) → IsPlain word → IsSolid word
 plain_solid [] is = is.some refl
 plain_solid (b ∷ word) is = All-head (λ n. n ≢ space) b word is.bare
 
-cut : (s t new word rest : List ℕ) → AreSpaces s → AreSpaces t → IsOff space new → IsSolid word → s ++ new ≡ t ++ (word ++ rest) → new ≡ word ++ rest
+pub cut : (s t new word rest : List ℕ) → AreSpaces s → AreSpaces t → IsOff space new → IsSolid word → s ++ new ≡ t ++ (word ++ rest) → new ≡ word ++ rest
 cut [] [] new word rest in_s in_t off solid e = e
 cut [] (b ∷ t) [] word rest in_s in_t off solid e = absurd (not_empty e)
 cut [] (b ∷ t) (c ∷ new) word rest in_s in_t off solid e = absurd (off (same_head e ∙ All-head (λ n. n ≡ space) b t in_t))
@@ -71,6 +71,11 @@ no_word : (s word rest : List ℕ) → IsSolid word → AreSpaces (s ++ (word ++
 no_word [] [] rest solid all = solid
 no_word [] (b ∷ word) rest solid all = solid (All-head (λ n. n ≡ space) b (word ++ rest) all)
 no_word (a ∷ s) word rest solid all = no_word s word rest solid (All-tail (λ n. n ≡ space) a (s ++ (word ++ rest)) all)
+
+-- what stands among spaces is one
+pub spaces_append : (s : List ℕ) (b : ℕ) (rest : List ℕ) → AreSpaces (s ++ b ∷ rest) → b ≡ space
+spaces_append [] b rest all = All-head (λ n. n ≡ space) b rest all
+spaces_append (a ∷ s) b rest all = spaces_append s b rest (All-tail (λ n. n ≡ space) a (s ++ b ∷ rest) all)
 
 -- spaces alone begin with no word
 pub no_begin : {bytes word rest : List ℕ} → AreSpaces bytes → IsSolid word → Begins bytes word rest → ⊥

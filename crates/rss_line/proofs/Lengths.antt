@@ -7,7 +7,7 @@ use Rattle.rss_line.specs.Reads.{ReadsByte, HasLength}
 use Rattle.rss_line.specs.declared.fault.LineFault.{LineFault}
 use Rattle.rss_line.specs.declared.fault.LineFault.TheVariants.{Words, NoMemory}
 use Rattle.rss_line.proofs.Cuts.{at_quote, off_quote}
-use Rattle.rss_line.proofs.Values.{text_more}
+use Rattle.rss_line.proofs.ValueTexts.{text_more}
 
 -- So many bytes of a text were counted of old, and the rest is left.
 pub record Counts (old : List ℕ) (count : ℕ) (left : List ℕ) : Type 0 where

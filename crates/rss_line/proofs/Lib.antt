@@ -1,13 +1,21 @@
 mod Numbers
 mod Pieces
 mod Cuts
-mod Forms
+mod Choosing
+mod Lines
 mod Plain
 mod Combining
-mod Values
+mod ValueTexts
 mod Sequences
 mod Lengths
 mod Tids
 mod Fields
-mod Names
+mod NameTexts
 pub mod Defining
+mod Meanings
+mod Functions
+mod Lone
+mod Draws
+mod Parts
+mod Counts
+mod Generated

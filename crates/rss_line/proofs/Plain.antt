@@ -1,5 +1,5 @@
 -- Words that need no quotes.
-use Rattle.std.proofs.Common.{◌≡◌, ◌∙◌, inl, inr, ℕ, zero, suc, ◌-◌, ◌<◌, ◌≤◌, ◌^◌, not, cond, ◌==◌, List, [], ◌∷◌, ◌++◌, length, get_or, nat_le, true, replicate, take_while, refl, ap, sym, subst, arith, rules}
+use Rattle.std.proofs.Common.{◌≡◌, ◌∙◌, inl, inr, ℕ, zero, suc, ◌-◌, ◌<◌, ◌≤◌, ◌^◌, not, cond, ◌==◌, List, [], ◌∷◌, ◌++◌, length, get_or, nat_le, Bool, true, false, replicate, take_while, refl, ap, sym, subst, arith, rules}
 use Rattle.std.specs.Prelude.{◌≢◌, All, ℤ, pos, negsuc, codes, decimal, FitsSigned}
 use Rattle.std.specs.Int.{w64}
 use Rattle.std.proofs.lemmas.Int.{ints}
@@ -12,7 +12,7 @@ use Rattle.std.specs.Str.Parse.{AllDigits}
 use Rattle.std.proofs.lemmas.Fmt.{digits_decimal, decimal_nonempty, IsAscii-signed, IsAscii-decimal}
 use Rattle.std.proofs.lemmas.Str.{IsAscii-append}
 use Rattle.std.proofs.lemmas.Str.Ascii.{IsAscii-from_reads}
-use Rattle.std.proofs.lemmas.Str.Parse.{numerals_by_value, tells_digits, not_in_digits}
+use Rattle.std.proofs.lemmas.Str.Parse.{numerals_by_value, tells_digits, not_in_digits, digit_at}
 use Rattle.std.proofs.lemmas.List.Elements.{All-cons, All-head, All-tail, All-append, All-weaker, All-get_or, All-from_get_or}
 use Rattle.rss_base.specs.declared.tid.Tid.{Tid}
 use Rattle.rss_base.specs.declared.name.Name.{Name}
@@ -22,16 +22,21 @@ use Rattle.rss_base.specs.declared.field.FieldDef.{FieldDef}
 use Rattle.rss_base.specs.Names.{IsName, IsNameByte}
 use Rattle.rss_base.specs.TupleTypes.{is_kind}
 use Rattle.rss_model.specs.Spellings.{space, name_text, field_kind_text}
-use Rattle.rss_model.specs.Script.{IsTransaction, IsNameWord, IsTid, IsField}
+use Rattle.rss_model.specs.Script.{IsTransaction, IsNameWord, IsNumber, IsTid, IsTidIn, IsNumberIn, IsVariable, IsMode, IsField}
+use Rattle.rss_model.specs.Variables.{Variable}
 use Rattle.rss_line.specs.Reads.{IsPlain, IsInt}
 use Rattle.rss_line.proofs.Cuts.{IsSolid, plain_solid, bare_from}
-use Rattle.rss_line.proofs.Forms.{IsVerb, begins, ends, inserts, fetches, updates, deletes, segments, relations, drops, IsDropped, a_segment, a_relation}
 use Rattle.rss_line.proofs.Numbers.{mag_fits}
 
 -- a byte that no digits have
 decimal_off : (c n : ℕ) → c < 48 → n < 2 ^ 64 → All (λ b. b ≢ c) (decimal n)
 decimal_off c n low small = let own = numerals_by_value (AllDigits 10) tells_digits in
     All-from_get_or (λ b. b ≢ c) (decimal n) 0 (not_in_digits own (decimal n) c (digits_decimal own n small) (λ h. omega (arith, low, h)))
+
+-- a digit lies below 58
+digits_below : (n : ℕ) → n < 2 ^ 64 → All (λ b. b < 58) (decimal n)
+digits_below n small = let own = numerals_by_value (AllDigits 10) tells_digits in
+    All-from_get_or (λ b. b < 58) (decimal n) 0 (λ i below. let digit = digit_at (decimal n) i (digits_decimal own n small) below in omega (arith, digit.1))
 
 decimal_some : (n : ℕ) → n < 2 ^ 64 → decimal n ≢ []
 decimal_some n small none = omega (arith, decimal_nonempty n small, ap length none)
@@ -156,19 +161,59 @@ field_plain word field is = subst IsPlain (sym is.spelled)
 pub field_solid : (word : List ℕ) (field : FieldDef) → IsField word field → IsSolid word
 field_solid word field is = plain_solid word (field_plain word field is)
 
--- ---- the first word
+-- ---- numbers, variables and modes
 
-pub verb_plain : (verb : List ℕ) → IsVerb verb → IsPlain verb
-verb_plain _ begins = literal_plain _ _ refl (search rules)
-verb_plain _ ends = literal_plain _ _ refl (search rules)
-verb_plain _ inserts = literal_plain _ _ refl (search rules)
-verb_plain _ fetches = literal_plain _ _ refl (search rules)
-verb_plain _ updates = literal_plain _ _ refl (search rules)
-verb_plain _ deletes = literal_plain _ _ refl (search rules)
-verb_plain _ segments = literal_plain _ _ refl (search rules)
-verb_plain _ relations = literal_plain _ _ refl (search rules)
-verb_plain _ drops = literal_plain _ _ refl (search rules)
+pub number_plain : (word : List ℕ) (n : ℕ) → IsNumber word n → IsPlain word
+number_plain word n is = let below = is.below in subst IsPlain (sym is.spelled) (decimal_plain n (omega arith))
 
-pub dropped_plain : (word : List ℕ) → IsDropped word → IsPlain word
-dropped_plain _ a_segment = literal_plain _ _ refl (search rules)
-dropped_plain _ a_relation = literal_plain _ _ refl (search rules)
+pub variable_plain : (word : List ℕ) (name : Name) → IsVariable word name → IsPlain word
+variable_plain word name is = subst IsPlain (sym is.spelled)
+    (plain_append (codes "$") (name_text name) (literal_plain _ _ refl (search rules)) (text_plain is.is_name))
+
+pub tid_in_plain : (names : List Variable) (word : List ℕ) (tid : Tid) → IsTidIn names word tid → IsPlain word
+tid_in_plain names word tid (inl is) = tid_plain word tid is
+tid_in_plain names word tid (inr is) = variable_plain word is.name is.is_variable
+
+pub number_in_plain : (names : List Variable) (word : List ℕ) (n : ℕ) → IsNumberIn names word n → IsPlain word
+number_in_plain names word n (inl is) = number_plain word n is
+number_in_plain names word n (inr is) = variable_plain word is.name is.is_variable
+
+pub mode_plain : (word : List ℕ) (exclusive : Bool) → IsMode word exclusive → IsPlain word
+mode_plain word true is = subst IsPlain (sym is) (literal_plain _ _ refl (search rules))
+mode_plain word false is = subst IsPlain (sym is) (literal_plain _ _ refl (search rules))
+
+pub name_solid : (word : List ℕ) (name : Name) → IsNameWord word name → IsSolid word
+name_solid word name is = plain_solid word (name_plain word name is)
+
+-- ---- a word's first byte
+
+-- a byte below the letters comes first
+abbrev pub IsLow : List ℕ → Type 0
+IsLow [] = ⊥
+IsLow (b ∷ word) = b < 97
+
+low_append : (a b : List ℕ) → IsLow a → IsLow (a ++ b)
+low_append [] b low = absurd low
+low_append (x ∷ a) b low = low
+
+digits_low : (word : List ℕ) → All (λ b. b < 58) word → word ≢ [] → IsLow word
+digits_low [] all some = absurd (some refl)
+digits_low (b ∷ word) all some = omega (arith, All-head (λ b. b < 58) b word all)
+
+decimal_low : (n : ℕ) → n < 2 ^ 64 → IsLow (decimal n)
+decimal_low n small = digits_low (decimal n) (digits_below n small) (decimal_some n small)
+
+pub variable_low : (word : List ℕ) (name : Name) → IsVariable word name → IsLow word
+variable_low word name is = subst IsLow (sym is.spelled) (omega arith)
+
+pub tid_in_low : (names : List Variable) (word : List ℕ) (tid : Tid) → IsTidIn names word tid → IsLow word
+tid_in_low names word tid (inl is) = let low = is.page in
+    subst IsLow (sym is.spelled) (low_append (decimal tid.page ++ codes ".") (decimal tid.slot) (low_append (decimal tid.page) (codes ".") (decimal_low tid.page (omega arith))))
+tid_in_low names word tid (inr is) = variable_low word is.name is.is_variable
+
+pub equals_plain : IsPlain (codes "=")
+equals_plain = literal_plain _ _ refl (search rules)
+
+-- a variable begins with `$`
+pub variable_first : (word : List ℕ) (name : Name) → IsVariable word name → get_or word 0 0 ≡ 36
+variable_first word name is = ap (λ w. get_or w 0 0) is.spelled

@@ -10,7 +10,7 @@ use Rattle.std.proofs.lemmas.Option.{MatchOption-at_none, MatchOption-at_some}
 use Rattle.rss_base.specs.declared.tid.Tid.{Tid}
 use Rattle.rss_model.specs.Script.{IsTid}
 
-no_point : (n : ℕ) → n < 2 ^ 64 → (i : ℕ) → i < length (decimal n) → get_or (decimal n) i 0 ≢ 46
+pub no_point : (n : ℕ) → n < 2 ^ 64 → (i : ℕ) → i < length (decimal n) → get_or (decimal n) i 0 ≢ 46
 no_point n small = let own = numerals_by_value (AllDigits 10) tells_digits in
     not_in_digits own (decimal n) 46 (digits_decimal own n small) (λ h. omega arith)
 

@@ -1,15 +1,15 @@
 -- What the methods of the reader do. They see it as the bytes that are left.
-use Rattle.std.specs.Prelude.{◌≡◌, ◌≢◌, ℕ, ℤ, Bool, true, false, ◌==◌, List, [], ◌∷◌, ◌++◌, All, Option, Some, None, IfSome, Result, Ok, Err, IfOk, IsErrOf, ⊤, ◌<◌, length, codes, decimal}
+use Rattle.std.specs.Prelude.{◌≡◌, ◌≢◌, ℕ, ℤ, Bool, true, false, ◌==◌, List, [], ◌∷◌, ◌++◌, All, Option, Some, None, IfSome, Result, Ok, Err, IfOk, IsErrOf, ⊤, ◌<◌, length, decimal}
 use Rattle.std.specs.Result.{MatchResult}
 use Rattle.std.specs.Str.{IsAscii}
 use Rattle.rss_base.specs.declared.value.Value.TheVariants.{Int}
-use Rattle.rss_base.specs.declared.call.Call.{Call}
 use Rattle.std.specs.Borrow.{Bor}
 use Rattle.rss_base.specs.TupleTypes.{is_kind}
 use Rattle.rss_base.specs.declared.value.FieldKind.{FieldKind}
 use Rattle.rss_model.specs.Spellings.{space, quote, doubled, field_kind_text}
-use Rattle.rss_model.specs.Script.{AreSpaces, IsApart, Begins, HasWords, IsTransaction, IsNameWord, IsValue, Names}
-use Rattle.rss_line.specs.declared.reader.Target.{Target}
+use Rattle.rss_model.specs.Script.{AreSpaces, IsApart, Begins, HasWords, IsTransaction, IsNameWord, IsValue}
+use Rattle.rss_model.specs.Forms.{Row, OneOf, comment_mark}
+use Rattle.rss_line.specs.declared.items.Target.{Target}
 use Rattle.rss_line.specs.declared.fault.LineFault.{LineFault}
 use Rattle.rss_line.specs.declared.fault.LineFault.TheVariants.{Words, NoMemory}
 
@@ -26,6 +26,11 @@ NeedsNoMemory result = IsErrOf result NoMemory → ⊥
 abbrev pub IsOff : ℕ → List ℕ → Type 0
 IsOff byte [] = ⊤
 IsOff byte (b ∷ bytes) = b ≢ byte
+
+-- the end of a line, or the front of a comment
+abbrev pub IsOver : List ℕ → Type 0
+IsOver [] = ⊤
+IsOver (b ∷ bytes) = b ≡ comment_mark
 
 -- spaces are skipped, up to what is no space
 pub record Skips (old new : List ℕ) : Type 0 where
@@ -63,6 +68,10 @@ pub record ReadsAs {T : Type 0} (Is : T → Type 0) (result : Option T) : Type 0
   pub some : IfSome result Is
   pub all : (x : T) → Is x → result ≡ Some x
 
+-- this word, and no other
+abbrev pub IsThe : List ℕ → List ℕ → Unit {0} → Type 0
+IsThe expected word done = word ≡ expected
+
 abbrev pub IsInt : List ℕ → ℤ → Type 0
 IsInt word z = IsValue word (Int z)
 
@@ -87,7 +96,7 @@ pub record ReadsWord {T : Type 0} (Is : List ℕ → T → Type 0) (old new : Li
   pub all : (word rest : List ℕ) (x : T) → Begins old word rest → Is word x
       → Gives x (new ≡ rest) result
 
--- the bytes begin with two words, which are a transaction and a relation
+-- the bytes begin with two words, which are a transaction and a name
 pub record BeginsTarget (bytes : List ℕ) (target : Target) (rest : List ℕ) : Type 0 where
   pub first : List ℕ
   pub behind : List ℕ
@@ -95,7 +104,7 @@ pub record BeginsTarget (bytes : List ℕ) (target : Target) (rest : List ℕ) :
   pub begins : Begins bytes first behind
   pub transaction : IsTransaction first target.transaction
   pub then : Begins behind second rest
-  pub relation : IsNameWord second target.relation
+  pub name : IsNameWord second target.name
 
 -- the next two words are read, where they are such words
 pub record ReadsTarget (old new : List ℕ) (result : Result Target LineFault) : Type 0 where
@@ -135,18 +144,8 @@ abbrev pub HasLength : List ℕ → Result ℕ LineFault → Type 0
 HasLength bytes (Ok n) = (text : List ℕ) × (rest : List ℕ) × ReadsText bytes rest (Ok text) × (n ≡ length text)
 HasLength bytes (Err fault) = ReadsText bytes [] (Err fault)
 
--- ---- a call
+-- ---- a choice
 
--- the call, where no word is left
-abbrev pub Ends : List ℕ → Call → Result Call LineFault → Type 0
-Ends bytes call (Ok read) = (read ≡ call) × AreSpaces bytes
-Ends bytes call (Err Words) = AreSpaces bytes → ⊥
-Ends bytes call (Err NoMemory) = ⊥
-
--- behind a first word, these words are the call
-abbrev pub Behind : List ℕ → List (List ℕ) → Call → Type 0
-Behind first words call = Names (first ∷ words) call
-
--- behind a first word `drop` and this second one, these words are the call
-abbrev pub BehindDrop : List ℕ → List (List ℕ) → Call → Type 0
-BehindDrop second words call = Behind (codes "drop") (second ∷ words) call
+-- behind this word, these words are one of the rows
+abbrev pub Behind : {T : Type 0} → List (Row T) → List ℕ → List (List ℕ) → T → Type 0
+Behind rows word words x = OneOf rows (word ∷ words) x

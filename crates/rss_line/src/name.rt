@@ -1,6 +1,6 @@
-// Names of what a store defines.
+// Names of what a store defines, and variables.
 ghost use Rattle.std.specs.Prelude.{◌≡◌, ◌-◌, ◌≤◌, ◌++◌, length, replicate};
-ghost use Rattle.rss_model.specs.Script.{IsNameWord};
+ghost use Rattle.rss_model.specs.Script.{IsNameWord, IsVariable};
 ghost use Rattle.rss_line.specs.Reads.{ReadsAs};
 
 use rss_base::{NAME_BYTES, Name, is_name_text};
@@ -14,6 +14,13 @@ pub fn read_name(word: &str) -> Option<Name>
     } else {
         None
     }
+}
+
+/// The name of a variable.
+pub fn read_variable(word: &str) -> Option<Name>
+    ensures { ReadsAs (IsVariable word.now) result }
+{
+    read_name(word.strip_prefix("$")?)
 }
 
 /// These bytes, and then zeros.

@@ -1,13 +1,15 @@
 // Numbers, which a script spells in one way each: a word is read as a number where it is what is
-// printed of that number.
+// printed of that number. A variable may stand in place of some.
 ghost use Rattle.std.specs.Prelude.{◌≡◌, ◌<◌, ◌^◌, ℕ, IfSome, IfNone, decimal};
-ghost use Rattle.rss_model.specs.Script.{IsTransaction, IsTid};
+ghost use Rattle.rss_model.specs.Script.{IsTransaction, IsNumber, IsNumberIn, IsTid, IsTidIn};
 ghost use Rattle.rss_line.specs.Reads.{ReadsAs, IsInt, IsBelow};
 
+use crate::Names;
+use crate::name::read_variable;
 use itoa::Buffer;
 use rss_base::Tid;
 
-/// The number of a transaction lies below this one.
+/// Numbers of transactions, scans and save points lie below this one.
 const NUMBER_LIMIT: u64 = 1 << 32;
 
 const PAGE_LIMIT: u64 = 65_536;
@@ -69,4 +71,32 @@ pub fn read_tid(word: &str) -> Option<Tid>
         page: page as u32,
         slot: slot as u16,
     })
+}
+
+/// An identifier, or a variable that stands for one.
+pub fn read_tid_in(word: &str, names: &Names) -> Option<Tid>
+    ensures { ReadsAs (IsTidIn names.now.variables word.now) result }
+{
+    match read_variable(word) {
+        Some(variable) => names.tid(variable),
+        None => read_tid(word),
+    }
+}
+
+/// The number of a scan or a save point.
+fn read_count(word: &str) -> Option<u32>
+    ensures { ReadsAs (IsNumber word.now) result }
+{
+    let number = read_below(NUMBER_LIMIT, word)?;
+    Some(number as u32)
+}
+
+/// The number of a scan or a save point, or a variable that stands for a number.
+pub fn read_number_in(word: &str, names: &Names) -> Option<u32>
+    ensures { ReadsAs (IsNumberIn names.now.variables word.now) result }
+{
+    match read_variable(word) {
+        Some(variable) => names.number(variable),
+        None => read_count(word),
+    }
 }

@@ -1,38 +1,46 @@
 // Reading a line of a script.
-ghost use Rattle.std.specs.Prelude.{◌≡◌, Ok, IfOk, IsErrOf};
+ghost use Rattle.std.specs.Prelude.{◌≡◌, Option, Ok, IfOk, IsErrOf};
 ghost use Rattle.rss_base.specs.declared.call.Call.{Call};
-ghost use Rattle.rss_model.specs.Script.{Spells, IsBlank, IsWords};
+ghost use Rattle.rss_base.specs.declared.name.Name.{Name};
+ghost use Rattle.rss_model.specs.Forms.{Spells, IsBlank, IsWords};
 
-use crate::LineFault;
+use crate::calls::is_built;
 use crate::reader::Reader;
-use rss_base::Call;
+use crate::{LineFault, Names};
+use rss_base::{Call, Name};
 use std::alloc::Global;
 
 /// What a line of a script is.
 #[derive(Debug, Drop)]
 pub enum Line {
     Blank,
-    Call(Call),
+    /// A call, and the variable that is to stand for its reply, if the line has one.
+    Call { bind: Option<Name>, call: Call },
 }
 
 /// At most so many bytes of a line, without its end.
 pub const LINE_LIMIT: usize = 8192;
 
-/// Reads a line, without its end.
-pub fn read_line(alloc: Global, line: &[u8]) -> Result<Line, LineFault>
+/// Reads a line, without its end, where the variables stand for these things.
+pub fn read_line(alloc: Global, line: &[u8], names: &Names) -> Result<Line, LineFault>
     ensures blank { result ≡ Ok Line.Blank → IsBlank line.now }
-    ensures call { (call : Call) → result ≡ Ok (Line.Call call) → Spells line.now call }
-    ensures words { IsErrOf result LineFault.Words → IsWords line.now }
-    ensures only { (call : Call) → Spells line.now call
-        → IfOk result (λ read. read ≡ Line.Call call) }
+    ensures call { (bind : Option Name) (call : Call)
+        → result ≡ Ok (Line.Call bind call) → Spells names.now.variables line.now bind call }
+    ensures words { IsErrOf result LineFault.Words → IsWords names.now.variables line.now }
+    ensures only { (bind : Option Name) (call : Call)
+        → Spells names.now.variables line.now bind call
+        → IfOk result (λ read. read ≡ Line.Call bind call) }
 {
     if line.len() > LINE_LIMIT {
         return Err(LineFault::Words);
     }
     let mut reader = Reader::new(line);
-    if reader.is_at_end() {
+    if reader.is_empty() {
         return Ok(Line::Blank);
     }
-    let call = reader.call(alloc)?;
-    Ok(Line::Call(call))
+    let (bind, call) = reader.statement(alloc, names)?;
+    if !is_built(&call) {
+        return Err(LineFault::Words);
+    }
+    Ok(Line::Call { bind, call })
 }

@@ -1,11 +1,11 @@
 -- The pieces of the log, read into a ring.
-use Rattle.std.proofs.Common.{◌≡◌, ℕ, ◌+◌, ◌-◌, ◌*◌, ◌/◌, ◌%◌, ◌≤◌, List, ◌++◌, length, take, sym, ◌∙◌, ap, length-take-le, arith}
+use Rattle.std.proofs.Common.{◌≡◌, ℕ, ◌+◌, ◌-◌, ◌*◌, ◌/◌, ◌%◌, ◌≤◌, List, ◌++◌, length, get_or, take, sym, ◌∙◌, ap, length-take-le, arith}
 use Rattle.rss_base.specs.Sizes.{piece_bytes}
 use Rattle.rss_base.specs.DiskRule.{Pages, page}
 use Rattle.rss_base.specs.LogPages.{piece, pieces, kept_from}
 use Rattle.rss_log.specs.Rings.{ring_bytes, IsPut}
 use Rattle.rss_log.specs.Logs.{piece_start}
-use Rattle.rss_log.proofs.RingBytes.{written_behind}
+use Rattle.rss_log.proofs.RingBytes.{written_behind, ring_bytes_are}
 use Rattle.rss_log.proofs.LogRing.{pieces_more}
 
 -- one piece more
@@ -38,3 +38,10 @@ tail_read pages first_page log_pages head end old new tail order long room befor
     let size : end - piece_start head ≡ end / piece_bytes * piece_bytes + length tail - piece_start head = omega (arith, long) in
     let size_before : end / piece_bytes * piece_bytes - piece_start head ≡ (end / piece_bytes - head / piece_bytes) * piece_bytes = omega arith in
     ap (ring_bytes new (piece_start head)) size ∙ more ∙ ap (λ (l : List ℕ). l ++ tail) (ap (ring_bytes old (piece_start head)) size_before ∙ before)
+
+-- the tail stands there, whatever stood in front of it
+pub tail_put : (end : ℕ) (old new tail : List ℕ) → length tail ≡ end % piece_bytes → IsPut (end / piece_bytes * piece_bytes) tail old new → ring_bytes new (end - end % piece_bytes) (end % piece_bytes) ≡ tail
+tail_put end old new tail long put =
+    let at : end - end % piece_bytes ≡ end / piece_bytes * piece_bytes = omega arith in
+    (λ i. ring_bytes new (at i) (sym long i))
+    ∙ ring_bytes_are new tail (end / piece_bytes * piece_bytes) (λ j lt. ap (λ (n : ℕ). get_or new ((end / piece_bytes * piece_bytes + j) % n) 0) put.long ∙ put.written j lt)

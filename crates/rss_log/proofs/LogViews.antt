@@ -11,14 +11,17 @@ use Rattle.rss_base.specs.declared.log_record.LogRecord.{LogRecord}
 use Rattle.rss_base.specs.LogRecords.{record_bytes, record_size, longest_record, Placed, spelled, ArePlaced, Parses, IsSpellable, BeginsWith}
 use Rattle.rss_record.proofs.Records.{record_most}
 use Rattle.rss_log.specs.Rings.{ring_bytes, IsPut}
-use Rattle.rss_log.specs.Logs.{LogView, IsLog, piece_start, free_of, bytes_from, piece_of, tail_of, HasRecords, with_bytes, with_head}
+use Rattle.rss_log.specs.Logs.{LogView, IsRing, IsLog, piece_start, free_of, bytes_from, piece_of, tail_of, HasRecords, with_bytes, with_head}
 use Rattle.rss_log.specs.Inside.{view_of, log_view, IsInside}
 use Rattle.rss_log.specs.declared.log.Log.TheInside.{Inside}
 use Rattle.rss_log.proofs.RingBytes.{length-ring_bytes, drop-ring_bytes, take-ring_bytes, written_behind}
 use Rattle.rss_record.proofs.Parsing.{placed_length, placed_split, parses_append, parses_one, parses_drop}
 
+pub is_log_of : (pages head end : ℕ) (ring : List ℕ) → IsRing pages head end → IsLog (view_of pages head end ring)
+is_log_of pages head end ring is = record { ring = is; long = length-ring_bytes ring (piece_start head) (end - piece_start head) }
+
 pub is_log : (log : Inside) → IsInside log → IsLog (log_view log)
-is_log log is = record { ring = is.ring; long = length-ring_bytes log.ring.items (piece_start log.head) (log.end - piece_start log.head) }
+is_log log is = is_log_of log.pages log.head log.end log.ring.items is.ring
 
 -- the bytes from a position on, in the ring
 pub bytes_at : (log : Inside) (position : ℕ) → piece_start log.head ≤ position → position ≤ log.end → bytes_from (log_view log) position ≡ ring_bytes log.ring.items position (log.end - position)
@@ -37,11 +40,14 @@ piece_in log number low high =
     ap (take piece_bytes) (bytes_at log (number * piece_bytes) (omega arith) (omega arith))
     ∙ take-ring_bytes log.ring.items (number * piece_bytes) piece_bytes (log.end - number * piece_bytes) (omega arith)
 
+pub tail_of_ring : (pages head end : ℕ) (ring : List ℕ) → head ≤ end → tail_of (view_of pages head end ring) ≡ ring_bytes ring (end - end % piece_bytes) (end % piece_bytes)
+tail_of_ring pages head end ring order =
+    let at : piece_start end ≡ end - end % piece_bytes = omega arith in
+    let size : piece_start head + (end - piece_start head) - piece_start end ≡ end % piece_bytes = omega arith in
+    drop-ring_bytes ring (piece_start head) (piece_start end) (end - piece_start head) (omega arith) (omega arith) ∙ (λ i. ring_bytes ring (at i) (size i))
+
 pub tail_in : (log : Inside) → log.head ≤ log.end → tail_of (log_view log) ≡ ring_bytes log.ring.items (log.end - log.end % piece_bytes) (log.end % piece_bytes)
-tail_in log order =
-    let at : piece_start log.end ≡ log.end - log.end % piece_bytes = omega arith in
-    let size : log.end - piece_start log.end ≡ log.end % piece_bytes = omega arith in
-    bytes_at log (piece_start log.end) (omega arith) (omega arith) ∙ (λ i. ring_bytes log.ring.items (at i) (size i))
+tail_in log order = tail_of_ring log.pages log.head log.end log.ring.items order
 
 pub front_in : (log : Inside) (position n : ℕ) → piece_start log.head ≤ position → position + n ≤ log.end → ring_bytes log.ring.items position n ≡ take n (bytes_from (log_view log) position)
 front_in log position n low high =

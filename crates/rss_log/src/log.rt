@@ -68,6 +68,8 @@ impl Log {
             (log.pages ≡ log_pages) × (log.head ≡ head) × (log.end ≡ end)) }
         ensures kept { IfOk result (λ log. Told (D.view device.old).disk (λ pages.
             log.kept ≡ kept_from pages first_page log_pages head end tail.now)) }
+        ensures tail { IfOk result (λ log. tail_of log ≡ tail.now) }
+        ensures log { IfOk result IsLog }
         ensures fault { IfErr result (λ fault. (fault ≡ DeviceFailed) ⊎ (fault ≡ LacksMemory)) }
         ensures did { ReadsStore (D.view device.old) (D.view device.new) result }
         ensures size { (D.view device.new).size ≡ (D.view device.old).size }
@@ -222,6 +224,8 @@ fn read_log<D: Device>(
     ensures kept { OnOk result (Told (D.view device.old).disk (λ pages.
         ring_bytes ring.new (piece_start head) (end - piece_start head)
         ≡ kept_from pages first_page log_pages head end tail.now)) }
+    ensures tail { OnOk result
+        (ring_bytes ring.new (end - end % piece_bytes) (end % piece_bytes) ≡ tail.now) }
     ensures long { length ring.new ≡ length ring.old }
     ensures did { ReadsPages (D.view device.old) (D.view device.new) result }
 {

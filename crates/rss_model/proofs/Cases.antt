@@ -22,9 +22,10 @@ use Rattle.rss_model.specs.Chains.{with_behind, left_of, next_of, without}
 use Rattle.rss_model.specs.Images.{Entry, entry, next_entry, repeated, unique_images, key_in}
 use Rattle.rss_model.specs.Changes.{Change, kept_to, cut_off, maker}
 use Rattle.rss_model.specs.Locks.{Locks, Claim, claim, disagree, joined, first_bar, with_mode}
-use Rattle.rss_model.specs.Meter.{Stamp, Meter, Traffic, room_number, change_size, owed, free_between, least_position, checkpoint_size, changers}
+use Rattle.rss_model.specs.Meter.{Stamp, Meter, Traffic, room_number, change_size, owed, free_between, log_room, least_position, checkpoint_size, changers, checkpointed}
 use Rattle.rss_model.specs.Needs.{need, needs}
 use Rattle.rss_model.specs.Refusals.{insertion, replacement}
+use Rattle.rss_model.specs.Rules.{with_change, log_needed}
 use Rattle.rss_model.specs.Records.{LogEntry, Changed, Restore, End, Abort, Checkpoint, Placed, list_after}
 use Rattle.rss_model.specs.Restart.{survives, losers}
 
@@ -146,6 +147,12 @@ sixth_needs : (definitions : Definitions) → finite.values definitions.images �
     → (room_number definitions (metered 0 0 6) ≡ 68) × (room_number definitions (metered 1 5 1) ≡ 50)
 sixth_needs definitions is = (rw is refl, rw is refl)
 
+-- from the last checkpoint on, and behind one
+tenth_needs_twice : (definitions : Definitions) → finite.values definitions.images ≡ []
+    → (room_number definitions (with_change (insertion 1 r (at 9) (number 9)) (metered 0 0 9)) ≡ 100)
+    × (room_number definitions (with_change (insertion 1 r (at 9) (number 9)) (metered 1 9 0)) ≡ 66)
+tenth_needs_twice definitions is = (rw is refl, rw is refl)
+
 -- ---- the log rule: a long text after many
 
 abbrev letters : List Value
@@ -175,6 +182,31 @@ free_behind = refl
 -- once nothing is open the head goes to the record
 free_once_ended : free_between 8 (least_position 35447 []) (35447 + checkpoint_size (changers [])) ≡ 32550
 free_once_ended = refl
+
+-- the same in the rule's words: the record fits neither now nor behind a checkpoint, and once the other transaction ended it fits behind one
+abbrev logged : List Stamp → ℕ → Meter
+logged stamps end = record {
+  heap = 1;
+  surviving = 0;
+  since = 1;
+  traffic = no_traffic;
+  stamps = stamps;
+  head = 4;
+  end = end;
+  over = 0;
+}
+
+long_is_refused : (tables : Tables) (changes : List Change)
+    → (log_needed (insertion 2 r (at 0) letters) (logged (stamp 1 6 ∷ []) 35442) ≡ 637)
+    × (log_room 8 (logged (stamp 1 6 ∷ []) 35442) ≡ 557)
+    × (log_room 8 (checkpointed 4096 tables changes (logged (stamp 1 6 ∷ []) 35442)) ≡ 543)
+long_is_refused tables changes = (refl, refl, refl)
+
+long_goes_on : (tables : Tables) (changes : List Change)
+    → (log_needed (insertion 2 r (at 0) letters) (logged [] 35447) ≡ 619)
+    × (log_room 8 (logged [] 35447) ≡ 552)
+    × (log_room 8 (checkpointed 4096 tables changes (logged [] 35447)) ≡ 32550)
+long_goes_on tables changes = (refl, refl, refl)
 
 -- ---- save points: a way back, across a checkpoint
 

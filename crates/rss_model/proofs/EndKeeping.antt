@@ -76,7 +76,7 @@ module _ {V : Type 0} where
           none_some e = cc (e)
       by (suc n) e = omega arith
 
-  len_less : (m : FinMap nat_cmp V) (k : ℕ) (v : V) → finite.get m k ≡ Some v → finite.len (finite.remove m k) + 1 ≡ finite.len m
+  pub len_less : (m : FinMap nat_cmp V) (k : ℕ) (v : V) → finite.get m k ≡ Some v → finite.len (finite.remove m k) + 1 ≡ finite.len m
   len_less m k v is = omega (arith, len-remove nat_cmp_total m k, cond-true _ (finite.len m - 1) (finite.len m) (ap is_some is), some_len m k v is)
 
   first_entry : (m : FinMap nat_cmp V) → (finite.len m ≡ 0) ⊎ ((k : ℕ) × (v : V) × (finite.get m k ≡ Some v))

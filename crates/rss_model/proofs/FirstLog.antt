@@ -56,8 +56,19 @@ first_log pages number root owners listing tables first fit = record {
   recovers = first_recovers tables.contents;
   way = record { undo = fit; redo = (fit, fit) };
   definitions = refl;
-  first = first;
 }
+
+-- a log of that one record is the first one
+pub first_of : {pages : Pages} {number : ℕ} {root : Root} {owners : List (Option PageKey)} {listing : Listing} {tables : Tables} → HasLog pages (first_stored number root owners listing tables) → HasFirstLog root
+first_of {pages = pages} {root = root} log =
+    let head : root.head ≡ 0 = sym log.parses.placed.0 in
+    let end : root.end ≡ 2 = omega (arith, head, log.parses.placed.2) in
+    record {
+      head = head;
+      checkpoint = sym log.checkpoint ∙ head;
+      end = end;
+      tail = (λ i. log_from pages (log_at root.slots) root.log_pages (sym head i) (sym end i) root.tail) ∙ log.parses.spells;
+    }
 
 -- ---- a store with the first log
 

@@ -64,7 +64,7 @@ not_cut t first k l same lt e = by_test (is_by t k)
     (λ h. rw (f, h)))
     (λ f. rw f)
 
-both : (P Q : Listed → Type 0) (ls : List Listed) → AllByRecursion P ls → AllByRecursion Q ls → AllByRecursion (λ l. P l × Q l) ls
+pub both : (P Q : Listed → Type 0) (ls : List Listed) → AllByRecursion P ls → AllByRecursion Q ls → AllByRecursion (λ l. P l × Q l) ls
 both P Q [] p q = tt
 both P Q (l ∷ ls) p q = ((p.0, q.0), both P Q ls p.1 q.1)
 
@@ -124,7 +124,7 @@ others_changes t (l ∷ ls) = by_test (is_by t l) (λ e. rw e (others_changes t 
 
 -- ---- a cut by a count is a cut at a position
 
-own_more : (t : ℕ) (c : Change) (cs : List Change) → length (own t cs) ≤ length (own t (c ∷ cs))
+pub own_more : (t : ℕ) (c : Change) (cs : List Change) → length (own t cs) ≤ length (own t (c ∷ cs))
 own_more t c cs = by_test (c.by == t) (λ e. rw e (omega arith)) (λ e. rw e (omega arith))
 
 pub cut_own_none : (t n : ℕ) (cs : List Change) → length (own t cs) ≤ n → cut_own t n cs ≡ cs
@@ -135,18 +135,18 @@ cut_own_none t n (c ∷ cs) few = by_test (c.by == t)
     simp (e, no) (ap (λ (k : List Change). c ∷ k) (cut_own_none t n cs (omega arith))))
     (λ e. simp e (ap (λ (k : List Change). c ∷ k) (cut_own_none t n cs (omega (arith, own_more t c cs)))))
 
-cut_below : (t at : ℕ) (ls : List Listed) → Below at ls → cut t at ls ≡ ls
+pub cut_below : (t at : ℕ) (ls : List Listed) → Below at ls → cut t at ls ≡ ls
 cut_below t at ls below = filter_all (λ l. not (is_cut t at l)) ls (all_weaker (λ l. l.at < at) (λ l. not (is_cut t at l) ≡ true) ls (λ l lt. early l lt) below)
   where
     early : (l : Listed) → l.at < at → not (is_cut t at l) ≡ true
     early l lt = let no : nat_le at l.at ≡ false = grind (arith, nat_tests) in by_test (is_by t l) (λ e. rw (e, no)) (λ e. rw e)
 
-stands_below : (t n at m : ℕ) (ls : List Listed) → StandsAt t n at ls → Below m ls → at < m
+pub stands_below : (t n at m : ℕ) (ls : List Listed) → StandsAt t n at ls → Below m ls → at < m
 stands_below t n at m [] none below = elim none [ ]
 stands_below t n at m (l ∷ ls) (here _ _ by count is) below = omega (arith, below.0)
 stands_below t n at m (l ∷ ls) (older _ _ rest) below = stands_below t n at m ls rest below.1
 
-stands_count : (t n at : ℕ) (ls : List Listed) → StandsAt t n at ls → suc n ≤ length (own t (changes_in ls))
+pub stands_count : (t n at : ℕ) (ls : List Listed) → StandsAt t n at ls → suc n ≤ length (own t (changes_in ls))
 stands_count t n at [] none = elim none [ ]
 stands_count t n at (l ∷ ls) (here _ _ by count is) = let e : (l.change.by == t) ≡ true = eq-eqb l.change.by t by in rw e (omega (arith, count))
 stands_count t n at (l ∷ ls) (older _ _ rest) = omega (arith, stands_count t n at ls rest, own_more t l.change (changes_in ls))

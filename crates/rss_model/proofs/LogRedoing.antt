@@ -18,7 +18,7 @@ use Rattle.rss_model.proofs.LogUndoing.{winner, no_winner, survives_too, undo_lo
 
 -- ---- what survives past a record
 
-winners_none : (ls : List Listed) → winners [] ls ≡ []
+pub winners_none : (ls : List Listed) → winners [] ls ≡ []
 winners_none [] = refl
 winners_none (l ∷ ls) = winners_none ls
 
@@ -78,7 +78,7 @@ winners_ended base at t ps (l ∷ ls) lone i =
 
 -- ---- redo
 
-redo_step : (base : Contents) (ls : List Listed) (at : ℕ) (r : LogEntry) (ps : List Placed) → Lone (changes_in ls)
+pub redo_step : (base : Contents) (ls : List Listed) (at : ℕ) (r : LogEntry) (ps : List Placed) → Lone (changes_in ls)
     → redo (after base (changes_in (winners (record { at = at; is = r } ∷ ps) ls))) at r ps ≡ after (committed base ls r) (changes_in (winners ps (listed ls at r)))
 redo_step base ls at (Changed c) ps lone = by_test (survives c.by at ps)
     (λ e. rw e)

@@ -228,14 +228,14 @@ module _ {base : Contents} {changes : List Change} {tables : Contents} {log : Lo
 
 -- ---- an opening
 
-at_it : (ls : List Listed) (at : ℕ) (r : LogEntry) → IsCheckpointOf ls r → listed ls at r ≡ ls
+pub at_it : (ls : List Listed) (at : ℕ) (r : LogEntry) → IsCheckpointOf ls r → listed ls at r ≡ ls
 at_it ls at (Changed c) is = elim is [ ]
 at_it ls at (Restore t first) is = elim is [ ]
 at_it ls at (End t) is = elim is [ ]
 at_it ls at (Abort t) is = elim is [ ]
 at_it ls at (Checkpoint named) is = refl
 
-commits_none : (base : Contents) (ls : List Listed) (r : LogEntry) → IsCheckpointOf ls r → (committed base ls r ≡ base) × TellsOld base ls r
+pub commits_none : (base : Contents) (ls : List Listed) (r : LogEntry) → IsCheckpointOf ls r → (committed base ls r ≡ base) × TellsOld base ls r
 commits_none base ls (Changed c) is = elim is [ ]
 commits_none base ls (Restore t first) is = elim is [ ]
 commits_none base ls (End t) is = elim is [ ]

@@ -22,13 +22,13 @@ use Rattle.rss_model.proofs.EndKeeping.{lone_kept}
 -- ---- what is cut off
 
 module _ (t n : ℕ) where
-  off_here : (c : Change) (cs : List Change) → c.by ≡ t → nat_le n (length (own t cs)) ≡ true → cut_off maker t n (c ∷ cs) ≡ c ∷ cut_off maker t n cs
+  pub off_here : (c : Change) (cs : List Change) → c.by ≡ t → nat_le n (length (own t cs)) ≡ true → cut_off maker t n (c ∷ cs) ≡ c ∷ cut_off maker t n cs
   off_here c cs e f = let here : (c.by == t) ≡ true = eq-eqb c.by t e in rw (here, f) refl
 
-  off_few : (c : Change) (cs : List Change) → nat_le n (length (own t cs)) ≡ false → cut_off maker t n (c ∷ cs) ≡ cut_off maker t n cs
+  pub off_few : (c : Change) (cs : List Change) → nat_le n (length (own t cs)) ≡ false → cut_off maker t n (c ∷ cs) ≡ cut_off maker t n cs
   off_few c cs f = by_test (c.by == t) (λ e. rw (e, f) refl) (λ e. rw e refl)
 
-  off_other : (c : Change) (cs : List Change) → (c.by ≡ t → ⊥) → cut_off maker t n (c ∷ cs) ≡ cut_off maker t n cs
+  pub off_other : (c : Change) (cs : List Change) → (c.by ≡ t → ⊥) → cut_off maker t n (c ∷ cs) ≡ cut_off maker t n cs
   off_other c cs e = let off : (c.by == t) ≡ false = ne_eqb c.by t e in rw off refl
 
   off_none : (cs : List Change) → nat_le n (length (own t cs)) ≡ false → cut_off maker t n cs ≡ []
@@ -46,7 +46,7 @@ module _ (t n : ℕ) where
       (λ e. subst (NotAt i) (sym (off_other c cs e)) rest)
 
   -- undoing what is cut off leaves what is kept
-  undo_cut : (base : Contents) (cs : List Change) → Lone cs → Chained base cs → undone (after base cs) (cut_off maker t n cs) ≡ after base (kept_to maker t n cs)
+  pub undo_cut : (base : Contents) (cs : List Change) → Lone cs → Chained base cs → undone (after base cs) (cut_off maker t n cs) ≡ after base (kept_to maker t n cs)
   undo_cut base [] lone chained = refl
   undo_cut base (c ∷ cs) lone chained =
       let rest = undo_cut base cs (λ a b is also. lone a b (inr is) (inr also)) chained.1 in

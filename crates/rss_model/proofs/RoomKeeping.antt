@@ -23,7 +23,7 @@ use Rattle.rss_model.specs.Defining.{defined}
 use Rattle.rss_model.specs.Refusals.{tests, insertion, replacement, deletion, connection, disconnection, values_in, change_of, if_full}
 use Rattle.rss_model.specs.Meter.{Stamp, Meter, heap_pages, changes_of, change_size, restore_size, end_size, least_position, room_number, counts_for, counted, with_record, pages_of_image}
 use Rattle.rss_model.specs.Machine.{State, now}
-use Rattle.rss_model.specs.Rules.{saved_now, room_with, if_no_room, meter_for}
+use Rattle.rss_model.specs.Rules.{saved_now, room_with, goes_on, if_no_room, meter_for, meter_behind}
 use Rattle.rss_model.specs.Steps.StepBy.{refuses, begins, saves, restores, ends, aborts, inserts, fetches, updates, deletes, connects, disconnects, finds, finds_none, opens, gives, stops, closes, locks as locks_it, checkpoints, defines}
 use Rattle.rss_model.specs.Steps.{Answer, Step, refusal, redefined, keeps_locks, locked_by, own_count, with_scan, with_given, stamp_by, size_for, left_at, undone_to, changed, restored, gone, committing, meter_after, ended, MayUndo}
 use Rattle.rss_model.specs.Kept.{AreStamps, IsMetered, Kept}
@@ -36,6 +36,7 @@ use Rattle.rss_model.proofs.EndKeeping.{lone_kept, end_now}
 use Rattle.rss_model.proofs.Transfer.{undo_same}
 use Rattle.rss_model.proofs.Testing.{all_none}
 use Rattle.rss_model.proofs.Saving.{more_pages}
+use Rattle.rss_model.proofs.Ruling.{behind}
 use Rattle.rss_model.proofs.Metering.{kept_none, cut_all, cut_counts, makers, back_heap, back_tuples, back_positions}
 
 -- with other save points, locks and scans
@@ -73,6 +74,12 @@ says_saved state metered = record {
   heap = omega arith;
   tuples = λ relation. omega arith;
 }
+
+-- also from the meter that the exact rule says
+pub says_behind : (state : State) (change : Change) → IsMetered state → Says state (meter_behind state change)
+says_behind state change metered = by_test (goes_on state change)
+    (λ on. subst (Says state) (sym (ap (behind state) on)) (says_now state metered))
+    (λ off. subst (Says state) (sym (ap (behind state) off)) (says_saved state metered))
 
 pub saved_room : (state : State) → IsMetered state → room_number state.base.definitions (saved_now state) ≤ room_number state.base.definitions state.meter
 saved_room state metered =
@@ -122,25 +129,26 @@ allowed state c is = by_test (nat_lt state.size.slots (room_with state c state.m
     clash : {why : Refusal} → Some why ≡ None → ⊥
     clash e = cc (e)
 
+-- from a meter that says enough
+pub metered_from : (state : State) (c : Change) (over : ℕ) (locks : Locks) (meter : Meter) → Says state meter → room_with state c meter ≤ state.size.slots → over ≤ state.meter.over + 1 → IsMetered (record state { locks = locks; changes = c ∷ state.changes; meter = counted c over meter })
+metered_from state c over locks meter said room one = record {
+  makers = λ i. c.by ∷ said.stamped i;
+  positions = (omega (arith, size_some c), said.positions);
+  heap = omega (arith, said.heap, one, heap_put state.size.slots state.base.definitions (now state).contents c.new c.item);
+  tuples = λ relation. let held = said.tuples relation in
+      let more = sum_by-cons (λ (d : Change). one_if (counts_for d.item relation)) c state.changes in
+      by_test (is_tuple_of relation c.item)
+      (λ on. let counts = counts_put (now state).contents c.item c.new relation on in
+      let traffic = ap (λ (b : Bool). 2 * (if b then record { entries = (meter.traffic relation).entries; surviving = (meter.traffic relation).surviving; since = (meter.traffic relation).since + 1 } else meter.traffic relation).since + (if b then record { entries = (meter.traffic relation).entries; surviving = (meter.traffic relation).surviving; since = (meter.traffic relation).since + 1 } else meter.traffic relation).entries + (if b then record { entries = (meter.traffic relation).entries; surviving = (meter.traffic relation).surviving; since = (meter.traffic relation).since + 1 } else meter.traffic relation).surviving) on in
+      omega (arith, held, counts, one_test (is_some c.new) true, more, ap one_if on, traffic))
+      (λ off. let counts = counts_same (now state).contents c.item c.new relation off in
+      let traffic = ap (λ (b : Bool). 2 * (if b then record { entries = (meter.traffic relation).entries; surviving = (meter.traffic relation).surviving; since = (meter.traffic relation).since + 1 } else meter.traffic relation).since + (if b then record { entries = (meter.traffic relation).entries; surviving = (meter.traffic relation).surviving; since = (meter.traffic relation).since + 1 } else meter.traffic relation).entries + (if b then record { entries = (meter.traffic relation).entries; surviving = (meter.traffic relation).surviving; since = (meter.traffic relation).since + 1 } else meter.traffic relation).surviving) off in
+      omega (arith, held, counts, more, ap one_if off, traffic));
+  room = room;
+}
+
 pub metered_change : (state : State) (c : Change) (over : ℕ) (locks : Locks) → IsMetered state → if_no_room state c ≡ None → over ≤ state.meter.over + 1 → IsMetered (changed c over (record state { locks = locks }))
-metered_change state c over locks metered is one = by (meter_for state c) (says_now state metered) (allowed state c is)
-  where
-    by : (meter : Meter) → Says state meter → room_with state c meter ≤ state.size.slots → IsMetered (record state { locks = locks; changes = c ∷ state.changes; meter = counted c over meter })
-    by meter said room = record {
-      makers = λ i. c.by ∷ said.stamped i;
-      positions = (omega (arith, size_some c), said.positions);
-      heap = omega (arith, said.heap, one, heap_put state.size.slots state.base.definitions (now state).contents c.new c.item);
-      tuples = λ relation. let held = said.tuples relation in
-          let more = sum_by-cons (λ (d : Change). one_if (counts_for d.item relation)) c state.changes in
-          by_test (is_tuple_of relation c.item)
-          (λ on. let counts = counts_put (now state).contents c.item c.new relation on in
-          let traffic = ap (λ (b : Bool). 2 * (if b then record { entries = (meter.traffic relation).entries; surviving = (meter.traffic relation).surviving; since = (meter.traffic relation).since + 1 } else meter.traffic relation).since + (if b then record { entries = (meter.traffic relation).entries; surviving = (meter.traffic relation).surviving; since = (meter.traffic relation).since + 1 } else meter.traffic relation).entries + (if b then record { entries = (meter.traffic relation).entries; surviving = (meter.traffic relation).surviving; since = (meter.traffic relation).since + 1 } else meter.traffic relation).surviving) on in
-          omega (arith, held, counts, one_test (is_some c.new) true, more, ap one_if on, traffic))
-          (λ off. let counts = counts_same (now state).contents c.item c.new relation off in
-          let traffic = ap (λ (b : Bool). 2 * (if b then record { entries = (meter.traffic relation).entries; surviving = (meter.traffic relation).surviving; since = (meter.traffic relation).since + 1 } else meter.traffic relation).since + (if b then record { entries = (meter.traffic relation).entries; surviving = (meter.traffic relation).surviving; since = (meter.traffic relation).since + 1 } else meter.traffic relation).entries + (if b then record { entries = (meter.traffic relation).entries; surviving = (meter.traffic relation).surviving; since = (meter.traffic relation).since + 1 } else meter.traffic relation).surviving) off in
-          omega (arith, held, counts, more, ap one_if off, traffic));
-      room = room;
-    }
+metered_change state c over locks metered is one = metered_from state c over locks (meter_for state c) (says_now state metered) (allowed state c is) one
 
 -- ---- ways back, and ends
 
@@ -175,7 +183,7 @@ module _ (state : State) (kept : Kept state) (metered : IsMetered state) (t over
       (subst (λ (l : List Stamp). all_of_it (kept_to maker t 0 state.changes) l (own t state.changes)) (kept_none stamp_by t state.meter.stamps)
       (subst (λ (l : List Change). all_of_it (kept_to maker t 0 state.changes) (kept_to stamp_by t 0 state.meter.stamps) l) (cut_all t state.changes) first))
 
-metered_committing : (state : State) → Kept state → IsMetered state → (t : ℕ) → IsMetered (committing t state)
+pub metered_committing : (state : State) → Kept state → IsMetered state → (t : ℕ) → IsMetered (committing t state)
 metered_committing state kept metered t =
     let aborted = metered_abort state kept metered t state.meter.over (undo_same (now state) (own t state.changes) state.meter.over) in
     let same = end_now t state.changes state.base.contents (lone_kept kept) in
@@ -211,7 +219,7 @@ scan_at None call old number scan metered = metered_same metered old.marks old.l
 scan_at (Some t) call old number scan metered = metered_same metered old.marks (granted t (needs (now old) call) old.locks) (finite.insert old.scans number scan)
 
 -- the rules let a change through that the call is to make
-let_through : (old : State) (call : Call) (c : Change) → change_of old call ≡ Some c → if_full old call ≡ None → if_no_room old c ≡ None
+pub let_through : (old : State) (call : Call) (c : Change) → change_of old call ≡ Some c → if_full old call ≡ None → if_no_room old c ≡ None
 let_through old call c is full = sym (ap (option_and_then (if_no_room old)) is) ∙ full
 
 pub room_by : (old new : State) (call : Call) (answer : Answer) → Step old call answer new → ((definitions : Definitions) → refusal old call ≡ None → defined call old.base.definitions ≡ Some definitions → IsMetered (redefined definitions old)) → Kept old → IsMetered old → IsMetered new

@@ -24,12 +24,12 @@ use Rattle.rss_model.specs.Fits.{ArePlain}
 use Rattle.rss_model.specs.Kept.{AreStamps, IsMetered}
 use Rattle.rss_model.specs.Steps.{stamp_by}
 use Rattle.rss_model.specs.Machine.{StoreSize, State, IsAtRest, with_changes, now}
-use Rattle.rss_model.specs.Meanings.{Logged, as_entries}
+use Rattle.rss_model.specs.Meanings.{Logged, as_entries, is_change}
 use Rattle.rss_model.specs.Meter.{Meter, heap_pages, changes_of, room_number, owed, log_room, free_between}
 use Rattle.rss_model.specs.Records.{LogEntry, Changed, Restore, End, Abort, Checkpoint, Placed, Listed, changes_in}
 use Rattle.rss_model.specs.Recovers.{lists_at}
 use Rattle.rss_model.specs.Restart.{survives, stays, losers, redo, redone, restarted}
-use Rattle.rss_model.specs.Store.{IsStorePage, SpellsTables, Stored, first_record, listed_at, HasLog, meter_of, overflow_pages, is_change, IsStore, StoresHaveRoom, OpeningsHaveRoom, OpeningsAreMetered}
+use Rattle.rss_model.specs.Store.{IsStorePage, SpellsTables, Stored, first_record, listed_at, HasLog, meter_of, overflow_pages, IsStore, StoresHaveRoom, OpeningsHaveRoom, OpeningsAreMetered}
 use Rattle.rss_model.proofs.Counts.{one_if}
 use Rattle.rss_model.proofs.Listed.{heap_is}
 use Rattle.rss_model.proofs.LogLists.{by_test}
@@ -217,7 +217,7 @@ module _ (size : StoreSize) (tables : Tables) (state : State) (rest : IsAtRest s
   pages_now : heap_pages state.size.slots (now state) ≡ heap_pages size.slots tables
   pages_now = λ i. heap_pages (rest.idle.same_size i).slots (now_is i)
 
-  rest_metered : state.meter.head ≤ state.meter.end → room_number tables.definitions state.meter ≤ size.slots → IsMetered state
+  pub rest_metered : state.meter.head ≤ state.meter.end → room_number tables.definitions state.meter ≤ size.slots → IsMetered state
   rest_metered rises room = record {
     makers = ap (list_map stamp_by) none_stamped ∙ sym (ap (list_map maker) rest.idle.none_changed);
     positions = subst (AreStamps state.meter.head state.meter.end) (sym none_stamped) rises;

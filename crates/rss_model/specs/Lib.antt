@@ -29,6 +29,7 @@ pub mod Steps
 pub mod Runs
 pub mod Commits
 pub mod Kept
+pub mod Ruled
 pub mod Serial
 pub mod Records
 pub mod Restart
@@ -36,9 +37,14 @@ pub mod Recovers
 pub mod Meanings
 pub mod Store
 pub mod ReplyText
+pub mod Variables
 pub mod Script
+pub mod Forms
+pub mod Generator
 pub mod Plays
 pub mod Turns
 pub mod Costs
 pub mod Calls
 pub mod Ties
+pub mod EngineLogs
+pub mod LogLaws

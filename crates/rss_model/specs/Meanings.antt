@@ -1,5 +1,5 @@
 -- What the records of a log mean, where definitions have these numbers.
-use Rattle.std.specs.Prelude.{◌≡◌, ℕ, true, false, List, [], ◌∷◌, ◌++◌, map, All, Option, Some, None, IfSome, is_some, unwrap_or, ⊤}
+use Rattle.std.specs.Prelude.{◌≡◌, ℕ, true, false, List, [], ◌∷◌, ◌++◌, map, count_by, All, Option, Some, None, IfSome, is_some, option_map, unwrap_or, ⊤}
 use Rattle.std.specs.List.{list_any}
 use Rattle.std.specs.Prelude.{Bool, ◌==◌}
 use Rattle.rss_base.specs.declared.name.Name.{Name}
@@ -8,6 +8,7 @@ use Rattle.rss_base.specs.declared.value.Value.{Value}
 use Rattle.rss_base.specs.declared.item.Item.{Item}
 use Rattle.rss_base.specs.declared.item.Item.TheVariants.{Tuple as TupleItem, Chain as ChainItem}
 use Rattle.rss_base.specs.declared.relation.RelationEntry.{RelationEntry}
+use Rattle.rss_base.specs.declared.image.ImageEntry.{ImageEntry}
 use Rattle.rss_base.specs.declared.link.LinkEntry.{LinkEntry}
 use Rattle.rss_base.specs.declared.refusal.Kind.{Kind}
 use Rattle.rss_base.specs.declared.refusal.Kind.TheVariants.{Relation as RelationKind, Link as LinkKind}
@@ -16,13 +17,31 @@ use Rattle.rss_base.specs.declared.change.Change.TheVariants.{Insert, Delete, Up
 use Rattle.rss_base.specs.declared.log_record.LogRecord.{LogRecord}
 use Rattle.rss_base.specs.declared.log_record.LogRecord.TheVariants as records
 use Rattle.rss_base.specs.TupleTypes.{kinds, Spells}
-use Rattle.rss_base.specs.Listings.{Listing, numbered, names_of, relation_at, link_at}
+use Rattle.rss_base.specs.Listings.{Listing, numbered, names_of, relation_at, link_at, with_count}
 use Rattle.rss_base.specs.LogRecords as bytes
 use Rattle.rss_model.specs.Items.{Content, Values}
 use Rattle.rss_model.specs.Chains.{chain_content, stands_in, with_behind}
+use Rattle.rss_model.specs.Tables.{Contents, tuple_count}
 use Rattle.rss_model.specs.Changes.{Change}
-use Rattle.rss_model.specs.Records.{LogEntry, Changed, Restore, End, Abort, Checkpoint, Placed, Listed}
+use Rattle.rss_model.specs.Meter.{Traffic, counts_for, changes_of}
+use Rattle.rss_model.specs.Records.{LogEntry, Changed, Restore, End, Abort, Checkpoint, Placed, Listed, changes_in}
 use Rattle.rss_model.specs.Restart.{survives}
+
+-- ---- definitions
+
+abbrev pub rootless : ImageEntry → ImageEntry
+rootless image = record image { root = 0; levels = 0 }
+
+abbrev pub endless : LinkEntry → LinkEntry
+endless link = record link { first = None; last = None }
+
+-- The same definitions under the same numbers, whatever the counts of tuples and the ends of chains.
+pub record SameDefinitions (listing other : Listing) : Type 0 where
+  pub segments : other.segments ≡ listing.segments
+  pub relations : map (option_map (with_count 0)) other.relations
+      ≡ map (option_map (with_count 0)) listing.relations
+  pub images : map (option_map rootless) other.images ≡ map (option_map rootless) listing.images
+  pub links : map (option_map endless) other.links ≡ map (option_map endless) listing.links
 
 -- ---- the item of a change
 
@@ -126,3 +145,22 @@ pub record IsLogged (listing : Listing) (lists : List Listed) (older newer : Lis
   pub say : All (λ l. Says listing l.told l.is) (older ++ newer)
   pub listed : All (λ l. is_listed l.at lists ≡ true → MeansIt listing l.told l.is) older
   pub later : RedoneMean listing newer
+
+-- ---- what a meter counts of a log
+
+abbrev pub is_change : LogEntry → Bool
+is_change (Changed change) = true
+is_change entry = false
+
+-- the change of an entry counts for a relation
+abbrev pub is_change_of : Name → LogEntry → Bool
+is_change_of relation (Changed change) = counts_for change.item relation
+is_change_of relation entry = false
+
+-- The changes of a relation's tuples: over the contents of a checkpoint, where these changes were listed, with these records from it on, undone ones included.
+abbrev pub traffic_of : Contents → List Listed → List Logged → Name → Traffic
+traffic_of saved lists newer relation = record {
+  entries = tuple_count saved relation;
+  surviving = changes_of (changes_in lists) relation;
+  since = count_by (λ l. is_change_of relation l.is) newer;
+}

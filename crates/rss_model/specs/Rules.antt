@@ -59,6 +59,10 @@ verdict state change =
     if nat_lt state.size.slots (room_with state change state.meter)
     then NoRoom state.size.slots (room_with state change state.meter) else GoesOn
 
+-- The exact rule, which takes its place once changes are logged: a change goes on where it may; else it is asked what a checkpoint would help.
+abbrev pub ruling : State → Change → Verdict
+ruling state change = if goes_on state change then GoesOn else after_saving state change
+
 abbrev pub refusal_by : Verdict → Option Refusal
 refusal_by GoesOn = None
 refusal_by SavesFirst = None
@@ -71,6 +75,10 @@ if_no_room state change = refusal_by (verdict state change)
 -- the meter from which a change is made: as it is, as yet
 abbrev pub meter_for : State → Change → Meter
 meter_for state change = state.meter
+
+-- by the exact rule: as it is where the change goes on, else as a checkpoint leaves it
+abbrev pub meter_behind : State → Change → Meter
+meter_behind state change = if goes_on state change then state.meter else saved_now state
 
 -- ---- other calls
 

@@ -1,5 +1,5 @@
--- Reading a script: its lines, and the call that a line spells.
-use Rattle.std.specs.Prelude.{◌≡◌, ◌≢◌, ℕ, ◌^◌, ◌<◌, ◌≤◌, List, [], ◌∷◌, ◌++◌, length, All, true, codes, decimal, FitsSigned, ⊤}
+-- Reading a script: its lines, their words, and what a word stands for.
+use Rattle.std.specs.Prelude.{◌≡◌, ◌≢◌, ◌⊎◌, ℕ, ◌^◌, ◌<◌, ◌≤◌, Bool, true, false, List, [], ◌∷◌, ◌++◌, length, All, Some, codes, decimal, FitsSigned, ⊤}
 use Rattle.std.specs.Int.{w64}
 use Rattle.rss_base.specs.Sizes.{page_entries, slots_most}
 use Rattle.rss_base.specs.TupleTypes.{most_fields, is_kind}
@@ -8,10 +8,9 @@ use Rattle.rss_base.specs.declared.tid.Tid.{Tid}
 use Rattle.rss_base.specs.declared.value.Value.{Value}
 use Rattle.rss_base.specs.declared.value.Value.TheVariants.{Int, Text}
 use Rattle.rss_base.specs.declared.field.FieldDef.{FieldDef}
-use Rattle.rss_base.specs.declared.call.Call.{Call}
-use Rattle.rss_base.specs.declared.call.Call.TheVariants.{Begin, End, Insert, Fetch, Update, Delete, MakeSegment, MakeRelation, DropSegment, DropRelation}
 use Rattle.rss_base.specs.Names.{IsName}
 use Rattle.rss_model.specs.Spellings.{space, name_text, tid_text, value_text, field_text}
+use Rattle.rss_model.specs.Variables.{Meaning, Identifier, Number, Variable, meaning_of}
 
 -- ---- lines
 
@@ -70,7 +69,7 @@ HasWords bytes (word ∷ words) = (rest : List ℕ) × Begins bytes word rest ×
 
 -- ---- what a word stands for
 
--- the number of a transaction lies below this one
+-- numbers of transactions, scans and save points lie below this one
 abbrev pub number_limit : ℕ
 number_limit = 2 ^ 32
 
@@ -85,11 +84,43 @@ pub record IsNameWord (word : List ℕ) (name : Name) : Type 0 where
   pub spelled : word ≡ name_text name
   pub is_name : IsName name
 
+-- a number from 0 on, without leading zeros
+pub record IsNumber (word : List ℕ) (n : ℕ) : Type 0 where
+  pub spelled : word ≡ decimal n
+  pub below : n < number_limit
+
 -- an identifier: two numbers without leading zeros
 pub record IsTid (word : List ℕ) (tid : Tid) : Type 0 where
   pub spelled : word ≡ tid_text tid
   pub page : tid.page < slots_most
   pub slot : tid.slot < page_entries
+
+-- a variable: `$` and its name
+pub record IsVariable (word : List ℕ) (name : Name) : Type 0 where
+  pub spelled : word ≡ codes "$" ++ name_text name
+  pub is_name : IsName name
+
+-- a variable that stands for this
+pub record IsSet (names : List Variable) (word : List ℕ) (meaning : Meaning) : Type 0 where
+  pub name : Name
+  pub is_variable : IsVariable word name
+  pub means : meaning_of names name ≡ Some meaning
+
+-- an identifier, or a variable that stands for one
+abbrev pub IsTidIn : List Variable → List ℕ → Tid → Type 0
+IsTidIn names word tid = IsTid word tid ⊎ IsSet names word (Identifier tid)
+
+-- a number, or a variable that stands for one
+abbrev pub IsNumberIn : List Variable → List ℕ → ℕ → Type 0
+IsNumberIn names word n = IsNumber word n ⊎ IsSet names word (Number n)
+
+-- how an item is locked: exclusively, or shared
+abbrev pub mode_text : Bool → List ℕ
+mode_text true = codes "exclusive"
+mode_text false = codes "shared"
+
+abbrev pub IsMode : List ℕ → Bool → Type 0
+IsMode word exclusive = word ≡ mode_text exclusive
 
 -- An INT has 64 signed bits. A TEXT may have any bytes: whether they are a text that fits its field
 -- says the call.
@@ -117,64 +148,13 @@ StandFor Is (word ∷ words) (item ∷ items) = Is word item × StandFor Is word
 abbrev pub AreValues : List (List ℕ) → List Value → Type 0
 AreValues words values = StandFor IsValue words values
 
+-- one name or more
+pub record AreNames (words : List (List ℕ)) (names : List Name) : Type 0 where
+  pub each : StandFor IsNameWord words names
+  pub some : 1 ≤ length names
+
 -- the fields of a relation, of which there is one, and no more than a relation may have
 pub record AreFieldWords (words : List (List ℕ)) (fields : List FieldDef) : Type 0 where
   pub each : StandFor IsField words fields
   pub some : 1 ≤ length fields
   pub few : length fields ≤ most_fields
-
--- ---- calls
-
--- These words are this call. Each form of a line is a case.
-pub data Names : List (List ℕ) → Call → Type 0 where
-  begin : {word : List ℕ} {t : ℕ} → IsTransaction word t
-      → Names (codes "begin" ∷ word ∷ []) (Begin t)
-  end : {word : List ℕ} {t : ℕ} → IsTransaction word t
-      → Names (codes "end" ∷ word ∷ []) (End t)
-  insert : {first second : List ℕ} {words : List (List ℕ)}
-      {t : ℕ} {relation : Name} {values : List Value}
-      → IsTransaction first t → IsNameWord second relation → AreValues words values
-      → Names (codes "insert" ∷ first ∷ second ∷ words) (Insert t relation values)
-  fetch : {first second third : List ℕ} {t : ℕ} {relation : Name} {tid : Tid}
-      → IsTransaction first t → IsNameWord second relation → IsTid third tid
-      → Names (codes "fetch" ∷ first ∷ second ∷ third ∷ []) (Fetch t relation tid)
-  update : {first second third : List ℕ} {words : List (List ℕ)}
-      {t : ℕ} {relation : Name} {tid : Tid} {values : List Value}
-      → IsTransaction first t → IsNameWord second relation → IsTid third tid
-      → AreValues words values
-      → Names (codes "update" ∷ first ∷ second ∷ third ∷ words) (Update t relation tid values)
-  delete : {first second third : List ℕ} {t : ℕ} {relation : Name} {tid : Tid}
-      → IsTransaction first t → IsNameWord second relation → IsTid third tid
-      → Names (codes "delete" ∷ first ∷ second ∷ third ∷ []) (Delete t relation tid)
-  segment : {word : List ℕ} {name : Name} → IsNameWord word name
-      → Names (codes "segment" ∷ word ∷ []) (MakeSegment name)
-  relation : {first second : List ℕ} {words : List (List ℕ)}
-      {name in_segment : Name} {fields : List FieldDef}
-      → IsNameWord first name → IsNameWord second in_segment → AreFieldWords words fields
-      → Names (codes "relation" ∷ first ∷ second ∷ words) (MakeRelation name in_segment fields)
-  drop_segment : {word : List ℕ} {name : Name} → IsNameWord word name
-      → Names (codes "drop" ∷ codes "segment" ∷ word ∷ []) (DropSegment name)
-  drop_relation : {word : List ℕ} {name : Name} → IsNameWord word name
-      → Names (codes "drop" ∷ codes "relation" ∷ word ∷ []) (DropRelation name)
-
--- ---- what a line is
-
-abbrev pub IsShortLine : List ℕ → Type 0
-IsShortLine line = length line ≤ line_limit
-
--- the line is this call
-pub record Spells (line : List ℕ) (call : Call) : Type 0 where
-  pub words : List (List ℕ)
-  pub spaced : HasWords line words
-  pub names : Names words call
-  pub short : IsShortLine line
-
--- the line has no word
-pub record IsBlank (line : List ℕ) : Type 0 where
-  pub spaces : AreSpaces line
-  pub short : IsShortLine line
-
--- the line is neither blank nor a call
-pub record IsWords (line : List ℕ) : Type 0 where
-  pub some : IsBlank line → ⊥
-  pub no_call : (call : Call) → Spells line call → ⊥

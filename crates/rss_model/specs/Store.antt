@@ -1,5 +1,5 @@
 -- A store: its pages, and the tables that they open to.
-use Rattle.std.specs.Prelude.{◌≡◌, ◌⊎◌, ◌↔◌, ℕ, ◌+◌, ◌*◌, ◌<◌, ◌≤◌, Bool, true, false, List, [], ◌∷◌, ◌++◌, length, map as list_map, flat_map, count_by, Contains, Option, Some, None, is_some, option_map, option_and_then, All}
+use Rattle.std.specs.Prelude.{◌≡◌, ◌⊎◌, ◌↔◌, ℕ, ◌+◌, ◌*◌, ◌<◌, ◌≤◌, true, List, [], ◌∷◌, ◌++◌, length, map as list_map, flat_map, count_by, Contains, Option, Some, None, is_some, option_map, option_and_then, All}
 use Rattle.std.specs.FinMap as map
 use Rattle.rss_base.specs.declared.name.Name.{Name}
 use Rattle.rss_base.specs.declared.tid.Tid.{Tid}
@@ -36,12 +36,12 @@ use Rattle.rss_model.specs.Tables.{RelationDef, ImageDef, LinkDef, Definitions, 
 use Rattle.rss_model.specs.Chains.{tuples_in, chain, chain_with}
 use Rattle.rss_model.specs.Images.{Entry, image_list}
 use Rattle.rss_model.specs.Fits.{Fits}
-use Rattle.rss_model.specs.Meter.{Meter, counts_for, changes_of, owed, log_room, room_number}
+use Rattle.rss_model.specs.Meter.{Meter, owed, log_room, room_number}
 use Rattle.rss_base.specs.declared.log_record.LogRecord.TheVariants as records
-use Rattle.rss_model.specs.Records.{LogEntry, Changed, Checkpoint, Listed, changes_in}
+use Rattle.rss_model.specs.Records.{Checkpoint, Listed}
 use Rattle.rss_model.specs.Restart.{restarted}
 use Rattle.rss_model.specs.Recovers.{lists_at, Recovers, WayFits}
-use Rattle.rss_model.specs.Meanings.{Logged, as_bytes, as_entries, IsLogged}
+use Rattle.rss_model.specs.Meanings.{Logged, as_bytes, as_entries, IsLogged, is_change, traffic_of}
 use Rattle.rss_model.specs.Machine.{StoreSize, State, IsAtRest}
 use Rattle.rss_model.specs.Kept.{IsMetered}
 
@@ -345,7 +345,6 @@ listed_at stored = lists_at (as_entries stored.older)
 -- logged: they say these entries.
 -- recovers, way: over the tables of the checkpoint they recover the tables, and all tables on the way of restart fit.
 -- definitions: a record tells of tuples and chains alone.
--- first: as yet nothing is logged, and the log is the first one.
 pub record HasLog (pages : Pages) (stored : Stored) : Type 0 where
   pub parses : Parses (log_bytes pages stored.root) stored.root.head
       (as_bytes (stored.older ++ stored.newer)) stored.root.end
@@ -356,18 +355,8 @@ pub record HasLog (pages : Pages) (stored : Stored) : Type 0 where
   pub way : WayFits stored.root.slots stored.saved
       (as_entries stored.older) (as_entries stored.newer)
   pub definitions : stored.tables.definitions ≡ stored.saved.definitions
-  pub first : HasFirstLog stored.root
 
 -- ---- the room of a store
-
--- the change of an entry counts for a relation, or there is one at all
-abbrev pub is_change : LogEntry → Bool
-is_change (Changed change) = true
-is_change entry = false
-
-abbrev pub is_change_of : Name → LogEntry → Bool
-is_change_of relation (Changed change) = counts_for change.item relation
-is_change_of relation entry = false
 
 -- the meter of the checkpoint with all changes behind it, those that were undone included
 abbrev pub meter_of : Stored → Meter
@@ -375,11 +364,7 @@ meter_of stored = record {
   heap = pages_of_space Home stored + overflow_pages stored;
   surviving = length (listed_at stored);
   since = count_by (λ l. is_change l.is) stored.newer;
-  traffic = λ relation. record {
-    entries = tuple_count stored.saved.contents relation;
-    surviving = changes_of (changes_in (listed_at stored)) relation;
-    since = count_by (λ l. is_change_of relation l.is) stored.newer;
-  };
+  traffic = traffic_of stored.saved.contents (listed_at stored) stored.newer;
   stamps = [];
   head = stored.root.head;
   end = stored.root.end;
@@ -408,10 +393,11 @@ pub record IsStore (pages : Pages) (stored : Stored) : Type 0 where
 abbrev pub size_of : Root → StoreSize
 size_of root = record { slots = root.slots; log_pages = root.log_pages }
 
--- the pages are a store of this size with these tables
+-- The pages are a store of this size with these tables. As yet nothing is logged, and the log is the first one.
 pub record OpensTo (pages : Pages) (size : StoreSize) (tables : Tables) : Type 0 where
   pub stored : Stored
   pub store : IsStore pages stored
+  pub first : HasFirstLog stored.root
   pub same_size : size ≡ size_of stored.root
   pub holds : tables ≡ stored.tables
 

@@ -1,16 +1,11 @@
--- How the machine's state is tied to the log of an engine and to the tables of the last checkpoint.
-use Rattle.std.specs.Prelude.{◌≡◌, ℕ, ◌+◌, Bool, true, false, not, List, [], ◌∷◌, ◌++◌, length, map, filter, All, ⊤}
+-- How committed contents and changes are tied to a log and to the contents of the last checkpoint.
+use Rattle.std.specs.Prelude.{◌≡◌, ℕ, ◌+◌, Bool, true, false, not, List, [], ◌∷◌, ◌++◌, length, filter, ⊤}
 use Rattle.std.specs.List.{AllByRecursion}
-use Rattle.rss_base.specs.LogRecords.{ArePlaced}
-use Rattle.rss_base.specs.Listings.{Listing}
-use Rattle.rss_model.specs.Tables.{Contents, Tables, content}
+use Rattle.rss_model.specs.Tables.{Contents, content}
 use Rattle.rss_model.specs.Changes.{Change, maker, own, after, undone, Chained, kept_to}
-use Rattle.rss_model.specs.Meter.{Stamp}
-use Rattle.rss_model.specs.Machine.{State}
 use Rattle.rss_model.specs.Records.{LogEntry, Changed, Restore, End, Abort, Checkpoint, Placed, Listed, changes_in, listed, committed_by, list_after, recovered, Rise}
 use Rattle.rss_model.specs.Restart.{UndoFinds, LoneAlong}
 use Rattle.rss_model.specs.Recovers.{BeginsAtCheckpoint, lists_at, base_at}
-use Rattle.rss_model.specs.Meanings.{Logged, as_bytes, as_entries, Says, MeansIt}
 
 -- ---- records that tell what stood there
 
@@ -119,42 +114,3 @@ gone stays ls = changes_in (filter (λ l. not (stays l)) ls)
 pub record Undoes (base : Contents) (stays : Listed → Bool) (ls : List Listed) : Type 0 where
   pub gives : undone (after base (changes_in ls)) (gone stays ls) ≡ after base (kept stays ls)
   pub finds : UndoFinds (after base (changes_in ls)) (gone stays ls)
-
--- ---- the log of an engine
-
--- the same three parts, with their bytes
-pub record EngineLog : Type 0 where
-  pub head : ℕ
-  pub older : List Logged
-  pub written : List Logged
-  pub pending : List Logged
-  pub end : ℕ
-
-abbrev pub all_logged : EngineLog → List Logged
-all_logged log = log.older ++ (log.written ++ log.pending)
-
-abbrev pub entries_of : EngineLog → Log
-entries_of log = record {
-  head = log.head;
-  older = as_entries log.older;
-  written = as_entries log.written;
-  pending = as_entries log.pending;
-  end = log.end;
-}
-
--- a record of the engine says what the machine did
-pub record IsOwnRecord (listing : Listing) (l : Logged) : Type 0 where
-  pub says : Says listing l.told l.is
-  pub means : MeansIt listing l.told l.is
-
-abbrev pub stamp_of : Listed → Stamp
-stamp_of l = record { by = l.change.by; at = l.at }
-
--- The machine's state is tied to the log of an engine over the tables of the last checkpoint, and its meter has the log's positions.
-pub record TiesState (listing : Listing) (at_checkpoint : Tables) (log : EngineLog) (state : State) : Type 0 where
-  pub ties : Ties state.base.contents state.changes at_checkpoint.contents (entries_of log)
-  pub placed : ArePlaced log.head (as_bytes (all_logged log)) log.end
-  pub own : All (IsOwnRecord listing) (all_logged log)
-  pub stamps_are : map stamp_of (lists (entries_of log)) ≡ state.meter.stamps
-  pub head_is : log.head ≡ state.meter.head
-  pub end_is : log.end ≡ state.meter.end

@@ -11,9 +11,13 @@ ghost use Rattle.rss_model.specs.Store.{OpensOnce, OpeningsAreMetered, OpeningsH
 ghost use Rattle.rss_model.specs.Changes.{UndoTurnsBack};
 ghost use Rattle.rss_model.specs.Commits.{CommitsOnly, OpenLeavesNoTrace};
 ghost use Rattle.rss_model.specs.Kept.{SavingNeedsNoMore, StepsKeep, RestKeeps, StepsLeaveSize, KeptFit, EachFits, MixturesFit, FirstFindsBase, LastLeavesNow, OwnersAreAlone, StepsKeepRoom};
+ghost use Rattle.rss_model.specs.Ruled.{RulingIsExact, RulingLetsThrough, MeterFollows, SavingFirstPasses, SavedGoesOn, ChangesKeepRooms, CheckpointsKeepRooms, CheckpointsPassAtRest, RestoresKeepRooms, AbortsKeepRooms, EndsKeepRooms, DefinitionsKeepRooms};
+ghost use Rattle.rss_model.specs.Ruled.{ChangesFitLog, WaysBackFitLog, EndsFitLog, CheckpointsFitLog};
 ghost use Rattle.rss_model.specs.Locks.{JoinDisagrees};
 ghost use Rattle.rss_model.specs.Steps.{FreeIsFound};
 ghost use Rattle.rss_model.specs.Serial.{IsSerial};
+ghost use Rattle.rss_model.specs.LogLaws.{ChangeTies, RestoreTies, AbortTies, ChangesTurnBack, EndTies, CheckpointTies};
+ghost use Rattle.rss_model.specs.LogLaws.{RestTies, RestartTies, DiskHasLog, DiskHasRoom};
 ghost use Rattle.rss_model.specs.Spares.{NumberLeavesRoom, SparesTwo, MakesOnceMore, times_in_restart, times_in_session};
 ghost use Rattle.rss_model.specs.Spares.{SessionBegins, SessionChanges, SessionGoesBack, SessionForgets, SparesForAll, SparesForNext};
 
@@ -108,6 +112,35 @@ pub fn room_rule()
     ensures { SavingNeedsNoMore }
 {}
 
+/// What comes of a change by the exact rule, with the numbers that a refusal tells.
+pub fn exact_rule()
+    ensures verdicts { RulingIsExact }
+    ensures lets_through { RulingLetsThrough }
+    ensures meter { MeterFollows }
+    ensures saves { SavingFirstPasses }
+    ensures saved { SavedGoesOn }
+{}
+
+/// By it there is always room, for all pages and in the log for what it owes: a change that is let
+/// through, a checkpoint that isn't refused, a way back, an end and a definition each leave it so.
+pub fn rooms_are_kept()
+    ensures changes { ChangesKeepRooms }
+    ensures checkpoints { CheckpointsKeepRooms }
+    ensures at_rest { CheckpointsPassAtRest }
+    ensures restores { RestoresKeepRooms }
+    ensures aborts { AbortsKeepRooms }
+    ensures ends { EndsKeepRooms }
+    ensures definitions { DefinitionsKeepRooms }
+{}
+
+/// And the log has room for each record before it is appended.
+pub fn records_fit()
+    ensures changes { ChangesFitLog }
+    ensures back { WaysBackFitLog }
+    ensures ends { EndsFitLog }
+    ensures checkpoints { CheckpointsFitLog }
+{}
+
 /// A mode that was joined disagrees with what one of its parts disagrees with.
 pub fn joined_locks()
     ensures { JoinDisagrees }
@@ -151,4 +184,29 @@ pub fn tables_of_now()
 /// recovered.
 pub fn restart_of_a_store()
     ensures { RestartRecovers }
+{}
+
+/// Each kind of step keeps the tie of the state to an engine's log, with its records, what they mean
+/// and what the meter counts of them. The log has the records of the changes that a way back undoes.
+pub fn logs_tie()
+    ensures change { ChangeTies }
+    ensures restore { RestoreTies }
+    ensures abort { AbortTies }
+    ensures turn_back { ChangesTurnBack }
+    ensures end { EndTies }
+    ensures checkpoint { CheckpointTies }
+{}
+
+/// A store that was left at rest is tied as it is opened, and any other by the checkpoint that ends
+/// its restart.
+pub fn openings_tie()
+    ensures rest { RestTies }
+    ensures restart { RestartTies }
+{}
+
+/// Where a state is tied to an engine's log, what is on the disk of it is the log of a store with the
+/// committed tables, and has room for a restart, whatever is in memory alone.
+pub fn disk_has_log()
+    ensures log { DiskHasLog }
+    ensures room { DiskHasRoom }
 {}

@@ -1,11 +1,11 @@
 -- Changes that are made one after another.
 use Rattle.std.proofs.Common.{◌≡◌, ℕ, ◌+◌, ◌*◌, ◌≤◌, List, [], ◌∷◌, ◌++◌, length, get_or, take, drop, append_assoc, add-one, refl, sym, ◌∙◌, ap, subst, arith}
-use Rattle.std.specs.Prelude.{◌<◌, map, Option, Some, None, Result, Ok, Err, IsErrAnd}
+use Rattle.std.specs.Prelude.{◌<◌, map, Option, Some, None, Result, Ok, Err, IsErrAnd, OnOk}
 use Rattle.std.proofs.Math.Seq.{drop-cons}
 use Rattle.std.proofs.lemmas.Result.{err_from_is_err_and}
 use Rattle.std.proofs.lemmas.List.{take_more, take-append-drop, map-append}
 use Rattle.rss_base.specs.DiskRule.{IsTold}
-use Rattle.rss_base.specs.Steps.{PagesStep}
+use Rattle.rss_base.specs.Steps.{PagesView, PagesStep}
 use Rattle.rss_base.specs.declared.fault.PageFault.{PageFault}
 use Rattle.rss_base.specs.declared.fault.PageFault.TheVariants.{Device as DeviceFailed, Damaged, NoMemory}
 use Rattle.rss_base.specs.declared.key.PageKey.{PageKey}
@@ -18,7 +18,7 @@ use Rattle.rss_base.proofs.Steps.{rests, then, within}
 use Rattle.rss_page.specs.Slotted.{IsHeapKey}
 use Rattle.rss_log.specs.Logs.{LogView}
 use Rattle.rss_model.specs.Tables.{Tables}
-use Rattle.rss_access.specs.Changes.{AccessView, alter_cost, applied, pages_of_relation, number_told, Makes, NoneApplies, CanApply}
+use Rattle.rss_access.specs.Changes.{AccessView, alter_cost, Takes, applied, pages_of_relation, number_told, Makes, NoneApplies, CanApply}
 use Rattle.rss_access.proofs.Altering.{applies_by}
 use Rattle.rss_access.proofs.Telling.{none_applies}
 use Rattle.rss_restart.specs.declared.restarting.Way.{Way}
@@ -116,11 +116,19 @@ turns_all way positions i low =
 
 -- ---- what they pass on
 
+takes_none : (pages : PagesView) → Takes 0 pages pages
+takes_none pages = record { mapped = omega arith; spare = omega arith }
+
+takes_both : {T : Type 0} (old mid new : PagesView) (m n all : ℕ) (result : Result T PageFault) → all ≡ m + n → Takes m old mid → OnOk result (Takes n mid new) → OnOk result (Takes all old new)
+takes_both old mid new m n all (Ok value) sum one two = record { mapped = omega (arith, sum, one.mapped, two.mapped); spare = omega (arith, sum, one.spare, two.spare) }
+takes_both old mid new m n all (Err fault) sum one two = tt
+
 pub walks_nothing : {log : LogView} (view : AccessView) → Walks {T = Unit {0}} log 0 view view (Ok tt)
 walks_nothing view = record {
   made = 0;
   few = omega arith;
   step = rests view.pages;
+  takes = takes_none view.pages;
   keeps = keeps_itself view;
   failed = λ is. absurd (cc);
   memory = λ is. absurd (cc);
@@ -129,13 +137,14 @@ walks_nothing view = record {
 
 module _ {T U : Type 0} {log : LogView} {most more : ℕ} {old mid new : AccessView} {value : U} where
   pub walks_then : {result : Result T PageFault} → Walks log most old mid (Ok value) → Walks log more mid new result → Walks log (most + more) old new result
-  walks_then one two =
+  walks_then {result = result} one two =
       let next : PagesStep IsHeapKey (two.made * alter_cost old.pages.slots) (two.made * alter_cost old.pages.slots) mid.pages new.pages =
       subst (λ (n : ℕ). PagesStep IsHeapKey (two.made * alter_cost n) (two.made * alter_cost n) mid.pages new.pages) one.step.passes.slots two.step in
       record {
         made = one.made + two.made;
         few = omega (arith, one.few, two.few);
         step = within (λ key is. is) (omega arith) (omega arith) (then one.step next);
+        takes = takes_both old.pages mid.pages new.pages (2 * one.made) (2 * two.made) (2 * (one.made + two.made)) result (omega arith) one.takes two.takes;
         keeps = keeps_then one.keeps one.step.passes.leaves.told.0 two.keeps;
         failed = λ is. let rose = two.failed is in omega (arith, rose, one.step.passes.later);
         memory = two.memory;
@@ -150,6 +159,7 @@ walks_fail {U = U} {log = log} {most = most} {old = old} {new = new} {fault = fa
       made = walks.made;
       few = walks.few;
       step = walks.step;
+      takes = tt;
       keeps = walks.keeps;
       failed = λ is. let same : fault ≡ DeviceFailed = cc in walks.failed (ap Err same);
       memory = λ is. let same : fault ≡ NoMemory = cc in walks.memory (ap Err same);
@@ -157,7 +167,7 @@ walks_fail {U = U} {log = log} {most = most} {old = old} {new = new} {fault = fa
     })
 
 pub walks_within : {T : Type 0} {log : LogView} {most many : ℕ} {old new : AccessView} {result : Result T PageFault} → most ≤ many → Walks log most old new result → Walks log many old new result
-walks_within few walks = record { made = walks.made; few = omega (arith, few, walks.few); step = walks.step; keeps = walks.keeps; failed = walks.failed; memory = walks.memory; place = walks.place }
+walks_within few walks = record { made = walks.made; few = omega (arith, few, walks.few); step = walks.step; takes = walks.takes; keeps = walks.keeps; failed = walks.failed; memory = walks.memory; place = walks.place }
 
 -- ---- one change
 
@@ -174,6 +184,7 @@ walks_refused at view low high = record {
   made = 0;
   few = omega arith;
   step = rests view.pages;
+  takes = tt;
   keeps = keeps_itself view;
   failed = λ is. absurd (cc);
   memory = λ is. absurd (cc);
@@ -190,6 +201,7 @@ walks_made value makes = record {
   made = 1;
   few = omega arith;
   step = made_step makes;
+  takes = makes.takes;
   keeps = keeps_made _ _ (made_step makes) _ makes;
   failed = λ is. absurd (cc);
   memory = λ is. absurd (cc);
@@ -202,6 +214,7 @@ walks_recorded at DeviceFailed low high makes = record {
   made = 1;
   few = omega arith;
   step = made_step makes;
+  takes = tt;
   keeps = keeps_made _ _ (made_step makes) _ makes;
   failed = λ is. makes.failed refl;
   memory = λ is. absurd (cc);
@@ -211,6 +224,7 @@ walks_recorded at (Damaged place) low high makes = record {
   made = 1;
   few = omega arith;
   step = made_step makes;
+  takes = tt;
   keeps = keeps_made _ _ (made_step makes) _ makes;
   failed = λ is. absurd (cc);
   memory = λ is. absurd (cc);

@@ -17,9 +17,9 @@ use Rattle.rss_tuple.specs.Heaps.{IsHeap, AreLinked}
 use Rattle.rss_model.specs.Records.{LogEntry, Changed, Restore, End, Abort, Checkpoint, Listed}
 use Rattle.rss_model.specs.Restart.{stays}
 use Rattle.rss_model.specs.Recovers.{WayFits}
-use Rattle.rss_model.specs.Meanings.{Logged, as_bytes, as_entries, is_redone, IsLogged}
+use Rattle.rss_model.specs.Meanings.{Logged, as_bytes, as_entries, is_change, is_redone, IsLogged}
 use Rattle.rss_model.specs.Spares.{change_counts, page_counts, HasMade}
-use Rattle.rss_model.specs.Store.{Stored, SpellsTables, held_in, listed_at, is_change, meter_of, IsStore}
+use Rattle.rss_model.specs.Store.{Stored, SpellsTables, held_in, listed_at, meter_of, IsStore}
 use Rattle.rss_model.proofs.Counts.{one_if}
 use Rattle.rss_model.proofs.LogLists.{by_test}
 use Rattle.rss_model.proofs.Sparing.{number_leaves_room, spare_in_restart}
@@ -50,7 +50,7 @@ few_redone (l ∷ later) =
     (λ e. rw e (omega (arith, few_redone later, more)))
 
 -- no more than survived at the checkpoint and were made since
-few_changes : (stored : Stored) → changes_made stored.older stored.newer ≤ (meter_of stored).surviving + (meter_of stored).since
+pub few_changes : (stored : Stored) → changes_made stored.older stored.newer ≤ (meter_of stored).surviving + (meter_of stored).since
 few_changes stored =
     let p : Listed → Bool = λ l. not (stays (as_entries stored.newer) l) in
     omega (arith, few_redone stored.newer, length-filter p (listed_at stored), count_by-le-length p (listed_at stored))

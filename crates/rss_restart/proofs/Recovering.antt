@@ -118,6 +118,7 @@ passes_nothing {U = U} {log = log} {checkpoint = checkpoint} {fault = fault} vie
       made = 0;
       most = λ older newer is. omega arith;
       step = rests view.pages;
+      takes = tt;
       keeps = keeps_itself view;
       failed = λ is. let same : fault ≡ DeviceFailed = cc in absurd (device same);
       unmade = λ is. rests view.pages;
@@ -131,6 +132,7 @@ passes_walk few walks = record {
   made = walks.made;
   most = λ older newer is. omega (arith, walks.few, few older newer is);
   step = walks.step;
+  takes = walks.takes;
   keeps = walks.keeps;
   failed = walks.failed;
   unmade = λ is. absurd (walks.memory is);

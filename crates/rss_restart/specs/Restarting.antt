@@ -1,5 +1,5 @@
 -- Restart: the pages have the tables of the log's last checkpoint before it, and those that the log recovers after it.
-use Rattle.std.specs.Prelude.{◌≡◌, ℕ, ◌+◌, ◌*◌, ◌≤◌, List, length, Result, Err, IsErrOf}
+use Rattle.std.specs.Prelude.{◌≡◌, ℕ, ◌+◌, ◌*◌, ◌≤◌, List, length, Result, Err, IsErrOf, OnOk}
 use Rattle.rss_base.specs.DiskRule.{IsTold}
 use Rattle.rss_base.specs.Faults.{Rises}
 use Rattle.rss_base.specs.Sizes.{system_pages}
@@ -15,7 +15,7 @@ use Rattle.rss_model.specs.Restart.{losers}
 use Rattle.rss_model.specs.Recovers.{lists_at, Recovers, WayFits}
 use Rattle.rss_model.specs.Meanings.{Logged, as_entries, IsLogged}
 use Rattle.rss_model.specs.Store.{SpellsTables}
-use Rattle.rss_access.specs.Changes.{AccessView, alter_cost}
+use Rattle.rss_access.specs.Changes.{AccessView, alter_cost, Takes}
 use Rattle.rss_access.specs.Written.{AreWritten}
 use Rattle.rss_restart.specs.Surveys.{IsLogOf, IsLogPlace, redone_at}
 
@@ -63,7 +63,7 @@ pub record KeepsCatalog (old new : AccessView) : Type 0 where
   pub written : IsTold old.pages.disk → length old.catalog.pending ≡ system_pages
       → AreWritten old.pages.held old.catalog → AreWritten new.pages.held new.catalog
 
--- What a restart passes on, by its result: it made so many changes in home and overflow pages, and no more than the log has to undo and to do again. Each failure of the device has its cause, memory runs out only while nothing is changed yet, and what is damaged is a position of the log.
+-- What a restart passes on, by its result: it made so many changes in home and overflow pages, and no more than the log has to undo and to do again. At success it took two pages at most for each. Each failure of the device has its cause, memory runs out only while nothing is changed yet, and what is damaged is a position of the log.
 pub record RestartPasses {T : Type 0} (log : LogView) (checkpoint : ℕ) (old new : AccessView)
     (result : Result T PageFault) : Type 0 where
   pub made : ℕ
@@ -71,6 +71,7 @@ pub record RestartPasses {T : Type 0} (log : LogView) (checkpoint : ℕ) (old ne
       → made ≤ changes_made older newer
   pub step : PagesStep IsHeapKey (made * alter_cost old.pages.slots)
       (made * alter_cost old.pages.slots) old.pages new.pages
+  pub takes : OnOk result (Takes (2 * made) old.pages new.pages)
   pub keeps : KeepsCatalog old new
   pub failed : IsErrOf result DeviceFailed → Rises old.pages.faults new.pages.faults
   pub unmade : IsErrOf result NoMemory → PagesStep no_page 0 0 old.pages new.pages

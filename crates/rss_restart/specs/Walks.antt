@@ -1,5 +1,5 @@
 -- The way of a restart: one change after another is undone, or done again, as the log tells it.
-use Rattle.std.specs.Prelude.{◌≡◌, ℕ, ◌*◌, ◌≤◌, List, [], ◌∷◌, ◌++◌, map, length, Result, Err, IsErrOf, ⊤, Some}
+use Rattle.std.specs.Prelude.{◌≡◌, ℕ, ◌*◌, ◌≤◌, List, [], ◌∷◌, ◌++◌, map, length, Result, Err, IsErrOf, OnOk, ⊤, Some}
 use Rattle.std.specs.List.{AllByRecursion}
 use Rattle.rss_base.specs.DiskRule.{IsTold}
 use Rattle.rss_base.specs.Faults.{Rises}
@@ -129,13 +129,14 @@ NoWalk log turns at =
     (tables : Tables) (front rest : List Move) → turns_of front ≡ turns
     → CanWalk log at tables (front ++ rest) → ⊥
 
--- What making so many changes at most passes on: home and overflow pages alone are touched, each failure of the device has its cause, memory never runs out, and what is damaged is a position of the log.
+-- What making so many changes at most passes on: home and overflow pages alone are touched, and at success two are taken at most for each change. Each failure of the device has its cause, memory never runs out, and what is damaged is a position of the log.
 pub record Walks {T : Type 0} (log : LogView) (most : ℕ) (old new : AccessView)
     (result : Result T PageFault) : Type 0 where
   pub made : ℕ
   pub few : made ≤ most
   pub step : PagesStep IsHeapKey (made * alter_cost old.pages.slots)
       (made * alter_cost old.pages.slots) old.pages new.pages
+  pub takes : OnOk result (Takes (2 * made) old.pages new.pages)
   pub keeps : KeepsCatalog old new
   pub failed : IsErrOf result DeviceFailed → Rises old.pages.faults new.pages.faults
   pub memory : IsErrOf result NoMemory → ⊥

@@ -7,4 +7,4 @@ mod restarting;
 mod survey;
 
 pub use laws::stores_can_restart;
-pub use restarting::restart;
+pub use restarting::{change_at, restart};

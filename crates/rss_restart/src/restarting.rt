@@ -159,7 +159,7 @@ fn at_record(fault: PageFault, position: u64) -> PageFault
 }
 
 /// The change of a tuple whose record begins at a position.
-fn change_at(log: &Log, position: u64) -> Option<Change>
+pub fn change_at(log: &Log, position: u64) -> Option<Change>
     requires low { log.now.head ≤ position }
     requires high { position ≤ log.now.end }
     ensures some { IfSome result (TellsAt log.now position) }

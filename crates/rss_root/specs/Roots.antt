@@ -1,6 +1,6 @@
 -- The selector and the two roots while one takes the place of the other.
 use Rattle.std.specs.Prelude.{◌≡◌, ◌⊎◌, ℕ, List, slice_set, Some}
-use Rattle.rss_base.specs.DiskRule.{Disk, Pages, page, Told, Leaves, LeavesOnly, IsAt, SameOff, TornIn, Passes}
+use Rattle.rss_base.specs.DiskRule.{Disk, Pages, page, Told, Leaves, LeavesOnly, Places, IsAt, SameOff, TornIn, Passes}
 use Rattle.rss_base.specs.Layout.{selected_by, selected, root_of}
 use Rattle.rss_base.specs.declared.place.Place.{Place}
 use Rattle.rss_base.specs.declared.place.Place.TheVariants.{Size, Root}
@@ -19,6 +19,10 @@ SelectsEither before after pages = (root_of pages ≡ before) ⊎ (root_of pages
 abbrev pub IsPhase : Disk → Pages → ℕ → List ℕ → Pages → Type 0
 IsPhase disk pages other root image =
     TornIn (IsAt other) (Leaves disk) image ⊎ SameOff (IsAt 0) (slice_set pages other root) image
+
+-- the pages that a switch writes: the selector and the other root
+abbrev pub IsSwitchPlace : ℕ → Places
+IsSwitchPlace other q = (q ≡ 0) ⊎ (q ≡ other)
 
 -- a call that passes through these phases only
 abbrev pub IsSwitching : ℕ → List ℕ → Disk → Disk → Type 0

@@ -3,8 +3,8 @@ ghost use Rattle.std.specs.Prelude.{◌≡◌, ◌-◌, ◌<◌, ◌≤◌, List
 ghost use Rattle.rss_base.specs.DiskRule.{Told, IsTold, Passes};
 ghost use Rattle.rss_base.specs.Devices.{WritesPages};
 ghost use Rattle.rss_base.specs.Sizes.{head_pages};
-ghost use Rattle.rss_base.specs.Layout.{IsHeadPage, root_page, selected_by};
-ghost use Rattle.rss_root.specs.Roots.{Selects, SelectsEither, IsSwitching, IsSwitched};
+ghost use Rattle.rss_base.specs.Layout.{root_page, selected_by};
+ghost use Rattle.rss_root.specs.Roots.{Selects, SelectsEither, IsSwitchPlace, IsSwitching, IsSwitched};
 
 use crate::root_page::encode;
 use rss_base::{Device, Failed, PAGE_BYTES, Page, Root, put};
@@ -33,7 +33,8 @@ pub fn switch<D: Device>(device: &mut D, valid: u8, root: &Root) -> Result<u8, F
         → Selects (D.view device.new).disk now (root_page root.now)) }
 
     ensures number { IfOk result (λ now. now ≡ 3 - valid) }
-    ensures did { WritesPages IsHeadPage 2 (D.view device.old) (D.view device.new) result }
+    ensures did { WritesPages (IsSwitchPlace (3 - valid)) 2
+        (D.view device.old) (D.view device.new) result }
 {
     let other = 3 - valid;
     put(device, u64::from(other), &encode(root))?;

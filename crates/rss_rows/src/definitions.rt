@@ -1,7 +1,7 @@
 // Lines that define segments and relations, and that take them away, as they are read.
 use rss_asserts::{assert_same, assert_same_slices};
 use rss_base::{Call, FieldDef, FieldKind, Name};
-use rss_line::{LINE_LIMIT, Line, LineFault, read_line};
+use rss_line::{LINE_LIMIT, Line, LineFault, Names, read_line};
 use std::alloc::Global;
 use std::test::Fail;
 
@@ -112,15 +112,29 @@ static NAMED: [(&[u8], &str, Name); 3] = [
 const MOST_FIELDS: &[u8] =
     b"relation t s a:int b:int c:int d:int e:int f:int g:int h:int i:int j:int k:int l:int m:int n:int o:int p:int";
 
+/// Reads a line where no variable stands for anything.
+fn read(alloc: Global, line: &[u8]) -> Result<Line, LineFault> {
+    let names = Names::new(alloc);
+    read_line(alloc, line, &names)
+}
+
+/// The call of a line, where it is one without a variable.
+fn call_of(alloc: Global, line: &[u8]) -> Option<Call> {
+    match read(alloc, line) {
+        Ok(Line::Call { bind: None, call }) => Some(call),
+        _ => None,
+    }
+}
+
 fn assert_words(alloc: Global, line: &[u8]) -> Result<(), Fail> {
-    let is_words = matches!(read_line(alloc, line), Err(LineFault::Words));
+    let is_words = matches!(read(alloc, line), Err(LineFault::Words));
     assert_same(&is_words, &true, line)
 }
 
 /// The line defines the relation `t` in the segment `s` with so many fields, of which the first
 /// are these.
 fn assert_fields(alloc: Global, line: &[u8], count: usize, first: &[FieldDef]) -> Result<(), Fail> {
-    let Ok(Line::Call(Call::MakeRelation(name, segment, fields))) = read_line(alloc, line) else {
+    let Some(Call::MakeRelation(name, segment, fields)) = call_of(alloc, line) else {
         return Err("the line defines no relation".into());
     };
     assert_same(&name, &T, line)?;
@@ -141,7 +155,7 @@ fn named(call: &Call) -> Option<(&'static str, Name)> {
 }
 
 fn assert_named(alloc: Global, line: &[u8], what: &str, name: &Name) -> Result<(), Fail> {
-    let Ok(Line::Call(call)) = read_line(alloc, line) else {
+    let Some(call) = call_of(alloc, line) else {
         return Err("the line is no call".into());
     };
     let Some((found, of)) = named(&call) else {

@@ -34,4 +34,6 @@ mod stops;
 #[cfg(test)]
 mod texts;
 #[cfg(test)]
+mod variables;
+#[cfg(test)]
 mod wide;

@@ -1,7 +1,7 @@
 // Texts, from the line that has them to the reply.
 use rss_asserts::assert_same_slices;
 use rss_base::{Call, Reply};
-use rss_line::{Line, read_line, say};
+use rss_line::{Line, Names, read_line, say};
 use std::alloc::Global;
 use std::test::Fail;
 
@@ -20,7 +20,11 @@ static VALUES: [&[u8]; 7] = [
 fn printed(alloc: Global, values: &[u8]) -> Result<Vec<u8>, Fail> {
     let mut line = Vec::from_slice(alloc, b"insert 1 r")?;
     line.extend_from_slice(values)?;
-    let Ok(Line::Call(Call::Insert(1, _, tuple))) = read_line(alloc, line.as_slice()) else {
+    let names = Names::new(alloc);
+    let Ok(Line::Call { call, .. }) = read_line(alloc, line.as_slice(), &names) else {
+        return Err("the line is no call".into());
+    };
+    let Call::Insert(1, _, tuple) = call else {
         return Err("the line is no insert".into());
     };
     let mut reply = Vec::new(alloc);

@@ -28,6 +28,7 @@ use Rattle.rss_rsi.specs.Sessions.{Counts}
 use Rattle.rss_rsi.specs.declared.session.Session.{Session}
 use Rattle.rss_rsi.proofs.Checkpoints.{other_formed, first_log}
 use Rattle.rss_rsi.proofs.Counted.{HasEnded}
+use Rattle.rss_model.proofs.FirstLog.{first_of}
 use Rattle.rss_model.proofs.StorePages.{pages_are}
 use Rattle.rss_rsi.proofs.Pending.{none_waits, nothing_waits}
 use Rattle.rss_access.proofs.Writing.{spells_same}
@@ -43,14 +44,14 @@ LeavesEither old new =
 
 module _ (old new : StoreParts) where
   opens_before : (image : Pages) (saved : Listing) (before : Tables) → IsStore image (stored old.number old.root old.pages.backing.shadow saved before) → OpensTo image (size_of old.root) before
-  opens_before image saved before store = record { stored = stored old.number old.root old.pages.backing.shadow saved before; store = store; same_size = refl; holds = refl }
+  opens_before image saved before store = record { stored = stored old.number old.root old.pages.backing.shadow saved before; store = store; first = first_of store.log; same_size = refl; holds = refl }
 
   -- what it passes on, from what its checkpoint does
   pub passes_save : {T : Type 0} {result : Result T PageFault} → CommitsPages old.pages new.pages result → new.session.slots ≡ old.session.slots → WritesWaiting (changed_with old.pages old.session.catalog) (count_by (λ b. b) old.session.catalog.pending + map_pages old.pages.slots + 2) old.pages.writes new.pages.writes → LeavesEither old new → PassesSave old new
   passes_save did slots writes moments = record {
     moments = λ told saved before after spell. widened (moments told saved before after spell) (λ image. ⊎_elim
         (λ store. inl (opens_before image saved before store))
-        (λ under. inr (record { stored = stored (3 - old.number) (other_area old.root) under.owners old.session.catalog.listing after; store = under.store; same_size = refl; holds = refl })));
+        (λ under. inr (record { stored = stored (3 - old.number) (other_area old.root) under.owners old.session.catalog.listing after; store = under.store; first = first_of under.store.log; same_size = refl; holds = refl })));
     writes = writes;
     asks = did.asks;
     slots = slots;

@@ -29,6 +29,7 @@ use Rattle.rss_model.specs.Store.{SpellsTables, first_stored as stored, IsStore,
 use Rattle.rss_model.specs.Costs.{most_asks, most_writes}
 use Rattle.rss_model.specs.Calls.{GoesOn, ShowsState}
 use Rattle.rss_model.proofs.Endings.{within_most}
+use Rattle.rss_model.proofs.FirstLog.{first_of}
 use Rattle.rss_access.specs.Written.{is_pending, AreWritten}
 use Rattle.rss_rsi.specs.Ready.{engine_view, IsReady, IsIn}
 use Rattle.rss_rsi.specs.Lookups.{LooksOn}
@@ -57,7 +58,7 @@ heaps_read {old = old} {new = new} held notes heaps = record {
 module _ {pages : PagesView} {number : ℕ} {root : Root} {session : Session} (ready : IsReady pages number root session) where
   -- a stop leaves the committed tables of each state that is shown
   pub opened : {image : Pages} {state : State} → IsIn pages number root session state → HasFixed pages.fixed image → OpensTo image state.size state.base
-  opened {state = state} shown has = record { stored = stored number root pages.backing.shadow shown.saved state.base; store = shown.fixes _ has; same_size = shown.size; holds = refl }
+  opened {state = state} shown has = record { stored = stored number root pages.backing.shadow shown.saved state.base; store = shown.fixes _ has; first = first_of (shown.fixes _ has).log; same_size = shown.size; holds = refl }
 
   pub calls_open : {touched : Keys} {asks writes : ℕ} {new : PagesView} {state : State} → IsTold pages.disk → IsIn pages number root session state → PagesStep touched asks writes pages new → Passes pages.disk new.disk (λ image. OpensTo image state.size state.base)
   calls_open told shown step = widened (step.passes.leaves.moments ready.settled_now told) (λ image has. opened shown has)

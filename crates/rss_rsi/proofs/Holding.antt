@@ -15,7 +15,7 @@ use Rattle.rss_shadow.proofs.Owned.{slot_of-owned}
 use Rattle.rss_model.specs.Tables.{Tables}
 use Rattle.rss_model.specs.Fits.{Fits}
 use Rattle.rss_model.specs.Store.{SpellsTables, HasFirstLog, first_stored as stored, IsStore}
-use Rattle.rss_model.proofs.FirstLog.{first_log}
+use Rattle.rss_model.proofs.FirstLog.{first_log, first_of}
 use Rattle.rss_model.proofs.PlainStores.{tables_plain, none_imaged, plain_nodes}
 use Rattle.rss_model.proofs.StorePages.{held_mapped, pages_counted, room_least, store_room}
 
@@ -74,4 +74,4 @@ holds_store {pages = pages} {number = number} {root = root} {owners = owners} he
 pub same_store : {before image : Pages} {number : ℕ} {root : Root} {owners : List (Option PageKey)} {listing : Listing} {tables : Tables} → IsStore before (stored number root owners listing tables) → HoldsPages image number root owners (held_at (slots_at root.slots root.log_pages) before owners) → IsStore image (stored number root owners listing tables)
 same_store {before = before} {root = root} {owners = owners} {listing = listing} {tables = tables} store holds =
     holds_store (held_at (slots_at root.slots root.log_pages) before owners) listing tables holds
-    (held_mapped (slots_at root.slots root.log_pages) before owners) store.log.first (store_room store) store.system store.spells store.fit
+    (held_mapped (slots_at root.slots root.log_pages) before owners) (first_of store.log) (store_room store) store.system store.spells store.fit

@@ -30,7 +30,7 @@ use Rattle.rss_model.specs.Meter.{heap_pages, at_rest}
 use Rattle.rss_model.specs.Calls.{ShowsState}
 use Rattle.rss_model.specs.Machine.{State, IsIdle, IsAtRest}
 use Rattle.rss_model.specs.Store.{Defines, AreCounts, SpellsTables, first_stored as stored, size_of, IsStore, OpensTo, OpensIn}
-use Rattle.rss_rsi.specs.Interim.{IsPlainPage as IsStorePage}
+use Rattle.rss_store.specs.Looks.{IsPlainPage as IsStorePage}
 use Rattle.rss_model.proofs.Listed.{heap_is}
 use Rattle.rss_model.proofs.StepKeeping.{rest_keeps}
 use Rattle.rss_rsi.specs.declared.session.Session.{Session}
@@ -38,12 +38,14 @@ use Rattle.rss_rsi.specs.Sessions.{Counts, marks_of, none_deleted}
 use Rattle.rss_access.specs.Written.{IsSystemOrHeap, is_pending}
 use Rattle.rss_rsi.specs.Ready.{IsReady, IsIn, engine_view}
 use Rattle.rss_rsi.specs.RsiLaws.{opens_shown}
-use Rattle.rss_rsi.specs.Opening.{LacksStore, IsLayout, HasLayout, HoldsTables, HoldsNone, FindsTables, NotesRooms, IsOpened}
+use Rattle.rss_rsi.specs.Opening.{LacksStore, IsLayout, HasLayout, NotesRooms, IsOpened}
+use Rattle.rss_store.specs.Looks.{HoldsTables, HoldsNone, FindsTables}
 use Rattle.rss_rsi.proofs.Holding.{held_slots, holds_store}
 use Rattle.rss_model.proofs.StorePages.{pages_are, plain_page}
 use Rattle.rss_rsi.proofs.Pending.{none_waits, pending_key}
-use Rattle.rss_rsi.proofs.Found.{heap_listed}
-use Rattle.rss_model.proofs.Stores.{same_overflow, sound_unbroken, not_overfull}
+use Rattle.rss_store.proofs.Found.{heap_listed}
+use Rattle.rss_model.proofs.FirstLog.{first_of}
+use Rattle.rss_model.proofs.Stores.{same_roots, same_overflow, sound_unbroken, not_overfull}
 
 -- the map of a root stands in its area
 pub held_map : {pages : Pages} {root : Root} {number : ℕ} {owners : List (Option PageKey)} → IsLayout root number owners → HasLayout pages root number owners → HoldsMapAt owners root.area pages
@@ -259,14 +261,14 @@ module _ {root : Root} {number frames writes : ℕ} {owners : List (Option PageK
         found_store = store_of (fresh_pages told)
 
         pub opened_reads : OpensTo told.pages (size_of root) found.tables
-        opened_reads = record { stored = stored number root owners catalog.listing found.tables; store = found_store; same_size = refl; holds = refl }
+        opened_reads = record { stored = stored number root owners catalog.listing found.tables; store = found_store; first = first_of found_store.log; same_size = refl; holds = refl }
 
         pub opened_begins : OpensIn told.pages (size_of root) found.tables (opened_state found.tables)
         opened_begins = record {
           rest = opened_rest found.tables;
           over = λ other store. over_saved ∙ same_overflow found_store store;
-          head = λ other store. sym store.log.first.head;
-          end = λ other store. sym store.log.first.end;
+          head = λ other store. sym (first_of found_store.log).head ∙ ap (λ (r : Root). r.head) (same_roots found_store store);
+          end = λ other store. sym (first_of found_store.log).end ∙ ap (λ (r : Root). r.end) (same_roots found_store store);
         }
 
       -- ---- seen as an engine

@@ -16,7 +16,7 @@ use Rattle.rss_base.specs.declared.root.Root.{Root}
 use Rattle.rss_model.specs.Store.{HasFirstLog, IsStore, IsBrokenAt, IsOverfull, IsNoStore, first_stored as stored}
 use Rattle.rss_rsi.specs.Opening.{LacksStore, IsRefused}
 use Rattle.rss_model.proofs.StorePages.{store_room}
-use Rattle.rss_model.proofs.FirstLog.{first_form}
+use Rattle.rss_model.proofs.FirstLog.{first_form, first_of}
 use Rattle.rss_model.proofs.Stores.{one_root, one_map, sound_unbroken, broken_once}
 
 -- ---- a layout that is out of form
@@ -54,7 +54,7 @@ no_store : {pages : Pages} {number : ℕ} {root : Root} {owners : List (Option P
 no_store {pages = pages} {root = root} {owners = owners} has map lacks size tables opens =
     let is = opens.stored in
     let roots : root ≡ is.root = (one_root has opens.store.root_there).1 in
-    let there : IsStore pages (stored is.number root is.owners is.listing is.tables) = subst (λ (r : Root). IsStore pages (stored is.number r is.owners is.listing is.tables)) (sym roots) (subst (IsStore pages) (first_form opens.store.log opens.store.log.first) opens.store) in
+    let there : IsStore pages (stored is.number root is.owners is.listing is.tables) = subst (λ (r : Root). IsStore pages (stored is.number r is.owners is.listing is.tables)) (sym roots) (subst (IsStore pages) (first_form opens.store.log opens.first) opens.store) in
     let maps : owners ≡ is.owners = one_map has.there.formed map there.map in
     lacks is.number is.listing is.tables (subst (λ (o : List (Option PageKey)). IsStore pages (stored is.number root o is.listing is.tables)) (sym maps) there)
 
@@ -79,7 +79,7 @@ refused_look {pages = pages} PageNoMemory has map half lacks elsewhere = refused
 
 -- a log that isn't as it is made is that of no store
 pub lacks_log : (pages : Pages) (root : Root) (owners : List (Option PageKey)) → (HasFirstLog root → ⊥) → LacksStore pages root owners
-lacks_log pages root owners other number listing tables store = other store.log.first
+lacks_log pages root owners other number listing tables store = other (first_of store.log)
 
 -- nor is a map without room
 pub lacks_room : (pages : Pages) (root : Root) (owners : List (Option PageKey)) → root.slots < 2 * page_count owners → LacksStore pages root owners

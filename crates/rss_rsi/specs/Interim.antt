@@ -1,23 +1,10 @@
--- What is as it is only as yet: there are neither images nor links, and no checkpoint comes before a change.
-use Rattle.std.specs.Prelude.{◌≡◌, ◌⊎◌, ℕ, ◌+◌, ◌*◌, true, nat_lt, Option, is_some}
+-- What is as it is only as yet: no checkpoint comes before a change.
+use Rattle.std.specs.Prelude.{ℕ, ◌+◌, ◌*◌, nat_lt, Option}
 use Rattle.rss_base.specs.Sizes.{system_pages}
-use Rattle.rss_base.specs.Listings.{Listing, segment_at}
-use Rattle.rss_base.specs.declared.key.PageKey.{PageKey}
-use Rattle.rss_base.specs.declared.key.Space.TheVariants.{System}
 use Rattle.rss_base.specs.declared.refusal.Refusal.{Refusal}
 use Rattle.rss_base.specs.declared.refusal.Refusal.TheVariants.{Full}
-use Rattle.rss_page.specs.Slotted.{IsHeapKey}
 use Rattle.rss_model.specs.Defining.{refused_if}
 use Rattle.rss_model.specs.Machine.{State}
-
--- ---- pages
-
--- a page that a store without images may have: one of the system space, or a home or overflow page of a segment that is defined
-abbrev pub IsPlainPage : Listing → PageKey → Type 0
-IsPlainPage listing key =
-    (key.space ≡ System) ⊎ ((is_some (segment_at listing key.segment) ≡ true) × IsHeapKey key)
-
--- ---- the rule of room
 
 -- how many slots may be needed, by the pages of the heap at the last checkpoint and the changes since then
 abbrev pub room_of : ℕ → ℕ → ℕ

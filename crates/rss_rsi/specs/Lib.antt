@@ -7,13 +7,11 @@ pub use Rattle.rss_base.specs.StoredPages
 pub use Rattle.rss_model.specs.Store
 pub use Rattle.rss_catalog.specs.Catalogs
 pub mod Interim
-pub mod Formatted
 pub mod FieldTests
 pub mod Sessions
 pub mod Ready
 pub mod Saves
 pub mod Lookups
-pub mod Checks
 pub mod Opening
 pub mod Parts
 pub mod RsiLaws

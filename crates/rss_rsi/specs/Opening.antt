@@ -1,5 +1,5 @@
 -- What an opening finds on a device.
-use Rattle.std.specs.Prelude.{◌≡◌, ◌⊎◌, ℕ, ◌*◌, ◌≤◌, min, true, List, length, Option, is_some, ⊤}
+use Rattle.std.specs.Prelude.{◌≡◌, ◌⊎◌, ℕ, ◌*◌, ◌≤◌, min, true, List, length, Option, ⊤}
 use Rattle.rss_base.specs.declared.fault.OpenFault.{OpenFault}
 use Rattle.rss_base.specs.declared.fault.OpenFault.TheVariants.{Device as DeviceFailed, NotAStore, Damaged, WrongSize, NoMemory as LacksMemory}
 use Rattle.rss_base.specs.declared.root.Root.{Root}
@@ -11,18 +11,13 @@ use Rattle.rss_base.specs.Devices.{DeviceView, OnlyReads}
 use Rattle.rss_base.specs.Faults.{Rises}
 use Rattle.rss_base.specs.Layout.{map_at, IsWellFormed, HasRoot}
 use Rattle.rss_base.specs.PageMap.{page_count, IsTable, IsMap}
-use Rattle.rss_base.specs.Paged.{Held}
 use Rattle.rss_base.specs.Steps.{PagesView}
-use Rattle.rss_base.specs.Listings.{Listing, HoldsListing, segment_at}
-use Rattle.rss_tuple.specs.Heaps.{AreHeaps}
-use Rattle.rss_tuple.specs.Checked.{AreNoted}
-use Rattle.rss_catalog.specs.Catalogs.{CatalogView, Loads}
+use Rattle.rss_base.specs.Listings.{Listing, HoldsListing}
 use Rattle.rss_model.specs.Tables.{Tables}
 use Rattle.rss_model.specs.Calls.{EngineView}
 use Rattle.rss_model.specs.Machine.{StoreSize, State}
-use Rattle.rss_model.specs.Fits.{Fits}
-use Rattle.rss_model.specs.Store.{SpellsTables, HasFirstLog, first_stored as stored, IsStore, OpensTo, OpensIn, Opens, IsBrokenAt, IsOverfull, IsNoStore}
-use Rattle.rss_rsi.specs.Interim.{IsPlainPage as IsStorePage}
+use Rattle.rss_model.specs.Store.{HasFirstLog, first_stored as stored, IsStore, OpensTo, OpensIn, Opens, IsBrokenAt, IsOverfull, IsNoStore}
+use Rattle.rss_store.specs.Looks.{AreAllNoted}
 
 -- ---- the layout
 
@@ -46,39 +41,6 @@ abbrev pub LacksStore : Pages → Root → List (Option PageKey) → Type 0
 LacksStore pages root owners =
     (number : ℕ) (listing : Listing) (tables : Tables)
     → IsStore pages (stored number root owners listing tables) → ⊥
-
--- ---- what the pages hold
-
--- the pages spell tables that fit, whose definitions are listed so
-pub record HoldsTables (held : Held) (slots : ℕ) (listing : Listing) : Type 0 where
-  pub tables : Tables
-  pub system : HoldsListing held listing
-  pub spells : SpellsTables held listing tables
-  pub fit : Fits slots tables
-
--- they spell no tables that fit
-abbrev pub HoldsNone : Held → ℕ → Type 0
-HoldsNone held slots =
-    (listing : Listing) (tables : Tables) → HoldsListing held listing
-    → SpellsTables held listing tables → Fits slots tables → ⊥
-
--- the pages of each segment that is listed are those of a tuple store, and the note on each is its room
-abbrev pub AreAllNoted : Listing → PagesView → Type 0
-AreAllNoted listing view =
-    (segment : ℕ) → is_some (segment_at listing segment) ≡ true → AreNoted segment view
-
--- The pages were looked through, and spell tables with these definitions.
-pub record FindsTables (old new : PagesView) (catalog : CatalogView) : Type 0 where
-  pub loaded : Loads old catalog
-  pub only : (key : PageKey) → old.mapped key ≡ true → IsStorePage catalog.listing key
-  pub holds : IsTold old.disk → HoldsTables old.held old.slots catalog.listing
-  pub heaps : IsTold old.disk → AreHeaps new
-  pub noted : IsTold old.disk → AreAllNoted catalog.listing new
-
--- They spell none, which shows at this place.
-pub record FindsNone (pages : PagesView) (place : Place) : Type 0 where
-  pub none : IsTold pages.disk → HoldsNone pages.held pages.slots
-  pub elsewhere : place ≡ Room → ⊥
 
 -- ---- what an opening passes on
 

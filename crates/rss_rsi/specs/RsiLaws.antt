@@ -7,6 +7,7 @@ use Rattle.rss_base.specs.Steps.{PagesView}
 use Rattle.rss_base.specs.declared.root.Root.{Root}
 use Rattle.rss_model.specs.Store.{first_stored as stored, HoldsState}
 use Rattle.rss_model.specs.Machine.{State}
+use Rattle.rss_model.proofs.FirstLog.{first_of}
 use Rattle.rss_model.proofs.Stores.{same_overflow}
 use Rattle.rss_rsi.specs.Ready.{IsReady, IsIn}
 use Rattle.rss_rsi.specs.declared.session.Session.{Session}
@@ -20,6 +21,7 @@ opens_shown {pages = pages} {number = number} {root = root} {state = state} show
       opens = record {
         stored = stored number root pages.backing.shadow shown.saved state.base;
         store = store;
+        first = first_of store.log;
         same_size = shown.size;
         holds = refl;
       };

@@ -2,17 +2,15 @@
 //! opened and called.
 #![tactic(auto)]
 
-mod checking;
 mod checkpoint;
 mod definitions;
 mod engine;
-mod formatting;
 mod opening;
 mod session;
 mod transactions;
 mod tuples;
 
 pub use engine::Rss;
-pub use formatting::format;
 pub use opening::open;
 pub use rss_buffer::{LEAST_FRAMES, MOST_FRAMES};
+pub use rss_store::format;

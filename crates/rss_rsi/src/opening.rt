@@ -12,13 +12,13 @@ ghost use Rattle.rss_rsi.specs.Opening.{LacksStore, IsUnopened, IsLayout, HasLay
 ghost use Rattle.rss_rsi.specs.Opening.{IsHandedBack, OpensOver, HasFrames, NotesRooms};
 
 use crate::Rss;
-use crate::checking::{look_through, pages_in};
 use crate::session::Session;
 use rss_base::{Device, OpenFault, Pages, Place, Root, SYSTEM_PAGES, Unopened};
 use rss_buffer::{Buffer, LEAST_FRAMES, MOST_FRAMES};
 use rss_model::Engine;
 use rss_pagemap::{SlotTable, read_table};
 use rss_root::load;
+use rss_store::{look_through, pages_in};
 use std::alloc::Global;
 
 /// The selected root with its number, and the map that it names.

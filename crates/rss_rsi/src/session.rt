@@ -19,17 +19,12 @@ ghost use Rattle.rss_model.specs.ReplyText.{IsShort};
 ghost use Rattle.rss_rsi.specs.FieldTests.{fields_tests};
 
 use rss_base::{
-    FieldDef, Fields, Kind, LimitKind, MOST_FIELDS, MOST_WIDTH, Name, RELATIONS_MOST, Refusal,
+    FieldDef, Fields, Kind, LimitKind, MOST_FIELDS, MOST_WIDTH, Name, Refusal,
     RelationEntry, Reply, SYSTEM_PAGES, Tuple,
 };
 use rss_catalog::Catalog;
+use rss_store::{RELATIONS, TUPLES_MOST};
 use rss_value::{fits, width};
-
-/// How many tuples a relation has at most.
-pub(crate) const TUPLES_MOST: u32 = 1 << 20;
-
-/// How many places there are for the numbers of relations.
-pub(crate) const RELATIONS: usize = RELATIONS_MOST as usize;
 
 /// The transaction that is open, what is defined, and what is counted of the store.
 #[derive(Drop)]

@@ -5,6 +5,7 @@ ghost use Rattle.rss_device.specs.MemDevice.{view_of, IsFresh};
 
 use rss_base::{Device, Sink, Source, Unopened};
 use rss_device::{MemDevice, MemSink, MemSource};
+use rss_line::Names;
 use rss_model::Engine;
 use rss_rsi::{LEAST_FRAMES, MOST_FRAMES, open};
 use rss_top::{Status, run, run_line};
@@ -61,11 +62,19 @@ fn line_length(bytes: &[u8]) -> usize
 fn run_lines<E: Engine>(store: &mut E, alloc: Global, script: &[u8], sink: &mut MemSink) -> Status
     requires { (E.view store.old).is_up }
 {
+    let mut names = Names::new(alloc);
     let mut reply = Vec::new(alloc);
     let mut done = 0;
     while done < script.len() {
         let end = done + line_length(&script[done..]);
-        if let Err(status) = run_line(store, alloc, &script[done..end], &mut reply, sink) {
+        if let Err(status) = run_line(
+            store,
+            alloc,
+            &mut names,
+            &script[done..end],
+            &mut reply,
+            sink,
+        ) {
             return status;
         }
         done = end + 1;

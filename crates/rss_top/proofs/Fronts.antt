@@ -3,12 +3,14 @@ use Rattle.std.proofs.Common.{◌≡◌, ◌⊎◌, inl, inr, ℕ, zero, suc, �
 use Rattle.std.specs.Prelude.{⊤}
 use Rattle.std.proofs.lemmas.List.{take_all, append-nil}
 use Rattle.std.proofs.lemmas.Bool.{cases_lt}
-use Rattle.rss_model.specs.Script.{IsWords, IsUnbroken}
+use Rattle.rss_model.specs.Script.{IsUnbroken}
+use Rattle.rss_model.specs.Variables.{Variable}
+use Rattle.rss_model.specs.Forms.{IsWords}
 use Rattle.rss_model.specs.Machine.{State}
-use Rattle.rss_model.specs.Plays.{Scene, Made, plain, LineStep}
+use Rattle.rss_model.specs.Plays.{Scene, Made, LineStep}
 use Rattle.rss_model.specs.Plays.LineStep.{blank, words, call}
 use Rattle.rss_top.specs.Run.{Beginning, Story, Stopped, Whole}
-use Rattle.rss_top.specs.Lines.{View, LineRan, LineStopped, Kept, kept_limit}
+use Rattle.rss_top.specs.Lines.{View, LineRan, LineStopped, Kept, scene_in, kept_limit}
 use Rattle.rss_top.specs.declared.status.Status.{Status}
 use Rattle.rss_top.specs.declared.status.Status.TheVariants.{NoMemory}
 use Rattle.rss_top.proofs.Ways.{by_stop}
@@ -26,10 +28,10 @@ long_or_kept left = elim (cases_lt (length left) kept_limit) [
 ]
 
 -- a line that is too long is words
-too_long : {left : List ℕ} → kept_limit ≤ length left → IsWords left
+too_long : {names : List Variable} {left : List ℕ} → kept_limit ≤ length left → IsWords names left
 too_long {left = left} long = record {
   some = λ blank. omega (arith, blank.short, long);
-  no_call = λ made spells. omega (arith, spells.short, long);
+  no_call = λ variable made spells. omega (arith, spells.short, long);
 }
 
 kept_long : (left : List ℕ) → kept_limit ≤ length left → kept_limit ≤ length (take kept_limit left)
@@ -101,7 +103,7 @@ module _ {begin : Beginning} {old : View} {given front : List ℕ} (kept : Kept 
           shows = whole.shows;
           left = [];
           kept = empty;
-          story = subst (λ (l : List ℕ). Story begin new.world (plain whole.next) l []) (append_assoc given bytes (10 ∷ [])) (story_line {old = old} {new = new} (story_bytes bytes unbroken kept.story) whole);
+          story = subst (λ (l : List ℕ). Story begin new.world (scene_in new whole.next) l []) (append_assoc given bytes (10 ∷ [])) (story_line {old = old} {new = new} (story_bytes bytes unbroken kept.story) whole);
         }
 
     pub kept_stopped : (new : View) {line : List ℕ} → IsRunAs (kept.left ++ bytes) line → (status : Status) → LineStopped old new kept.state line status → Stopped status begin new.world (given ++ (bytes ++ 10 ∷ [])) ⊥

@@ -57,7 +57,7 @@ leaves_at before first opens image (inl left) = inl left
 leaves_at before first opens image (inr like) = inr (like_at opens like)
 
 module _ {device below : DeviceView} {engine : EngineView} {sink : Stream} {ended : View} {source_old source_new : Stream} {status : Status}
-    (opening : IsOpened device engine) (passes : PassesOpening device below) (ran : RunsScript (record { world = on below sink; shows = engine.shows; is_up = engine.is_up }) ended source_old source_new status) (tells : TellsDamage status sink ended.world.sink) where
+    (opening : IsOpened device engine) (passes : PassesOpening device below) (ran : RunsScript (record { world = on below sink; shows = engine.shows; names = []; is_up = engine.is_up }) ended source_old source_new status) (tells : TellsDamage status sink ended.world.sink) where
   still_told : IsTold device.disk → IsTold below.disk
   still_told told = passes.told told
 
@@ -73,7 +73,7 @@ module _ {device below : DeviceView} {engine : EngineView} {sink : Stream} {ende
   completes faultless told (NotAStore place) long cause = absurd cause
   completes faultless told WrongSize long cause = absurd cause
 
-  end_at : (told : IsTold device.disk) → Ended status (beginning (opening.begins told.pages told.is).state (on below sink) source_old) ended.world source_new.bytes
+  end_at : (told : IsTold device.disk) → Ended status (beginning (plain (opening.begins told.pages told.is).state) (on below sink) source_old) ended.world source_new.bytes
   end_at told = let found = opening.begins told.pages told.is in ran.ended (still_told told) found.state found.shows
 
   run_end : (end : Status) → IsScriptEnd (on below sink) ended.world source_old source_new end → IsRunEnd (on device sink) ended.world source_old source_new end

@@ -6,9 +6,10 @@ use Rattle.rss_base.specs.DiskRule.{IsTold}
 use Rattle.rss_base.specs.Streams.{Stream, Gives, IsAllOf}
 use Rattle.rss_base.proofs.Flows.{gives_none, gives_then, gives_kept}
 use Rattle.rss_model.specs.Machine.{State}
-use Rattle.rss_model.specs.Plays.{plain}
 use Rattle.rss_top.specs.Run.{Beginning, HoldsAt, ImagesNow, Stopped, IsTaken, IsHalt, IsReadThrough, script_limit}
-use Rattle.rss_top.specs.Lines.{View, Kept, RunsBytes, RunsLast, RunsScript, IsScriptEnd, beginning}
+use Rattle.rss_model.specs.Variables.{Variable}
+use Rattle.rss_model.specs.Calls.{EngineView}
+use Rattle.rss_top.specs.Lines.{View, seen, seen_with, Kept, RunsBytes, RunsLast, RunsScript, IsScriptEnd, scene_in, beginning}
 use Rattle.rss_top.specs.declared.status.Status.{Status}
 use Rattle.rss_top.specs.declared.status.Status.TheVariants.{Ok as Done, NoMemory, TooLong}
 use Rattle.rss_top.proofs.Ways.{idles, end_since, passes_then}
@@ -35,7 +36,7 @@ reads_none view source front up empty = record {
 
 -- what a stop leaves at first
 abbrev pub IsOpen : View → Type 0
-IsOpen view = IsTold view.world.disk → (state : State) → view.shows state → ImagesNow view.world.disk (HoldsAt (plain state))
+IsOpen view = IsTold view.world.disk → (state : State) → view.shows state → ImagesNow view.world.disk (HoldsAt (scene_in view state))
 
 -- memory ran out before anything was read
 lacks : IsCut NoMemory
@@ -51,12 +52,12 @@ script_unread view source opens = record {
   taken = taken_none source;
   up = λ ok. absurd (lacks.within (inl ok));
   ended = λ told state shown. ended_stopped NoMemory (taken_none source)
-      (stopped_unread view state (IsAllOf source.bytes []) [] (story_start state view.world source (opens told state shown)));
+      (stopped_unread view state (IsAllOf source.bytes []) [] (story_start (scene_in view state) view.world source (opens told state shown)));
 }
 
 module _ {old now : View} {source_old source_now : Stream} {taken : ℕ} {front : List ℕ} (opens : IsOpen old) (reading : Reading old now source_old source_now taken front) where
-  so_far : IsTold old.world.disk → (state : State) → old.shows state → Kept (beginning state old.world source_old) now reading.given front
-  so_far told state shown = reading.runs.outcome.1 told _ [] (record { state = state; shows = shown; left = []; kept = refl; story = story_start state old.world source_old (opens told state shown) })
+  so_far : IsTold old.world.disk → (state : State) → old.shows state → Kept (beginning (scene_in old state) old.world source_old) now reading.given front
+  so_far told state shown = reading.runs.outcome.1 told _ [] (record { state = state; shows = shown; left = []; kept = refl; story = story_start (scene_in old state) old.world source_old (opens told state shown) })
 
   -- the run ends between two lines
   module _ (source_new : Stream) (status : Status) (halt : IsHalt status) (last : Gives source_now.bytes [] source_new.bytes) (most : taken ≤ script_limit) (short : IsReadThrough status → taken < script_limit) (long : status ≡ TooLong → taken ≡ script_limit) where
@@ -107,7 +108,7 @@ module _ {old now : View} {source_old source_now : Stream} {taken : ℕ} {front 
           taken = taken_cut (reading.given ++ piece) given_then long cut;
           up = λ ok. absurd (cut.within (inl ok));
           ended = λ told state shown. ended_stopped status (taken_cut (reading.given ++ piece) given_then long cut)
-              (over_all (stop.outcome.1 (reading.runs.passes.told told) (beginning state old.world source_old) reading.given (so_far told state shown)));
+              (over_all (stop.outcome.1 (reading.runs.passes.told told) (beginning (scene_in old state) old.world source_old) reading.given (so_far told state shown)));
         }
       where
         over_all : {begin : Beginning} {given : List ℕ} {Q : Type 0} → Stopped status begin new.world given ⊥ → Stopped status begin new.world given Q
@@ -153,9 +154,13 @@ module _ {old now : View} {source_old source_now : Stream} {taken : ℕ} {front 
           taken = taken_cut reading.given gives_all (omega (arith, reading.long, short)) cut;
           up = λ ok. absurd (cut.within (inl ok));
           ended = λ told state shown. ended_stopped status (taken_cut reading.given gives_all (omega (arith, reading.long, short)) cut)
-              (at_end (stop.outcome.1 (reading.runs.passes.told told) (beginning state old.world source_old) reading.given (so_far told state shown)));
+              (at_end (stop.outcome.1 (reading.runs.passes.told told) (beginning (scene_in old state) old.world source_old) reading.given (so_far told state shown)));
         }
       where
         at_end : {begin : Beginning} → Stopped status begin new.world reading.given ⊤ → Stopped status begin new.world reading.given (IsAllOf source_old.bytes reading.given)
         at_end {begin = begin} stop = subst (λ (l : List ℕ). Stopped status begin new.world l (IsAllOf source_old.bytes reading.given)) (append-nil reading.given)
             (stopped_over [] (λ rest ends. ends_all rest (λ over. given_all) ends) stop)
+
+-- what the variables stand for behind a script is not looked at
+pub script_seen : {old : View} {names : List Variable} (engine : EngineView) (sink : Stream) {source_old source_new : Stream} {status : Status} → RunsScript old (seen_with names engine sink) source_old source_new status → RunsScript old (seen engine sink) source_old source_new status
+script_seen engine sink runs = record { passes = runs.passes; cause = runs.cause; taken = runs.taken; up = runs.up; ended = runs.ended }

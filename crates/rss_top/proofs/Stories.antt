@@ -9,12 +9,12 @@ use Rattle.rss_base.proofs.Flows.{takes_none, takes_then}
 use Rattle.rss_base.proofs.Moments.{started, now}
 use Rattle.rss_model.specs.Machine.{State}
 use Rattle.rss_model.specs.Script.{joined, IsUnbroken, last_line}
-use Rattle.rss_model.specs.Plays.{Scene, Made, plain}
+use Rattle.rss_model.specs.Plays.{Scene, Made}
 use Rattle.rss_top.proofs.Plays.{played_is_play, play_is_run}
 use Rattle.rss_top.proofs.Ways.{by_stop}
 use Rattle.rss_top.specs.Run.{World, Point, point_now, Beginning, HoldsAt, ImagesNow, LineTurn, Played, Story, Stopped, IsStoppedBy, Whole, IsLineFault, EndsLine}
 use Rattle.rss_top.specs.Run.Played.{none, more}
-use Rattle.rss_top.specs.Lines.{View, LineDone, LineRan, LineStopped, MemoryStopped, beginning}
+use Rattle.rss_top.specs.Lines.{View, LineDone, LineRan, LineStopped, MemoryStopped, scene_in, beginning}
 use Rattle.rss_top.specs.declared.status.Status.{Status}
 use Rattle.rss_top.specs.declared.status.Status.TheVariants.{WriteFault, DeviceFault, NoMemory}
 
@@ -46,8 +46,8 @@ no_lines P k d lt = absurd (omega arith)
 pub no_bytes : IsUnbroken []
 no_bytes k d lt = absurd (omega arith)
 
-pub story_start : (state : State) (world : World) (source : Stream) → ImagesNow world.disk (HoldsAt (plain state)) → Story (beginning state world source) world (plain state) [] []
-story_start state world source opens = record {
+pub story_start : (scene : Scene) (world : World) (source : Stream) → ImagesNow world.disk (HoldsAt scene) → Story (beginning scene world source) world scene [] []
+story_start scene world source opens = record {
   lines = [];
   made = record { turns = []; text = [] };
   played = none;
@@ -76,11 +76,11 @@ story_bytes {left = left} bytes unbroken story = record {
 
 -- ---- one line more
 
-module _ {begin : Beginning} {old new : View} {state : State} {given left : List ℕ} (story : Story begin old.world (plain state) given left) where
-  played_line : (ran : LineRan old new state left) → Played new.world.disk begin.point (story.lines ++ left ∷ []) (record { turns = story.made.turns ++ ran.made.turns; text = story.made.text ++ ran.made.text }) (point_now (plain ran.next) new.world.disk)
+module _ {begin : Beginning} {old new : View} {state : State} {given left : List ℕ} (story : Story begin old.world (scene_in old state) given left) where
+  played_line : (ran : LineRan old new state left) → Played new.world.disk begin.point (story.lines ++ left ∷ []) (record { turns = story.made.turns ++ ran.made.turns; text = story.made.text ++ ran.made.text }) (point_now (scene_in new ran.next) new.world.disk)
   played_line ran = more (played_later ran.done.moments (omega arith) story.played) (turn_of ran.done ran.opens)
 
-  pub story_line : (ran : LineRan old new state left) → Story begin new.world (plain ran.next) (given ++ 10 ∷ []) []
+  pub story_line : (ran : LineRan old new state left) → Story begin new.world (scene_in new ran.next) (given ++ 10 ∷ []) []
   story_line ran = record {
     lines = story.lines ++ left ∷ [];
     made = record { turns = story.made.turns ++ ran.made.turns; text = story.made.text ++ ran.made.text };
@@ -100,7 +100,7 @@ module _ {begin : Beginning} {old new : View} {state : State} {given left : List
   whole_line some ran = record {
     lines = story.lines ++ left ∷ [];
     made = record { turns = story.made.turns ++ ran.made.turns; text = story.made.text ++ ran.made.text };
-    last = plain ran.next;
+    last = scene_in new ran.next;
     run = play_is_run (played_is_play (played_line ran));
     play = played_is_play (played_line ran);
     played = played_line ran;
@@ -133,15 +133,15 @@ no_line_fault : IsLineFault NoMemory → ⊥
 no_line_fault (inl is) = cc
 no_line_fault (inr is) = cc
 
-module _ (old : View) (state : State) {begin : Beginning} {given left : List ℕ} (over : Type 0) (rest : List ℕ) (story : Story begin old.world (plain state) given left) where
+module _ (old : View) (state : State) {begin : Beginning} {given left : List ℕ} (over : Type 0) (rest : List ℕ) (story : Story begin old.world (scene_in old state) given left) where
   -- with what was written of its reply
   stopped_in : (new : View) {P : Pages → Type 0} (status : Status) (said : List ℕ) → Passes old.world.disk new.world.disk P → (IsLineFault status → EndsLine over rest)
-      → Takes begin.written (story.made.text ++ said) new.world.sink.bytes → IsStoppedBy status new.world.disk (point_now (plain state) old.world.disk) left said
+      → Takes begin.written (story.made.text ++ said) new.world.sink.bytes → IsStoppedBy status new.world.disk (point_now (scene_in old state) old.world.disk) left said
       → Stopped status begin new.world (given ++ rest) over
   stopped_in new {P = P} status said passes ends takes stopped = record {
     lines = story.lines;
     made = story.made;
-    from = point_now (plain state) old.world.disk;
+    from = point_now (scene_in old state) old.world.disk;
     line = left;
     rest = rest;
     said = said;
@@ -186,7 +186,7 @@ module _ (old : View) (state : State) {begin : Beginning} {given left : List ℕ
       stop
 
 -- memory ran out before the line was run
-pub stopped_unread : (view : View) (state : State) {begin : Beginning} {given left : List ℕ} (over : Type 0) (rest : List ℕ) → Story begin view.world (plain state) given left → Stopped NoMemory begin view.world (given ++ rest) over
+pub stopped_unread : (view : View) (state : State) {begin : Beginning} {given left : List ℕ} (over : Type 0) (rest : List ℕ) → Story begin view.world (scene_in view state) given left → Stopped NoMemory begin view.world (given ++ rest) over
 stopped_unread view state over rest story = stopped_by_memory view state over rest story {new = view} (record { moments = started _ _; same = refl })
 
 -- that all of the script was given may be known from less, and more may have been given behind a line's end

@@ -1,18 +1,19 @@
 -- A line that asks for no call.
-use Rattle.std.proofs.Common.{◌≡◌, ℕ, List, refl, arith}
+use Rattle.std.proofs.Common.{◌≡◌, ℕ, List, refl, subst, arith}
 use Rattle.std.specs.Prelude.{Result, Ok, Err, IsErrAnd}
 use Rattle.rss_base.specs.DiskRule.{IsTold}
 use Rattle.rss_base.proofs.Moments.{started}
 use Rattle.rss_base.proofs.Flows.{takes_none}
 use Rattle.rss_base.specs.declared.refusal.Refusal.TheVariants.{Words as NoWords}
-use Rattle.rss_model.specs.Script.{IsBlank, IsWords}
+use Rattle.rss_model.specs.Variables.{Variable}
+use Rattle.rss_model.specs.Forms.{IsBlank, IsWords}
 use Rattle.rss_model.specs.ReplyText.{answer_line}
-use Rattle.rss_model.specs.Plays.{plain, nothing, only_text}
+use Rattle.rss_model.specs.Plays.{nothing, only_text}
 use Rattle.rss_model.specs.Plays.LineStep.{blank, words}
 use Rattle.rss_model.specs.Machine.{State}
 use Rattle.rss_model.specs.Calls.{EngineView, OpensShown}
 use Rattle.rss_base.specs.Streams.{Stream}
-use Rattle.rss_top.specs.Lines.{View, world, seen, PassesOn, LineStopped, IsLineEnd, RunsLine}
+use Rattle.rss_top.specs.Lines.{View, world, seen_with, scene_in, PassesOn, LineStopped, IsLineEnd, RunsLine}
 use Rattle.rss_top.specs.Says.{IsWritten, Writes}
 use Rattle.rss_top.specs.declared.status.Status.{Status}
 use Rattle.rss_top.specs.declared.status.Status.TheVariants.{NoMemory}
@@ -22,18 +23,18 @@ use Rattle.rss_top.proofs.Ways.{idles, passed_on, by_cut, written_some}
 pub line_unread : {T : Type 0} (view : View) (line : List ℕ) → RunsLine {T = T} view view line (Err NoMemory)
 line_unread view line = record { passes = idles view.world; outcome = (tt, λ told state shown. record { moments = started _ _; same = refl }) }
 
-module _ (engine : EngineView) (up : engine.is_up) (opens : engine.is_up → IsTold engine.disk → OpensShown engine) where
-  pub line_blank : {T : Type 0} {sink : Stream} {line : List ℕ} (done : T) → IsBlank line → RunsLine (seen engine sink) (seen engine sink) line (Ok done)
+module _ (names : List Variable) (engine : EngineView) (up : engine.is_up) (opens : engine.is_up → IsTold engine.disk → OpensShown engine) where
+  pub line_blank : {T : Type 0} {sink : Stream} {line : List ℕ} (done : T) → IsBlank line → RunsLine (seen_with names engine sink) (seen_with names engine sink) line (Ok done)
   line_blank {sink = sink} done is = record {
     passes = idles (world engine sink);
     outcome = (up, λ told state shown. record { made = nothing; next = state; shows = shown; done = record { step = blank is; moments = started _ _ }; opens = opens up told state shown; takes = takes_none _ });
   }
 
-  module _ (before after : Stream) {line : List ℕ} (is : IsWords line) where
+  module _ (before after : Stream) {line : List ℕ} (is : IsWords names line) where
     writes_on : {S : Type 0} {result : Result S Status} → Writes (answer_line (Err NoWords)) before after result → PassesOn (world engine before) (world engine after)
     writes_on {S = S} {result = result} wrote = record { told = λ told. told; history = λ told. started _ _; device = omega arith; sink = wrote.later; said = written_some {T = S} (answer_line (Err NoWords)) before after result wrote.outcome }
 
-    pub line_words : {S T : Type 0} {said : S} (done : T) → Writes (answer_line (Err NoWords)) before after (Ok said) → RunsLine (seen engine before) (seen engine after) line (Ok done)
+    pub line_words : {S T : Type 0} {said : S} (done : T) → Writes (answer_line (Err NoWords)) before after (Ok said) → RunsLine (seen_with names engine before) (seen_with names engine after) line (Ok done)
     line_words done wrote = record {
       passes = writes_on wrote;
       outcome = (
@@ -50,19 +51,23 @@ module _ (engine : EngineView) (up : engine.is_up) (opens : engine.is_up → IsT
     }
 
     cut_in : (S : Type 0) (status : Status) → IsWritten {T = S} (answer_line (Err NoWords)) before after (Err status)
-        → IsLineEnd (world engine before) (world engine after) status × (IsTold engine.disk → (state : State) → engine.shows state → LineStopped (seen engine before) (seen engine after) state line status)
+        → IsLineEnd (world engine before) (world engine after) status × (IsTold engine.disk → (state : State) → engine.shows state → LineStopped (seen_with names engine before) (seen_with names engine after) state line status)
     cut_in S status wrote =
-        by_cut S (answer_line (Err NoWords)) before after (λ s. IsLineEnd (world engine before) (world engine after) s × (IsTold engine.disk → (state : State) → engine.shows state → LineStopped (seen engine before) (seen engine after) state line s)) status
+        by_cut S (answer_line (Err NoWords)) before after (λ s. IsLineEnd (world engine before) (world engine after) s × (IsTold engine.disk → (state : State) → engine.shows state → LineStopped (seen_with names engine before) (seen_with names engine after) state line s)) status
         (λ front rises. (
           rises,
           λ told state shown. record {
             made = only_text (answer_line (Err NoWords));
-            next = plain state;
+            next = record { state = state; names = names };
             done = record { step = words is; moments = started _ _ };
             opens = opens up told state shown;
             takes = front;
           },
         )) wrote
 
-    pub line_cut : {S T : Type 0} {status : Status} (result : Result T Status) → IsErrAnd result (λ why. why ≡ status) → Writes {T = S} (answer_line (Err NoWords)) before after (Err status) → RunsLine (seen engine before) (seen engine after) line result
+    pub line_cut : {S T : Type 0} {status : Status} (result : Result T Status) → IsErrAnd result (λ why. why ≡ status) → Writes {T = S} (answer_line (Err NoWords)) before after (Err status) → RunsLine (seen_with names engine before) (seen_with names engine after) line result
     line_cut {S = S} {status = status} result same wrote = passed_on {S = S} result same (record { passes = writes_on wrote; outcome = cut_in S status wrote.outcome })
+
+-- memory ran out before the call, and the variables stand for what they stood for
+pub line_unplaced : {T : Type 0} {names same : List Variable} (engine : EngineView) (sink : Stream) (line : List ℕ) → names ≡ same → RunsLine {T = T} (seen_with names engine sink) (seen_with same engine sink) line (Err NoMemory)
+line_unplaced {T = T} {names = names} engine sink line is = subst (λ (l : List Variable). RunsLine {T = T} (seen_with names engine sink) (seen_with l engine sink) line (Err NoMemory)) is (line_unread (seen_with names engine sink) line)

@@ -1,14 +1,17 @@
 -- What the functions that run lines say, each of what it runs.
-use Rattle.std.specs.Prelude.{◌≡◌, ℕ, ◌+◌, ◌≤◌, List, ◌++◌, take, Result, Ok, Err, ⊤}
+use Rattle.std.specs.Prelude.{◌≡◌, ℕ, ◌+◌, ◌≤◌, List, [], ◌++◌, take, Option, Result, Ok, Err, ⊤}
 use Rattle.rss_base.specs.DiskRule.{Disk, IsTold, Passes, Continues}
 use Rattle.rss_base.specs.Devices.{DeviceView}
 use Rattle.rss_base.specs.Faults.{Rises}
 use Rattle.rss_base.specs.Streams.{Stream, Takes, TakesFront, TakesSome}
+use Rattle.rss_base.specs.declared.name.Name.{Name}
 use Rattle.rss_base.specs.declared.call.Call.{Call}
 use Rattle.rss_model.specs.Machine.{State}
 use Rattle.rss_model.specs.Steps.{Answer}
-use Rattle.rss_model.specs.Script.{Spells, line_limit}
-use Rattle.rss_model.specs.Plays.{Scene, Made, plain, LineStep}
+use Rattle.rss_model.specs.Script.{line_limit}
+use Rattle.rss_model.specs.Variables.{Variable}
+use Rattle.rss_model.specs.Forms.{Spells}
+use Rattle.rss_model.specs.Plays.{Scene, Made, LineStep}
 use Rattle.rss_model.specs.Calls.{States, EngineView, GoesOn, IsAnswer, IsFault, IsDamaged, IsUnanswered}
 use Rattle.rss_top.specs.Run.{World, Beginning, point_now, OpensAt, HoldsAt, OpensAtEither, ImagesNow, Story, Stopped, Whole, IsTaken, Ended}
 use Rattle.rss_top.specs.declared.status.Status.{Status}
@@ -27,18 +30,28 @@ on device sink = world_of device.disk device.writes device.faults sink
 abbrev pub world : EngineView → Stream → World
 world engine sink = world_of engine.disk engine.writes engine.faults sink
 
--- an engine and a sink
+-- an engine and a sink, and what the variables of a script stand for
 pub record View : Type 1 where
   pub world : World
   pub shows : States
+  pub names : List Variable
   pub is_up : Type 0
 
-abbrev pub seen : EngineView → Stream → View
-seen engine sink = record {
+abbrev pub seen_with : List Variable → EngineView → Stream → View
+seen_with names engine sink = record {
   world = world engine sink;
   shows = engine.shows;
+  names = names;
   is_up = engine.is_up;
 }
+
+-- where a script begins: no variable stands for anything
+abbrev pub seen : EngineView → Stream → View
+seen engine sink = seen_with [] engine sink
+
+-- the scene of a state
+abbrev pub scene_in : View → State → Scene
+scene_in view state = record { state = state; names = view.names }
 
 -- what is so whatever was run, and however it ended
 pub record PassesOn (old new : World) : Type 0 where
@@ -77,28 +90,28 @@ pub record LineRan (old new : View) (state : State) (line : List ℕ) : Type 0 w
   pub made : Made
   pub next : State
   pub shows : new.shows next
-  pub done : LineDone old.world.disk new.world.disk (plain state) line made (plain next)
-  pub opens : ImagesNow new.world.disk (HoldsAt (plain next))
+  pub done : LineDone old.world.disk new.world.disk (scene_in old state) line made (scene_in new next)
+  pub opens : ImagesNow new.world.disk (HoldsAt (scene_in new next))
   pub takes : Takes old.world.sink.bytes made.text new.world.sink.bytes
 
 -- the device failed within the line
 pub record DeviceStopped (old new : View) (state : State) (line : List ℕ) : Type 0 where
   pub made : Made
   pub next : Scene
-  pub done : LineDone old.world.disk new.world.disk (plain state) line made next
+  pub done : LineDone old.world.disk new.world.disk (scene_in old state) line made next
   pub same : new.world.sink.bytes ≡ old.world.sink.bytes
 
 -- the line was run, and the front of its reply written
 pub record SinkStopped (old new : View) (state : State) (line : List ℕ) : Type 0 where
   pub made : Made
   pub next : Scene
-  pub done : LineDone old.world.disk new.world.disk (plain state) line made next
+  pub done : LineDone old.world.disk new.world.disk (scene_in old state) line made next
   pub opens : ImagesNow new.world.disk (HoldsAt next)
   pub takes : TakesFront old.world.sink.bytes made.text new.world.sink.bytes
 
 -- memory ran out in the line, and no table has changed
 pub record MemoryStopped (old new : View) (state : State) : Type 0 where
-  pub moments : Passes old.world.disk new.world.disk (OpensAt (plain state))
+  pub moments : Passes old.world.disk new.world.disk (OpensAt (scene_in old state))
   pub same : new.world.sink.bytes ≡ old.world.sink.bytes
 
 -- the run ended within the line, by its status
@@ -135,13 +148,17 @@ pub record Runs {T : Type 0} (old new : View) (on : Type 0) (stopped : Status �
 abbrev pub FromEach : View → (State → Type 0) → Type 0
 FromEach view P = (state : State) → view.shows state → P state
 
+-- each line that spells the call, for a variable or none
+abbrev pub FromLines : View → Option Name → Call → (List ℕ → Type 0) → Type 0
+FromLines view variable call P = (line : List ℕ) → Spells view.names line variable call → P line
+
 -- the line of a call, and its reply
-abbrev pub RunsCall : {T : Type 0} → View → View → Call → Result T Status → Type 0
-RunsCall old new call result =
+abbrev pub RunsCall : {T : Type 0} → View → View → Option Name → Call → Result T Status → Type 0
+RunsCall old new variable call result =
     Runs old new
-    (FromEach old (λ state. (line : List ℕ) → Spells line call → LineRan old new state line))
+    (FromEach old (λ state. FromLines old variable call (LineRan old new state)))
     (λ status. FromEach old (λ state.
-    (line : List ℕ) → Spells line call → LineStopped old new state line status))
+    FromLines old variable call (λ line. LineStopped old new state line status)))
     result
 
 abbrev pub RunsLine : {T : Type 0} → View → View → List ℕ → Result T Status → Type 0
@@ -163,7 +180,7 @@ pub record Kept (begin : Beginning) (now : View) (given front : List ℕ) : Type
   pub shows : now.shows state
   pub left : List ℕ
   pub kept : front ≡ take kept_limit left
-  pub story : Story begin now.world (plain state) given left
+  pub story : Story begin now.world (scene_in now state) given left
 
 -- Whatever was run so far, with this front kept: these bytes are run too, and then the next front
 -- is kept; or the run has stopped within them.
@@ -197,9 +214,9 @@ IsScriptEnd old new source_old source_new ReadFault = Rises source_old.faults so
 IsScriptEnd old new source_old source_new status = IsLineEnd old new status
 
 -- where a run of an engine begins
-abbrev pub beginning : State → World → Stream → Beginning
-beginning state now source = record {
-  point = point_now (plain state) now.disk;
+abbrev pub beginning : Scene → World → Stream → Beginning
+beginning scene now source = record {
+  point = point_now scene now.disk;
   left = source.bytes;
   written = now.sink.bytes;
 }
@@ -213,4 +230,4 @@ pub record RunsScript (old new : View) (source_old source_new : Stream) (status 
   pub taken : IsTaken status source_old.bytes source_new.bytes
   pub up : status ≡ Done → new.is_up
   pub ended : IsTold old.world.disk → FromEach old (λ state.
-      Ended status (beginning state old.world source_old) new.world source_new.bytes)
+      Ended status (beginning (scene_in old state) old.world source_old) new.world source_new.bytes)

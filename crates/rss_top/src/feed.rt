@@ -3,12 +3,12 @@ ghost use Rattle.std.specs.Prelude.{◌≡◌, ◌<◌, ◌≤◌, [], ◌∷◌
 ghost use Rattle.std.specs.Prelude.{IfSome, IfNone, OnOk};
 ghost use Rattle.rss_model.specs.Script.{IsUnbroken};
 ghost use Rattle.rss_top.specs.Run.{line_end};
-ghost use Rattle.rss_top.specs.Lines.{seen, kept_limit, RunsBytes};
+ghost use Rattle.rss_top.specs.Lines.{seen_with, kept_limit, RunsBytes};
 
 use crate::Status;
 use crate::line::line;
 use rss_base::Sink;
-use rss_line::LINE_LIMIT;
+use rss_line::{LINE_LIMIT, Names};
 use rss_model::Engine;
 use std::alloc::{AllocError, Global};
 
@@ -41,6 +41,7 @@ fn keep(front: &mut Vec<u8>, bytes: &[u8]) -> Result<(), AllocError>
 fn end_line<E: Engine, K: Sink>(
     engine: &mut E,
     alloc: Global,
+    names: &mut Names,
     front: &mut Vec<u8>,
     bytes: &[u8],
     reply: &mut Vec<u8>,
@@ -49,18 +50,18 @@ fn end_line<E: Engine, K: Sink>(
     requires up { (E.view engine.old).is_up }
     requires unbroken { IsUnbroken bytes.now }
     ensures { RunsBytes
-        (seen (E.view engine.old) (K.view sink.old))
-        (seen (E.view engine.new) (K.view sink.new))
+        (seen_with names.old.variables (E.view engine.old) (K.view sink.old))
+        (seen_with names.new.variables (E.view engine.new) (K.view sink.new))
         front.old.items (bytes.now ++ line_end ∷ []) front.new.items result }
 {
     if front.is_empty() {
-        line(engine, alloc, bytes, reply, sink)?;
+        line(engine, alloc, names, bytes, reply, sink)?;
         return Ok(());
     }
     let Ok(()) = keep(front, bytes) else {
         return Err(Status::NoMemory);
     };
-    line(engine, alloc, front.as_slice(), reply, sink)?;
+    line(engine, alloc, names, front.as_slice(), reply, sink)?;
     front.clear();
     Ok(())
 }
@@ -69,6 +70,7 @@ fn end_line<E: Engine, K: Sink>(
 pub fn feed<E: Engine, K: Sink>(
     engine: &mut E,
     alloc: Global,
+    names: &mut Names,
     front: &mut Vec<u8>,
     piece: &[u8],
     reply: &mut Vec<u8>,
@@ -76,14 +78,14 @@ pub fn feed<E: Engine, K: Sink>(
 ) -> Result<(), Status>
     requires { (E.view engine.old).is_up }
     ensures { RunsBytes
-        (seen (E.view engine.old) (K.view sink.old))
-        (seen (E.view engine.new) (K.view sink.new))
+        (seen_with names.old.variables (E.view engine.old) (K.view sink.old))
+        (seen_with names.new.variables (E.view engine.new) (K.view sink.new))
         front.old.items piece.now front.new.items result }
 {
     let mut done = 0;
     while let Some(at) = end_of_line(&piece[done..]) {
         let end = done + at;
-        end_line(engine, alloc, front, &piece[done..end], reply, sink)?;
+        end_line(engine, alloc, names, front, &piece[done..end], reply, sink)?;
         done = end + 1;
     }
     let Ok(()) = keep(front, &piece[done..]) else {

@@ -1,12 +1,13 @@
 // A script, read and run.
 ghost use Rattle.std.specs.Prelude.{◌≡◌, ◌≤◌, length, vec_len, IfOk};
 ghost use Rattle.rss_base.specs.Streams.{ReadsBytes};
-ghost use Rattle.rss_top.specs.Lines.{seen, RunsLast, RunsScript};
+ghost use Rattle.rss_top.specs.Lines.{seen, seen_with, RunsLast, RunsScript};
 
 use crate::Status;
 use crate::feed::feed;
 use crate::line::line;
 use rss_base::{Failed, Sink, Source};
+use rss_line::Names;
 use rss_model::Engine;
 use std::alloc::{AllocError, Global};
 
@@ -38,20 +39,21 @@ fn read_piece<O: Source>(source: &mut O, piece: &mut [u8], most: usize) -> Resul
 fn finish<E: Engine, K: Sink>(
     engine: &mut E,
     alloc: Global,
+    names: &mut Names,
     front: &[u8],
     reply: &mut Vec<u8>,
     sink: &mut K,
 ) -> Result<(), Status>
     requires { (E.view engine.old).is_up }
     ensures { RunsLast
-        (seen (E.view engine.old) (K.view sink.old))
-        (seen (E.view engine.new) (K.view sink.new))
+        (seen_with names.old.variables (E.view engine.old) (K.view sink.old))
+        (seen_with names.new.variables (E.view engine.new) (K.view sink.new))
         front.now result }
 {
     if front.is_empty() {
         return Ok(());
     }
-    line(engine, alloc, front, reply, sink)?;
+    line(engine, alloc, names, front, reply, sink)?;
     Ok(())
 }
 
@@ -68,6 +70,7 @@ pub fn run_lines<O: Source, K: Sink, E: Engine>(
         (seen (E.view engine.new) (K.view sink.new))
         (O.view source.old) (O.view source.new) result }
 {
+    let mut names = Names::new(alloc);
     let mut front = Vec::new(alloc);
     let mut reply = Vec::new(alloc);
     let Ok(mut piece) = new_piece(alloc) else {
@@ -80,13 +83,22 @@ pub fn run_lines<O: Source, K: Sink, E: Engine>(
             return Status::ReadFault;
         };
         if count == 0 {
-            if let Err(status) = finish(engine, alloc, front.as_slice(), &mut reply, sink) {
+            if let Err(status) = finish(
+                engine,
+                alloc,
+                &mut names,
+                front.as_slice(),
+                &mut reply,
+                sink,
+            ) {
                 return status;
             }
             return Status::Ok;
         }
         let script = &piece[..count];
-        if let Err(status) = feed(engine, alloc, &mut front, script, &mut reply, sink) {
+        if let Err(status) = feed(
+            engine, alloc, &mut names, &mut front, script, &mut reply, sink,
+        ) {
             return status;
         }
         taken += count;

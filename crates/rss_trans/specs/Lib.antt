@@ -1,3 +1,4 @@
 pub mod Transactions
 pub mod Tallies
 pub mod Tables
+pub mod Told

@@ -1,7 +1,7 @@
 use Rattle.std.proofs.Common.{◌∙◌, ap, sym, subst, Some}
 use Rattle.std.proofs.lemmas.Bool.{false≢true}
 use Rattle.rss_base.specs.Names.{IsNameText}
-use Rattle.rss_line.proofs.Names.{padded, name_from, name_text_of, same_name}
+use Rattle.rss_line.proofs.NameTexts.{padded, name_from, name_text_of, same_name}
 use Rattle.rss_line.proofs.name.read_name.Goals as goal
 
 pub returns-then-is_name_text : goal.returns-then-is_name_text

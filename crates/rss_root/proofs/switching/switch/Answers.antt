@@ -1,4 +1,4 @@
-use Rattle.std.proofs.Common.{◌-◌, arith, refl, rules}
+use Rattle.std.proofs.Common.{◌-◌, inl, inr, arith, refl, rules}
 use Rattle.rss_base.specs.Layout.{root_page}
 use Rattle.rss_base.proofs.Moments.{writes_one, wrote_as, wrote_among, wrote_then}
 use Rattle.rss_root.proofs.Switches.{either_selected, settled, in_phases}
@@ -6,7 +6,7 @@ use Rattle.rss_root.proofs.switching.switch.Goals as goal
 
 pub returns-in_err-put-clause-did : goal.returns-in_err-put-clause-did
 returns-in_err-put-clause-did g c = record {
-  only = writes_one (omega (arith, c.requires.low)) c.put.ensures.did.only;
+  only = writes_one (inr c.from.ensures) c.put.ensures.did.only;
   size = c.put.ensures.did.size;
   writes = omega (arith, c.put.ensures.did.writes);
   cause = search rules;
@@ -14,8 +14,8 @@ returns-in_err-put-clause-did g c = record {
 
 pub returns-in_err-put-2-clause-did : goal.returns-in_err-put-2-clause-did
 returns-in_err-put-2-clause-did g c = wrote_as (λ is. search rules) (wrote_then
-    (wrote_among (λ q is. omega (arith, is, c.requires.low)) c.put.ensures.did)
-    (wrote_among (λ q is. omega (arith, is)) c.put-2.ensures.did))
+    (wrote_among (λ q is. inr (omega (arith, is, c.from.ensures))) c.put.ensures.did)
+    (wrote_among (λ q is. inl is) c.put-2.ensures.did))
 
 pub returns-in_err-put-2-clause-phases : goal.returns-in_err-put-2-clause-phases
 returns-in_err-put-2-clause-phases g c = λ pages told.
@@ -34,8 +34,8 @@ returns-in_err-put-2-clause-either g c = λ told before selects.
 
 pub returns-clause-did : goal.returns-clause-did
 returns-clause-did g c = wrote_as (λ is. search rules) (wrote_then
-    (wrote_among (λ q is. omega (arith, is, c.requires.low)) c.put.ensures.did)
-    (wrote_among (λ q is. omega (arith, is)) c.put-2.ensures.did))
+    (wrote_among (λ q is. inr (omega (arith, is, c.from.ensures))) c.put.ensures.did)
+    (wrote_among (λ q is. inl is) c.put-2.ensures.did))
 
 pub returns-clause-phases : goal.returns-clause-phases
 returns-clause-phases g c = λ pages told.

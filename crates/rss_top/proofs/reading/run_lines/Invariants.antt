@@ -1,5 +1,5 @@
 use Rattle.std.proofs.Common.{◌≡◌, ◌≤◌, ◌-◌, vec_len}
-use Rattle.rss_top.specs.Lines.{seen}
+use Rattle.rss_top.specs.Lines.{seen, seen_with}
 use Rattle.rss_top.proofs.Scripts.{Reading}
 use Rattle.rss_top.proofs.reading.run_lines.Given as goal
 
@@ -10,7 +10,7 @@ invariant-loop-taken g l = record {
   up : (g.E.Engine.view l.engine).is_up;
   reading : Reading
       (seen (g.E.Engine.view l.initial.engine) (g.K.Sink.view l.initial.sink))
-      (seen (g.E.Engine.view l.engine) (g.K.Sink.view l.sink))
+      (seen_with l.names.variables (g.E.Engine.view l.engine) (g.K.Sink.view l.sink))
       (g.O.Source.view l.initial.source)
       (g.O.Source.view l.source)
       l.taken l.front.items;

@@ -6,7 +6,7 @@ use Rattle.rss_buffer.specs.Slots.{held_by}
 use Rattle.rss_buffer.specs.Frames.{frame_in}
 use Rattle.rss_buffer.specs.Devices.{buffer_view}
 use Rattle.rss_buffer.proofs.Turns.{KeepsPages-rests}
-use Rattle.rss_buffer.proofs.Elsewhere.{heads_below, buffer_after, changing}
+use Rattle.rss_buffer.proofs.Elsewhere.{switched_below, buffer_after, changing}
 use Rattle.rss_buffer.proofs.Saves.{holds_pages, saved_by, saving_wrote}
 use Rattle.rss_buffer.proofs.saving.BufferSaving.switch.Goals as goal
 
@@ -15,7 +15,7 @@ invariant_of-self g c =
     let buffer = c.args.self.now in
     record {
       saved_area = λ area is. absurd (cc);
-      holds = buffer_after buffer.holds c.switch.ensures.did.size (heads_below buffer.holds) c.switch.ensures.did.only (changing _ refl);
+      holds = buffer_after buffer.holds c.switch.ensures.did.size (switched_below buffer.holds (omega (arith, c.requires.low))) c.switch.ensures.did.only (changing _ refl);
     }
 
 pub returns-then-is_saved-clause-holds : goal.returns-then-is_saved-clause-holds
@@ -33,14 +33,14 @@ returns-then-is_saved-clause-holds g c = λ told is image left.
 pub returns-in_err-number-clause-did : goal.returns-in_err-number-clause-did
 returns-in_err-number-clause-did g c =
     let buffer = c.args.self.now in
-    saving_wrote (g.D.Device.view c.switch.new.device) (KeepsPages-rests (buffer_view buffer)) (heads_below buffer.holds) c.switch.ensures.did.only c.switch.ensures.did.cause (search rules) (search rules)
+    saving_wrote (g.D.Device.view c.switch.new.device) (KeepsPages-rests (buffer_view buffer)) (switched_below buffer.holds (omega (arith, c.requires.low))) c.switch.ensures.did.only c.switch.ensures.did.cause (search rules) (search rules)
 
 pub returns-then-is_saved-clause-did : goal.returns-then-is_saved-clause-did
 returns-then-is_saved-clause-did g c =
     let buffer = c.args.self.now in
-    saving_wrote (g.D.Device.view c.switch.new.device) (KeepsPages-rests (buffer_view buffer)) (heads_below buffer.holds) c.switch.ensures.did.only c.switch.ensures.did.cause (search rules) (search rules)
+    saving_wrote (g.D.Device.view c.switch.new.device) (KeepsPages-rests (buffer_view buffer)) (switched_below buffer.holds (omega (arith, c.requires.low))) c.switch.ensures.did.only c.switch.ensures.did.cause (search rules) (search rules)
 
 pub returns-else-is_saved-clause-did : goal.returns-else-is_saved-clause-did
 returns-else-is_saved-clause-did g c =
     let buffer = c.args.self.now in
-    saving_wrote (g.D.Device.view c.switch.new.device) (KeepsPages-rests (buffer_view buffer)) (heads_below buffer.holds) c.switch.ensures.did.only c.switch.ensures.did.cause (search rules) (search rules)
+    saving_wrote (g.D.Device.view c.switch.new.device) (KeepsPages-rests (buffer_view buffer)) (switched_below buffer.holds (omega (arith, c.requires.low))) c.switch.ensures.did.only c.switch.ensures.did.cause (search rules) (search rules)

@@ -1,16 +1,14 @@
-use Rattle.rss_line.proofs.Combining.{by_form, stops_word, then_word, stops_target, then_target, ends_line}
-use Rattle.rss_line.proofs.Forms.{delete_told}
+use Rattle.rss_line.proofs.Combining.{stops_target, stops_word, then_target, then_word}
 use Rattle.rss_line.proofs.reader.Reader.delete.Goals as goal
 
 pub returns-in_err-target-clause-reads : goal.returns-in_err-target-clause-reads
-returns-in_err-target-clause-reads c = by_form _ delete_told (stops_target _ c.in_err-target.ensures.reads c.from_residual.ensures.1)
+returns-in_err-target-clause-reads c = stops_target _ c.in_err-target.ensures.reads c.from_residual.ensures.1
 
 pub returns-in_err-tid-clause-reads : goal.returns-in_err-tid-clause-reads
-returns-in_err-tid-clause-reads c = by_form _ delete_told
-    (then_target _ c.in_ok-target.ensures.reads
-    (stops_word _ c.in_err-tid.ensures.reads c.from_residual-in_err-tid.ensures.1))
+returns-in_err-tid-clause-reads c = then_target _ c.in_ok-target.ensures.reads
+    (stops_word _ c.in_err-tid.ensures.reads c.from_residual-in_err-tid.ensures.1)
 
 pub returns-clause-reads : goal.returns-clause-reads
-returns-clause-reads c = by_form _ delete_told
-    (then_target _ c.in_ok-target.ensures.reads
-    (then_word _ c.in_ok-tid.ensures.reads (ends_line _ c.ended.ensures)))
+returns-clause-reads c = then_target _ c.in_ok-target.ensures.reads
+    (then_word _ c.in_ok-tid.ensures.reads
+    (c.ended.ensures.reads))

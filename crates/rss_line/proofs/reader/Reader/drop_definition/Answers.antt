@@ -1,21 +1,28 @@
-use Rattle.std.proofs.Common.{◌∙◌, sym}
+use Rattle.std.proofs.Common.{refl}
 use Rattle.std.specs.Prelude.{codes}
-use Rattle.rss_line.specs.Reads.{Behind}
-use Rattle.rss_line.proofs.Numbers.{equal, differ}
-use Rattle.rss_line.proofs.Combining.{no_first, other_first, with_first}
-use Rattle.rss_line.proofs.Forms.{IsDropped, dropped_of, other_dropped}
-use Rattle.rss_line.proofs.Plain.{dropped_plain}
+use Rattle.rss_model.specs.Forms.{drops}
+use Rattle.rss_line.proofs.Choosing.{no_first, with_first, reads_row, no_row, sole}
 use Rattle.rss_line.proofs.reader.Reader.drop_definition.Goals as goal
 
-pub returns-in_err-kind-clause-reads : goal.returns-in_err-kind-clause-reads
-returns-in_err-kind-clause-reads c = no_first (Behind (codes "drop")) IsDropped dropped_of dropped_plain c.from_residual.result c.in_err-kind.ensures.reads c.from_residual.ensures.1
+pub returns-in_err-word-clause-reads : goal.returns-in_err-word-clause-reads
+returns-in_err-word-clause-reads c = no_first (drops) refl _ c.in_err-word.ensures.reads c.from_residual.ensures.1
 
-pub returns-then-eq-clause-reads : goal.returns-then-eq-clause-reads
-returns-then-eq-clause-reads c = with_first (Behind (codes "drop")) IsDropped dropped_of dropped_plain c.drop_segment.result c.in_ok-kind.ensures.reads (equal _ (codes "segment") (sym c.eq.ensures ∙ c.if-eq.true)) c.drop_segment.ensures.reads
+pub returns-in-segment-clause-reads : goal.returns-in-segment-clause-reads
+returns-in-segment-clause-reads c = with_first (drops) refl _ c.in_ok-word.ensures.reads
+    (reads_row (drops) (codes "segment") _ c.in-segment.is (sole _ c.drop_segment.ensures.reads))
 
-pub returns-then-eq-2-clause-reads : goal.returns-then-eq-2-clause-reads
-returns-then-eq-2-clause-reads c = with_first (Behind (codes "drop")) IsDropped dropped_of dropped_plain c.drop_relation.result c.in_ok-kind.ensures.reads (equal _ (codes "relation") (sym c.eq-2.ensures ∙ c.if-eq-2.true)) c.drop_relation.ensures.reads
+pub returns-in-relation-clause-reads : goal.returns-in-relation-clause-reads
+returns-in-relation-clause-reads c = with_first (drops) refl _ c.in_ok-word.ensures.reads
+    (reads_row (drops) (codes "relation") _ c.in-relation.is (sole _ c.drop_relation.ensures.reads))
 
-pub returns-clause-reads : goal.returns-clause-reads
-returns-clause-reads c = other_first (Behind (codes "drop")) IsDropped dropped_of dropped_plain c.in_ok-kind.ensures.reads
-    (other_dropped (differ _ (codes "segment") (sym c.eq.ensures ∙ c.if-eq.false)) (differ _ (codes "relation") (sym c.eq-2.ensures ∙ c.if-eq-2.false)))
+pub returns-in-image-clause-reads : goal.returns-in-image-clause-reads
+returns-in-image-clause-reads c = with_first (drops) refl _ c.in_ok-word.ensures.reads
+    (reads_row (drops) (codes "image") _ c.in-image.is (sole _ c.drop_image.ensures.reads))
+
+pub returns-in-link-clause-reads : goal.returns-in-link-clause-reads
+returns-in-link-clause-reads c = with_first (drops) refl _ c.in_ok-word.ensures.reads
+    (reads_row (drops) (codes "link") _ c.in-link.is (sole _ c.drop_link.ensures.reads))
+
+pub returns-in_default-clause-reads : goal.returns-in_default-clause-reads
+returns-in_default-clause-reads c = with_first (drops) refl _ c.in_ok-word.ensures.reads
+    (no_row (drops) _ (c.in_default.not-segment, (c.in_default.not-relation, (c.in_default.not-image, (c.in_default.not-link, tt)))))

@@ -1,6 +1,6 @@
 use Rattle.std.proofs.Common.{◌∙◌, sym}
 use Rattle.std.proofs.lemmas.Bool.{false≢true}
-use Rattle.rss_line.proofs.Values.{quoted_missing, quoted_read, quoted_other}
+use Rattle.rss_line.proofs.ValueTexts.{quoted_missing, quoted_read, quoted_other}
 use Rattle.rss_line.proofs.reader.Reader.quoted.Goals as goal
 
 pub returns-in_err-text : goal.returns-in_err-text

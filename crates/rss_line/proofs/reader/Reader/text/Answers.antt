@@ -1,7 +1,7 @@
 use Rattle.std.proofs.Common.{◌≡◌, ◌++◌, List, ℕ, Ok, sym, subst}
 use Rattle.rss_model.specs.Spellings.{doubled}
 use Rattle.rss_line.specs.Reads.{ReadsByte}
-use Rattle.rss_line.proofs.Values.{text_more}
+use Rattle.rss_line.proofs.ValueTexts.{text_more}
 use Rattle.rss_line.proofs.reader.Reader.text.Goals as goal
 
 pub loop-text-preserved : goal.loop-text-preserved

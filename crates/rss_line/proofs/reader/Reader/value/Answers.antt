@@ -4,7 +4,7 @@ use Rattle.rss_base.specs.declared.value.Value.TheVariants.{Int}
 use Rattle.rss_model.specs.Spellings.{quote}
 use Rattle.rss_model.specs.Script.{IsValue}
 use Rattle.rss_line.specs.Reads.{IsOff, Skips, ReadsWord}
-use Rattle.rss_line.proofs.Values.{value_quoted, value_int, value_missing}
+use Rattle.rss_line.proofs.ValueTexts.{value_quoted, value_int, value_missing}
 use Rattle.rss_line.proofs.reader.Reader.value.Goals as goal
 
 pub returns-then-opens_text : goal.returns-then-opens_text

@@ -3,7 +3,7 @@ use Rattle.std.proofs.lemmas.Bool.{false≢true}
 use Rattle.rss_base.specs.declared.value.Value.{Value}
 use Rattle.rss_model.specs.Script.{IsValue}
 use Rattle.rss_line.proofs.Cuts.{shorter, spaces_from, spaces_test}
-use Rattle.rss_line.proofs.Values.{value_solid}
+use Rattle.rss_line.proofs.ValueTexts.{value_solid}
 use Rattle.rss_line.proofs.Sequences.{GoesOn, goes_more, goes_end, goes_stops}
 use Rattle.rss_line.proofs.reader.Reader.values.Goals as goal
 

@@ -1,0 +1,9 @@
+use Rattle.rss_line.proofs.Combining.{stops_word, then_word}
+use Rattle.rss_line.proofs.reader.Reader.abort.Goals as goal
+
+pub returns-in_err-transaction-clause-reads : goal.returns-in_err-transaction-clause-reads
+returns-in_err-transaction-clause-reads c = stops_word _ c.in_err-transaction.ensures.reads c.from_residual.ensures.1
+
+pub returns-clause-reads : goal.returns-clause-reads
+returns-clause-reads c = then_word _ c.in_ok-transaction.ensures.reads
+    (c.ended.ensures.reads)

@@ -1,0 +1,9 @@
+use Rattle.rss_line.proofs.Combining.{stops_word, then_word}
+use Rattle.rss_line.proofs.reader.Reader.open_relation.Goals as goal
+
+pub returns-in_err-relation-clause-reads : goal.returns-in_err-relation-clause-reads
+returns-in_err-relation-clause-reads c = stops_word _ c.in_err-relation.ensures.reads c.from_residual.ensures.1
+
+pub returns-clause-reads : goal.returns-clause-reads
+returns-clause-reads c = then_word _ c.in_ok-relation.ensures.reads
+    (c.ended.ensures.reads)

@@ -1,0 +1,160 @@
+-- What a change of a tuple leaves of a durable store, whatever is in its tables.
+use Rattle.std.proofs.Common.{◌≡◌, inl, inr, true, refl, sym, ◌∙◌, ap, subst, arith}
+use Rattle.std.specs.Prelude.{Option, Some, None, Result, Ok, Err, IsErrAnd, OnOk}
+use Rattle.std.proofs.lemmas.Result.{err_from_is_err_and}
+use Rattle.rss_base.specs.DiskRule.{IsTold}
+use Rattle.rss_base.specs.Paged.{Fixed, Backing, HasFixed, page_key}
+use Rattle.rss_base.specs.Layout.{IsWellFormed}
+use Rattle.rss_base.specs.Listings.{Listing, relation_at}
+use Rattle.rss_base.specs.Steps.{PagesStep, AreCounted}
+use Rattle.rss_base.specs.declared.change.Change as told
+use Rattle.rss_base.specs.declared.fault.PageFault.{PageFault}
+use Rattle.rss_base.specs.declared.fault.PageFault.TheVariants.{Device as DeviceFailed, Damaged, NoMemory}
+use Rattle.rss_base.specs.declared.key.PageKey.{PageKey}
+use Rattle.rss_base.specs.declared.key.Space.{Space}
+use Rattle.rss_base.specs.declared.key.Space.TheVariants.{Home, Overflow, Image, System}
+use Rattle.rss_base.specs.declared.place.Place.{Place}
+use Rattle.rss_base.specs.declared.relation.RelationEntry.{RelationEntry}
+use Rattle.rss_base.specs.declared.root.Root.{Root}
+use Rattle.rss_base.proofs.Steps.{rests, among}
+use Rattle.rss_page.specs.Slotted.{IsHeapKey}
+use Rattle.rss_model.specs.Meanings.{SameDefinitions}
+use Rattle.rss_model.specs.Spares.{page_counts, TakesTwo}
+use Rattle.rss_model.specs.Store.{Stored}
+use Rattle.rss_model.proofs.Sparing.{takes_two}
+use Rattle.rss_access.specs.Changes.{alter_cost, number_told, pages_of_relation, Makes}
+use Rattle.rss_access.specs.Written.{IsSystemOrHeap, AreWritten}
+use Rattle.rss_access.proofs.Writing.{off_system}
+use Rattle.rss_restart.specs.Restarting.{KeepsCatalog}
+use Rattle.rss_restart.proofs.Keeping.{keeps_itself, keeps_made}
+use Rattle.rss_store.specs.Changing.{AltersPages, access}
+use Rattle.rss_store.specs.Shown.{LeavesStore}
+use Rattle.rss_store.specs.Stores.{StoreView, IsLogBehind, IsReady}
+use Rattle.rss_store.proofs.Definitions.{same_then, counts_same}
+
+-- ---- which pages are touched
+
+heap_told : (found : Option RelationEntry) (key : PageKey) → pages_of_relation found key → IsHeapKey key
+heap_told None key is = absurd is
+heap_told (Some relation) key is = is.1
+
+module _ {T : Type 0} {change : told.Change} (old new : StoreView) {result : Result T PageFault} (makes : Makes change (access old) (access new) result) where
+  heap_step : PagesStep IsHeapKey (alter_cost old.pages.slots) (alter_cost old.pages.slots) old.pages new.pages
+  heap_step = among (λ key is. heap_told (relation_at old.catalog.listing (number_told change)) key is) makes.step
+
+  keeps : KeepsCatalog (access old) (access new)
+  keeps = keeps_made (access old) (access new) heap_step result makes
+
+-- ---- what a call passes on
+
+pub alters_made : {T : Type 0} {change : told.Change} {old new : StoreView} {result : Result T PageFault} → Makes change (access old) (access new) result → new.root ≡ old.root → new.number ≡ old.number → AltersPages old new result
+alters_made {old = old} {new = new} makes root number = record {
+  step = heap_step old new makes;
+  takes = makes.takes;
+  keeps = keeps old new makes;
+  failed = makes.failed;
+  memory = makes.memory;
+  root = root;
+  number = number;
+}
+
+-- and answers something else
+pub alters_done : {T U : Type 0} {change : told.Change} {old new : StoreView} {value : T} (answer : U) → Makes change (access old) (access new) (Ok value) → new.root ≡ old.root → new.number ≡ old.number → AltersPages old new (Ok answer)
+alters_done {old = old} {new = new} answer makes root number = record {
+  step = heap_step old new makes;
+  takes = makes.takes;
+  keeps = keeps old new makes;
+  failed = λ is. absurd (cc);
+  memory = λ is. absurd (cc);
+  root = root;
+  number = number;
+}
+
+-- the error is passed on
+pub alters_fail : {T U : Type 0} {change : told.Change} {old new : StoreView} {fault : PageFault} (result : Result U PageFault) → IsErrAnd result (λ why. why ≡ fault) → Makes {T = T} change (access old) (access new) (Err fault) → new.root ≡ old.root → new.number ≡ old.number → AltersPages old new result
+alters_fail {U = U} {old = old} {new = new} {fault = fault} result is makes root number =
+    let why = err_from_is_err_and result is in
+    subst (λ (r : Result U PageFault). AltersPages old new r) (sym (why.1 ∙ ap Err why.2)) (record {
+      step = heap_step old new makes;
+      takes = tt;
+      keeps = keeps old new makes;
+      failed = λ is. let same : fault ≡ DeviceFailed = cc in makes.failed (ap Err same);
+      memory = λ is. let same : fault ≡ NoMemory = cc in makes.memory (ap Err same);
+      root = root;
+      number = number;
+    })
+
+-- nothing is done
+pub alters_nothing : {T : Type 0} (view : StoreView) (place : Place) → AltersPages {T = T} view view (Err (Damaged place))
+alters_nothing view place = record {
+  step = rests view.pages;
+  takes = tt;
+  keeps = keeps_itself (access view);
+  failed = λ is. absurd (cc);
+  memory = λ is. absurd (cc);
+  root = refl;
+  number = refl;
+}
+
+-- the place of a fault that is passed on
+pub fault_passed : {T U : Type 0} {result : Result U PageFault} {fault : PageFault} {place : Place} → IsErrAnd result (λ why. why ≡ fault) → result ≡ Err (Damaged place) → ◌≡◌ {A = Result T PageFault} (Err fault) (Err (Damaged place))
+fault_passed {U = U} {result = result} {fault = fault} {place = place} is damaged =
+    let why = err_from_is_err_and result is in
+    let same : ◌≡◌ {A = Result U PageFault} (Err fault) (Err (Damaged place)) = sym (why.1 ∙ ap Err why.2) ∙ damaged in
+    let one : fault ≡ Damaged place = cc (same) in
+    ap Err one
+
+-- ---- a call may be made again
+
+-- the pages that there are
+heap_or_not : (key : PageKey) → (space : Space) → key.space ≡ space → (IsHeapKey key → IsSystemOrHeap key) → ((IsHeapKey key → ⊥) → IsSystemOrHeap key) → IsSystemOrHeap key
+heap_or_not key Home is heap off = heap (inl is)
+heap_or_not key Overflow is heap off = heap (inr is)
+heap_or_not key Image is heap off = off (λ one. not one)
+  where
+    not : IsHeapKey key → ⊥
+    not (inl home) = let both : Home ≡ Image = sym home ∙ is in absurd (cc)
+    not (inr over) = let both : Overflow ≡ Image = sym over ∙ is in absurd (cc)
+heap_or_not key System is heap off = inl is
+
+module _ {T : Type 0} {change : told.Change} (old new : StoreView) {value : T} (makes : Makes change (access old) (access new) (Ok value)) (root : new.root ≡ old.root) where
+  pub ready_made : new.number ≡ old.number → IsReady old → IsLogBehind new.root new.log → IsReady new
+  ready_made number ready behind = record {
+    number_low = omega (arith, ready.number_low, number);
+    number_high = omega (arith, ready.number_high, number);
+    formed = subst IsWellFormed (sym root) ready.formed;
+    size = makes.step.passes.slots ∙ ready.size ∙ ap (λ (r : Root). r.slots) (sym root);
+    log_pages = ap (λ (b : Backing). b.log_pages) makes.step.passes.backing ∙ ready.log_pages ∙ ap (λ (r : Root). r.log_pages) (sym root);
+    area = ap (λ (b : Backing). b.area) makes.step.passes.backing ∙ ready.area ∙ ap (λ (r : Root). r.area) (sym root);
+    log = behind;
+    system = λ page low. (heap_step old new makes).mapped_off (page_key 0 System page) (λ heap. off_system (page_key 0 System page) heap refl) ∙ ready.system page low;
+    only = λ key is. heap_or_not key key.space refl (λ heap. inr heap) (λ off. ready.only key (sym ((heap_step old new makes).mapped_off key off) ∙ is));
+    pending_places = (keeps old new makes).places ∙ ready.pending_places;
+    settled_now = makes.step.passes.leaves.stays_settled ready.settled_now;
+    heaps = λ told. (makes.alters.changes.sets (makes.step.passes.leaves.told.1 told)).heaps;
+  }
+
+  -- ---- what a stop leaves, and the rest of what is shown
+
+  module _ (told : IsTold old.pages.disk) where
+    pub leaves_made : {stored : Stored} → new.number ≡ old.number → old.pages.settled ≡ true → LeavesStore old stored → LeavesStore new stored
+    leaves_made number settled disk = record {
+      number_is = disk.number_is ∙ sym number;
+      root_is = disk.root_is ∙ sym root;
+      owners_are = disk.owners_are ∙ ap (λ (b : Backing). b.shadow) (sym makes.step.passes.backing);
+      fixes = λ image has. disk.fixes image (subst (λ (fixed : Fixed). HasFixed fixed image) (makes.step.passes.leaves.same settled told) has);
+    }
+
+    pub written_made : IsReady old → AreWritten old.pages.held old.catalog → AreWritten new.pages.held new.catalog
+    written_made ready written = (keeps old new makes).written told ready.pending_places written
+
+  pub definitions_made : {listing : Listing} → SameDefinitions listing old.catalog.listing → SameDefinitions listing new.catalog.listing
+  definitions_made same = same_then same (counts_same change makes.alters.relation old.catalog new.catalog makes.alters.listed makes.alters.counts)
+
+  pub two_made : AreCounted new.pages → TakesTwo (page_counts old.pages) (page_counts new.pages)
+  two_made counted = takes_two makes.step counted makes.takes.mapped
+
+-- by the result
+pub ready_by : {T : Type 0} {change : told.Change} (old new : StoreView) (result : Result T PageFault) → Makes change (access old) (access new) result → new.root ≡ old.root → new.number ≡ old.number → IsReady old → IsLogBehind new.root new.log → OnOk result (IsReady new)
+ready_by old new (Ok value) makes root number ready behind = ready_made old new makes root number ready behind
+ready_by old new (Err fault) makes root number ready behind = tt

@@ -1,0 +1,27 @@
+mod Places
+mod Pieces
+mod Selected
+mod Nexts
+mod Ended
+mod Checkpointed
+mod Passed
+pub mod FirstOwners
+pub mod FirstStore
+pub mod Formats
+pub mod Empties
+pub mod Made
+pub mod Rows
+pub mod Found
+pub mod Census
+pub mod Looked
+pub mod Resting
+pub mod Read
+pub mod Begun
+pub mod Unopened
+pub mod Definitions
+pub mod Growing
+pub mod Ways
+pub mod Altered
+pub mod Making
+pub mod Turning
+pub mod Cutting

@@ -1,0 +1,110 @@
+-- The calls by which the disk is brought up to date: what they ask for, and what they leave.
+use Rattle.std.specs.Prelude.{◌≡◌, ◌↔◌, ℕ, ◌+◌, ◌-◌, ◌/◌, ◌<◌, ◌≤◌, ◌||◌, List, ◌++◌, fold, min, count_by, Result, Err, IsErrOf}
+use Rattle.rss_base.specs.DiskRule.{Pages, IsTold, Continues}
+use Rattle.rss_base.specs.Faults.{Rises}
+use Rattle.rss_base.specs.Sizes.{piece_bytes, largest_checkpoint, position_limit}
+use Rattle.rss_base.specs.Layout.{map_pages}
+use Rattle.rss_base.specs.Paged.{Mapped, mapped_of}
+use Rattle.rss_base.specs.LogRecords.{ArePlaced, IsSpellable}
+use Rattle.rss_base.specs.LogPages.{IsNewPiece}
+use Rattle.rss_base.specs.Steps.{PagesView}
+use Rattle.rss_base.specs.declared.fault.PageFault.{PageFault}
+use Rattle.rss_base.specs.declared.fault.PageFault.TheVariants.{Device as DeviceFailed, Damaged, NoMemory}
+use Rattle.rss_base.specs.declared.key.Space.TheVariants.{Overflow}
+use Rattle.rss_base.specs.declared.log_record.LogRecord.TheVariants as records
+use Rattle.rss_base.specs.declared.place.Place.{Place}
+use Rattle.rss_base.specs.declared.root.Root.{Root}
+use Rattle.rss_log.specs.Logs.{LogView, free_of}
+use Rattle.rss_model.specs.Fits.{Fits}
+use Rattle.rss_model.specs.Machine.{State, now}
+use Rattle.rss_model.specs.Meter.{free_between}
+use Rattle.rss_model.specs.Kept.{FitMixed, IsMetered}
+use Rattle.rss_model.specs.Meanings.{Logged, as_bytes}
+use Rattle.rss_model.specs.EngineLogs.{EngineLog, all_logged, saved_log, TiesState}
+use Rattle.rss_model.specs.LogLaws.{committed_now}
+use Rattle.rss_model.specs.Store.{Stored, SpellsTables, size_of}
+use Rattle.rss_access.specs.Written.{AreWritten, heap_now, is_pending}
+use Rattle.rss_catalog.specs.Catalogs.{CatalogView}
+use Rattle.rss_store.specs.Stores.{StoreView}
+use Rattle.rss_store.specs.Shown.{LeavesStore, HoldsLogged, HoldsTables}
+
+-- ---- room in the log
+
+-- A record of this size fits, and then the largest Checkpoint record from this head on. Positions stay numbers.
+pub record HasLogRoom (log : LogView) (size head : ℕ) : Type 0 where
+  pub before : size ≤ free_of log
+  pub behind : largest_checkpoint ≤ free_between log.pages head (log.end + size)
+  pub limit : log.end + size < position_limit
+
+-- ---- an end
+
+-- the pages that an end of a transaction writes: the selector, the root that isn't selected, and those of pieces that become full
+pub data IsEndPlace (number : ℕ) (root : Root) (end : ℕ) (q : ℕ) : Type 0 where
+  selector : q ≡ 0 → IsEndPlace number root end q
+  root : q ≡ 3 - number → IsEndPlace number root end q
+  piece : IsNewPiece root end q → IsEndPlace number root end q
+
+-- How many pieces become full where the log grows up to this end.
+abbrev pub new_pieces : Root → ℕ → ℕ
+new_pieces before end = end / piece_bytes - before.end / piece_bytes
+
+-- the state to come keeps what a stop needs
+pub record MayCommit (t : ℕ) (state : State) : Type 0 where
+  pub fit : FitMixed (committed_now t state)
+  pub metered : IsMetered (committed_now t state)
+
+-- ---- a checkpoint
+
+-- the least of the marks' positions, or this one where there is none less
+abbrev pub least_mark : ℕ → List (ℕ × ℕ) → ℕ
+least_mark end marks = fold (λ least mark. min least mark.1) end marks
+
+-- What is to be so behind a checkpoint: the state is tied to the log that has its record, over the tables now, which the pages spell. A stop leaves a store before.
+pub record CanCheckpoint (view : StoreView) (marks : List (ℕ × ℕ)) (stored : Stored) (next : State) : Type 0 where
+  pub log : EngineLog
+  pub disk : LeavesStore view stored
+  pub logged : HoldsLogged view log
+  pub on_disk : stored.older ++ stored.newer ≡ log.older ++ log.written
+  pub dropped : List Logged
+  pub kept : List Logged
+  pub split : all_logged log ≡ dropped ++ kept
+  pub gone : ArePlaced log.head (as_bytes dropped) (least_mark log.end marks)
+  pub stay : ArePlaced (least_mark log.end marks) (as_bytes kept) log.end
+  pub spellable : IsSpellable (records.Checkpoint marks)
+  pub size : next.size ≡ size_of view.root
+  pub ties : TiesState view.catalog.listing (now next)
+      (saved_log log (least_mark log.end marks) kept marks) next
+  pub spells : SpellsTables view.pages.held view.catalog.listing (now next)
+  pub written : AreWritten view.pages.held view.catalog
+  pub fit : Fits view.root.slots (now next)
+  pub metered : IsMetered next
+  pub heap : next.meter.heap ≡ heap_now view.pages
+  pub over : next.meter.over ≡ mapped_of view.pages.mapped Overflow view.pages.slots
+
+-- which pages were changed, with those of the catalog that are to be written
+abbrev pub changed_with : PagesView → CatalogView → Mapped
+changed_with pages catalog key = pages.changed key || is_pending catalog key
+
+-- How many writes it makes at most beside those of the changed pages, where its record has this size: the pages of the catalog, the map, the log's pieces, a root and the selector.
+abbrev pub other_writes : StoreView → ℕ → ℕ
+other_writes view size =
+    count_by (λ b. b) view.catalog.pending + map_pages view.pages.slots
+    + new_pieces view.root (view.log.end + size) + 2
+
+-- a store as it is left behind it, whose tables are the committed ones of this state
+abbrev pub IsSavedStore : StoreView → State → Pages → Type 0
+IsSavedStore view next image = HoldsTables (size_of view.root) next.base image
+
+-- ---- what a call passes on
+
+-- Whatever came out: no page is asked for, the device tells its contents and its history as before, each fault has its cause, and memory never runs out.
+pub record CommitsPages {T : Type 0} (old new : PagesView) (result : Result T PageFault) : Type 0 where
+  pub asks : new.asks ≡ old.asks
+  pub slots : new.slots ≡ old.slots
+  pub frames : new.backing.frames ≡ old.backing.frames
+  pub told : IsTold old.disk ↔ IsTold new.disk
+  pub history : IsTold old.disk → Continues old.disk new.disk
+  pub later : old.faults ≤ new.faults
+  pub failed : IsErrOf result DeviceFailed → Rises old.faults new.faults
+  pub sound : (place : Place) → result ≡ Err (Damaged place) → IsTold old.disk → ⊥
+  pub memory : IsErrOf result NoMemory → ⊥

@@ -1,0 +1,240 @@
+-- What an opening finds on a device, and the store to which it leads.
+use Rattle.std.specs.Prelude.{◌≡◌, ◌⊎◌, ℕ, ◌+◌, ◌*◌, ◌-◌, ◌^◌, ◌≤◌, min, List, [], length, Option, Some, None, Result, Err, IsErrOf, OnOk, ⊤}
+use Rattle.rss_base.specs.declared.fault.OpenFault.{OpenFault}
+use Rattle.rss_base.specs.declared.fault.OpenFault.TheVariants.{Device as DeviceFailed, NotAStore, Damaged, WrongSize, NoMemory as LacksMemory}
+use Rattle.rss_base.specs.declared.fault.PageFault.{PageFault}
+use Rattle.rss_base.specs.declared.fault.PageFault.TheVariants.{Device as PageDevice, Damaged as PageDamaged}
+use Rattle.rss_base.specs.declared.log_record.LogRecord.TheVariants as records
+use Rattle.rss_base.specs.declared.root.Root.{Root}
+use Rattle.rss_base.specs.declared.key.PageKey.{PageKey}
+use Rattle.rss_base.specs.declared.place.Place.{Place}
+use Rattle.rss_base.specs.declared.place.Place.TheVariants.{Room, Log as LogPlace}
+use Rattle.rss_base.specs.DiskRule.{Disk, Pages, Told, IsTold, Leaves, SameOff, Passes, Continues}
+use Rattle.rss_base.specs.Devices.{DeviceView, OnlyReads}
+use Rattle.rss_base.specs.Faults.{Rises}
+use Rattle.rss_base.specs.Layout.{map_at, log_at, slots_at, IsWellFormed, HasRoot}
+use Rattle.rss_base.specs.LogPages.{kept_from}
+use Rattle.rss_base.specs.LogRecords.{record_size, BeginsWith}
+use Rattle.rss_base.specs.PageMap.{owner_of, page_count, IsTable, IsMap}
+use Rattle.rss_base.specs.Paged.{HasFixed}
+use Rattle.rss_base.specs.Steps.{PagesView, device_below}
+use Rattle.rss_log.specs.Logs.{LogView, bytes_from}
+use Rattle.rss_model.specs.Tables.{Tables}
+use Rattle.rss_model.specs.Machine.{StoreSize, State, IsAtRest}
+use Rattle.rss_model.specs.Kept.{IsMetered, HasLogRoom}
+use Rattle.rss_model.specs.LogLaws.{IsRested}
+use Rattle.rss_model.specs.Store.{Stored, IsStore, OpensIn, IsBrokenAt, IsOverfull, size_of}
+use Rattle.rss_access.specs.Changes.{both}
+use Rattle.rss_access.specs.Written.{AreWritten}
+use Rattle.rss_restart.specs.Opened.{IsOpened}
+use Rattle.rss_restart.specs.Surveys.{IsLogPlace}
+use Rattle.rss_store.specs.Stores.{StoreView, IsLogBehind, IsReady, IsSaved}
+use Rattle.rss_store.specs.Shown.{HoldsTables, Shows}
+
+-- ---- the layout
+
+-- The root of this number and its map are such as a store has.
+pub record IsLayout (root : Root) (number : ℕ) (owners : List (Option PageKey)) : Type 0 where
+  pub number_low : 1 ≤ number
+  pub number_high : number ≤ 2
+  pub formed : IsWellFormed root
+  pub table : IsTable owners
+  pub slots : length owners ≡ root.slots
+  pub half : 2 * page_count owners ≤ length owners
+
+-- the pages have this root and this map
+pub record HasLayout (pages : Pages) (root : Root) (number : ℕ) (owners : List (Option PageKey)) : Type 0 where
+  pub root_there : HasRoot pages number root
+  pub map : IsMap root.slots pages (map_at root.slots root.area) owners
+
+-- The log in memory is that of the root, up to the root's end.
+pub record IsLogRead (root : Root) (log : LogView) : Type 0 where
+  pub behind : IsLogBehind root log
+  pub end : log.end ≡ root.end
+
+-- its bytes are those that the pages have
+abbrev pub HasLogBytes : Pages → Root → LogView → Type 0
+HasLogBytes pages root log =
+    log.kept ≡ kept_from pages (log_at root.slots) root.log_pages root.head root.end root.tail
+
+-- ---- a log at rest
+
+-- The log ends with the Checkpoint record at this position, and that names no transaction.
+pub record RestsAt (log : LogView) (position : ℕ) : Type 0 where
+  pub begins : BeginsWith (bytes_from log position) (records.Checkpoint []) (bytes_from log log.end)
+  pub last : log.end ≡ position + record_size (records.Checkpoint [])
+
+-- no Checkpoint record begins at this position
+abbrev pub NamesNone : LogView → ℕ → Type 0
+NamesNone log position =
+    (marks : List (ℕ × ℕ)) (rest : List ℕ)
+    → BeginsWith (bytes_from log position) (records.Checkpoint marks) rest → ⊥
+
+-- an opening takes no checkpoint of a log that ends here or behind
+abbrev pub position_most : ℕ
+position_most = 2 ^ 62
+
+-- ---- a store in memory, as it was read
+
+-- The pages on the device are this store, and the one in memory is as it was read from them. Whatever is done with its pages, a stop leaves this store.
+pub record IsReadFrom (stored : Stored) (view : StoreView) : Type 0 where
+  pub pages : Pages
+  pub store : IsStore pages stored
+  pub told : view.pages.disk.contents ≡ Some pages
+  pub number_is : stored.number ≡ view.number
+  pub root_is : stored.root ≡ view.root
+  pub opened : IsOpened pages stored (both view.pages view.catalog) view.log
+  pub written : AreWritten view.pages.held view.catalog
+  pub fixes : (image : Pages) → HasFixed view.pages.fixed image → IsStore image stored
+
+-- ---- where it begins
+
+-- the pages are a store with these tables, and are opened in this state
+pub record OpensAt (image : Pages) (size : StoreSize) (tables : Tables) (state : State) : Type 0 where
+  pub holds : HoldsTables size tables image
+  pub begins : OpensIn image size tables state
+
+-- The store is in a state of the machine at rest, with the tables to which this one on the disk opens. The meter says of it what each step keeps, and the log has room for what is owed. What a stop leaves is opened in this state.
+pub record BeginsIn (stored : Stored) (new : StoreView) : Type 0 where
+  pub state : State
+  pub shows : Shows new state
+  pub rest : IsAtRest (size_of stored.root) stored.tables state
+  pub metered : IsMetered state
+  pub room : HasLogRoom state
+  pub opens : (image : Pages) → Leaves new.pages.disk image
+      → OpensAt image (size_of stored.root) stored.tables state
+
+-- ---- a store that was read is brought to rest
+
+-- The positions of its log are used up, which shows at its end, and it isn't at rest.
+pub record IsUsedUp (view : StoreView) (place : Place) : Type 0 where
+  pub end : position_most ≤ view.log.end
+  pub is : place ≡ LogPlace view.log.end
+  pub busy : (stored : Stored) → IsReadFrom stored view → IsRested stored → ⊥
+
+-- At this position of the log something is found damaged: it was read from no store, or its positions are used up. Only what isn't fixed may have been written.
+pub record FindsDamage (old new : StoreView) (place : Place) : Type 0 where
+  pub at : IsLogPlace old.log place
+  pub why : ((stored : Stored) → IsReadFrom stored old → ⊥) ⊎ IsUsedUp old place
+  pub keeps : Passes old.pages.disk new.pages.disk (HasFixed old.pages.fixed)
+
+-- By the result: it is ready, all of it is on the disk, and it is where the store begins from which it was read. At each moment a stop leaves a store of the same tables. Each fault has its cause.
+pub record Begins {T : Type 0} (old new : StoreView) (result : Result T PageFault) : Type 0 where
+  pub ready : OnOk result (IsReady new)
+  pub saved : OnOk result (IsSaved new)
+  pub begins : OnOk result ((stored : Stored) → IsReadFrom stored old → BeginsIn stored new)
+  pub moments : (stored : Stored) → IsReadFrom stored old
+      → Passes old.pages.disk new.pages.disk (HoldsTables (size_of stored.root) stored.tables)
+  pub told : IsTold old.pages.disk → IsTold new.pages.disk
+  pub history : IsTold old.pages.disk → Continues old.pages.disk new.pages.disk
+  pub later : old.pages.faults ≤ new.pages.faults
+  pub failed : IsErrOf result PageDevice → Rises old.pages.faults new.pages.faults
+  pub damaged : (place : Place) → result ≡ Err (PageDamaged place) → IsTold old.pages.disk
+      → FindsDamage old new place
+  pub slots : new.pages.slots ≡ old.pages.slots
+  pub frames : new.pages.backing.frames ≡ old.pages.backing.frames
+
+-- ---- pages that don't open
+
+-- the pages are no store
+abbrev pub IsNoStore : Pages → Type 0
+IsNoStore pages = (stored : Stored) → IsStore pages stored → ⊥
+
+-- The positions of the log are used up, which shows at its end: no checkpoint is taken behind it, and one would be needed.
+pub record IsSpent (pages : Pages) (place : Place) : Type 0 where
+  pub number : ℕ
+  pub root : Root
+  pub root_there : HasRoot pages number root
+  pub end : position_most ≤ root.end
+  pub is : place ≡ LogPlace root.end
+  pub busy : (stored : Stored) → IsStore pages stored → IsRested stored → ⊥
+
+-- why the pages don't open
+pub record IsRefused (pages : Pages) (fault : OpenFault) : Type 0 where
+  pub broken : (place : Place) → fault ≡ NotAStore place → IsBrokenAt place pages
+  pub names : (place : Place) → IsBrokenAt place pages
+      → (fault ≡ NotAStore place) ⊎ (fault ≡ DeviceFailed) ⊎ (fault ≡ LacksMemory)
+  pub no_store : (place : Place) → fault ≡ Damaged place → IsNoStore pages ⊎ IsSpent pages place
+  pub only_overfull : fault ≡ Damaged Room → IsOverfull pages
+  pub overfull : IsOverfull pages
+      → (fault ≡ Damaged Room) ⊎ (fault ≡ DeviceFailed) ⊎ (fault ≡ LacksMemory)
+
+-- A device didn't open, and this is the fault: why, where it tells its contents.
+pub record IsUnopened (device : DeviceView) (fault : OpenFault) : Type 0 where
+  pub refused : Told device.disk (λ pages. IsRefused pages fault)
+  pub right_size : fault ≡ WrongSize → ⊥
+
+-- ---- what an opening passes on
+
+-- What a stop within an opening of a store may leave: what it could leave before, or a store with the same tables.
+abbrev pub MayLeave : Disk → Stored → Pages → Type 0
+MayLeave before stored image =
+    Leaves before image ⊎ HoldsTables (size_of stored.root) stored.tables image
+
+-- However it ends, the device tells its contents as before, and no fault is forgotten. A store at rest is only read.
+pub record PassesOpening (old new : DeviceView) : Type 0 where
+  pub told : IsTold old.disk → IsTold new.disk
+  pub history : IsTold old.disk → Continues old.disk new.disk
+  pub moments : Told old.disk (λ pages. (stored : Stored) → IsStore pages stored
+      → Passes old.disk new.disk (MayLeave old.disk stored))
+  pub rested : Told old.disk (λ pages. (stored : Stored) → IsStore pages stored → IsRested stored
+      → OnlyReads old new)
+  pub later : old.faults ≤ new.faults
+
+-- a data slot that the map of a root leaves free
+pub record IsFreeSlot (root : Root) (owners : List (Option PageKey)) (q : ℕ) : Type 0 where
+  pub behind : slots_at root.slots root.log_pages ≤ q
+  pub free : owner_of owners (q - slots_at root.slots root.log_pages) ≡ None
+
+-- The image has all that the selected root of these pages names: it differs from them in free slots alone.
+pub record HasNamed (pages image : Pages) : Type 0 where
+  pub number : ℕ
+  pub root : Root
+  pub owners : List (Option PageKey)
+  pub there : HasLayout pages root number owners
+  pub same : SameOff (IsFreeSlot root owners) pages image
+
+-- the device is refused, at no place of its log
+abbrev pub IsEarlyRefusal : OpenFault → Type 0
+IsEarlyRefusal (NotAStore place) = ⊤
+IsEarlyRefusal (Damaged (LogPlace position)) = ⊥
+IsEarlyRefusal (Damaged place) = ⊤
+IsEarlyRefusal fault = ⊥
+
+-- It is handed back. One that tells its contents comes back as it was if it is refused, but that a failure of it was counted; refused at a place of its log, it may have been written in free slots.
+pub record IsHandedBack (old back : DeviceView) (fault : OpenFault) : Type 0 where
+  pub refused : IsUnopened old fault
+  pub cause : fault ≡ DeviceFailed → Rises old.faults back.faults
+  pub passes : PassesOpening old back
+  pub reads : IsEarlyRefusal fault → IsTold old.disk → OnlyReads old back
+  pub keeps : (position : ℕ) → fault ≡ Damaged (LogPlace position) → Told old.disk (λ pages.
+      Passes old.disk back.disk (λ image. Leaves old.disk image ⊎ HasNamed pages image))
+
+-- ---- a store that was read, and one that was opened
+
+-- The store in memory is as it was read from a device, which was only read.
+pub record ReadsFrom (old : DeviceView) (new : StoreView) : Type 0 where
+  pub ready : IsReady new
+  pub saved : IsSaved new
+  pub reads : OnlyReads old (device_below new.pages)
+  pub half : 2 * page_count new.pages.backing.shadow ≤ new.root.slots
+  pub layout : Told old.disk (λ pages.
+      HasLayout pages new.root new.number new.pages.backing.shadow)
+  pub named : Told old.disk (λ pages. (image : Pages) → HasFixed new.pages.fixed image
+      → HasNamed pages image)
+  pub read : Told old.disk (λ pages. (stored : Stored) → IsStore pages stored
+      → IsReadFrom stored new)
+
+-- The store is open. The device's pages are out of form nowhere, and where they are a store, that is where it begins.
+pub record OpensStore (old : DeviceView) (new : StoreView) : Type 0 where
+  pub ready : IsReady new
+  pub saved : IsSaved new
+  pub begins : Told old.disk (λ pages. (stored : Stored) → IsStore pages stored
+      → BeginsIn stored new)
+  pub passes : PassesOpening old (device_below new.pages)
+  pub unbroken : (place : Place) → Told old.disk (λ pages. IsBrokenAt place pages → ⊥)
+  pub not_overfull : Told old.disk (λ pages. IsOverfull pages → ⊥)
+
+-- So many of the pages may be in memory at once, or as many as there are slots where these are fewer.
+abbrev pub HasFrames : ℕ → PagesView → Type 0
+HasFrames frames pages = pages.backing.frames ≡ min pages.slots frames

@@ -1,0 +1,53 @@
+-- A durable store as its callers see it, and what holds of it between two calls, whatever its device tells.
+use Rattle.std.specs.Prelude.{◌≡◌, ℕ, ◌<◌, ◌≤◌, true, List, ◌++◌, length}
+use Rattle.rss_base.specs.DiskRule.{IsTold}
+use Rattle.rss_base.specs.Sizes.{system_pages}
+use Rattle.rss_base.specs.Layout.{IsWellFormed}
+use Rattle.rss_base.specs.Steps.{PagesView}
+use Rattle.rss_base.specs.StoredPages.{mapped_by}
+use Rattle.rss_base.specs.declared.key.PageKey.{PageKey}
+use Rattle.rss_base.specs.declared.root.Root.{Root}
+use Rattle.rss_tuple.specs.Heaps.{AreHeaps}
+use Rattle.rss_catalog.specs.Catalogs.{CatalogView, HasSystemPages}
+use Rattle.rss_log.specs.Logs.{LogView, IsLog, bytes_from, piece_start}
+use Rattle.rss_access.specs.Written.{IsSystemOrHeap}
+
+-- pages: those with the tuples and the catalog.
+-- catalog: what is defined, with the counts of tuples.
+-- log: the log in memory.
+-- root, number: the selected root and its number.
+pub record StoreView : Type 1 where
+  pub pages : PagesView
+  pub catalog : CatalogView
+  pub log : LogView
+  pub root : Root
+  pub number : ℕ
+
+-- The log in memory is that of the root, with the bytes that were appended since.
+pub record IsLogBehind (root : Root) (log : LogView) : Type 0 where
+  pub is_log : IsLog log
+  pub pages : log.pages ≡ root.log_pages
+  pub head : log.head ≡ root.head
+  pub later : root.end ≤ log.end
+  pub more : List ℕ
+  pub bytes : bytes_from log (piece_start root.end) ≡ root.tail ++ more
+
+-- A call may be made. As yet there are neither images nor links.
+pub record IsReady (view : StoreView) : Type 0 where
+  pub number_low : 0 < view.number
+  pub number_high : view.number < 3
+  pub formed : IsWellFormed view.root
+  pub size : view.pages.slots ≡ view.root.slots
+  pub log_pages : view.pages.backing.log_pages ≡ view.root.log_pages
+  pub area : view.pages.backing.area ≡ view.root.area
+  pub log : IsLogBehind view.root view.log
+  pub system : HasSystemPages view.pages.mapped
+  pub only : (key : PageKey) → view.pages.mapped key ≡ true → IsSystemOrHeap key
+  pub pending_places : length view.catalog.pending ≡ system_pages
+  pub settled_now : view.pages.settled ≡ true
+  pub heaps : IsTold view.pages.disk → AreHeaps view.pages
+
+-- The selected root has the whole log, and the map that it names has each page.
+pub record IsSaved (view : StoreView) : Type 0 where
+  pub log : view.root.end ≡ view.log.end
+  pub pages : view.pages.mapped ≡ mapped_by view.pages.backing.shadow

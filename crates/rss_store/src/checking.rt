@@ -1,0 +1,219 @@
+// What the pages of a store hold, as an opening finds it.
+ghost use Rattle.std.specs.Prelude.{◌≡◌, ◌≢◌, ◌+◌, ◌*◌, ◌≤◌, length, true, is_some, IfSome, IfNone, IfOk, IfErr, OnOk, Err};
+ghost use Rattle.rss_base.specs.Looking.{ChecksPages};
+ghost use Rattle.rss_base.specs.PageMap.{IsTable, page_count};
+ghost use Rattle.rss_base.specs.Sizes.{system_pages, relations_most, segments as segments_most};
+ghost use Rattle.rss_base.specs.Listings.{ListingFits, segment_at};
+ghost use Rattle.rss_base.specs.declared.fault.PageFault.TheVariants.{Damaged as PageDamaged};
+ghost use Rattle.rss_base.specs.declared.place.Place.{Place as AnyPlace};
+ghost use Rattle.rss_base.specs.declared.place.Place.TheVariants.{Count as CountPlace};
+ghost use Rattle.rss_base.specs.declared.key.PageKey.{PageKey as Key};
+ghost use Rattle.rss_base.specs.declared.key.Space.TheVariants.{System};
+ghost use Rattle.rss_page.specs.Slotted.{IsHeapKey};
+ghost use Rattle.rss_tuple.specs.Checked.{pages_of};
+ghost use Rattle.rss_store.specs.Looks.{IsPlainPage as IsStorePage};
+ghost use Rattle.rss_access.specs.Bodies.{is_body};
+ghost use Rattle.rss_store.specs.Checks.{AreSeen, ChecksSegment, MissesSegment, IsCountOf};
+ghost use Rattle.rss_store.specs.Checks.{ChecksSegments, MissesOne};
+ghost use Rattle.rss_store.specs.Looks.{FindsTables, FindsNone};
+
+use rss_base::{Kind, PageFault, PageKey, Pages, Place, RELATIONS_MOST, SEGMENTS, Space, Tid};
+use rss_catalog::Catalog;
+use rss_pagemap::SlotTable;
+use rss_tuple::{Visitor, check};
+use rss_value::spells;
+use std::alloc::Global;
+
+/// How many tuples a relation has at most.
+pub const TUPLES_MOST: u32 = 1 << 20;
+
+/// How many places there are for the numbers of relations.
+pub const RELATIONS: usize = RELATIONS_MOST as usize;
+
+/// How many pages a map has.
+pub fn pages_in(table: &SlotTable) -> u32
+    ensures pages { result ≡ page_count table.now }
+    ensures table { IsTable table.now }
+{
+    table
+        .as_slice()
+        .iter()
+        .filter(|owner| owner.is_some())
+        .count() as u32
+}
+
+/// The catalog of the pages, which are looked through. What is found of the room on each page is
+/// noted there.
+pub fn look_through<P: Pages>(alloc: Global, pages: &mut P) -> Result<Catalog, PageFault>
+    ensures finds { IfOk result (FindsTables (P.view pages.old) (P.view pages.new)) }
+    ensures none { (place : AnyPlace) → result ≡ Err (PageDamaged place)
+        → FindsNone (P.view pages.old) place }
+    ensures did { ChecksPages IsHeapKey (1040 * (P.view pages.old).slots + system_pages)
+        (P.view pages.old) (P.view pages.new) result }
+{
+    let catalog = Catalog::load(alloc, pages)?;
+    if let Some(key) = first_foreign(pages, &catalog) {
+        return Err(PageFault::Damaged(Place::Page(key)));
+    }
+    look_at_segments(alloc, pages, &catalog)?;
+    Ok(catalog)
+}
+
+/// A page that no store with these definitions has: one of a segment that isn't defined, or of the
+/// image space.
+fn first_foreign<P: Pages>(pages: &P, catalog: &Catalog) -> Option<PageKey>
+    ensures some { IfSome result (λ key. (P.view pages.now).mapped key ≡ true
+        × (IsStorePage catalog.now.listing key → ⊥)) }
+    ensures none { IfNone result ((key : Key) → (P.view pages.now).mapped key ≡ true
+        → IsStorePage catalog.now.listing key) }
+{
+    for segment in 1..=SEGMENTS {
+        if let Some(key) = foreign_in(pages, catalog, segment) {
+            return Some(key);
+        }
+    }
+    None
+}
+
+/// Such a page with the number of this segment.
+fn foreign_in<P: Pages>(pages: &P, catalog: &Catalog, segment: u8) -> Option<PageKey>
+    requires low { 1 ≤ segment }
+    requires high { segment ≤ segments_most }
+    ensures some { IfSome result (λ key. (P.view pages.now).mapped key ≡ true
+        × (IsStorePage catalog.now.listing key → ⊥)) }
+    ensures none { IfNone result ((key : Key) → key.segment ≡ segment
+        → (P.view pages.now).mapped key ≡ true → IsStorePage catalog.now.listing key) }
+{
+    if let Some(key) = first_of(pages, segment, Space::Image) {
+        return Some(key);
+    }
+    if catalog.used(Kind::Segment, segment) {
+        return None;
+    }
+    if let Some(key) = first_of(pages, segment, Space::Home) {
+        return Some(key);
+    }
+    first_of(pages, segment, Space::Overflow)
+}
+
+/// The first page of a segment and a space.
+fn first_of<P: Pages>(pages: &P, segment: u8, space: Space) -> Option<PageKey>
+    requires low { 1 ≤ segment }
+    requires high { segment ≤ segments_most }
+    requires space { space ≢ System }
+    ensures some { IfSome result (λ key. (P.view pages.now).mapped key ≡ true
+        × (key.segment ≡ segment) × (key.space ≡ space)) }
+    ensures none { IfNone result ((key : Key) → key.segment ≡ segment → key.space ≡ space
+        → (P.view pages.now).mapped key ≡ true → ⊥) }
+{
+    let number = pages.first_mapped(segment, space, 0)?;
+    Some(PageKey {
+        segment,
+        space,
+        number,
+    })
+}
+
+/// Looks through the pages of each segment that is defined.
+fn look_at_segments<P: Pages>(
+    alloc: Global,
+    pages: &mut P,
+    catalog: &Catalog,
+) -> Result<(), PageFault>
+    requires { ListingFits catalog.now.listing }
+    ensures checks { OnOk result
+        (ChecksSegments catalog.now.listing (P.view pages.old) (P.view pages.new)) }
+    ensures misses { (place : AnyPlace) → result ≡ Err (PageDamaged place)
+        → MissesOne catalog.now.listing (P.view pages.old) place }
+    ensures did { ChecksPages IsHeapKey (1040 * (P.view pages.old).slots)
+        (P.view pages.old) (P.view pages.new) result }
+{
+    for segment in 1..=SEGMENTS {
+        if catalog.used(Kind::Segment, segment) {
+            look_at_segment(alloc, pages, catalog, segment)?;
+        }
+    }
+    Ok(())
+}
+
+/// Counts the tuples of a segment that it sees by their relations, each up to 2^32 - 1.
+#[derive(Drop)]
+struct Census<'a> {
+    catalog: &'a Catalog,
+    segment: u8,
+    live: [u32; RELATIONS],
+    ghost places: { length catalog.now.listing.relations ≡ relations_most },
+}
+
+impl<'a> Visitor for Census<'a> {
+    ghost is_good = { λ census. is_body census.catalog.now.listing census.segment };
+
+    ghost saw = { λ census. AreSeen census.live };
+
+    fn see(&mut self, _tid: Tid, body: &[u8]) -> bool {
+        let Some((number, values)) = body.split_first() else {
+            return false;
+        };
+        if *number == 0 || *number > RELATIONS_MOST {
+            return false;
+        }
+        let place = usize::from(*number) - 1;
+        self.live[place] = self.live[place].saturating_add(1);
+        if !self.catalog.used(Kind::Relation, *number) {
+            return false;
+        }
+        let relation = self.catalog.relation(*number);
+        relation.segment == self.segment && spells(relation.fields.as_slice(), values)
+    }
+}
+
+/// Looks through the pages of a segment: its tuples are those of its relations, as many as the
+/// catalog counts.
+fn look_at_segment<P: Pages>(
+    alloc: Global,
+    pages: &mut P,
+    catalog: &Catalog,
+    segment: u8,
+) -> Result<(), PageFault>
+    requires listed { is_some (segment_at catalog.now.listing segment) ≡ true }
+    requires fits { ListingFits catalog.now.listing }
+    ensures checks { OnOk result
+        (ChecksSegment catalog.now.listing segment (P.view pages.old) (P.view pages.new)) }
+    ensures misses { (place : AnyPlace) → result ≡ Err (PageDamaged place)
+        → MissesSegment catalog.now.listing segment (P.view pages.old) place }
+    ensures did { ChecksPages (pages_of segment) (130 * (P.view pages.old).slots)
+        (P.view pages.old) (P.view pages.new) result }
+{
+    let mut census = Census {
+        catalog,
+        segment,
+        live: [0; RELATIONS],
+    };
+    check(alloc, pages, segment, &mut census)?;
+    for number in 1..=RELATIONS_MOST {
+        check_count(
+            catalog,
+            segment,
+            number,
+            census.live[usize::from(number) - 1],
+        )?;
+    }
+    Ok(())
+}
+
+/// The relation of this number, if it is one of the segment, has as many tuples as were seen, and no
+/// more than a relation may have.
+fn check_count(catalog: &Catalog, segment: u8, number: u8, seen: u32) -> Result<(), PageFault>
+    ensures is { OnOk result (IsCountOf catalog.now.listing segment number seen) }
+    ensures misses { IfErr result (λ fault. (fault ≡ PageDamaged (CountPlace number))
+        × (IsCountOf catalog.now.listing segment number seen → ⊥)) }
+{
+    if !catalog.used(Kind::Relation, number) {
+        return Ok(());
+    }
+    let relation = catalog.relation(number);
+    if relation.segment == segment && (relation.live != seen || seen > TUPLES_MOST) {
+        return Err(PageFault::Damaged(Place::Count(number)));
+    }
+    Ok(())
+}

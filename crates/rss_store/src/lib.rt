@@ -1,0 +1,17 @@
+//! A durable store: pages with tuples, a catalog, a log and a root together, and what a stop leaves
+//! of them.
+#![tactic(auto)]
+
+mod appending;
+mod changing;
+mod checking;
+mod committing;
+mod formatting;
+mod opening;
+mod store;
+mod writing;
+
+pub use checking::{RELATIONS, TUPLES_MOST, look_through, pages_in};
+pub use formatting::format;
+pub use opening::open;
+pub use store::DurableStore;

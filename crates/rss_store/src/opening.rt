@@ -1,0 +1,286 @@
+// The opening of a store.
+ghost use Rattle.std.specs.Prelude.{◌≡◌, ◌↔◌, ◌*◌, ◌<◌, ◌≤◌, IsTrue, IfSome, IfNone, IfOk, IfErr, OnOk};
+ghost use Rattle.rss_base.specs.DiskRule.{Told, LeavesOnly};
+ghost use Rattle.rss_base.specs.Devices.{OnlyReads, ReadsStore};
+ghost use Rattle.rss_base.specs.Layout.{IsWellFormed, device_pages};
+ghost use Rattle.rss_base.specs.Paged.{mapped_pages};
+ghost use Rattle.rss_base.specs.Steps.{device_below};
+ghost use Rattle.rss_base.specs.Answers.{open_error};
+ghost use Rattle.rss_buffer.specs.Devices.{device_of};
+ghost use Rattle.rss_model.specs.LogLaws.{IsRested};
+ghost use Rattle.rss_model.specs.Store.{Stored};
+ghost use Rattle.rss_store.specs.Stores.{IsReady, IsSaved};
+ghost use Rattle.rss_store.specs.Opening.{IsLayout, HasLayout, IsLogRead, HasLogBytes, position_most};
+ghost use Rattle.rss_store.specs.Opening.{RestsAt, NamesNone, IsReadFrom, Begins};
+ghost use Rattle.rss_store.specs.Opening.{IsUnopened, IsHandedBack, ReadsFrom, OpensStore, HasFrames};
+ghost use Rattle.rss_store.specs.Parts.{view, pages_of};
+
+use crate::{DurableStore, look_through, pages_in};
+use rss_base::{
+    Device, LogRecord, Marks, OpenFault, PageFault, Pages, Place, Root, Unopened, log_at,
+};
+use rss_buffer::{Buffer, LEAST_FRAMES, MOST_FRAMES, Saving};
+use rss_log::Log;
+use rss_pagemap::{SlotTable, read_table};
+use rss_restart::restart;
+use rss_root::load;
+use rss_tuple::Store;
+use std::alloc::Global;
+
+/// A log that ends here or behind has no checkpoint more in an opening.
+const POSITION_MOST: u64 = 1 << 62;
+
+/// The selected root with its number, the map that it names, and its log.
+#[derive(Drop)]
+struct Layout {
+    root: Root,
+    number: u8,
+    table: SlotTable,
+    log: Log,
+}
+
+/// Reads the log of a root.
+fn read_log<D: Device>(alloc: Global, device: &mut D, root: &Root) -> Result<Log, OpenFault>
+    requires formed { IsWellFormed root.now }
+    requires size { (D.view device.old).size ≡ device_pages root.now }
+    ensures log { IfOk result (IsLogRead root.now) }
+    ensures bytes { IfOk result (λ log. Told (D.view device.old).disk (λ pages.
+        HasLogBytes pages root.now log)) }
+    ensures refused { IfErr result (IsUnopened (D.view device.old)) }
+    ensures size { (D.view device.new).size ≡ (D.view device.old).size }
+    ensures did { ReadsStore (D.view device.old) (D.view device.new) result }
+{
+    Log::load(
+        alloc,
+        device,
+        log_at(root.slots),
+        root.log_pages,
+        root.head,
+        root.end,
+        &root.tail,
+    )
+}
+
+/// Reads the layout of a store. Where it is refused the fault says why.
+fn read_layout<D: Device>(alloc: Global, device: &mut D) -> Result<Layout, OpenFault>
+    ensures layout { IfOk result (λ l. IsLayout l.root l.number l.table) }
+    ensures log { IfOk result (λ l. IsLogRead l.root l.log) }
+    ensures size { IfOk result (λ l. (D.view device.new).size ≡ device_pages l.root) }
+    ensures holds { IfOk result (λ l. Told (D.view device.old).disk (λ pages.
+        HasLayout pages l.root l.number l.table)) }
+    ensures bytes { IfOk result (λ l. Told (D.view device.old).disk (λ pages.
+        HasLogBytes pages l.root l.log)) }
+    ensures synced { OnOk result
+        (Told (D.view device.old).disk (LeavesOnly (D.view device.new).disk)) }
+    ensures refused { IfErr result (IsUnopened (D.view device.old)) }
+    ensures did { ReadsStore (D.view device.old) (D.view device.new) result }
+{
+    let (root, number) = load(device)?;
+    let table = read_table(alloc, device, &root)?;
+    if 2 * pages_in(&table) > root.slots {
+        return Err(OpenFault::Damaged(Place::Room));
+    }
+    let log = read_log(alloc, device, &root)?;
+    Ok(Layout {
+        root,
+        number,
+        table,
+        log,
+    })
+}
+
+/// The store whose layout was read, with its pages in a buffer of so many frames, where they hold
+/// tables.
+fn store_of<D: Device>(
+    alloc: Global,
+    device: D,
+    layout: Layout,
+    frames: u32,
+) -> Result<DurableStore<Buffer<D>>, Unopened<D>>
+    requires least { LEAST_FRAMES ≤ frames }
+    requires most { frames ≤ MOST_FRAMES }
+    requires layout { IsLayout layout.root layout.number layout.table }
+    requires log { IsLogRead layout.root layout.log }
+    requires size { (D.view device).size ≡ device_pages layout.root }
+    requires holds { Told (D.view device).disk (λ pages.
+        HasLayout pages layout.root layout.number layout.table) }
+    requires bytes { Told (D.view device).disk (λ pages.
+        HasLogBytes pages layout.root layout.log) }
+    requires synced { Told (D.view device).disk (LeavesOnly (D.view device).disk) }
+    ensures read { IfOk result (λ store. ReadsFrom (D.view device) (view (⟦<Buffer<D> as Pages>⟧.view) store)) }
+    ensures frames { IfOk result (λ store. HasFrames frames (view (⟦<Buffer<D> as Pages>⟧.view) store).pages) }
+    ensures refused { IfErr result (λ e. IsHandedBack (D.view device) (D.view e.device) e.fault) }
+{
+    let Layout {
+        root,
+        number,
+        table,
+        log,
+    } = layout;
+    let room = root.slots.min(frames);
+    let mut pages = Buffer::new(alloc, device, &root, table, room)?;
+    let catalog = match look_through(alloc, &mut pages) {
+        Ok(catalog) => catalog,
+        Err(fault) => {
+            return Err(Unopened {
+                device: pages.into_device(),
+                fault: OpenFault::from(fault),
+            });
+        }
+    };
+    Ok(DurableStore {
+        tuples: Store::new(pages),
+        catalog,
+        log,
+        root,
+        number,
+    })
+}
+
+/// Whether the log ends with the Checkpoint record at this position, and that names no transaction.
+/// None where no Checkpoint record begins there.
+fn rests_at(log: &Log, checkpoint: u64) -> Option<bool>
+    requires low { log.now.head ≤ checkpoint }
+    requires high { checkpoint ≤ log.now.end }
+    ensures some { IfSome result (λ rests. IsTrue rests ↔ RestsAt log.now checkpoint) }
+    ensures none { IfNone result (NamesNone log.now checkpoint) }
+{
+    let Some((found, next)) = log.try_at(checkpoint) else {
+        return None;
+    };
+    let LogRecord::Checkpoint(named) = found else {
+        return None;
+    };
+    Some(named.as_slice().is_empty() && next == log.end())
+}
+
+impl<S: Saving> DurableStore<S> {
+    /// Brings a store that was just read to rest: the pages to the tables that the log recovers,
+    /// and then the disk to these by a checkpoint. Where the log is at rest, nothing is done.
+    fn bring_to_rest(&mut self, alloc: Global) -> Result<(), PageFault>
+        requires ready { IsReady (view S.view self.old) }
+        requires saved { IsSaved (view S.view self.old) }
+        ensures did { Begins (view S.view self.old) (view S.view self.new) result }
+        ensures rested { (stored : Stored) → IsReadFrom stored (view S.view self.old) → IsRested stored
+            → OnlyReads (device_below (view S.view self.old).pages) (device_below (view S.view self.new).pages) }
+    {
+        match rests_at(&self.log, self.root.checkpoint) {
+            Some(true) => Ok(()),
+            Some(false) => self.recover(alloc),
+            None => Err(PageFault::Damaged(Place::Log(self.root.checkpoint))),
+        }
+    }
+
+    /// The same of one whose log isn't at rest.
+    fn recover(&mut self, alloc: Global) -> Result<(), PageFault>
+        requires ready { IsReady (view S.view self.old) }
+        requires saved { IsSaved (view S.view self.old) }
+        requires busy { RestsAt (view S.view self.old).log (view S.view self.old).root.checkpoint → ⊥ }
+        ensures { Begins (view S.view self.old) (view S.view self.new) result }
+    {
+        let end = self.log.end();
+        if end >= POSITION_MOST {
+            return Err(PageFault::Damaged(Place::Log(end)));
+        }
+        let checkpoint = self.root.checkpoint;
+        restart(
+            alloc,
+            &mut self.tuples,
+            &mut self.catalog,
+            &self.log,
+            checkpoint,
+        )?;
+        // More pages than there may be, which no log of a store leads to.
+        if !self.has_room() {
+            return Err(PageFault::Damaged(Place::Log(checkpoint)));
+        }
+        self.checkpoint(Marks::new())
+    }
+
+    /// Whether each page has room in two slots.
+    fn has_room(&self) -> bool
+        ensures { IsTrue result
+            ↔ 2 * mapped_pages (view S.view self.now).pages.slots (view S.view self.now).pages.mapped
+            ≤ (view S.view self.now).pages.slots }
+    {
+        2 * pages_in(self.tuples.pages.shadow().current()) <= self.tuples.pages.slots()
+    }
+}
+
+/// The device of a store that isn't opened, with the fault.
+fn refused<D: Device>(store: DurableStore<Buffer<D>>, fault: PageFault) -> Unopened<D>
+    ensures device { result.device ≡ device_of (pages_of store) }
+    ensures fault { result.fault ≡ open_error fault }
+{
+    let DurableStore {
+        tuples,
+        catalog: _,
+        log: _,
+        root: _,
+        number: _,
+    } = store;
+    Unopened {
+        device: tuples.into_pages().into_device(),
+        fault: OpenFault::from(fault),
+    }
+}
+
+/// Opens the store that a device holds, with room in memory for so many of its pages, or for all of
+/// them where these are fewer. Room for all that it ever keeps of them is taken here.
+///
+/// It syncs the device and reads the whole store. Then it brings the tables of the last checkpoint
+/// to those that the log recovers, and takes a checkpoint of them, unless the log ends with its
+/// Checkpoint record and that names no transaction; then it writes nothing.
+///
+/// The device is handed back where it holds no store: `NotAStore` names the first place at which the
+/// layout of the device, of its root or of its map is out of form. Where the layout is sound it is
+/// `Damaged`: at `Room` where the map has too many pages; at `Catalog` where a page of the system
+/// space isn't in form; at a page or a tuple that is none of a store; at `Count` where a relation
+/// hasn't as many tuples as the catalog says, or has more than it may have; or at a position of the
+/// log where no record stands that there should be, or one that doesn't fit the tables. A store
+/// whose log ends at 2^62 or behind it, and isn't at rest, is `Damaged` at that position.
+pub fn open<D: Device>(
+    alloc: Global,
+    device: D,
+    frames: u32,
+) -> Result<DurableStore<Buffer<D>>, Unopened<D>>
+    requires least { LEAST_FRAMES ≤ frames }
+    requires most { frames ≤ MOST_FRAMES }
+    ensures opened { IfOk result (λ store. OpensStore (D.view device) (view (⟦<Buffer<D> as Pages>⟧.view) store)) }
+    ensures frames { IfOk result (λ store. HasFrames frames (view (⟦<Buffer<D> as Pages>⟧.view) store).pages) }
+    ensures refused { IfErr result (λ e. IsHandedBack (D.view device) (D.view e.device) e.fault) }
+{
+    let mut device = device;
+    match read_layout(alloc, &mut device) {
+        Ok(layout) => open_layout(alloc, device, layout, frames),
+        Err(fault) => Err(Unopened { device, fault }),
+    }
+}
+
+/// Opens the store whose layout was read.
+fn open_layout<D: Device>(
+    alloc: Global,
+    device: D,
+    layout: Layout,
+    frames: u32,
+) -> Result<DurableStore<Buffer<D>>, Unopened<D>>
+    requires least { LEAST_FRAMES ≤ frames }
+    requires most { frames ≤ MOST_FRAMES }
+    requires layout { IsLayout layout.root layout.number layout.table }
+    requires log { IsLogRead layout.root layout.log }
+    requires size { (D.view device).size ≡ device_pages layout.root }
+    requires holds { Told (D.view device).disk (λ pages.
+        HasLayout pages layout.root layout.number layout.table) }
+    requires bytes { Told (D.view device).disk (λ pages.
+        HasLogBytes pages layout.root layout.log) }
+    requires synced { Told (D.view device).disk (LeavesOnly (D.view device).disk) }
+    ensures opened { IfOk result (λ store. OpensStore (D.view device) (view (⟦<Buffer<D> as Pages>⟧.view) store)) }
+    ensures frames { IfOk result (λ store. HasFrames frames (view (⟦<Buffer<D> as Pages>⟧.view) store).pages) }
+    ensures refused { IfErr result (λ e. IsHandedBack (D.view device) (D.view e.device) e.fault) }
+{
+    let mut store = store_of(alloc, device, layout, frames)?;
+    match store.bring_to_rest(alloc) {
+        Ok(()) => Ok(store),
+        Err(fault) => Err(refused(store, fault)),
+    }
+}

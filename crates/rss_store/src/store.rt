@@ -1,0 +1,20 @@
+// The parts of a durable store.
+use rss_base::Root;
+use rss_buffer::Saving;
+use rss_catalog::Catalog;
+use rss_log::Log;
+use rss_tuple::Store;
+
+/// A store on a device: the tables in its pages, and its log.
+///
+/// A change goes to the pages and to the log in memory at once. What a stop leaves changes with
+/// `commit` and `checkpoint` alone. A call that fails leaves the store as it may not be called
+/// again: a stop then leaves what it left before the call, or what the call was to bring there.
+pub struct DurableStore<S: Saving> {
+    pub(crate) tuples: Store<S>,
+    pub(crate) catalog: Catalog,
+    pub(crate) log: Log,
+    /// The selected root, and its number.
+    pub(crate) root: Root,
+    pub(crate) number: u8,
+}

@@ -1,0 +1,2 @@
+pub mod GoodWords
+pub mod Taken

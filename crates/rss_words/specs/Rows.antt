@@ -1,0 +1,67 @@
+-- The command line as clap has it: the subcommands with their arguments, and what is found of one.
+use Rattle.std.specs.Prelude.{◌≡◌, ℕ, ◌^◌, ◌<◌, ◌≤◌, true, false, List, Some, codes, decimal}
+use Rattle.clap.specs.Words.{App, Row, Rule, Text, app_of, new_app, new_rule, with_rule, with_subcommand, first_of, subcommand_rows_of}
+use Rattle.clap.specs.declared.builder.command.Command.{Command as Subcommand}
+use Rattle.clap.specs.declared.builder.command.Command.TheViews.{out-Command}
+use Rattle.clap.specs.declared.parser.matches.ArgMatches.{ArgMatches}
+use Rattle.rss_model.specs.Generator.{most_employees}
+use Rattle.rss_words.specs.declared.command.Command.{Command}
+use Rattle.rss_words.specs.declared.command.Command.TheVariants.{Run, Format, Generate}
+
+-- ---- the subcommands
+
+abbrev pub required : Text → Rule
+required name = record (new_rule name) { required = true }
+
+abbrev pub format_row : App
+format_row = with_rule (with_rule (with_rule (new_app (codes "format"))
+    (required (codes "FILE"))) (required (codes "N"))) (required (codes "G"))
+
+abbrev pub run_row : App
+run_row = with_rule (new_app (codes "run")) (required (codes "FILE"))
+
+abbrev pub generate_row : App
+generate_row = with_rule (with_rule (new_app (codes "gen"))
+    (required (codes "NUMBER"))) (required (codes "COUNT"))
+
+-- a subcommand is this row
+pub record IsRow (row : App) (command : Subcommand) : Type 0 where
+  pub app : app_of command ≡ row
+  pub local : (out-Command command).has_globals ≡ false
+
+-- one of them is to be there, and there is no help and no version
+abbrev pub bare : App
+bare = record (new_app (codes "rss")) {
+  top = record (new_app (codes "rss")).top {
+    subcommand_required = true;
+    disable_help_flag = true;
+    disable_help_subcommand = true;
+    disable_version_flag = true;
+  };
+}
+
+abbrev pub rss : App
+rss = with_subcommand (with_subcommand (with_subcommand bare
+    format_row.top) run_row.top) generate_row.top
+
+-- ---- what is found
+
+-- the argument is this number
+pub record Has (rows : List Row) (name : Text) (n : ℕ) : Type 0 where
+  pub word : first_of name rows ≡ Some (decimal n)
+  pub fits : n < 2 ^ 64
+
+-- a subcommand with these arguments is this command
+abbrev pub Tells : Text → List Row → Command → Type 0
+Tells name rows Run = name ≡ codes "run"
+Tells name rows (Format slots log_pages) =
+    (name ≡ codes "format") × Has rows (codes "N") slots × Has rows (codes "G") log_pages
+Tells name rows (Generate number count) =
+    (name ≡ codes "gen") × Has rows (codes "NUMBER") number × Has rows (codes "COUNT") count
+    × (count ≤ most_employees)
+
+pub record Finds (matches : ArgMatches) (command : Command) : Type 0 where
+  pub name : Text
+  pub rows : List Row
+  pub found : subcommand_rows_of matches ≡ Some (name, rows)
+  pub tells : Tells name rows command
