@@ -19,8 +19,8 @@ ghost use Rattle.rss_model.specs.ReplyText.{IsShort};
 ghost use Rattle.rss_rsi.specs.FieldTests.{fields_tests};
 
 use rss_base::{
-    FieldDef, Fields, Kind, LimitKind, MOST_FIELDS, MOST_WIDTH, Name, Refusal,
-    RelationEntry, Reply, SYSTEM_PAGES, Tuple,
+    FieldDef, Fields, Kind, LimitKind, MOST_FIELDS, MOST_WIDTH, Name, Refusal, RelationEntry,
+    Reply, SYSTEM_PAGES, Tuple,
 };
 use rss_catalog::Catalog;
 use rss_store::{RELATIONS, TUPLES_MOST};
