@@ -10,11 +10,10 @@ use Rattle.rss_base.specs.declared.item.Item.{Item}
 use Rattle.rss_base.specs.declared.value.Value.TheVariants.{Int, Text}
 use Rattle.rss_base.specs.declared.name.Name.{Name}
 use Rattle.rss_base.specs.declared.call.Call.{Call}
-use Rattle.rss_base.specs.declared.call.Call.TheVariants.{Begin, Save, Restore, End, Abort, Fetch, Delete, Disconnect, Parent, Next, CloseScan, Checkpoint, MakeSegment, MakeRelation}
 use Rattle.rss_model.specs.Variables.{Variable}
 use Rattle.rss_model.specs.Spellings.{space, quote, doubled}
-use Rattle.rss_model.specs.Script.{Begins, HasWords, IsTransaction, IsNameWord, IsVariable, IsTidIn, IsValue, AreValues, StandFor, AreNames, AreFieldWords}
-use Rattle.rss_model.specs.Forms.{Row, Last, Word, Fixed, Rest, Either, OneOf, Named, DefinedOf, LinkForm, Ordered, Numbered, Targeted, OnTuple, PlaceForm, LockOf, spots, drops, scans, locks, calls, IsStatement}
+use Rattle.rss_model.specs.Script.{Begins, HasWords, IsTransaction, IsNameWord, IsVariable, IsTidIn, IsNumberIn, IsValue, AreValues, StandFor, AreNames, AreFieldWords}
+use Rattle.rss_model.specs.Forms.{Row, Last, Word, Fixed, Rest, Either, OneOf, Named, LinkForm, PlaceForm, LockOf, spots, drops, scans, locks, calls, IsStatement}
 use Rattle.rss_line.specs.Reads.{IsPlain, IsThe, IsInt, IsOff, Skips, ReadsWord, ReadsWords, Gives, Behind}
 use Rattle.rss_line.specs.Once.{LinesSpellOnce}
 use Rattle.rss_line.proofs.Cuts.{IsSolid, plain_solid, skipped, same_front, at_once, apart_off}
@@ -204,21 +203,12 @@ once_transaction = once_plain transaction_plain one_transaction
 lone_named : (make : Name → Call) → IsLone (Named make)
 lone_named make = lone_word once_name (λ name. lone_last (make name))
 
-lone_ordered : (make : ℕ → Call) → IsLone (Ordered make)
-lone_ordered make = lone_word once_transaction (λ t. lone_last (make t))
-
-lone_targeted : (After : ℕ → Name → List (List ℕ) → Call → Type 0) → ((t : ℕ) (name : Name) → IsLone (After t name)) → IsLone (Targeted After)
-lone_targeted After lone = lone_word once_transaction (λ t. lone_word once_name (λ name. lone t name))
-
 module _ (names : List Variable) where
   once_tid : IsOnce (IsTidIn names)
   once_tid = once_plain (tid_in_plain names) (one_tid_in names)
 
-  lone_numbered : (make : ℕ → ℕ → Call) → IsLone (Numbered names make)
-  lone_numbered make = lone_word once_transaction (λ t. lone_word (once_plain (number_in_plain names) (one_number_in names)) (λ n. lone_last (make t n)))
-
-  lone_tuple : (make : ℕ → Name → Tid → Call) → IsLone (OnTuple names make)
-  lone_tuple make = lone_targeted _ (λ t name. lone_word once_tid (λ tid. lone_last (make t name tid)))
+  once_number : IsOnce (IsNumberIn names)
+  once_number = once_plain (number_in_plain names) (one_number_in names)
 
   lone_spots : IsLone (OneOf (spots names))
   lone_spots = lone_rows (spots names) refl refl (lone_last _, (lone_last _, (lone_word once_tid (λ tid. lone_last _), tt)))
@@ -251,10 +241,7 @@ module _ (names : List Variable) where
       lock item = lone_word once_name (λ name. lone_word (once_plain mode_plain one_mode) (λ exclusive. lone_last _))
 
   lone_drops : IsLone (OneOf drops)
-  lone_drops = lone_rows drops refl refl (lone_named _, (lone_named _, (lone_named _, (lone_named _, tt))))
-
-  lone_defined : {T : Type 0} {Are : List (List ℕ) → T → Type 0} (make : Name → Name → T → Call) → IsLone Are → IsLone (DefinedOf Are make)
-  lone_defined make lone = lone_word once_name (λ name. lone_word once_name (λ whole. lone_rest (make name whole) lone))
+  lone_drops = lone_rows drops refl refl (search (lone_last, lone_word, once_name) parts 10)
 
   lone_link : IsLone LinkForm
   lone_link = lone_word once_name (λ name. lone_word once_name (λ relation. lone_optional _ (needs_word _ name_solid) (lone_named _)))
@@ -265,76 +252,7 @@ module _ (names : List Variable) where
 
   calls_lone : AreLone (calls names)
   unfolding calls
-  calls_lone = (
-    lone_named MakeSegment,
-    (
-      lone_defined MakeRelation lone_fields,
-      (
-        lone_defined _ lone_names,
-        (
-          lone_defined _ lone_names,
-          (
-            lone_link,
-            (
-              lone_drops,
-              (
-                lone_ordered Begin,
-                (
-                  lone_ordered Save,
-                  (
-                    lone_numbered Restore,
-                    (
-                      lone_ordered End,
-                      (
-                        lone_ordered Abort,
-                        (
-                          lone_last Checkpoint,
-                          (
-                            lone_targeted _ (λ t relation. lone_rest _ lone_values),
-                            (
-                              lone_tuple Fetch,
-                              (
-                                lone_targeted _ (λ t relation. lone_word once_tid (λ tid. lone_rest _ lone_values)),
-                                (
-                                  lone_tuple Delete,
-                                  (
-                                    lone_targeted _ (λ t link. lone_word once_tid (λ child. lone_rest _ lone_place)),
-                                    (
-                                      lone_tuple Disconnect,
-                                      (
-                                        lone_tuple Parent,
-                                        (
-                                          lone_word once_transaction (λ t. lone_scans t),
-                                          (
-                                            lone_numbered Next,
-                                            (
-                                              lone_numbered CloseScan,
-                                              (
-                                                lone_word once_transaction (λ t. lone_locks t),
-                                                tt,
-                                              ),
-                                            ),
-                                          ),
-                                        ),
-                                      ),
-                                    ),
-                                  ),
-                                ),
-                              ),
-                            ),
-                          ),
-                        ),
-                      ),
-                    ),
-                  ),
-                ),
-              ),
-            ),
-          ),
-        ),
-      ),
-    ),
-  )
+  calls_lone = search (lone_last, lone_word, lone_rest, lone_link, lone_drops, lone_scans, lone_locks, lone_place, lone_fields, lone_names, lone_values, once_name, once_number, once_tid, once_transaction) parts 30
 
   lone_calls : IsLone (OneOf (calls names))
   lone_calls = lone_rows (calls names) (calls_written names) calls_apart calls_lone

@@ -6,7 +6,7 @@ use Rattle.rss_base.specs.DiskRule.{IsTold, Passes, Continues}
 use Rattle.rss_base.specs.Answers.{page_error}
 use Rattle.rss_base.specs.Paged.{AreAmong, HasPageCause}
 use Rattle.rss_base.specs.declared.call.Call.{Call}
-use Rattle.rss_base.specs.declared.call.Call.TheVariants.{Begin, Save, Restore, End, Abort, Insert, Fetch, Update, Delete, Connect, Disconnect, Parent, OpenRelation, OpenImage, OpenLink, Next, CloseScan, Lock, Checkpoint, MakeSegment, MakeRelation, MakeImage, MakeLink, DropSegment, DropRelation, DropImage, DropLink}
+use Rattle.rss_base.specs.declared.call.Call.TheVariants.{End, Insert}
 use Rattle.rss_base.specs.declared.answer.Reply.{Reply}
 use Rattle.rss_base.specs.declared.answer.Reply.TheVariants.{Ok as Done}
 use Rattle.rss_base.specs.declared.key.PageKey.{PageKey}
@@ -86,33 +86,8 @@ refused_by {old = old} {call = call} {why = why} up short among since stays = re
 
 -- once one was made, no change waits for a commit
 pub definition_since : (call : Call) (since : ℕ) → is_definition call ≡ true → changes_after call (Ok Done) since ≡ 0
-definition_since (Begin t) since is = absurd (cc)
-definition_since (Save t) since is = absurd (cc)
-definition_since (Restore t save) since is = absurd (cc)
 definition_since (End t) since is = absurd (cc)
-definition_since (Abort t) since is = absurd (cc)
-definition_since (Insert t relation values) since is = absurd (cc)
-definition_since (Fetch t relation tid) since is = absurd (cc)
-definition_since (Update t relation tid values) since is = absurd (cc)
-definition_since (Delete t relation tid) since is = absurd (cc)
-definition_since (Connect t link child parent spot) since is = absurd (cc)
-definition_since (Disconnect t link child) since is = absurd (cc)
-definition_since (Parent t link child) since is = absurd (cc)
-definition_since (OpenRelation t relation) since is = absurd (cc)
-definition_since (OpenImage t image start) since is = absurd (cc)
-definition_since (OpenLink t link parent) since is = absurd (cc)
-definition_since (Next t scan) since is = absurd (cc)
-definition_since (CloseScan t scan) since is = absurd (cc)
-definition_since (Lock t item exclusive) since is = absurd (cc)
-definition_since (Checkpoint) since is = absurd (cc)
-definition_since (MakeSegment name) since is = refl
-definition_since (MakeRelation name segment fields) since is = refl
-definition_since (MakeImage name relation unique fields) since is = refl
-definition_since (MakeLink name parent child) since is = refl
-definition_since (DropSegment name) since is = refl
-definition_since (DropRelation name) since is = refl
-definition_since (DropImage name) since is = refl
-definition_since (DropLink name) since is = refl
+definition_since call since is = cc
 
 -- A definition was made over a state of the machine, which was at rest: it was not refused, and it is committed.
 pub record IsDefined (old new : EngineView) (state : State) (call : Call) : Type 0 where

@@ -1,5 +1,5 @@
 -- A run commits what its transactions commit one after another.
-use Rattle.std.proofs.Common.{◌≡◌, ◌<◌, ◌⊎◌, inl, inr, ⊎_elim, ℕ, ◌+◌, Bool, true, false, List, [], ◌∷◌, ◌++◌, length, take, refl, sym, ◌∙◌, ap, subst, arith}
+use Rattle.std.proofs.Common.{◌≡◌, ◌<◌, ◌⊎◌, inl, inr, ⊎_elim, ℕ, ◌+◌, Bool, true, false, List, [], ◌∷◌, ◌++◌, length, take, drop, refl, sym, ◌∙◌, ap, subst, arith}
 use Rattle.std.specs.Prelude.{Option, Some, None, is_some, option_map, option_and_then, slice_get, nat_lt, if◌then◌else◌, Ok, Err, reverse}
 use Rattle.std.specs.Ordering.{nat_cmp}
 use Rattle.std.specs.FinMap as finite
@@ -96,27 +96,17 @@ begin_open true full why is off = refl
 begin_open false true why is off = false_true (ap is_of_others (sym (same_Some _ _ is))) off
 begin_open false false why is off = none_some is
 
+-- the first test of a call of a transaction is that it is open, but for its begin
+open_first : (s : State) (t : ℕ) (call : Call) → caller call ≡ Some t → (call ≡ Begin t) ⊎ ((rest : List (Option Refusal)) × (tests s call ≡ refused_unless (is_open s t) NoTransaction ∷ rest))
+open_first s t (Begin u) by = inl (cc)
+open_first s t call by = inr (drop 1 (tests s call), cc)
+
 -- a call that is refused for something else has its transaction open
 refused_open : (s : State) (t : ℕ) (call : Call) (why : Refusal) → caller call ≡ Some t → refusal s call ≡ Some why → (why ≡ NoTransaction → ⊥) → is_of_others why ≡ false → is_open s t ≡ true
-refused_open s t (Begin u) why by is not' off = subst (λ (v : ℕ). is_open s v ≡ true) (same_Some _ _ by) (begin_open (is_open s u) _ why is off)
-refused_open s t (Save u) why by is not' off = subst (λ (v : ℕ). is_open s v ≡ true) (same_Some _ _ by) (first_open (is_open s u) _ (Some why) is (λ e. not' (same_Some _ _ e)))
-refused_open s t (Restore u save) why by is not' off = subst (λ (v : ℕ). is_open s v ≡ true) (same_Some _ _ by) (first_open (is_open s u) _ (Some why) is (λ e. not' (same_Some _ _ e)))
-refused_open s t (End u) why by is not' off = subst (λ (v : ℕ). is_open s v ≡ true) (same_Some _ _ by) (first_open (is_open s u) _ (Some why) is (λ e. not' (same_Some _ _ e)))
-refused_open s t (Abort u) why by is not' off = subst (λ (v : ℕ). is_open s v ≡ true) (same_Some _ _ by) (first_open (is_open s u) _ (Some why) is (λ e. not' (same_Some _ _ e)))
-refused_open s t (Insert u relation values) why by is not' off = subst (λ (v : ℕ). is_open s v ≡ true) (same_Some _ _ by) (first_open (is_open s u) _ (Some why) is (λ e. not' (same_Some _ _ e)))
-refused_open s t (Fetch u relation tid) why by is not' off = subst (λ (v : ℕ). is_open s v ≡ true) (same_Some _ _ by) (first_open (is_open s u) _ (Some why) is (λ e. not' (same_Some _ _ e)))
-refused_open s t (Update u relation tid values) why by is not' off = subst (λ (v : ℕ). is_open s v ≡ true) (same_Some _ _ by) (first_open (is_open s u) _ (Some why) is (λ e. not' (same_Some _ _ e)))
-refused_open s t (Delete u relation tid) why by is not' off = subst (λ (v : ℕ). is_open s v ≡ true) (same_Some _ _ by) (first_open (is_open s u) _ (Some why) is (λ e. not' (same_Some _ _ e)))
-refused_open s t (Connect u link child parent spot) why by is not' off = subst (λ (v : ℕ). is_open s v ≡ true) (same_Some _ _ by) (first_open (is_open s u) _ (Some why) is (λ e. not' (same_Some _ _ e)))
-refused_open s t (Disconnect u link child) why by is not' off = subst (λ (v : ℕ). is_open s v ≡ true) (same_Some _ _ by) (first_open (is_open s u) _ (Some why) is (λ e. not' (same_Some _ _ e)))
-refused_open s t (Parent u link child) why by is not' off = subst (λ (v : ℕ). is_open s v ≡ true) (same_Some _ _ by) (first_open (is_open s u) _ (Some why) is (λ e. not' (same_Some _ _ e)))
-refused_open s t (OpenRelation u relation) why by is not' off = subst (λ (v : ℕ). is_open s v ≡ true) (same_Some _ _ by) (first_open (is_open s u) _ (Some why) is (λ e. not' (same_Some _ _ e)))
-refused_open s t (OpenImage u image start) why by is not' off = subst (λ (v : ℕ). is_open s v ≡ true) (same_Some _ _ by) (first_open (is_open s u) _ (Some why) is (λ e. not' (same_Some _ _ e)))
-refused_open s t (OpenLink u link parent) why by is not' off = subst (λ (v : ℕ). is_open s v ≡ true) (same_Some _ _ by) (first_open (is_open s u) _ (Some why) is (λ e. not' (same_Some _ _ e)))
-refused_open s t (Next u n) why by is not' off = subst (λ (v : ℕ). is_open s v ≡ true) (same_Some _ _ by) (first_open (is_open s u) _ (Some why) is (λ e. not' (same_Some _ _ e)))
-refused_open s t (CloseScan u n) why by is not' off = subst (λ (v : ℕ). is_open s v ≡ true) (same_Some _ _ by) (first_open (is_open s u) _ (Some why) is (λ e. not' (same_Some _ _ e)))
-refused_open s t (Lock u item exclusive) why by is not' off = subst (λ (v : ℕ). is_open s v ≡ true) (same_Some _ _ by) (first_open (is_open s u) _ (Some why) is (λ e. not' (same_Some _ _ e)))
-refused_open s t call why by is not' off = none_some by
+refused_open s t call why by is not' off = ⊎_elim
+    (λ e. begin_open (is_open s t) _ why (ap (refusal s) (sym e) ∙ is) off)
+    (λ front. first_open (is_open s t) front.0 (Some why) (ap first_of (sym front.1) ∙ is) (λ e. not' (same_Some _ _ e)))
+    (open_first s t call by)
 
 -- a scan is opened by a call that stays, of an open transaction
 opening : (s : State) (t : ℕ) (call : Call) (path : Path) → caller call ≡ Some t → path_of call ≡ Some path → refusal s call ≡ None → (part_of_call call ≡ Stays) × (is_open s t ≡ true)
@@ -142,26 +132,12 @@ refused_part call why = by_test (is_definition call)
     (λ f. inr (ap (λ (d : Bool). if d then Nothing else (if is_of_others why then Nothing else Stays)) e ∙ ap (λ (o : Bool). if o then Nothing else Stays) f, f, λ g. absurd (cc (g)))))
 
 no_definition : (call : Call) (t : ℕ) → caller call ≡ Some t → is_definition call ≡ true → ⊥
-no_definition (MakeSegment name) t by is = none_some by
-no_definition (MakeRelation name segment fields) t by is = none_some by
-no_definition (MakeImage name relation unique fields) t by is = none_some by
-no_definition (MakeLink name parent child) t by is = none_some by
-no_definition (DropSegment name) t by is = none_some by
-no_definition (DropRelation name) t by is = none_some by
-no_definition (DropImage name) t by is = none_some by
-no_definition (DropLink name) t by is = none_some by
-no_definition call t by is = false_true is refl
+no_definition Checkpoint t by is = none_some by
+no_definition call t by is = cc
 
 defines_so : (call : Call) (before definitions : Definitions) → defined call before ≡ Some definitions → (caller call ≡ None) × (part_of_call call ≡ Defines)
-defines_so (MakeSegment name) before definitions so = (refl, refl)
-defines_so (MakeRelation name segment fields) before definitions so = (refl, refl)
-defines_so (MakeImage name relation unique fields) before definitions so = (refl, refl)
-defines_so (MakeLink name parent child) before definitions so = (refl, refl)
-defines_so (DropSegment name) before definitions so = (refl, refl)
-defines_so (DropRelation name) before definitions so = (refl, refl)
-defines_so (DropImage name) before definitions so = (refl, refl)
-defines_so (DropLink name) before definitions so = (refl, refl)
-defines_so call before definitions so = none_some so
+defines_so (End t) before definitions so = absurd (cc)
+defines_so call before definitions so = (cc, cc)
 
 -- the tests of a definition, where nothing is open
 define_same : (s : State) (m : Meter) (call : Call) (definitions : Definitions) → defined call s.base.definitions ≡ Some definitions → s.marks ≡ finite.empty → AllSame (tests s call) (tests (shut s.size s.base m) call)

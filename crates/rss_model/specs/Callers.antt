@@ -3,47 +3,56 @@ use Rattle.std.specs.Prelude.{ℕ, Bool, true, false, Option, Some, None}
 use Rattle.rss_base.specs.declared.call.Call.{Call}
 use Rattle.rss_base.specs.declared.call.Call.TheVariants.{Begin, Save, Restore, End, Abort, Insert, Fetch, Update, Delete, Connect, Disconnect, Parent, OpenRelation, OpenImage, OpenLink, Next, CloseScan, Lock, Checkpoint, MakeSegment, MakeRelation, MakeImage, MakeLink, DropSegment, DropRelation, DropImage, DropLink}
 
--- the transaction that makes a call: none where it is a checkpoint or defines
+-- Of which kind a call is: one that a transaction makes, a checkpoint, or one that makes or drops a definition.
+pub data Class : Type 0 where
+  Works : ℕ → Class
+  Checkpoints : Class
+  Defines : Class
+
+abbrev pub class_of : Call → Class
+class_of (Begin t) = Works t
+class_of (Save t) = Works t
+class_of (Restore t save) = Works t
+class_of (End t) = Works t
+class_of (Abort t) = Works t
+class_of (Insert t relation values) = Works t
+class_of (Fetch t relation tid) = Works t
+class_of (Update t relation tid values) = Works t
+class_of (Delete t relation tid) = Works t
+class_of (Connect t link child parent spot) = Works t
+class_of (Disconnect t link child) = Works t
+class_of (Parent t link child) = Works t
+class_of (OpenRelation t relation) = Works t
+class_of (OpenImage t image start) = Works t
+class_of (OpenLink t link parent) = Works t
+class_of (Next t scan) = Works t
+class_of (CloseScan t scan) = Works t
+class_of (Lock t item exclusive) = Works t
+class_of Checkpoint = Checkpoints
+class_of (MakeSegment name) = Defines
+class_of (MakeRelation name segment fields) = Defines
+class_of (MakeImage name relation is_unique fields) = Defines
+class_of (MakeLink name parent child) = Defines
+class_of (DropSegment name) = Defines
+class_of (DropRelation name) = Defines
+class_of (DropImage name) = Defines
+class_of (DropLink name) = Defines
+
+-- the transaction that makes a call, if one does
 abbrev pub caller : Call → Option ℕ
-caller (Begin t) = Some t
-caller (Save t) = Some t
-caller (Restore t save) = Some t
-caller (End t) = Some t
-caller (Abort t) = Some t
-caller (Insert t relation values) = Some t
-caller (Fetch t relation tid) = Some t
-caller (Update t relation tid values) = Some t
-caller (Delete t relation tid) = Some t
-caller (Connect t link child parent spot) = Some t
-caller (Disconnect t link child) = Some t
-caller (Parent t link child) = Some t
-caller (OpenRelation t relation) = Some t
-caller (OpenImage t image start) = Some t
-caller (OpenLink t link parent) = Some t
-caller (Next t scan) = Some t
-caller (CloseScan t scan) = Some t
-caller (Lock t item exclusive) = Some t
-caller Checkpoint = None
-caller (MakeSegment name) = None
-caller (MakeRelation name segment fields) = None
-caller (MakeImage name relation is_unique fields) = None
-caller (MakeLink name parent child) = None
-caller (DropSegment name) = None
-caller (DropRelation name) = None
-caller (DropImage name) = None
-caller (DropLink name) = None
+caller call = by (class_of call)
+  where
+    by : Class → Option ℕ
+    by (Works t) = Some t
+    by class = None
 
 -- the call makes or drops a definition
 abbrev pub is_definition : Call → Bool
-is_definition (MakeSegment name) = true
-is_definition (MakeRelation name segment fields) = true
-is_definition (MakeImage name relation is_unique fields) = true
-is_definition (MakeLink name parent child) = true
-is_definition (DropSegment name) = true
-is_definition (DropRelation name) = true
-is_definition (DropImage name) = true
-is_definition (DropLink name) = true
-is_definition call = false
+is_definition call = by (class_of call)
+  where
+    by : Class → Bool
+    by Defines = true
+    by class = false
 
 -- the calls that the engine makes as yet
 abbrev pub is_built : Call → Bool
