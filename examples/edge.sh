@@ -233,7 +233,7 @@ for words in "" run "format a 64"; do
     "$rss" $words >replies 2>errors || status=$?
     faults=""
     if [ "$status" != 1 ]; then faults=" status $status;"; fi
-    if ! grep -qx 'usage: rss format FILE N G | run FILE' errors; then faults+=" no usage line;"; fi
+    if ! grep -qx 'usage: rss format FILE N G | run FILE | gen NUMBER COUNT' errors; then faults+=" no usage line;"; fi
     report "rss $words" "$faults"
 done
 
