@@ -1,13 +1,15 @@
 //! Runs the examples over devices in memory, as `examples/check` does with the program over files,
 //! and once more with as few pages in memory as there may be.
 //! `data/` holds them: `list` names each with the store that it wants, and beside each script stand
-//! its replies. The program runs where they lie, or is given the way there, as `data/`.
+//! its replies. At last it generates a script. The program runs where they lie, or is given the way there, as `data/`.
 #![tactic(auto)]
 
 mod example;
+mod generated;
 
 use anyhow::Result;
 use example::run_example;
+use generated::generate;
 use rss_device::MemDevice;
 use std::{env, fs};
 
@@ -19,5 +21,5 @@ fn main(rt: HostRuntime) -> Result<()> {
     for line in list.lines() {
         device = run_example(&rt, folder, line, device)?;
     }
-    Ok(())
+    generate(&rt, folder)
 }

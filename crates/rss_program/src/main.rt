@@ -1,9 +1,10 @@
-//! The program `rss`: makes a file a store, and runs a script of standard input over the store of a
-//! file.
+//! The program `rss`: makes a file a store, runs a script of standard input over the store of a file,
+//! and generates a script.
 #![tactic(auto)]
 
 use rss_device::{FileDevice, ReaderSource, WriterSink};
-use rss_top::{Status, device_word, exit_code, run};
+use rss_top::{Status, exit_code, run};
+use rss_words::file_word;
 use std::process::ExitCode;
 use std::{env, io};
 
@@ -17,10 +18,11 @@ fn words(rt: &HostRuntime) -> Result<Vec<String>, Status> {
     }
 }
 
+/// Does what the words ask for. Where they name no file, none is opened.
 fn run_words(rt: &HostRuntime, words: &[String]) -> Status {
     let mut source = ReaderSource::new(rt.reader());
     let mut sink = WriterSink::new(io::writer(rt));
-    let device = FileDevice::new(rt, device_word(words).unwrap_or(""));
+    let device = FileDevice::new(rt, file_word(words).unwrap_or(""));
     let (status, _) = run(rt.alloc(), words, &mut source, &mut sink, device);
     status
 }
@@ -31,7 +33,7 @@ fn main(rt: HostRuntime) -> ExitCode {
         Err(status) => status,
     };
     if status == Status::Words {
-        let _ = eprintln!(rt; "usage: rss format FILE N G | run FILE");
+        let _ = eprintln!(rt; "usage: rss format FILE N G | run FILE | gen NUMBER COUNT");
     }
     exit_code(status)
 }

@@ -16,6 +16,8 @@ mod file_faults;
 #[cfg(test)]
 mod formats;
 #[cfg(test)]
+mod generating;
+#[cfg(test)]
 mod harness;
 #[cfg(test)]
 mod lines;

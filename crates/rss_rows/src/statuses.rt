@@ -82,7 +82,7 @@ static FAULTS: [Fault; 6] = [
 ];
 
 /// Words that are no command, after the program's own name.
-static WORDS: [&[&str]; 16] = [
+static WORDS: [&[&str]; 36] = [
     &[],
     &["run"],
     &["FILE"],
@@ -99,6 +99,26 @@ static WORDS: [&[&str]; 16] = [
     &["format", "FILE", "+64", "8"],
     &["format", "FILE", "64", ""],
     &["format", "FILE", "64", "18446744073709551616"],
+    &["gen"],
+    &["gen", "1"],
+    &["gen", "1", "1", "1"],
+    &["gen", "FILE", "1", "1"],
+    &["Gen", "1", "1"],
+    &["gen", "1", "0"],
+    &["gen", "1", "100001"],
+    &["gen", "01", "1"],
+    &["gen", "1", "01"],
+    &["gen", "00", "1"],
+    &["gen", "+1", "1"],
+    &["gen", "1", "+1"],
+    &["gen", "-1", "1"],
+    &["gen", "1", "-1"],
+    &["gen", "", "1"],
+    &["gen", "18446744073709551616", "1"],
+    &["gen", "--", "1"],
+    &["run", "-FILE"],
+    &["format", "-FILE", "64", "8"],
+    &["--help"],
 ];
 
 /// Runs the commit's script over a store without tuples, with a fault. Answers the device that this left.

@@ -12,3 +12,4 @@ pub mod Scripts
 pub mod Openings
 pub mod Made
 pub mod Commands
+pub mod Written

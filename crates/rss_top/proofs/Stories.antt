@@ -36,7 +36,7 @@ turn_of done after = record {
   after = after;
 }
 
-joined-push : (lines : List (List ℕ)) (line : List ℕ) → joined (lines ++ line ∷ []) ≡ joined lines ++ (line ++ 10 ∷ [])
+pub joined-push : (lines : List (List ℕ)) (line : List ℕ) → joined (lines ++ line ∷ []) ≡ joined lines ++ (line ++ 10 ∷ [])
 joined-push [] line = refl
 joined-push (l ∷ lines) line = ap (λ (x : List ℕ). l ++ 10 ∷ x) (joined-push lines line) ∙ sym (append_assoc l (10 ∷ joined lines) (line ++ 10 ∷ []))
 

@@ -9,14 +9,16 @@ use Rattle.rss_model.specs.Machine.{StoreSize, State}
 use Rattle.rss_model.specs.Plays.{plain}
 use Rattle.rss_model.specs.ReplyText.{not_a_store_line, damaged_line}
 use Rattle.rss_model.specs.Store.{OpensTo, OpensIn, IsBrokenAt, IsOverfull, IsNoStore}
-use Rattle.rss_top.specs.Words.{AreRun, AreFormat, IsCommand}
+use Rattle.rss_store.specs.Formatted.{AreSizes}
+use Rattle.rss_words.specs.Words.{AreRun, AreFormat, AreGenerate, IsCommand}
 use Rattle.rss_base.specs.Streams.{Stream}
 use Rattle.rss_top.specs.Run.{World, IsTaken, IsRun, script_limit}
 use Rattle.rss_top.specs.Lines.{IsScriptEnd}
 use Rattle.rss_top.specs.Says.{Says, TellsDamage}
 use Rattle.rss_top.specs.Format.{IsFormat}
+use Rattle.rss_top.specs.Generated.{IsGenerated}
 use Rattle.rss_top.specs.declared.status.Status.{Status}
-use Rattle.rss_top.specs.declared.status.Status.TheVariants.{Ok, Words, DeviceFault, NotAStore, Damaged, NoMemory}
+use Rattle.rss_top.specs.declared.status.Status.TheVariants.{Ok, Words, DeviceFault, NotAStore, Damaged, NoMemory, WrongSize}
 
 -- ---- a device that holds no store
 
@@ -110,6 +112,17 @@ pub record IsScriptRun (status : Status) (old new : World) (source_old source_ne
   pub taken : IsTaken status source_old.bytes source_new.bytes
   pub tells : TellsDamage status old.sink new.sink
 
+-- ---- words that memory ran out for
+
+-- By the status: they ask for no size that a store can't have, or they do.
+abbrev pub IsUnread : List (List ℕ) → Status → Type 0
+IsUnread words NoMemory =
+    (slots log_pages : ℕ) → AreFormat words slots log_pages → AreSizes slots log_pages
+IsUnread words WrongSize =
+    (slots : ℕ) × (log_pages : ℕ) × AreFormat words slots log_pages
+    × (AreSizes slots log_pages → ⊥)
+IsUnread words status = ⊥
+
 -- ---- the program
 
 pub data IsProgram (words : List (List ℕ)) (status : Status) (old new : World)
@@ -118,6 +131,9 @@ pub data IsProgram (words : List (List ℕ)) (status : Status) (old new : World)
       → IsProgram words status old new source_old source_new
   formats : {slots log_pages : ℕ} → AreFormat words slots log_pages
       → IsFormat slots log_pages status old new
+      → IsProgram words status old new source_old source_new
+  generates : {number count : ℕ} → AreGenerate words number count
+      → IsGenerated number count status old new source_old source_new
       → IsProgram words status old new source_old source_new
   refuses : (IsCommand words → ⊥) → status ≡ Words → new.sink ≡ old.sink
       → IsProgram words status old new source_old source_new

@@ -1,22 +1,25 @@
 // The top call.
 ghost use Rattle.std.specs.Prelude.{◌≡◌, ℕ, map, string_bytes};
-ghost use Rattle.rss_top.specs.Words.{AreFormat};
+ghost use Rattle.rss_words.specs.Words.{AreFormat, AreGenerate};
 ghost use Rattle.rss_top.specs.Lines.{on};
 ghost use Rattle.rss_top.specs.Programs.{IsProgram};
 
 use crate::Status;
-use crate::command::{Command, read_command};
+use crate::generating::write_script;
 use crate::making::make_store;
 use crate::script::run_script;
+use crate::unread::unread;
 use rss_base::{Device, Sink, Source};
-use std::alloc::Global;
+use rss_words::{Command, read_command};
+use std::alloc::{AllocError, Global};
 
 /// Does what the words of the command line ask for, the program's own name first, and hands the
 /// device back. Of the file that they name the device is the pages.
 ///
 /// `run` runs a script over the store of the device. Each line of the script that isn't blank gets
 /// one reply line, which is written before the next line runs. `format` makes the device an empty
-/// store, and writes `ok`.
+/// store, and writes `ok`. `gen` writes a script, line by line, and touches neither the device nor
+/// the source.
 pub fn run<O: Source, K: Sink, D: Device>(
     alloc: Global,
     words: &[String],
@@ -28,7 +31,7 @@ pub fn run<O: Source, K: Sink, D: Device>(
     // machine from these tables with nothing open. At each moment of it a stop leaves a store with
     // the machine's committed tables, and before its first line what a stop could leave at entry.
     // A device that holds no store is refused. One that is formatted reads as an empty store, and a
-    // stop leaves nothing else.
+    // stop leaves nothing else. A script that is generated is written whole, where nothing fails.
     ensures program { IsProgram (map string_bytes words.now) result.0
         (on (D.view device) (K.view sink.old))
         (on (D.view result.1) (K.view sink.new))
@@ -41,14 +44,24 @@ pub fn run<O: Source, K: Sink, D: Device>(
     ensures format_unread { (slots log_pages : ℕ)
         → AreFormat (map string_bytes words.now) slots log_pages
         → source.new ≡ source.old }
+    ensures generate_untouched { (number count : ℕ)
+        → AreGenerate (map string_bytes words.now) number count
+        → result.1 ≡ device }
+    ensures generate_unread { (number count : ℕ)
+        → AreGenerate (map string_bytes words.now) number count
+        → source.new ≡ source.old }
 {
-    match read_command(words) {
-        None => (Status::Words, device),
-        Some(Command::Run) => run_script(alloc, source, sink, device),
-        Some(Command::Format { slots, log_pages }) => {
+    match read_command(alloc, words) {
+        Ok(None) => (Status::Words, device),
+        Ok(Some(Command::Run)) => run_script(alloc, source, sink, device),
+        Ok(Some(Command::Format { slots, log_pages })) => {
             let mut device = device;
             let status = make_store(alloc, &mut device, slots, log_pages, sink);
             (status, device)
         }
+        Ok(Some(Command::Generate { number, count })) => {
+            (write_script(alloc, number, count, sink), device)
+        }
+        Err(AllocError) => (unread(words), device),
     }
 }

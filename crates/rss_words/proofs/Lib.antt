@@ -1,2 +1,3 @@
 pub mod GoodWords
+pub mod Named
 pub mod Taken

@@ -3,6 +3,8 @@
 
 mod command;
 mod good;
+mod naming;
 mod parsing;
 
 pub use command::{Command, read_command};
+pub use naming::{file_word, format_sizes};

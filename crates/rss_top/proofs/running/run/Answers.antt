@@ -1,28 +1,19 @@
-use Rattle.std.proofs.Common.{◌∙◌, ap, refl}
-use Rattle.std.specs.Prelude.{Some}
-use Rattle.rss_top.specs.Programs.IsProgram.{runs, formats, refuses}
-use Rattle.rss_top.proofs.Commands.{no_command, not_made}
-use Rattle.rss_top.proofs.Openings.{not_words, not_size}
+use Rattle.std.proofs.Common.{map, refl, ◌∙◌, ap, subst}
+use Rattle.std.specs.Prelude.{Some, string_bytes}
+use Rattle.rss_words.specs.Words.{Reads}
+use Rattle.rss_top.specs.Programs.IsProgram.{formats, generates}
+use Rattle.rss_top.proofs.Commands.{untouched, unread_ends}
 use Rattle.rss_top.proofs.running.run.Goals as goal
 
-pub returns-in-None-clause-program : goal.returns-in-None-clause-program
-returns-in-None-clause-program g c = refuses (no_command c.in-None.is c.read_command.ensures.run c.read_command.ensures.format) refl refl
+pub returns-in-Ok-Some-Format-clause-program : goal.returns-in-Ok-Some-Format-clause-program
+returns-in-Ok-Some-Format-clause-program g c =
+    formats (subst (Reads (map string_bytes c.args.words.now)) (c.in-Ok-Some-Format.field-0-is ∙ ap Some c.in-Ok-Some-Format.field-0-0-is) c.in-Ok-Some-Format.ensures.read) c.make_store-status.ensures.format
 
-pub returns-in-Some-Run-clause-program : goal.returns-in-Some-Run-clause-program
-returns-in-Some-Run-clause-program g c = runs (c.read_command.ensures.run.0 (c.in-Some-Run.is ∙ ap Some c.in-Some-Run.field-0-is)) c.run_script.ensures
+pub returns-in-Ok-Some-Generate-clause-program : goal.returns-in-Ok-Some-Generate-clause-program
+returns-in-Ok-Some-Generate-clause-program g c =
+    generates (subst (Reads (map string_bytes c.args.words.now)) (c.in-Ok-Some-Generate.field-0-is ∙ ap Some c.in-Ok-Some-Generate.field-0-0-is) c.in-Ok-Some-Generate.ensures.read)
+    (record { writes = c.write_script.ensures; device = untouched (g.D.Device.view c.args.device) (g.K.Sink.view c.args.sink.now) (g.K.Sink.view c.write_script.new.sink); unread = refl })
 
-pub returns-in-Some-Run-clause-untouched : goal.returns-in-Some-Run-clause-untouched
-returns-in-Some-Run-clause-untouched g c = λ is. absurd (not_words c.run_script.ensures is)
-
-pub returns-in-Some-Run-clause-unread : goal.returns-in-Some-Run-clause-unread
-returns-in-Some-Run-clause-unread g c = λ is. absurd (not_words c.run_script.ensures is)
-
-pub returns-in-Some-Run-clause-wrong_untouched : goal.returns-in-Some-Run-clause-wrong_untouched
-returns-in-Some-Run-clause-wrong_untouched g c = λ is. absurd (not_size c.run_script.ensures is)
-
-pub returns-in-Some-Format-clause-program : goal.returns-in-Some-Format-clause-program
-returns-in-Some-Format-clause-program g c =
-    formats ((c.read_command.ensures.format c.in-Some-Format.slots c.in-Some-Format.log_pages).0 (c.in-Some-Format.is ∙ ap Some c.in-Some-Format.field-0-is)) c.make_store-status.ensures.format
-
-pub returns-in-Some-Format-clause-untouched : goal.returns-in-Some-Format-clause-untouched
-returns-in-Some-Format-clause-untouched g c = λ is. absurd (not_made c.make_store-status.ensures.format is)
+pub returns-in-Err-clause-program : goal.returns-in-Err-clause-program
+returns-in-Err-clause-program g c =
+    unread_ends (map string_bytes c.args.words.now) (g.D.Device.view c.args.device) (g.K.Sink.view c.args.sink.now) (g.O.Source.view c.args.source.now) c.unread.result c.in-Err.ensures.memory c.unread.ensures
