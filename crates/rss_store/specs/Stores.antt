@@ -1,5 +1,5 @@
 -- A durable store as its callers see it, and what holds of it between two calls, whatever its device tells.
-use Rattle.std.specs.Prelude.{◌≡◌, ℕ, ◌<◌, ◌≤◌, true, List, ◌++◌, length}
+use Rattle.std.specs.Prelude.{◌≡◌, ℕ, ◌+◌, ◌<◌, ◌≤◌, true, List, ◌++◌, length}
 use Rattle.rss_base.specs.DiskRule.{IsTold}
 use Rattle.rss_base.specs.Sizes.{system_pages}
 use Rattle.rss_base.specs.Layout.{IsWellFormed}
@@ -51,3 +51,11 @@ pub record IsReady (view : StoreView) : Type 0 where
 pub record IsSaved (view : StoreView) : Type 0 where
   pub log : view.root.end ≡ view.log.end
   pub pages : view.pages.mapped ≡ mapped_by view.pages.backing.shadow
+
+-- ---- the log in memory
+
+-- it has so many bytes more
+pub record Grows (size : ℕ) (old new : LogView) : Type 0 where
+  pub pages : new.pages ≡ old.pages
+  pub head : new.head ≡ old.head
+  pub end : new.end ≡ old.end + size

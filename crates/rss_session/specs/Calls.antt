@@ -1,0 +1,93 @@
+-- What the calls of a session leave.
+use Rattle.std.specs.Prelude.{◌≡◌, ◌⊎◌, ℕ, ◌+◌, ◌≤◌, Bool, true, false, if◌then◌else◌, List, Some, Result, Err, IsErrOf}
+use Rattle.std.specs.FinMap as map
+use Rattle.rss_base.specs.DiskRule.{Pages, IsTold, Passes, Continues}
+use Rattle.rss_base.specs.Faults.{Rises}
+use Rattle.rss_base.specs.declared.change.Change as told
+use Rattle.rss_base.specs.declared.fault.PageFault.{PageFault}
+use Rattle.rss_base.specs.declared.fault.PageFault.TheVariants.{Device as DeviceFailed, Damaged, NoMemory}
+use Rattle.rss_base.specs.declared.place.Place.{Place}
+use Rattle.rss_model.specs.Changes.{Change, own}
+use Rattle.rss_model.specs.Machine.{State, now}
+use Rattle.rss_model.specs.Rules.{saved_now}
+use Rattle.rss_model.specs.Ruled.{ruled}
+use Rattle.rss_model.specs.Kept.{Kept, FitMixed}
+use Rattle.rss_model.specs.Steps.{IsOver, MayUndo, undone_to, left_at, restored, gone, committing}
+use Rattle.rss_store.specs.Changing.{MayMake, IsOwnAt}
+use Rattle.rss_store.specs.Shown.{HoldsTables}
+use Rattle.rss_session.specs.Sessions.{SessionView}
+use Rattle.rss_session.specs.Shown.{Shows, ShowsBack}
+
+-- ---- what each call passes on
+
+-- By the result: the device tells its contents and its history as before, each failure of it has its cause, and memory never runs out. The store has its size.
+pub record GoesOn {T : Type 0} (old new : SessionView) (result : Result T PageFault) : Type 0 where
+  pub told : IsTold old.store.pages.disk → IsTold new.store.pages.disk
+  pub history : IsTold old.store.pages.disk → Continues old.store.pages.disk new.store.pages.disk
+  pub later : old.store.pages.faults ≤ new.store.pages.faults
+  pub failed : IsErrOf result DeviceFailed → Rises old.store.pages.faults new.store.pages.faults
+  pub memory : IsErrOf result NoMemory → ⊥
+  pub slots : new.store.root.slots ≡ old.store.root.slots
+  pub log_pages : new.store.root.log_pages ≡ old.store.root.log_pages
+  pub frames : new.store.pages.backing.frames ≡ old.store.pages.backing.frames
+
+-- the log has so many bytes more at most
+abbrev pub Appends : ℕ → SessionView → SessionView → Type 0
+Appends most old new = new.store.log.end ≤ old.store.log.end + most
+
+-- at each moment a stop leaves the committed tables
+abbrev pub KeepsTables : SessionView → SessionView → Type 0
+KeepsTables old new =
+    IsTold old.store.pages.disk → (state : State) → Kept state → Shows old state
+    → Passes old.store.pages.disk new.store.pages.disk (HoldsTables state.size state.base)
+
+-- ---- changes
+
+-- the change is made from this state, behind a checkpoint or as it is, with as many overflow pages as the machine allows
+pub record MakesOne (new : SessionView) (state : State) (change : Change) : Type 0 where
+  pub over : ℕ
+  pub allowed : IsOver state change over
+  pub shows : Shows new (ruled change over state)
+
+abbrev pub Makes : SessionView → SessionView → ℕ → told.Change → Type 0
+Makes old new t told_change =
+    (state : State) (change : Change) → change.by ≡ t → Kept state
+    → Shows old state → MayMake old.store state told_change change → MakesOne new state change
+
+-- in no state in which the change may be made is anything found damaged
+abbrev pub MayNotMake : SessionView → ℕ → told.Change → Type 0
+MayNotMake view t told_change =
+    (state : State) (change : Change) → change.by ≡ t → Kept state
+    → Shows view state → MayMake view.store state told_change change → ⊥
+
+-- nor in any state at all
+abbrev pub ShowsNone : SessionView → Type 0
+ShowsNone view = (state : State) → Kept state → Shows view state → ⊥
+
+-- ---- ways back
+
+-- the transaction has these save points
+abbrev pub HasMarks : State → ℕ → List ℕ → Type 0
+HasMarks state t marks = map.get state.marks t ≡ Some marks
+
+-- it is at a save point, with as many overflow pages as the machine allows
+pub record Restores (new : SessionView) (state : State) (t save : ℕ) (marks : List ℕ) : Type 0 where
+  pub over : ℕ
+  pub way : MayUndo (now state) (undone_to state t (left_at marks save)) state.meter.over over
+  pub shows : FitMixed (restored t save marks over state) → Shows new (restored t save marks over state)
+
+-- or gone
+pub record Aborts (new : SessionView) (state : State) (t : ℕ) : Type 0 where
+  pub over : ℕ
+  pub way : MayUndo (now state) (own t state.changes) state.meter.over over
+  pub shows : FitMixed (gone t over state) → Shows new (gone t over state)
+
+-- ---- an end
+
+-- at each moment a stop leaves the committed tables of before, or those with the transaction's changes
+abbrev pub CommitsTables : SessionView → SessionView → ℕ → Type 0
+CommitsTables old new t =
+    IsTold old.store.pages.disk → (state : State) → Kept state → FitMixed (committing t state)
+    → Shows old state
+    → Passes old.store.pages.disk new.store.pages.disk (λ image.
+    HoldsTables state.size state.base image ⊎ HoldsTables state.size (committing t state).base image)

@@ -1,0 +1,1 @@
+// Begins, save points and ends.

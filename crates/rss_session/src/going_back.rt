@@ -1,0 +1,67 @@
+// Ways back.
+ghost use Rattle.std.specs.Prelude.{◌≡◌, ◌≤◌, ℕ, List, true, length, Err, OnOk};
+ghost use Rattle.rss_base.specs.DiskRule.{IsTold};
+ghost use Rattle.rss_base.specs.declared.fault.PageFault.TheVariants.{Damaged};
+ghost use Rattle.rss_base.specs.declared.place.Place.{Place as AnyPlace};
+ghost use Rattle.rss_model.specs.Machine.{State};
+ghost use Rattle.rss_model.specs.Meter.{restore_size, end_size};
+ghost use Rattle.rss_model.specs.Kept.{Kept};
+ghost use Rattle.rss_trans.specs.Transactions.{is_open, transaction_in};
+ghost use Rattle.rss_session.specs.Sessions.{IsReady, IsEarly};
+ghost use Rattle.rss_session.specs.Shown.{Shows};
+ghost use Rattle.rss_session.specs.Calls.{GoesOn, Appends, KeepsTables, HasMarks, Restores, Aborts, ShowsNone};
+
+use crate::Session;
+use rss_base::PageFault;
+use rss_buffer::Saving;
+
+impl<S: Saving> Session<S> {
+    ghost use Rattle.rss_session.specs.Parts.{view};
+
+    /// Takes a transaction back to a save point, 0 being its begin: undoes its changes since then, the
+    /// newest first. Later save points are gone, and this one stays. It takes no memory.
+    pub fn restore(&mut self, transaction: u32, save: u32) -> Result<(), PageFault>
+        requires ready { IsReady (view S.view self.old) }
+        requires open { is_open (view S.view self.old).open transaction ≡ true }
+        requires save { save ≤ length (transaction_in (view S.view self.old).open transaction).saves }
+        requires early { IsEarly (view S.view self.old) restore_size }
+        ensures ready { OnOk result (IsReady (view S.view self.new)) }
+        ensures shows { OnOk result (IsTold (view S.view self.old).store.pages.disk → (state : State)
+            (marks : List ℕ) → Kept state → HasMarks state transaction marks
+            → Shows (view S.view self.old) state
+            → Restores (view S.view self.new) state transaction save marks) }
+        ensures sound { (place : AnyPlace) → result ≡ Err (Damaged place)
+            → IsTold (view S.view self.old).store.pages.disk → ShowsNone (view S.view self.old) }
+        ensures moments { KeepsTables (view S.view self.old) (view S.view self.new) }
+        ensures appends { Appends restore_size (view S.view self.old) (view S.view self.new) }
+        ensures goes { GoesOn (view S.view self.old) (view S.view self.new) result }
+    {
+        if let Some(first) = self.undo_after(transaction, save)? {
+            self.store.cut(transaction, first);
+        }
+        self.open.cut(transaction, save);
+        Ok(())
+    }
+
+    /// Undoes all changes of a transaction, the newest first, and lets it go. It takes no memory.
+    pub fn abort(&mut self, transaction: u32) -> Result<(), PageFault>
+        requires ready { IsReady (view S.view self.old) }
+        requires open { is_open (view S.view self.old).open transaction ≡ true }
+        requires early { IsEarly (view S.view self.old) end_size }
+        ensures ready { OnOk result (IsReady (view S.view self.new)) }
+        ensures shows { OnOk result (IsTold (view S.view self.old).store.pages.disk → (state : State)
+            → Kept state → Shows (view S.view self.old) state
+            → Aborts (view S.view self.new) state transaction) }
+        ensures sound { (place : AnyPlace) → result ≡ Err (Damaged place)
+            → IsTold (view S.view self.old).store.pages.disk → ShowsNone (view S.view self.old) }
+        ensures moments { KeepsTables (view S.view self.old) (view S.view self.new) }
+        ensures appends { Appends end_size (view S.view self.old) (view S.view self.new) }
+        ensures goes { GoesOn (view S.view self.old) (view S.view self.new) result }
+    {
+        if self.undo_after(transaction, 0)?.is_some() {
+            self.store.abort(transaction);
+        }
+        self.open.gone(transaction);
+        Ok(())
+    }
+}

@@ -1,0 +1,48 @@
+// Checkpoints.
+ghost use Rattle.std.specs.Prelude.{◌≡◌, ◌⊎◌, OnOk, []};
+ghost use Rattle.rss_base.specs.DiskRule.{IsTold, Passes};
+ghost use Rattle.rss_base.specs.Sizes.{largest_checkpoint};
+ghost use Rattle.rss_model.specs.Machine.{State};
+ghost use Rattle.rss_model.specs.Kept.{Kept};
+ghost use Rattle.rss_model.specs.Rules.{saved_now};
+ghost use Rattle.rss_session.specs.Sessions.{IsReady, IsEarly};
+ghost use Rattle.rss_session.specs.Shown.{Shows};
+ghost use Rattle.rss_session.specs.Weighing.{MaySave};
+ghost use Rattle.rss_session.specs.Calls.{GoesOn, Appends, KeepsTables, IsCounted, SavesAll};
+ghost use Rattle.rss_store.specs.Commits.{CanCheckpoint, IsSavedStore};
+ghost use Rattle.rss_store.specs.Stores.{IsSaved};
+
+use crate::Session;
+use rss_base::{Marks, PageFault};
+use rss_buffer::Saving;
+
+impl<S: Saving> Session<S> {
+    ghost use Rattle.rss_session.specs.Parts.{view};
+
+    /// Takes a checkpoint: brings the pages and the catalog to the disk as they are now, with a record
+    /// that names the transactions that have changes. From then on the log is kept from the first of
+    /// these changes on, or from this record.
+    pub fn checkpoint(&mut self) -> Result<(), PageFault>
+        requires ready { IsReady (view S.view self.old) }
+        requires may { MaySave (view S.view self.old) }
+        requires early { IsEarly (view S.view self.old) largest_checkpoint }
+        ensures ready { OnOk result (IsReady (view S.view self.new)) }
+        ensures shows { OnOk result (IsTold (view S.view self.old).store.pages.disk → (state : State)
+            → Kept state → Shows (view S.view self.old) state
+            → Shows (view S.view self.new) (record state { meter = saved_now state })) }
+        ensures moments { KeepsTables (view S.view self.old) (view S.view self.new) }
+        ensures open { (view S.view self.new).open.transactions ≡ (view S.view self.old).open.transactions }
+        ensures room { (view S.view self.new).open.room ≡ (view S.view self.old).open.room }
+        ensures saved { OnOk result (IsSaved (view S.view self.new).store) }
+        ensures appends { Appends largest_checkpoint (view S.view self.old) (view S.view self.new) }
+        ensures goes { GoesOn (view S.view self.old) (view S.view self.new) result }
+    {
+        let mut marks = Marks::new();
+        self.open.marks(&mut marks);
+        self.store.checkpoint(marks)?;
+        self.open.checkpointed();
+        self.surviving = self.open.sums().p;
+        self.heap = self.store.heap();
+        Ok(())
+    }
+}
