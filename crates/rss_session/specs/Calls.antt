@@ -91,3 +91,7 @@ CommitsTables old new t =
     → Shows old state
     → Passes old.store.pages.disk new.store.pages.disk (λ image.
     HoldsTables state.size state.base image ⊎ HoldsTables state.size (committing t state).base image)
+
+-- ---- a definition
+
+-- The catalog lists what a call defined, and nothing is open. From each state before, the next one is at a checkpoint of these tables, which the pages spell by the catalog.
