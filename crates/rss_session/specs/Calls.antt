@@ -1,22 +1,22 @@
 -- What the calls of a session leave.
-use Rattle.std.specs.Prelude.{◌≡◌, ◌⊎◌, ℕ, ◌+◌, ◌≤◌, Bool, true, false, if◌then◌else◌, List, Some, Result, Err, IsErrOf}
+use Rattle.std.specs.Prelude.{◌≡◌, ◌⊎◌, ℕ, ◌+◌, ◌≤◌, List, Some, Result, IsErrOf}
 use Rattle.std.specs.FinMap as map
-use Rattle.rss_base.specs.DiskRule.{Pages, IsTold, Passes, Continues}
+use Rattle.rss_base.specs.DiskRule.{IsTold, Passes, Continues}
 use Rattle.rss_base.specs.Faults.{Rises}
 use Rattle.rss_base.specs.declared.change.Change as told
 use Rattle.rss_base.specs.declared.fault.PageFault.{PageFault}
-use Rattle.rss_base.specs.declared.fault.PageFault.TheVariants.{Device as DeviceFailed, Damaged, NoMemory}
-use Rattle.rss_base.specs.declared.place.Place.{Place}
+use Rattle.rss_base.specs.declared.fault.PageFault.TheVariants.{Device as DeviceFailed, NoMemory}
 use Rattle.rss_model.specs.Changes.{Change, own}
 use Rattle.rss_model.specs.Machine.{State, now}
-use Rattle.rss_model.specs.Rules.{saved_now}
 use Rattle.rss_model.specs.Ruled.{ruled}
 use Rattle.rss_model.specs.Kept.{Kept, FitMixed}
 use Rattle.rss_model.specs.Steps.{IsOver, MayUndo, undone_to, left_at, restored, gone, committing}
-use Rattle.rss_store.specs.Changing.{MayMake, IsOwnAt}
+use Rattle.rss_store.specs.Changing.{MayMake}
 use Rattle.rss_store.specs.Shown.{HoldsTables}
-use Rattle.rss_session.specs.Sessions.{SessionView}
-use Rattle.rss_session.specs.Shown.{Shows, ShowsBack}
+use Rattle.rss_access.specs.Written.{heap_now}
+use Rattle.rss_session.specs.Sessions.{SessionView, sums_in}
+use Rattle.rss_session.specs.Weighing.{saved_head, saved_end}
+use Rattle.rss_session.specs.Shown.{Shows}
 
 -- ---- what each call passes on
 
@@ -40,6 +40,20 @@ abbrev pub KeepsTables : SessionView → SessionView → Type 0
 KeepsTables old new =
     IsTold old.store.pages.disk → (state : State) → Kept state → Shows old state
     → Passes old.store.pages.disk new.store.pages.disk (HoldsTables state.size state.base)
+
+-- ---- checkpoints
+
+-- What is counted is counted from this checkpoint on. The same transactions are open, with the same changes.
+pub record CountsAnew (old new : SessionView) : Type 0 where
+  pub transactions : new.open.transactions ≡ old.open.transactions
+  pub places : new.open.room ≡ old.open.room
+  pub since : new.open.since ≡ 0
+  pub heap : new.heap ≡ heap_now old.store.pages
+  pub surviving : new.surviving ≡ (sums_in old.open).p
+  pub pages : new.store.log.pages ≡ old.store.log.pages
+  pub head : new.store.log.head ≡ saved_head old
+  pub end : new.store.log.end ≡ saved_end old
+  pub listing : new.store.catalog.listing ≡ old.store.catalog.listing
 
 -- ---- changes
 
@@ -91,7 +105,3 @@ CommitsTables old new t =
     → Shows old state
     → Passes old.store.pages.disk new.store.pages.disk (λ image.
     HoldsTables state.size state.base image ⊎ HoldsTables state.size (committing t state).base image)
-
--- ---- a definition
-
--- The catalog lists what a call defined, and nothing is open. From each state before, the next one is at a checkpoint of these tables, which the pages spell by the catalog.

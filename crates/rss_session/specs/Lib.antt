@@ -4,5 +4,6 @@ pub use Rattle.rss_trans.specs.Told
 pub mod Sessions
 pub mod Shown
 pub mod Weighing
+pub mod Changes
 pub mod Calls
 pub mod Parts

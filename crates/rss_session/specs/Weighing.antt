@@ -2,12 +2,14 @@
 use Rattle.std.specs.Prelude.{◌≡◌, ℕ, ◌+◌, ◌*◌, ◌≤◌, ◌&&◌, nat_le, nat_lt, Bool, true, false, if◌then◌else◌, List, length, Result, Ok, Err}
 use Rattle.std.specs.FinMap.{entries}
 use Rattle.rss_base.specs.Sizes.{system_pages}
+use Rattle.rss_base.specs.LogRecords.{record_size}
+use Rattle.rss_base.specs.declared.log_record.LogRecord.TheVariants as records
 use Rattle.rss_base.specs.declared.refusal.Refusal.{Refusal}
 use Rattle.rss_base.specs.declared.refusal.Refusal.TheVariants.{Full, LogFull}
 use Rattle.rss_log.specs.Logs.{free_of}
 use Rattle.rss_model.specs.Changes.{Change}
 use Rattle.rss_model.specs.Machine.{State}
-use Rattle.rss_model.specs.Meter.{change_size, checkpoint_size, free_between}
+use Rattle.rss_model.specs.Meter.{change_size, free_between}
 use Rattle.rss_model.specs.Rules.{Verdict, GoesOn, SavesFirst, NoRoom, NoLogRoom, ruling}
 use Rattle.rss_trans.specs.Transactions.{OpenView, transaction_in, marks_of}
 use Rattle.rss_access.specs.Written.{heap_now}
@@ -45,7 +47,7 @@ abbrev pub saved_head : SessionView → ℕ
 saved_head view = least_mark view.store.log.end (named view.open)
 
 abbrev pub saved_end : SessionView → ℕ
-saved_end view = view.store.log.end + checkpoint_size (sums_in view.open).q
+saved_end view = view.store.log.end + record_size (records.Checkpoint (named view.open))
 
 -- how many bytes the log has room for
 abbrev pub saved_free : SessionView → ℕ

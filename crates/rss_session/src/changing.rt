@@ -1,5 +1,5 @@
 // Changes of tuples.
-ghost use Rattle.std.specs.Prelude.{◌≡◌, ◌+◌, ◌≤◌, true, false, if◌then◌else◌, Ok, Err, OnOk, OnErr};
+ghost use Rattle.std.specs.Prelude.{◌≡◌, ◌+◌, ◌≤◌, ℕ, true, false, Some, Ok, Err, OnOk, OnErr};
 ghost use Rattle.rss_base.specs.DiskRule.{IsTold};
 ghost use Rattle.rss_base.specs.LogRecords.{record_size, longest_record, IsChangeBounded};
 ghost use Rattle.rss_base.specs.Sizes.{largest_checkpoint};
@@ -7,7 +7,8 @@ ghost use Rattle.rss_base.specs.declared.log_record.LogRecord.TheVariants as rec
 ghost use Rattle.rss_base.specs.declared.fault.PageFault.TheVariants.{Damaged};
 ghost use Rattle.rss_base.specs.declared.place.Place.{Place as AnyPlace};
 ghost use Rattle.rss_trans.specs.Transactions.{is_open};
-ghost use Rattle.rss_access.specs.Changes.{IsTupleRecord};
+ghost use Rattle.rss_access.specs.Changes.{IsTupleRecord, number_told};
+ghost use Rattle.rss_session.specs.Changes.{is_delete_told};
 ghost use Rattle.rss_session.specs.Sessions.{IsReady, IsEarly};
 ghost use Rattle.rss_session.specs.Weighing.{weighed};
 ghost use Rattle.rss_session.specs.Calls.{GoesOn, Appends, KeepsTables, Makes, MayNotMake};
@@ -117,7 +118,7 @@ fn relation_of(change: &Change) -> Option<u8>
 
 /// Whether a tuple is taken away.
 fn is_delete(change: &Change) -> bool
-    ensures { result ≡ is_delete change.now }
+    ensures { result ≡ is_delete_told change.now }
 {
     matches!(change, Change::Delete { .. })
 }

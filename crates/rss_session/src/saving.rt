@@ -1,6 +1,6 @@
 // Checkpoints.
-ghost use Rattle.std.specs.Prelude.{◌≡◌, ◌⊎◌, OnOk, []};
-ghost use Rattle.rss_base.specs.DiskRule.{IsTold, Passes};
+ghost use Rattle.std.specs.Prelude.{◌≡◌, OnOk};
+ghost use Rattle.rss_base.specs.DiskRule.{IsTold};
 ghost use Rattle.rss_base.specs.Sizes.{largest_checkpoint};
 ghost use Rattle.rss_model.specs.Machine.{State};
 ghost use Rattle.rss_model.specs.Kept.{Kept};
@@ -8,8 +8,7 @@ ghost use Rattle.rss_model.specs.Rules.{saved_now};
 ghost use Rattle.rss_session.specs.Sessions.{IsReady, IsEarly};
 ghost use Rattle.rss_session.specs.Shown.{Shows};
 ghost use Rattle.rss_session.specs.Weighing.{MaySave};
-ghost use Rattle.rss_session.specs.Calls.{GoesOn, Appends, KeepsTables, IsCounted, SavesAll};
-ghost use Rattle.rss_store.specs.Commits.{CanCheckpoint, IsSavedStore};
+ghost use Rattle.rss_session.specs.Calls.{GoesOn, Appends, KeepsTables, CountsAnew};
 ghost use Rattle.rss_store.specs.Stores.{IsSaved};
 
 use crate::Session;
@@ -31,8 +30,7 @@ impl<S: Saving> Session<S> {
             → Kept state → Shows (view S.view self.old) state
             → Shows (view S.view self.new) (record state { meter = saved_now state })) }
         ensures moments { KeepsTables (view S.view self.old) (view S.view self.new) }
-        ensures open { (view S.view self.new).open.transactions ≡ (view S.view self.old).open.transactions }
-        ensures room { (view S.view self.new).open.room ≡ (view S.view self.old).open.room }
+        ensures anew { OnOk result (CountsAnew (view S.view self.old) (view S.view self.new)) }
         ensures saved { OnOk result (IsSaved (view S.view self.new).store) }
         ensures appends { Appends largest_checkpoint (view S.view self.old) (view S.view self.new) }
         ensures goes { GoesOn (view S.view self.old) (view S.view self.new) result }

@@ -166,7 +166,7 @@ impl<S: Saving> DurableStore<S> {
 }
 
 /// The least of the marks' positions, or this one where there is none less.
-fn least_mark(marks: &Marks, end: u64) -> u64
+pub(crate) fn least_mark(marks: &Marks, end: u64) -> u64
     ensures { result ≡ least_mark end marks.now }
 {
     marks

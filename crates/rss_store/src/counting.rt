@@ -1,11 +1,18 @@
 // What is counted of a store.
-ghost use Rattle.std.specs.Prelude.{◌≡◌};
+ghost use Rattle.std.specs.Prelude.{◌≡◌, ◌+◌, ◌<◌};
+ghost use Rattle.rss_base.specs.LogRecords.{record_size};
+ghost use Rattle.rss_base.specs.Sizes.{position_limit};
+ghost use Rattle.rss_base.specs.declared.log_record.LogRecord.TheVariants as records;
 ghost use Rattle.rss_access.specs.Written.{heap_now};
 ghost use Rattle.rss_log.specs.Logs.{IsLog, free_of};
+ghost use Rattle.rss_model.specs.Meter.{free_between};
+ghost use Rattle.rss_store.specs.Commits.{least_mark};
 ghost use Rattle.rss_store.specs.Stores.{IsReady};
 
 use crate::DurableStore;
-use rss_base::SYSTEM_PAGES;
+use crate::committing::least_mark;
+use crate::writing::PIECE_LENGTH;
+use rss_base::{Marks, SYSTEM_PAGES};
 use rss_buffer::Saving;
 
 impl<S: Saving> DurableStore<S> {
@@ -55,5 +62,22 @@ impl<S: Saving> DurableStore<S> {
         ensures log { IsLog (view S.view self.now).log }
     {
         self.log.free()
+    }
+
+    /// How many bytes could be appended to the log behind a checkpoint that names these transactions,
+    /// each with the position of its first change.
+    pub fn free_behind(&self, marks: &Marks) -> u64
+        requires ready { IsReady (view S.view self.now) }
+        requires early { (view S.view self.now).log.end + record_size (records.Checkpoint marks.now)
+            < position_limit }
+        ensures { result ≡ free_between (view S.view self.now).log.pages
+            (least_mark (view S.view self.now).log.end marks.now)
+            ((view S.view self.now).log.end + record_size (records.Checkpoint marks.now)) }
+    {
+        let end = self.log.end();
+        let head = least_mark(marks, end);
+        let size = 2 + 12 * marks.as_slice().len() as u64;
+        let pieces = head / PIECE_LENGTH + u64::from(self.root.log_pages) + 1;
+        (pieces * PIECE_LENGTH - 1).saturating_sub(end + size)
     }
 }
