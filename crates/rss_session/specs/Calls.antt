@@ -1,5 +1,5 @@
 -- What the calls of a session leave.
-use Rattle.std.specs.Prelude.{◌≡◌, ◌⊎◌, ℕ, ◌+◌, ◌≤◌, List, Some, Result, IsErrOf}
+use Rattle.std.specs.Prelude.{◌≡◌, ◌⊎◌, ℕ, ◌+◌, ◌≤◌, List, length, take, slice_get, Option, Some, option_map, IfSome, IfNone, Result, IsErrOf}
 use Rattle.std.specs.FinMap as map
 use Rattle.rss_base.specs.DiskRule.{IsTold, Passes, Continues}
 use Rattle.rss_base.specs.Faults.{Rises}
@@ -11,12 +11,13 @@ use Rattle.rss_model.specs.Machine.{State, now}
 use Rattle.rss_model.specs.Ruled.{ruled}
 use Rattle.rss_model.specs.Kept.{Kept, FitMixed}
 use Rattle.rss_model.specs.Steps.{IsOver, MayUndo, undone_to, left_at, restored, gone, committing}
-use Rattle.rss_store.specs.Changing.{MayMake}
+use Rattle.rss_trans.specs.Transactions.{Transaction, transaction_in, count_at, Steps}
+use Rattle.rss_store.specs.Changing.{MayMake, IsOwnAt}
 use Rattle.rss_store.specs.Shown.{HoldsTables}
 use Rattle.rss_access.specs.Written.{heap_now}
 use Rattle.rss_session.specs.Sessions.{SessionView, sums_in}
 use Rattle.rss_session.specs.Weighing.{saved_head, saved_end}
-use Rattle.rss_session.specs.Shown.{Shows}
+use Rattle.rss_session.specs.Shown.{Shows, ShowsBack}
 
 -- ---- what each call passes on
 
@@ -45,11 +46,11 @@ KeepsTables old new =
 
 -- What is counted is counted from this checkpoint on. The same transactions are open, with the same changes.
 pub record CountsAnew (old new : SessionView) : Type 0 where
-  pub transactions : new.open.transactions ≡ old.open.transactions
-  pub places : new.open.room ≡ old.open.room
-  pub since : new.open.since ≡ 0
+  pub transactions : new.opened.transactions ≡ old.opened.transactions
+  pub places : new.opened.room ≡ old.opened.room
+  pub since : new.opened.since ≡ 0
   pub heap : new.heap ≡ heap_now old.store.pages
-  pub surviving : new.surviving ≡ (sums_in old.open).p
+  pub surviving : new.surviving ≡ (sums_in old.opened).p
   pub pages : new.store.log.pages ≡ old.store.log.pages
   pub head : new.store.log.head ≡ saved_head old
   pub end : new.store.log.end ≡ saved_end old
@@ -83,6 +84,27 @@ ShowsNone view = (state : State) → Kept state → Shows view state → ⊥
 -- the transaction has these save points
 abbrev pub HasMarks : State → ℕ → List ℕ → Type 0
 HasMarks state t marks = map.get state.marks t ≡ Some marks
+
+-- of its changes the oldest so many stay
+abbrev pub taken_to : ℕ → Transaction → Transaction
+taken_to left transaction = record transaction { changes = take left transaction.changes }
+
+-- Its changes since a save point are undone, and this is the position of the oldest of them, where there is one. Nothing is logged.
+pub record TakesBack (t save : ℕ) (old new : SessionView) (first : Option ℕ) : Type 0 where
+  pub opened : Steps t (taken_to (count_at (transaction_in old.opened t) save)) old.opened new.opened
+  pub oldest : first ≡ option_map (λ note. note.position)
+      (slice_get (transaction_in old.opened t).changes (count_at (transaction_in old.opened t) save))
+  pub heap : new.heap ≡ old.heap
+  pub surviving : new.surviving ≡ old.surviving
+  pub log : new.store.log ≡ old.store.log
+  pub root : new.store.root ≡ old.store.root
+  pub number : new.store.number ≡ old.store.number
+
+-- only so many of its changes are still in the tables, where it had more
+pub record GoesBack (new : SessionView) (state : State) (t left : ℕ) (first : Option ℕ) : Type 0 where
+  pub shows : ShowsBack new state t left
+  pub some : IfSome first (IsOwnAt state t left)
+  pub none : IfNone first (length (own t state.changes) ≤ left)
 
 -- it is at a save point, with as many overflow pages as the machine allows
 pub record Restores (new : SessionView) (state : State) (t save : ℕ) (marks : List ℕ) : Type 0 where

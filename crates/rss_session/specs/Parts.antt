@@ -9,7 +9,7 @@ use Rattle.rss_session.specs.declared.session.Session.{Session}
 abbrev pub view : {S : Type 0} → (S → PagesView) → Session S → SessionView
 view pages_view session = record {
   store = store_view pages_view session.store;
-  open = told session.open;
+  opened = told session.«open»;
   heap = session.heap;
   surviving = session.surviving;
 }

@@ -17,7 +17,7 @@ use Rattle.rss_store.specs.Stores.{IsReady as IsStoreReady}
 -- surviving: how many changes of open transactions survived there.
 pub record SessionView : Type 1 where
   pub store : StoreView
-  pub open : OpenView
+  pub opened : OpenView
   pub heap : ℕ
   pub surviving : ℕ
 
@@ -25,18 +25,18 @@ pub record SessionView : Type 1 where
 
 -- what was counted at the last checkpoint, and since then
 abbrev pub counts : SessionView → ChangeCounts
-counts view = record { heap = view.heap; surviving = view.surviving; since = view.open.since }
+counts view = record { heap = view.heap; surviving = view.surviving; since = view.opened.since }
 
 -- the sums over all changes of open transactions
 abbrev pub sums_in : OpenView → Sums
-sums_in open = sums_of any open.since (values open.transactions)
+sums_in opened = sums_of any opened.since (values opened.transactions)
 
 -- how many bytes of the log so many changes of so many transactions are owed
 abbrev pub owed_for : ℕ → ℕ → ℕ
 owed_for p q = restore_size * p + end_size * q + largest_checkpoint
 
 abbrev pub owed_by : OpenView → ℕ
-owed_by open = owed_for (sums_in open).p (sums_in open).q
+owed_by opened = owed_for (sums_in opened).p (sums_in opened).q
 
 -- ---- where the changes stand
 
@@ -50,11 +50,11 @@ AreRising low high (note ∷ notes) = (low ≤ note.position) × AreRising (note
 -- A call may be made. Pages are spare for all changes that may be undone, and the log has room for what is owed to them.
 pub record IsReady (view : SessionView) : Type 0 where
   pub store : IsStoreReady view.store
-  pub pages : IsInSession (counts view) (sums_in view.open).p (page_counts view.store.pages)
+  pub pages : IsInSession (counts view) (sums_in view.opened).p (page_counts view.store.pages)
   pub room : HasRoomFor (counts view) (page_counts view.store.pages)
-  pub log : owed_by view.open ≤ free_of view.store.log
-  pub placed : (t : ℕ) → AreRising view.store.log.head view.store.log.end (transaction_in view.open t).changes
-  pub numbers : (t : ℕ) → is_open view.open t ≡ true → t < 2 ^ 32
+  pub log : owed_by view.opened ≤ free_of view.store.log
+  pub placed : (t : ℕ) → AreRising view.store.log.head view.store.log.end (transaction_in view.opened t).changes
+  pub numbers : (t : ℕ) → is_open view.opened t ≡ true → t < 2 ^ 32
 
 -- Positions stay numbers where records of so many bytes are appended.
 abbrev pub IsEarly : SessionView → ℕ → Type 0

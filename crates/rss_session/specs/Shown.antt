@@ -19,7 +19,7 @@ IsRested view state =
 
 -- What is counted is the meter's, and there is room for all pages and in the log.
 pub record Counts (view : SessionView) (state : State) : Type 0 where
-  pub since : TellsSince view.store.catalog.listing view.open state.meter
+  pub since : TellsSince view.store.catalog.listing view.opened state.meter
   pub heap : state.meter.heap ≡ view.heap
   pub surviving : state.meter.surviving ≡ view.surviving
   pub rooms : HasBothRooms state
@@ -29,7 +29,7 @@ pub record Shows (view : SessionView) (state : State) : Type 0 where
   pub store : StoreShows view.store state
   pub listed : List Listed
   pub list : IsListOf state.changes state.meter.stamps listed
-  pub told : TellsOpen view.store.catalog.listing view.open state.marks listed
+  pub told : TellsOpen view.store.catalog.listing view.opened state.marks listed
   pub counted : Counts view state
   pub rested : IsRested view state
 
@@ -38,5 +38,5 @@ pub record ShowsBack (view : SessionView) (state : State) (t n : ℕ) : Type 0 w
   pub store : StoreShowsBack view.store state t n
   pub listed : List Listed
   pub list : IsListOf state.changes state.meter.stamps listed
-  pub told : TellsOpen view.store.catalog.listing view.open state.marks (kept_to listed_by t n listed)
+  pub told : TellsOpen view.store.catalog.listing view.opened state.marks (kept_to listed_by t n listed)
   pub counted : Counts view state

@@ -14,7 +14,7 @@ use Rattle.rss_model.specs.Rules.{Verdict, GoesOn, SavesFirst, NoRoom, NoLogRoom
 use Rattle.rss_trans.specs.Transactions.{OpenView, transaction_in, marks_of}
 use Rattle.rss_access.specs.Written.{heap_now}
 use Rattle.rss_store.specs.Commits.{least_mark}
-use Rattle.rss_session.specs.Sessions.{SessionView, IsReady, sums_in, owed_for, owed_by}
+use Rattle.rss_session.specs.Sessions.{SessionView, sums_in, owed_for, owed_by}
 use Rattle.rss_session.specs.Shown.{Shows}
 
 -- ---- as it is
@@ -25,29 +25,29 @@ room_of heap surviving since = 2 * (heap + 2 * surviving + 4 * since + system_pa
 
 -- with a change more
 abbrev pub room_with : SessionView → ℕ
-room_with view = room_of view.heap view.surviving (view.open.since + 1)
+room_with view = room_of view.heap view.surviving (view.opened.since + 1)
 
 -- how many transactions have changes with one of t more
 abbrev pub changers_with : OpenView → ℕ → ℕ
-changers_with open t =
-    if nat_lt 0 (length (transaction_in open t).changes) then (sums_in open).q else (sums_in open).q + 1
+changers_with opened t =
+    if nat_lt 0 (length (transaction_in opened t).changes) then (sums_in opened).q else (sums_in opened).q + 1
 
 -- how many bytes of the log a change of t needs whose record has this size, with what is owed then
 abbrev pub needed_with : SessionView → ℕ → ℕ → ℕ
-needed_with view t size = size + owed_for ((sums_in view.open).p + 1) (changers_with view.open t)
+needed_with view t size = size + owed_for ((sums_in view.opened).p + 1) (changers_with view.opened t)
 
 -- ---- behind a checkpoint
 
 -- what its record names
 abbrev pub named : OpenView → List (ℕ × ℕ)
-named open = marks_of (entries open.transactions)
+named opened = marks_of (entries opened.transactions)
 
 -- the position from which on the log is kept, and the next one
 abbrev pub saved_head : SessionView → ℕ
-saved_head view = least_mark view.store.log.end (named view.open)
+saved_head view = least_mark view.store.log.end (named view.opened)
 
 abbrev pub saved_end : SessionView → ℕ
-saved_end view = view.store.log.end + record_size (records.Checkpoint (named view.open))
+saved_end view = view.store.log.end + record_size (records.Checkpoint (named view.opened))
 
 -- how many bytes the log has room for
 abbrev pub saved_free : SessionView → ℕ
@@ -55,11 +55,11 @@ saved_free view = free_between view.store.log.pages (saved_head view) (saved_end
 
 -- how many slots may be needed with a change more
 abbrev pub saved_room_with : SessionView → ℕ
-saved_room_with view = room_of (heap_now view.store.pages) (sums_in view.open).p 1
+saved_room_with view = room_of (heap_now view.store.pages) (sums_in view.opened).p 1
 
 -- a checkpoint leaves room in the log for what is owed
 abbrev pub MaySave : SessionView → Type 0
-MaySave view = owed_by view.open ≤ saved_free view
+MaySave view = owed_by view.opened ≤ saved_free view
 
 -- ---- what comes of a change
 
@@ -85,8 +85,8 @@ outcome SavesFirst = Ok true
 outcome (NoRoom slots needed) = Err (Full slots needed)
 outcome (NoLogRoom free needed) = Err (LogFull free needed)
 
--- The session weighs as the machine rules, in each state in which it may be.
-abbrev pub WeighsRight : Type 1
-WeighsRight = (view : SessionView) (state : State) (change : Change) (size : ℕ) → IsReady view
-    → Shows view state → change_size change ≡ size
-    → outcome (ruling state change) ≡ weighed view change.by size
+-- This is how the machine rules on each change of t whose record has this size, in each state in which the session may be.
+abbrev pub RulesSo : SessionView → ℕ → ℕ → Result Bool Refusal → Type 0
+RulesSo view t size result =
+    (state : State) (change : Change) → change.by ≡ t → change_size change ≡ size
+    → Shows view state → outcome (ruling state change) ≡ result

@@ -26,10 +26,10 @@ impl<S: Saving> Session<S> {
     /// Takes the memory that one change more of a transaction will need.
     pub fn reserve(&mut self, transaction: u32) -> Result<(), AllocError>
         requires ready { IsReady (view S.view self.old) }
-        requires open { is_open (view S.view self.old).open transaction ≡ true }
+        requires open { is_open (view S.view self.old).opened transaction ≡ true }
         ensures ready { IsReady (view S.view self.new) }
-        ensures place { OnOk result (1 ≤ (view S.view self.new).open.room transaction) }
-        ensures open { is_open (view S.view self.new).open transaction ≡ true }
+        ensures place { OnOk result (1 ≤ (view S.view self.new).opened.room transaction) }
+        ensures open { is_open (view S.view self.new).opened transaction ≡ true }
         ensures shows { (state : State) → Shows (view S.view self.old) state
             → Shows (view S.view self.new) state }
         ensures weighs { (size : ℕ) → weighed (view S.view self.new) transaction size
@@ -51,8 +51,8 @@ impl<S: Saving> Session<S> {
         saves_first: bool,
     ) -> Result<(), PageFault>
         requires ready { IsReady (view S.view self.old) }
-        requires open { is_open (view S.view self.old).open transaction ≡ true }
-        requires place { 1 ≤ (view S.view self.old).open.room transaction }
+        requires open { is_open (view S.view self.old).opened transaction ≡ true }
+        requires place { 1 ≤ (view S.view self.old).opened.room transaction }
         requires tuple { IsTupleRecord change }
         requires bounded { IsChangeBounded change }
         requires weighed { weighed (view S.view self.old) transaction
@@ -78,8 +78,8 @@ impl<S: Saving> Session<S> {
     /// Makes a change that goes on as it is.
     fn change(&mut self, transaction: u32, change: Change) -> Result<(), PageFault>
         requires ready { IsReady (view S.view self.old) }
-        requires open { is_open (view S.view self.old).open transaction ≡ true }
-        requires place { 1 ≤ (view S.view self.old).open.room transaction }
+        requires open { is_open (view S.view self.old).opened transaction ≡ true }
+        requires place { 1 ≤ (view S.view self.old).opened.room transaction }
         requires tuple { IsTupleRecord change }
         requires bounded { IsChangeBounded change }
         requires weighed { weighed (view S.view self.old) transaction

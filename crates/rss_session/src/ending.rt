@@ -1,7 +1,9 @@
 // Begins, save points and ends.
-ghost use Rattle.std.specs.Prelude.{◌≡◌, ◌⊎◌, ◌+◌, ◌^◌, ◌<◌, ◌≤◌, ℕ, List, true, false, length, IfOk, OnOk, OnErr};
-ghost use Rattle.std.specs.FinMap.{len};
+ghost use Rattle.std.specs.Prelude.{◌≡◌, ◌⊎◌, ◌+◌, ◌^◌, ◌<◌, ◌≤◌, ℕ, List, true, false, length, slice_get, Err, IfOk, OnOk, OnErr};
+ghost use Rattle.std.specs.FinMap.{keys, len};
 ghost use Rattle.rss_base.specs.DiskRule.{IsTold, WritesIn};
+ghost use Rattle.rss_base.specs.declared.fault.PageFault.TheVariants.{Damaged};
+ghost use Rattle.rss_base.specs.declared.place.Place.{Place as AnyPlace};
 ghost use Rattle.rss_model.specs.Machine.{State};
 ghost use Rattle.rss_model.specs.Meter.{end_size};
 ghost use Rattle.rss_model.specs.Kept.{Kept, FitMixed};
@@ -23,8 +25,8 @@ impl<S: Saving> Session<S> {
     /// Opens a transaction. At most 32 are open at a time.
     pub fn begin(&mut self, transaction: u32) -> Result<(), AllocError>
         requires ready { IsReady (view S.view self.old) }
-        requires closed { is_open (view S.view self.old).open transaction ≡ false }
-        requires few { len (view S.view self.old).open.transactions < 32 }
+        requires closed { is_open (view S.view self.old).opened transaction ≡ false }
+        requires few { len (view S.view self.old).opened.transactions < 32 }
         ensures ready { IsReady (view S.view self.new) }
         ensures begins { OnOk result ((state : State) → Shows (view S.view self.old) state
             → Shows (view S.view self.new) (begun transaction state)) }
@@ -37,29 +39,29 @@ impl<S: Saving> Session<S> {
 
     /// Whether the transaction is open.
     pub fn is_open(&self, transaction: u32) -> bool
-        ensures { result ≡ is_open (view S.view self.now).open transaction }
+        ensures { result ≡ is_open (view S.view self.now).opened transaction }
     {
         self.open.is_open(transaction)
     }
 
     /// How many transactions are open.
     pub fn count(&self) -> u32
-        ensures { result ≡ len (view S.view self.now).open.transactions }
+        ensures { result ≡ len (view S.view self.now).opened.transactions }
     {
         self.open.count()
     }
 
     /// The least open transaction.
     pub fn least(&self) -> Option<u32>
-        ensures { result ≡ slice_get (keys (view S.view self.now).open.transactions) 0 }
+        ensures { result ≡ slice_get (keys (view S.view self.now).opened.transactions) 0 }
     {
         self.open.least()
     }
 
     /// How many save points a transaction has.
     pub fn saves(&self, transaction: u32) -> u32
-        requires { is_open (view S.view self.now).open transaction ≡ true }
-        ensures { result ≡ length (transaction_in (view S.view self.now).open transaction).saves }
+        requires { is_open (view S.view self.now).opened transaction ≡ true }
+        ensures { result ≡ length (transaction_in (view S.view self.now).opened transaction).saves }
     {
         self.open.saves(transaction)
     }
@@ -67,8 +69,8 @@ impl<S: Saving> Session<S> {
     /// Sets a save point, and answers its number.
     pub fn save(&mut self, transaction: u32) -> Result<u32, AllocError>
         requires ready { IsReady (view S.view self.old) }
-        requires open { is_open (view S.view self.old).open transaction ≡ true }
-        requires few { length (transaction_in (view S.view self.old).open transaction).saves + 1 < 2 ^ 32 }
+        requires open { is_open (view S.view self.old).opened transaction ≡ true }
+        requires few { length (transaction_in (view S.view self.old).opened transaction).saves + 1 < 2 ^ 32 }
         ensures ready { IsReady (view S.view self.new) }
         ensures saves { IfOk result (λ save. (state : State) (marks : List ℕ)
             → HasMarks state transaction marks → Shows (view S.view self.old) state
@@ -88,13 +90,15 @@ impl<S: Saving> Session<S> {
     /// `Ok` the latter.
     pub fn commit(&mut self, transaction: u32) -> Result<(), PageFault>
         requires ready { IsReady (view S.view self.old) }
-        requires open { is_open (view S.view self.old).open transaction ≡ true }
+        requires open { is_open (view S.view self.old).opened transaction ≡ true }
         requires early { IsEarly (view S.view self.old) end_size }
         ensures ready { OnOk result (IsReady (view S.view self.new)) }
         ensures shows { OnOk result (IsTold (view S.view self.old).store.pages.disk → (state : State)
             → Kept state → FitMixed (committing transaction state)
             → Shows (view S.view self.old) state
             → Shows (view S.view self.new) (committing transaction state)) }
+        ensures sound { (place : AnyPlace) → result ≡ Err (Damaged place)
+            → IsTold (view S.view self.old).store.pages.disk → ⊥ }
         ensures moments { CommitsTables (view S.view self.old) (view S.view self.new) transaction }
         ensures only { WritesIn
             (IsEndPlace (view S.view self.old).store.number (view S.view self.old).store.root

@@ -32,7 +32,7 @@ impl<S: Saving> Session<S> {
             → HasBothRooms state → IsRested (view S.view result) state
             → Shows (view S.view result) state }
         ensures store { result.store ≡ store }
-        ensures open { (view S.view result).open.transactions ≡ empty }
+        ensures open { (view S.view result).opened.transactions ≡ empty }
     {
         let heap = store.heap();
         Session {

@@ -1,7 +1,9 @@
 // Checkpoints.
-ghost use Rattle.std.specs.Prelude.{◌≡◌, OnOk};
+ghost use Rattle.std.specs.Prelude.{◌≡◌, Err, OnOk};
 ghost use Rattle.rss_base.specs.DiskRule.{IsTold};
 ghost use Rattle.rss_base.specs.Sizes.{largest_checkpoint};
+ghost use Rattle.rss_base.specs.declared.fault.PageFault.TheVariants.{Damaged};
+ghost use Rattle.rss_base.specs.declared.place.Place.{Place as AnyPlace};
 ghost use Rattle.rss_model.specs.Machine.{State};
 ghost use Rattle.rss_model.specs.Kept.{Kept};
 ghost use Rattle.rss_model.specs.Rules.{saved_now};
@@ -29,6 +31,8 @@ impl<S: Saving> Session<S> {
         ensures shows { OnOk result (IsTold (view S.view self.old).store.pages.disk → (state : State)
             → Kept state → Shows (view S.view self.old) state
             → Shows (view S.view self.new) (record state { meter = saved_now state })) }
+        ensures sound { (place : AnyPlace) → result ≡ Err (Damaged place)
+            → IsTold (view S.view self.old).store.pages.disk → ⊥ }
         ensures moments { KeepsTables (view S.view self.old) (view S.view self.new) }
         ensures anew { OnOk result (CountsAnew (view S.view self.old) (view S.view self.new)) }
         ensures saved { OnOk result (IsSaved (view S.view self.new).store) }

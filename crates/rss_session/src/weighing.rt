@@ -3,7 +3,7 @@ ghost use Rattle.std.specs.Prelude.{◌≡◌, ◌^◌, ◌<◌, ◌≤◌, true
 ghost use Rattle.rss_base.specs.LogRecords.{longest_record};
 ghost use Rattle.rss_trans.specs.Transactions.{is_open};
 ghost use Rattle.rss_session.specs.Sessions.{IsReady, IsEarly, sums_in, owed_for};
-ghost use Rattle.rss_session.specs.Weighing.{room_of, needed_with, saved_free, weighed, WeighsRight};
+ghost use Rattle.rss_session.specs.Weighing.{room_of, needed_with, saved_free, weighed, RulesSo};
 
 use crate::Session;
 use rss_base::{Marks, Refusal, SYSTEM_PAGES};
@@ -26,10 +26,11 @@ impl<S: Saving> Session<S> {
     /// before it, or why it is refused.
     pub fn weigh(&self, transaction: u32, size: u64) -> Result<bool, Refusal>
         requires ready { IsReady (view S.view self.now) }
-        requires open { is_open (view S.view self.now).open transaction ≡ true }
+        requires open { is_open (view S.view self.now).opened transaction ≡ true }
         requires short { size ≤ longest_record }
         requires early { IsEarly (view S.view self.now) longest_record }
-        ensures { result ≡ weighed (view S.view self.now) transaction size }
+        ensures weighed { result ≡ weighed (view S.view self.now) transaction size }
+        ensures rules { RulesSo (view S.view self.now) transaction size result }
     {
         let sums = self.open.sums();
         let slots = self.store.slots();
@@ -55,9 +56,9 @@ impl<S: Saving> Session<S> {
     /// How many bytes of the log a change needs whose record has this size, with what is owed then.
     fn needed_with(&self, transaction: u32, size: u64, sums: Sums) -> u64
         requires ready { IsReady (view S.view self.now) }
-        requires open { is_open (view S.view self.now).open transaction ≡ true }
+        requires open { is_open (view S.view self.now).opened transaction ≡ true }
         requires short { size ≤ longest_record }
-        requires sums { sums ≡ sums_in (view S.view self.now).open }
+        requires sums { sums ≡ sums_in (view S.view self.now).opened }
         ensures { result ≡ needed_with (view S.view self.now) transaction size }
     {
         let first = self.open.newest(transaction, 0).is_none();
@@ -96,8 +97,3 @@ fn room_of(heap: u64, surviving: u64, since: u64) -> u64
 {
     2 * (heap + 2 * surviving + 4 * since + u64::from(SYSTEM_PAGES))
 }
-
-/// A session weighs a change as the machine rules on it.
-pub fn weighing_is_right()
-    ensures { WeighsRight }
-{}
