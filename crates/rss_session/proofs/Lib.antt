@@ -1,2 +1,5 @@
 pub mod Marked
 pub mod Sums
+pub mod Passing
+pub mod Noted
+pub mod Changed

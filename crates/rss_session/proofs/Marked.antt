@@ -32,7 +32,7 @@ least_all end (m ∷ ms) = (let rest = least_end (min end m.1) ms in omega (arit
 
 first_of : (view : OpenView) (t place : ℕ) → named_in t (marks_of (finite.entries view.transactions)) ≡ Some place → first_position (transaction_in view t) ≡ Some place
 first_of view t place named =
-    ap (λ (o : Option Transaction). first_position (done o)) (sym (get-entries view.transactions t))
+    ap (λ (o : Option Transaction). first_position (done o)) (get-entries view.transactions t)
     ∙ sym (named_is t (finite.entries view.transactions) (order_of view)) ∙ named
 
 any_least : (es : Entries) → AllByRecursion (λ f. 0 ≤ f.0) es
@@ -46,17 +46,17 @@ all_marked view P each =
 
 named_all : (P : ℕ → Type 0) (t place : ℕ) (marks : List (ℕ × ℕ)) → AllByRecursion (λ m. P m.1) marks → named_in t marks ≡ Some place → P place
 named_all P t place [] all is = absurd (cc (is))
-named_all P t place (m ∷ ms) all is = by (m.0 == t) is
+named_all P t place (m ∷ ms) all is = by (m.0 == t) is (named_all P t place ms all.1)
   where
-    by : (b : Bool) → (if b then Some m.1 else named_in t ms) ≡ Some place → P place
-    by true same = subst P (same_Some m.1 place same) all.0
-    by false rest = named_all P t place ms all.1 rest
+    by : (b : Bool) → (if b then Some m.1 else named_in t ms) ≡ Some place → (named_in t ms ≡ Some place → P place) → P place
+    by true same rest = subst P (same_Some m.1 place same) all.0
+    by false same rest = rest same
 
 pub marked_all : (view : OpenView) (P : ℕ → Type 0) (t place : ℕ) → AllByRecursion (λ m. P m.1) (marks_of (finite.entries view.transactions)) → first_position (transaction_in view t) ≡ Some place → P place
 marked_all view P t place all first =
     named_all P t place (marks_of (finite.entries view.transactions)) all
     (named_is t (finite.entries view.transactions) (order_of view)
-    ∙ ap (λ (o : Option Transaction). first_position (done o)) (get-entries view.transactions t) ∙ first)
+    ∙ ap (λ (o : Option Transaction). first_position (done o)) (sym (get-entries view.transactions t)) ∙ first)
 
 -- ---- changes that stand one behind another
 

@@ -18,6 +18,33 @@ use Rattle.rss_trans.specs.Transactions.{Transaction, OpenView, is_open, transac
 abbrev Entries : Type 0
 Entries = List (ℕ × Transaction)
 
+-- ---- one of the transactions
+
+pub here : (m : FinMap nat_cmp Transaction) (t : ℕ) (x : Transaction) → finite.get (finite.insert m t x) t ≡ Some x
+here m t x = get-insert nat_cmp_total m t x t ∙ ap (λ (b : Bool). cond b (Some x) (finite.get m t)) (tied nat_cmp_total nat_cmp-IsAntisymmetric t)
+
+pub elsewhere : (m : FinMap nat_cmp Transaction) (t : ℕ) (x : Transaction) (q : ℕ) → q ≢ t → finite.get (finite.insert m t x) q ≡ finite.get m q
+elsewhere m t x q off = get-insert nat_cmp_total m t x q ∙ ap (λ (b : Bool). cond b (Some x) (finite.get m q)) (not_tied nat_cmp_total nat_cmp-IsAntisymmetric q t off)
+
+pub gone_here : (m : FinMap nat_cmp Transaction) (t : ℕ) → finite.get (finite.remove m t) t ≡ None
+gone_here m t = get-remove nat_cmp_total m t t ∙ ap (λ (b : Bool). cond b None (finite.get m t)) (tied nat_cmp_total nat_cmp-IsAntisymmetric t)
+
+pub gone_elsewhere : (m : FinMap nat_cmp Transaction) (t q : ℕ) → q ≢ t → finite.get (finite.remove m t) q ≡ finite.get m q
+gone_elsewhere m t q off = get-remove nat_cmp_total m t q ∙ ap (λ (b : Bool). cond b None (finite.get m q)) (not_tied nat_cmp_total nat_cmp-IsAntisymmetric q t off)
+
+-- what is put where another is takes its place
+put_back : (m : FinMap nat_cmp Transaction) (t : ℕ) (x : Transaction) → finite.insert (finite.remove m t) t x ≡ finite.insert m t x
+put_back m t x = same_map nat_cmp_total nat_cmp-IsAntisymmetric _ _ (λ q. by_same q t
+    (λ is. ap (finite.get (finite.insert (finite.remove m t) t x)) is ∙ here (finite.remove m t) t x ∙ sym (ap (finite.get (finite.insert m t x)) is ∙ here m t x))
+    (λ off. elsewhere (finite.remove m t) t x q off ∙ gone_elsewhere m t q off ∙ sym (elsewhere m t x q off)))
+
+put_same : (m : FinMap nat_cmp Transaction) (t : ℕ) (y : Transaction) → finite.get m t ≡ Some y → finite.insert m t y ≡ m
+put_same m t y is = same_map nat_cmp_total nat_cmp-IsAntisymmetric _ _ (λ q. by_same q t
+    (λ e. ap (finite.get (finite.insert m t y)) e ∙ here m t y ∙ sym (ap (finite.get m) e ∙ is))
+    (λ off. elsewhere m t y q off))
+
+-- ---- sums
+
 module _ (f : Transaction → ℕ) where
   abbrev total : Entries → ℕ
   total es = sum_by f (map (λ (e : ℕ × Transaction). e.1) es)
@@ -37,29 +64,6 @@ module _ (f : Transaction → ℕ) where
   -- another comes
   pub added_sum : (m : FinMap nat_cmp Transaction) (t : ℕ) (x : Transaction) → finite.get m t ≡ None → sum_by f (finite.values (finite.insert m t x)) ≡ f x + sum_by f (finite.values m)
   added_sum m t x none = ap total (entries-insert nat_cmp_total m t x) ∙ put_sum t x (finite.entries m) (sym (get-entries m t) ∙ none)
-
-  here : (m : FinMap nat_cmp Transaction) (t : ℕ) (x : Transaction) → finite.get (finite.insert m t x) t ≡ Some x
-  here m t x = get-insert nat_cmp_total m t x t ∙ ap (λ (b : Bool). cond b (Some x) (finite.get m t)) (tied nat_cmp_total nat_cmp-IsAntisymmetric t)
-
-  elsewhere : (m : FinMap nat_cmp Transaction) (t : ℕ) (x : Transaction) (q : ℕ) → q ≢ t → finite.get (finite.insert m t x) q ≡ finite.get m q
-  elsewhere m t x q off = get-insert nat_cmp_total m t x q ∙ ap (λ (b : Bool). cond b (Some x) (finite.get m q)) (not_tied nat_cmp_total nat_cmp-IsAntisymmetric q t off)
-
-  gone_here : (m : FinMap nat_cmp Transaction) (t : ℕ) → finite.get (finite.remove m t) t ≡ None
-  gone_here m t = get-remove nat_cmp_total m t t ∙ ap (λ (b : Bool). cond b None (finite.get m t)) (tied nat_cmp_total nat_cmp-IsAntisymmetric t)
-
-  gone_elsewhere : (m : FinMap nat_cmp Transaction) (t q : ℕ) → q ≢ t → finite.get (finite.remove m t) q ≡ finite.get m q
-  gone_elsewhere m t q off = get-remove nat_cmp_total m t q ∙ ap (λ (b : Bool). cond b None (finite.get m q)) (not_tied nat_cmp_total nat_cmp-IsAntisymmetric q t off)
-
-  -- what is put where another is takes its place
-  put_back : (m : FinMap nat_cmp Transaction) (t : ℕ) (x : Transaction) → finite.insert (finite.remove m t) t x ≡ finite.insert m t x
-  put_back m t x = same_map nat_cmp_total nat_cmp-IsAntisymmetric _ _ (λ q. by_same q t
-      (λ is. ap (finite.get (finite.insert (finite.remove m t) t x)) is ∙ here (finite.remove m t) t x ∙ sym (ap (finite.get (finite.insert m t x)) is ∙ here m t x))
-      (λ off. elsewhere (finite.remove m t) t x q off ∙ gone_elsewhere m t q off ∙ sym (elsewhere m t x q off)))
-
-  put_same : (m : FinMap nat_cmp Transaction) (t : ℕ) (y : Transaction) → finite.get m t ≡ Some y → finite.insert m t y ≡ m
-  put_same m t y is = same_map nat_cmp_total nat_cmp-IsAntisymmetric _ _ (λ q. by_same q t
-      (λ e. ap (finite.get (finite.insert m t y)) e ∙ here m t y ∙ sym (ap (finite.get m) e ∙ is))
-      (λ off. elsewhere m t y q off))
 
   -- one of them goes
   pub gone_sum : (m : FinMap nat_cmp Transaction) (t : ℕ) (y : Transaction) → finite.get m t ≡ Some y → sum_by f (finite.values m) ≡ f y + sum_by f (finite.values (finite.remove m t))

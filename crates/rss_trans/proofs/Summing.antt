@@ -116,7 +116,7 @@ module _ (listing : Listing) (of_one all : List Listed → ℕ) (parts : (t : �
 
 -- ---- how many
 
-count_any : (notes : List Noted) → count_by any notes ≡ length notes
+pub count_any : (notes : List Noted) → count_by any notes ≡ length notes
 count_any [] = refl
 count_any (n ∷ ns) = omega (arith, sum_by-cons (λ (c : Noted). cond (any c) 1 0) n ns, count_any ns)
 
