@@ -1,1 +1,2 @@
 mod Weighed
+mod Outcomes

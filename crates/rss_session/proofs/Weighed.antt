@@ -1,5 +1,5 @@
 -- What a session weighs is what the machine rules: its numbers are those of the meter.
-use Rattle.std.proofs.Common.{◌≡◌, ℕ, suc, ◌+◌, ◌*◌, ◌<◌, ◌≤◌, Bool, true, false, ◌==◌, ◌&&◌, nat_le, if◌then◌else◌, List, [], ◌∷◌, length, map, min, refl, sym, ◌∙◌, ap, subst, arith}
+use Rattle.std.proofs.Common.{◌≡◌, ℕ, suc, ◌+◌, ◌<◌, ◌≤◌, Bool, true, false, ◌==◌, ◌&&◌, nat_le, if◌then◌else◌, List, [], ◌∷◌, length, map, min, refl, sym, ◌∙◌, ap, subst, arith}
 use Rattle.std.specs.Prelude.{Option, Some, None, is_some, nat_lt, Result, Ok, Err}
 use Rattle.std.specs.List.{AllByRecursion, list_any}
 use Rattle.std.proofs.lemmas.Bool.{eq-eqb}
@@ -10,7 +10,7 @@ use Rattle.rss_base.specs.DiskRule.{IsTold}
 use Rattle.rss_base.specs.LogRecords.{record_size}
 use Rattle.rss_base.specs.Paged.{mapped_of}
 use Rattle.rss_base.specs.declared.key.PageKey.{PageKey}
-use Rattle.rss_base.specs.declared.key.Space.TheVariants.{Home, Overflow}
+use Rattle.rss_base.specs.declared.key.Space.TheVariants.{Home}
 use Rattle.rss_base.specs.declared.log_record.LogRecord.TheVariants as records
 use Rattle.rss_base.specs.declared.refusal.Refusal.{Refusal}
 use Rattle.rss_base.specs.declared.refusal.Refusal.TheVariants.{Full, LogFull}
@@ -22,7 +22,7 @@ use Rattle.rss_model.specs.Changes.{Change, own}
 use Rattle.rss_model.specs.Fits.{Fits}
 use Rattle.rss_model.specs.Kept.{AreStamps}
 use Rattle.rss_model.specs.Machine.{StoreSize, State, now}
-use Rattle.rss_model.specs.Meter.{Stamp, heap_pages, change_size, checkpoint_size, changers, owed, free_between, log_room, least_position, room_number}
+use Rattle.rss_model.specs.Meter.{Stamp, change_size, checkpoint_size, changers, owed, free_between, log_room, least_position}
 use Rattle.rss_model.specs.Records.{Listed, changes_in}
 use Rattle.rss_model.specs.Recovers.{AreRising, older_of, first_in, named_in, NamesLists}
 use Rattle.rss_model.specs.EngineLogs.{stamp_of}
