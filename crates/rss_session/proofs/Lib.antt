@@ -3,3 +3,5 @@ pub mod Sums
 pub mod Passing
 pub mod Noted
 pub mod Changed
+pub mod Weighed
+pub mod Outcomes

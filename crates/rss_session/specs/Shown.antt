@@ -3,7 +3,7 @@ use Rattle.std.specs.Prelude.{◌≡◌, ℕ, List, length}
 use Rattle.rss_base.specs.Paged.{mapped_of}
 use Rattle.rss_base.specs.StoredPages.{mapped_by}
 use Rattle.rss_base.specs.declared.key.Space.TheVariants.{Overflow}
-use Rattle.rss_model.specs.Changes.{maker, kept_to}
+use Rattle.rss_model.specs.Changes.{kept_to}
 use Rattle.rss_model.specs.Machine.{State}
 use Rattle.rss_model.specs.Records.{Listed}
 use Rattle.rss_model.specs.Ruled.{HasBothRooms}

@@ -1,6 +1,7 @@
 -- What comes of a change by the rules on room and on the log, as a session weighs it.
 use Rattle.std.specs.Prelude.{◌≡◌, ℕ, ◌+◌, ◌*◌, ◌≤◌, ◌&&◌, nat_le, nat_lt, Bool, true, false, if◌then◌else◌, List, length, Result, Ok, Err}
 use Rattle.std.specs.FinMap.{entries}
+use Rattle.rss_base.specs.DiskRule.{IsTold}
 use Rattle.rss_base.specs.Sizes.{system_pages}
 use Rattle.rss_base.specs.LogRecords.{record_size}
 use Rattle.rss_base.specs.declared.log_record.LogRecord.TheVariants as records
@@ -85,8 +86,8 @@ outcome SavesFirst = Ok true
 outcome (NoRoom slots needed) = Err (Full slots needed)
 outcome (NoLogRoom free needed) = Err (LogFull free needed)
 
--- This is how the machine rules on each change of t whose record has this size, in each state in which the session may be.
+-- On a device that tells its contents this is how the machine rules on each change of t whose record has this size, in each state in which the session may be.
 abbrev pub RulesSo : SessionView → ℕ → ℕ → Result Bool Refusal → Type 0
 RulesSo view t size result =
-    (state : State) (change : Change) → change.by ≡ t → change_size change ≡ size
-    → Shows view state → outcome (ruling state change) ≡ result
+    IsTold view.store.pages.disk → (state : State) (change : Change)
+    → change.by ≡ t → change_size change ≡ size → Shows view state → outcome (ruling state change) ≡ result
