@@ -55,7 +55,7 @@ module _ {old new : OpenView} {t : ℕ} {note : Noted} (opened : is_open old t �
   in_other : (u : ℕ) → (u ≡ t → ⊥) → finite.get new.transactions u ≡ finite.get old.transactions u
   in_other u off = ap (λ m. finite.get m u) notes.transactions ∙ elsewhere old.transactions t (with_change note (transaction_in old t)) u off
 
-  noted_placed : (low high more : ℕ) → high ≡ note.position → high < more → ((u : ℕ) → AreRising low high (transaction_in old u).changes) → (u : ℕ) → AreRising low more (transaction_in new u).changes
+  pub noted_placed : (low high more : ℕ) → high ≡ note.position → high < more → ((u : ℕ) → AreRising low high (transaction_in old u).changes) → (u : ℕ) → AreRising low more (transaction_in new u).changes
   noted_placed low high more at below placed u = by_same u t
       (λ is. subst (λ (x : Transaction). AreRising low more x.changes) (sym (ap (transaction_in new) is ∙ in_here)) (rising_push low high more (transaction_in old t).changes note (omega (arith, at)) (omega (arith, at, below)) (placed t)))
       (λ off. subst (λ (x : Transaction). AreRising low more x.changes) (sym (ap done (in_other u off))) (rising_higher low high more (transaction_in old u).changes (omega (arith, below)) (placed u)))
@@ -72,14 +72,11 @@ pub record Goes (view : SessionView) (t size : ℕ) : Type 0 where
   pub room : room_with view ≤ view.store.root.slots
   pub log : needed_with view t size ≤ free_of view.store.log
 
-pub weighed_goes : (view : SessionView) (t size : ℕ) → weighed view t size ≡ Ok false → Goes view t size
-weighed_goes view t size is = by_test (goes_on view t size)
-    both
+pub weighed_on : (view : SessionView) (t size : ℕ) → weighed view t size ≡ Ok false → goes_on view t size ≡ true
+weighed_on view t size is = by_test (goes_on view t size)
+    (λ e. e)
     (λ e. absurd (not_saved (rw e at is)))
   where
-    both : (goes_on view t size) ≡ true → Goes view t size
-    both e = record { room = grind (arith, nat_tests); log = grind (arith, nat_tests) }
-
     saved_not : (full fits : Bool) (one two : Refusal) → (if full then Err one else (if fits then Ok true else Err two)) ≡ Ok false → ⊥
     saved_not true fits one two is = cc (is)
     saved_not false true one two is = absurd (true≢false (inside is))
@@ -90,3 +87,8 @@ weighed_goes view t size is = by_test (goes_on view t size)
 
     not_saved : weighed_saved view t size ≡ Ok false → ⊥
     not_saved saved = saved_not _ _ _ _ saved
+
+pub weighed_goes : (view : SessionView) (t size : ℕ) → weighed view t size ≡ Ok false → Goes view t size
+weighed_goes view t size is =
+    let on : goes_on view t size ≡ true = weighed_on view t size is in
+    record { room = grind (arith, nat_tests); log = grind (arith, nat_tests) }
