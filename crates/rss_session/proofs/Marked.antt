@@ -20,7 +20,7 @@ pub low_least : (low end : ℕ) (marks : List (ℕ × ℕ)) → low ≤ end → 
 low_least low end [] le all = le
 low_least low end (m ∷ ms) le all = low_least low (min end m.1) ms (omega (arith, le, all.0)) all.1
 
-least_end : (end : ℕ) (marks : List (ℕ × ℕ)) → least_mark end marks ≤ end
+pub least_end : (end : ℕ) (marks : List (ℕ × ℕ)) → least_mark end marks ≤ end
 least_end end [] = omega arith
 least_end end (m ∷ ms) = let rest = least_end (min end m.1) ms in omega (arith, rest)
 

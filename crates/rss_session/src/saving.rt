@@ -1,5 +1,5 @@
 // Checkpoints.
-ghost use Rattle.std.specs.Prelude.{◌≡◌, Err, OnOk};
+ghost use Rattle.std.specs.Prelude.{◌≡◌, ◌≤◌, length, Err, OnOk};
 ghost use Rattle.rss_base.specs.DiskRule.{IsTold};
 ghost use Rattle.rss_base.specs.Sizes.{largest_checkpoint};
 ghost use Rattle.rss_base.specs.declared.fault.PageFault.TheVariants.{Damaged};
@@ -9,12 +9,13 @@ ghost use Rattle.rss_model.specs.Kept.{Kept};
 ghost use Rattle.rss_model.specs.Rules.{saved_now};
 ghost use Rattle.rss_session.specs.Sessions.{IsReady, IsEarly};
 ghost use Rattle.rss_session.specs.Shown.{Shows};
-ghost use Rattle.rss_session.specs.Weighing.{MaySave};
+ghost use Rattle.rss_base.specs.LogRecords.{marks_most};
+ghost use Rattle.rss_session.specs.Weighing.{MaySave, named};
 ghost use Rattle.rss_session.specs.Calls.{GoesOn, Appends, KeepsTables, CountsAnew};
 ghost use Rattle.rss_store.specs.Stores.{IsSaved};
 
 use crate::Session;
-use rss_base::{Marks, PageFault};
+use rss_base::{MARKS_MOST, Marks, PageFault};
 use rss_buffer::Saving;
 
 impl<S: Saving> Session<S> {
@@ -39,12 +40,22 @@ impl<S: Saving> Session<S> {
         ensures appends { Appends largest_checkpoint (view S.view self.old) (view S.view self.new) }
         ensures goes { GoesOn (view S.view self.old) (view S.view self.new) result }
     {
-        let mut marks = Marks::new();
-        self.open.marks(&mut marks);
+        let marks = self.marks();
         self.store.checkpoint(marks)?;
         self.open.checkpointed();
         self.surviving = self.open.sums().p;
         self.heap = self.store.heap();
         Ok(())
+    }
+
+    /// What the record of a checkpoint names.
+    pub(crate) fn marks(&self) -> Marks
+        ensures marks { result ≡ named (view S.view self.now).opened }
+        ensures few { length result ≤ marks_most }
+    {
+        let mut marks = Marks::new();
+        self.open.marks(&mut marks);
+        prove!(marks.as_slice().len() <= MARKS_MOST);
+        marks
     }
 }

@@ -6,7 +6,7 @@ ghost use Rattle.rss_session.specs.Sessions.{IsReady, IsEarly, sums_in, owed_for
 ghost use Rattle.rss_session.specs.Weighing.{room_of, needed_with, saved_free, weighed, RulesSo};
 
 use crate::Session;
-use rss_base::{MARKS_MOST, Marks, Refusal, SYSTEM_PAGES};
+use rss_base::{Refusal, SYSTEM_PAGES};
 use rss_buffer::Saving;
 use rss_trans::Sums;
 
@@ -71,10 +71,7 @@ impl<S: Saving> Session<S> {
         requires early { IsEarly (view S.view self.now) longest_record }
         ensures { result ≡ saved_free (view S.view self.now) }
     {
-        let mut marks = Marks::new();
-        self.open.marks(&mut marks);
-        prove!(marks.as_slice().len() <= MARKS_MOST);
-        self.store.free_behind(&marks)
+        self.store.free_behind(&self.marks())
     }
 }
 

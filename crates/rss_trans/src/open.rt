@@ -206,7 +206,8 @@ impl Open {
 
     /// A checkpoint was taken: no change was made since.
     pub fn checkpointed(&mut self)
-        ensures { Checkpoints (told self.old) (told self.new) }
+        ensures did { Checkpoints (told self.old) (told self.new) }
+        ensures room { (told self.new).room ≡ (told self.old).room }
     {
         self.since = 0;
         self.since_of = no_changes();
