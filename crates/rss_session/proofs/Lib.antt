@@ -6,3 +6,4 @@ pub mod Changed
 pub mod Weighed
 pub mod Outcomes
 pub mod Saved
+pub mod Made

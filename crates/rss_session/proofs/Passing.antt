@@ -1,5 +1,5 @@
 -- What a call of the store passes on to the session.
-use Rattle.std.proofs.Common.{◌≡◌, refl, sym, ◌∙◌, ap}
+use Rattle.std.proofs.Common.{◌≡◌, ◌≤◌, refl, sym, ◌∙◌, ap, arith}
 use Rattle.std.specs.Prelude.{Result, Ok, Err, IsErrOf, IsErrAnd}
 use Rattle.std.proofs.lemmas.Result.{err_from_is_err_and}
 use Rattle.rss_base.specs.DiskRule.{IsTold, Passes}
@@ -7,7 +7,7 @@ use Rattle.rss_base.specs.Paged.{Backing}
 use Rattle.rss_base.specs.declared.fault.PageFault.{PageFault}
 use Rattle.rss_base.specs.declared.fault.PageFault.TheVariants.{Device as DeviceFailed, NoMemory}
 use Rattle.rss_base.specs.declared.root.Root.{Root}
-use Rattle.rss_base.proofs.Moments.{widened, continues}
+use Rattle.rss_base.proofs.Moments.{widened, continues, continues_then, rises_since}
 use Rattle.rss_model.specs.Machine.{State}
 use Rattle.rss_store.specs.Stores.{StoreView}
 use Rattle.rss_store.specs.Stores.{IsReady as IsStoreReady}
@@ -46,3 +46,16 @@ fault_same {U = U} {result = result} {fault = fault} {other = other} was is of =
     let same : ◌≡◌ {A = Result U PageFault} (Err fault) (Err other) = sym (why.1 ∙ ap Err why.2) ∙ of in
     let one : fault ≡ other = cc (same) in
     was ∙ ap Err one
+
+-- one call behind another
+pub goes_then : {T U : Type 0} {first : Result T PageFault} {second : Result U PageFault} {old mid new : SessionView} → GoesOn old mid first → GoesOn mid new second → GoesOn old new second
+goes_then one two = record {
+  told = λ told. two.told (one.told told);
+  history = λ told. continues_then (one.history told) (two.history (one.told told));
+  later = omega (arith, one.later, two.later);
+  failed = λ is. rises_since one.later (two.failed is);
+  memory = two.memory;
+  slots = two.slots ∙ one.slots;
+  log_pages = two.log_pages ∙ one.log_pages;
+  frames = two.frames ∙ one.frames;
+}

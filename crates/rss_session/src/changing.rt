@@ -69,9 +69,10 @@ impl<S: Saving> Session<S> {
             (view S.view self.old) (view S.view self.new) }
         ensures goes { GoesOn (view S.view self.old) (view S.view self.new) result }
     {
-        if saves_first {
-            self.checkpoint()?;
+        if !saves_first {
+            return self.change(transaction, change);
         }
+        self.checkpoint()?;
         self.change(transaction, change)
     }
 
