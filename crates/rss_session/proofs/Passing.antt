@@ -1,6 +1,6 @@
 -- What a call of the store passes on to the session.
 use Rattle.std.proofs.Common.{◌≡◌, ◌≤◌, refl, sym, ◌∙◌, ap, arith}
-use Rattle.std.specs.Prelude.{Result, Ok, Err, IsErrOf, IsErrAnd}
+use Rattle.std.specs.Prelude.{Result, Ok, Err, IsErrOf, IsErrAnd, OnOk}
 use Rattle.std.proofs.lemmas.Result.{err_from_is_err_and}
 use Rattle.rss_base.specs.DiskRule.{IsTold, Passes}
 use Rattle.rss_base.specs.Paged.{Backing}
@@ -13,8 +13,10 @@ use Rattle.rss_store.specs.Stores.{StoreView}
 use Rattle.rss_store.specs.Stores.{IsReady as IsStoreReady}
 use Rattle.rss_store.specs.Shown.{Shows as StoreShows, HoldsTables}
 use Rattle.rss_store.specs.Changing.{AltersPages}
-use Rattle.rss_session.specs.Sessions.{SessionView}
-use Rattle.rss_session.specs.Calls.{GoesOn}
+use Rattle.rss_store.specs.Stores.{IsSaved}
+use Rattle.rss_trans.specs.Transactions.{Checkpoints}
+use Rattle.rss_session.specs.Sessions.{SessionView, IsReady}
+use Rattle.rss_session.specs.Calls.{GoesOn, CountsAnew}
 
 -- a step of pages leaves what is fixed, and so the committed tables
 pub keeps_altered : {T : Type 0} {result : Result T PageFault} {old new : StoreView} → IsStoreReady old → AltersPages old new result → IsTold old.pages.disk → (state : State) → StoreShows old state → Passes old.pages.disk new.pages.disk (HoldsTables state.size state.base)
@@ -59,3 +61,15 @@ goes_then one two = record {
   log_pages = two.log_pages ∙ one.log_pages;
   frames = two.frames ∙ one.frames;
 }
+
+-- ---- behind a checkpoint
+
+pub record IsBehind (old new : SessionView) : Type 0 where
+  pub ready : IsReady new
+  pub saved : IsSaved new.store
+  pub checkpoints : Checkpoints old.opened new.opened
+  pub anew : CountsAnew old new
+
+pub on_ok_behind : {T : Type 0} (old new : SessionView) (result : Result T PageFault) → OnOk result (IsReady new) → OnOk result (IsSaved new.store) → OnOk result (Checkpoints old.opened new.opened) → OnOk result (CountsAnew old new) → OnOk result (IsBehind old new)
+on_ok_behind old new (Ok value) ready saved checkpoints anew = record { ready = ready; saved = saved; checkpoints = checkpoints; anew = anew }
+on_ok_behind old new (Err fault) ready saved checkpoints anew = tt

@@ -1,5 +1,5 @@
 -- What the calls of a session leave.
-use Rattle.std.specs.Prelude.{◌≡◌, ◌⊎◌, ℕ, ◌+◌, ◌≤◌, List, length, take, slice_get, Option, Some, option_map, IfSome, IfNone, Result, IsErrOf}
+use Rattle.std.specs.Prelude.{◌≡◌, ◌⊎◌, ℕ, ◌+◌, ◌≤◌, List, [], length, take, slice_get, Option, Some, option_map, IfSome, IfNone, Result, IsErrOf}
 use Rattle.std.specs.FinMap as map
 use Rattle.rss_base.specs.DiskRule.{IsTold, Passes, Continues}
 use Rattle.rss_base.specs.Faults.{Rises}
@@ -7,14 +7,19 @@ use Rattle.rss_base.specs.declared.change.Change as told
 use Rattle.rss_base.specs.declared.fault.PageFault.{PageFault}
 use Rattle.rss_base.specs.declared.fault.PageFault.TheVariants.{Device as DeviceFailed, NoMemory}
 use Rattle.rss_model.specs.Changes.{Change, own}
+use Rattle.rss_catalog.specs.Catalogs.{CatalogView}
+use Rattle.rss_model.specs.Tables.{Definitions}
+use Rattle.rss_model.specs.Fits.{Fits}
+use Rattle.rss_model.specs.Defining.{with_definitions}
 use Rattle.rss_model.specs.Machine.{State, now}
-use Rattle.rss_model.specs.Ruled.{ruled}
+use Rattle.rss_model.specs.Ruled.{HasBothRooms, ruled}
 use Rattle.rss_model.specs.Kept.{Kept, FitMixed}
-use Rattle.rss_model.specs.Steps.{IsOver, MayUndo, undone_to, left_at, restored, gone, committing}
+use Rattle.rss_model.specs.Steps.{IsOver, MayUndo, undone_to, left_at, restored, gone, committing, redefined}
+use Rattle.rss_model.specs.Store.{SpellsTables}
 use Rattle.rss_trans.specs.Transactions.{Transaction, transaction_in, count_at, Steps}
 use Rattle.rss_store.specs.Changing.{MayMake, IsOwnAt}
 use Rattle.rss_store.specs.Shown.{HoldsTables}
-use Rattle.rss_access.specs.Written.{heap_now}
+use Rattle.rss_access.specs.Written.{heap_now, AreWritten}
 use Rattle.rss_session.specs.Sessions.{SessionView, sums_in}
 use Rattle.rss_session.specs.Weighing.{saved_head, saved_end}
 use Rattle.rss_session.specs.Shown.{Shows, ShowsBack}
@@ -55,6 +60,31 @@ pub record CountsAnew (old new : SessionView) : Type 0 where
   pub head : new.store.log.head ≡ saved_head old
   pub end : new.store.log.end ≡ saved_end old
   pub listing : new.store.catalog.listing ≡ old.store.catalog.listing
+
+-- ---- definitions
+
+-- the session with another catalog
+abbrev pub with_catalog : CatalogView → SessionView → SessionView
+with_catalog catalog view = record view { store = record view.store { catalog = catalog } }
+
+-- Nothing is open, and the catalog lists other definitions than before. By its listing the pages spell the committed tables with them, which fit, once its own pages are written; and there is room.
+pub record IsRedefined (view : SessionView) (before : CatalogView) (state : State) (definitions : Definitions) : Type 0 where
+  pub shows : Shows (with_catalog before view) state
+  pub none_open : state.marks ≡ map.empty
+  pub none_changed : state.changes ≡ []
+  pub spells : SpellsTables view.store.pages.held view.store.catalog.listing (with_definitions definitions state.base)
+  pub written : AreWritten view.store.pages.held view.store.catalog
+  pub fit : Fits view.store.root.slots (with_definitions definitions state.base)
+  pub rooms : HasBothRooms (redefined definitions state)
+
+-- at each moment a stop leaves the committed tables with the definitions of before, or with these
+abbrev pub RedefinesTables : SessionView → SessionView → Type 0
+RedefinesTables old new =
+    IsTold old.store.pages.disk → (before : CatalogView) (state : State) (definitions : Definitions)
+    → IsRedefined old before state definitions
+    → Passes old.store.pages.disk new.store.pages.disk (λ image.
+    HoldsTables state.size state.base image
+    ⊎ HoldsTables state.size (with_definitions definitions state.base) image)
 
 -- ---- changes
 

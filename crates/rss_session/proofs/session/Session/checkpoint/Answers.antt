@@ -1,106 +1,30 @@
-use Rattle.std.proofs.Common.{◌≡◌, inl, inr, ⊎_elim, ℕ, ◌≤◌, List, length, refl, sym, ◌∙◌, ap, subst, arith}
-use Rattle.rss_base.specs.LogRecords.{record_size, marks_most}
-use Rattle.rss_base.specs.declared.log_record.LogRecord.TheVariants as records
-use Rattle.rss_base.specs.declared.root.Root.{Root}
+use Rattle.std.proofs.Common.{◌≡◌, ⊎_elim, sym, ◌∙◌, subst}
 use Rattle.rss_base.proofs.Moments.{widened}
 use Rattle.rss_model.specs.Machine.{StoreSize}
 use Rattle.rss_model.specs.Rules.{saved_now}
-use Rattle.rss_store.specs.Commits.{HasLogRoom, least_mark, CanCheckpoint, Saves}
 use Rattle.rss_store.specs.Shown.{HoldsTables}
-use Rattle.rss_store.specs.Parts.{view as store_view}
 use Rattle.rss_session.specs.Parts.{view}
-use Rattle.rss_session.specs.Weighing.{named}
-use Rattle.rss_session.proofs.Saved.{head_low, size_most, log_room, can_save, shows_saved, ready_saved, heap_same, sums_same}
+use Rattle.rss_store.proofs.Nexts.{on_ok_both}
+use Rattle.rss_session.proofs.Saved.{can_save, shows_saved}
+use Rattle.rss_session.proofs.Passing.{on_ok_behind}
 use Rattle.rss_session.proofs.session.Session.checkpoint.Goals as goal
 
-pub checkpoint-requires-clause-low : goal.checkpoint-requires-clause-low
-checkpoint-requires-clause-low g c =
-    let log = c.args.self.now.store.log in
-    subst (λ (marks : List (ℕ × ℕ)). log.head ≤ least_mark log.end marks) (sym c.marks-marks.ensures.marks) (head_low c.requires.ready)
-
-pub checkpoint-requires-clause-room : goal.checkpoint-requires-clause-room
-checkpoint-requires-clause-room g c =
-    let log = c.args.self.now.store.log in
-    let is = c.marks-marks.ensures.marks in
-    let few = subst (λ (marks : List (ℕ × ℕ)). length marks ≤ marks_most) is c.marks-marks.ensures.few in
-    subst (λ (marks : List (ℕ × ℕ)). HasLogRoom log (record_size (records.Checkpoint marks)) (least_mark log.end marks)) (sym is) (log_room c.requires.ready few c.requires.may c.requires.early)
-
-pub returns-in_err-checkpoint-clause-moments : goal.returns-in_err-checkpoint-clause-moments
-returns-in_err-checkpoint-clause-moments g c = λ told state kept shows.
-    let self = c.args.self.now in
-    let is = c.marks-marks.ensures.marks in
-    let few = subst (λ (marks : List (ℕ × ℕ)). length marks ≤ marks_most) is c.marks-marks.ensures.few in
-    let can = can_save c.requires.ready few c.requires.may kept shows (g.met.S.Pages.holds self.store.tuples.pages told) in
-    let next = record state { meter = saved_now state } in
-    widened (c.in_err-checkpoint.ensures.moments told shows.store.stored next (subst (λ (marks : List (ℕ × ℕ)). CanCheckpoint (view g.S.Pages.view self).store marks shows.store.stored next) (sym is) can))
-    (λ image. ⊎_elim
-    (λ was. record { stored = shows.store.stored; store = was; same_size = shows.store.tied.size; holds = sym shows.store.tied.tables })
-    (λ saved. subst (λ (size : StoreSize). HoldsTables size state.base image) (sym can.size) saved))
-
-pub returns-in_err-checkpoint-clause-appends : goal.returns-in_err-checkpoint-clause-appends
-returns-in_err-checkpoint-clause-appends g c =
-    let is = c.marks-marks.ensures.marks in
-    let few = subst (λ (marks : List (ℕ × ℕ)). length marks ≤ marks_most) is c.marks-marks.ensures.few in
-    omega (arith, c.in_err-checkpoint.ensures.appends, size_most c.requires.ready few, ap (λ (marks : List (ℕ × ℕ)). record_size (records.Checkpoint marks)) is)
-
-pub returns-clause-ready : goal.returns-clause-ready
-returns-clause-ready g c =
-    let store = c.in_ok-checkpoint.ensures in
-    let saves = subst (λ (marks : List (ℕ × ℕ)). Saves marks (view g.S.Pages.view c.args.self.now).store (store_view g.S.Pages.view c.checkpoint.new.self)) c.marks-marks.ensures.marks store.saves in
-    ready_saved c.requires.ready c.requires.may store.ready saves c.checkpointed.ensures.did c.heap-self.ensures (ap (λ s. s.p) c.sums.ensures) store.did.slots (g.met.S.Pages.are_counted c.checkpoint.new.self.tuples.pages)
-
 pub returns-clause-shows : goal.returns-clause-shows
-returns-clause-shows g c = λ told state kept shows.
+returns-clause-shows g c =
     let self = c.args.self.now in
-    let store = c.in_ok-checkpoint.ensures in
-    let is = c.marks-marks.ensures.marks in
-    let few = subst (λ (marks : List (ℕ × ℕ)). length marks ≤ marks_most) is c.marks-marks.ensures.few in
+    let all = c.save_all.ensures in
+    on_ok_both c.save_all.result (λ store behind told state kept shows.
     let held = g.met.S.Pages.holds self.store.tuples.pages told in
-    let can = can_save c.requires.ready few c.requires.may kept shows held in
-    let next = record state { meter = saved_now state } in
-    let saves = subst (λ (marks : List (ℕ × ℕ)). Saves marks (view g.S.Pages.view self).store (store_view g.S.Pages.view c.checkpoint.new.self)) is store.saves in
-    let counted = g.met.S.Pages.are_counted c.checkpoint.new.self.tuples.pages in
-    let surviving = ap (λ s. s.p) c.sums.ensures in
-    shows_saved c.requires.ready few c.requires.may kept shows held
-    (store.shows told shows.store.stored next (subst (λ (marks : List (ℕ × ℕ)). CanCheckpoint (view g.S.Pages.view self).store marks shows.store.stored next) (sym is) can))
-    store.saved c.checkpointed.ensures.did store.listing
-    (c.heap-self.ensures ∙ heap_same c.requires.ready c.requires.may store.ready saves c.checkpointed.ensures.did c.heap-self.ensures surviving store.did.slots counted)
-    (surviving ∙ sums_same c.requires.ready c.requires.may store.ready saves c.checkpointed.ensures.did c.heap-self.ensures surviving store.did.slots counted)
-    store.ready.size
+    let can = can_save c.requires.ready all.few c.requires.may kept shows held in
+    shows_saved c.requires.ready all.few c.requires.may kept shows held (store told shows.store.stored (record state { meter = saved_now state }) can)
+    behind.saved behind.checkpoints behind.anew.listing behind.anew.heap behind.anew.surviving behind.ready.store.size)
+    all.shows (on_ok_behind (view g.S.Pages.view self) (view g.S.Pages.view c.save_all.new.self) c.save_all.result all.ready all.saved all.checkpoints all.anew)
 
 pub returns-clause-moments : goal.returns-clause-moments
 returns-clause-moments g c = λ told state kept shows.
     let self = c.args.self.now in
-    let is = c.marks-marks.ensures.marks in
-    let few = subst (λ (marks : List (ℕ × ℕ)). length marks ≤ marks_most) is c.marks-marks.ensures.few in
-    let can = can_save c.requires.ready few c.requires.may kept shows (g.met.S.Pages.holds self.store.tuples.pages told) in
-    let next = record state { meter = saved_now state } in
-    widened (c.in_ok-checkpoint.ensures.moments told shows.store.stored next (subst (λ (marks : List (ℕ × ℕ)). CanCheckpoint (view g.S.Pages.view self).store marks shows.store.stored next) (sym is) can))
+    let can = can_save c.requires.ready c.save_all.ensures.few c.requires.may kept shows (g.met.S.Pages.holds self.store.tuples.pages told) in
+    widened (c.save_all.ensures.moments told shows.store.stored (record state { meter = saved_now state }) can)
     (λ image. ⊎_elim
     (λ was. record { stored = shows.store.stored; store = was; same_size = shows.store.tied.size; holds = sym shows.store.tied.tables })
     (λ saved. subst (λ (size : StoreSize). HoldsTables size state.base image) (sym can.size) saved))
-
-pub returns-clause-anew : goal.returns-clause-anew
-returns-clause-anew g c =
-    let store = c.in_ok-checkpoint.ensures in
-    let is = c.marks-marks.ensures.marks in
-    let saves = subst (λ (marks : List (ℕ × ℕ)). Saves marks (view g.S.Pages.view c.args.self.now).store (store_view g.S.Pages.view c.checkpoint.new.self)) is store.saves in
-    let counted = g.met.S.Pages.are_counted c.checkpoint.new.self.tuples.pages in
-    let surviving = ap (λ s. s.p) c.sums.ensures in
-    record {
-      transactions = c.checkpointed.ensures.did.transactions;
-      places = c.checkpointed.ensures.room;
-      since = c.checkpointed.ensures.did.since;
-      heap = c.heap-self.ensures ∙ heap_same c.requires.ready c.requires.may store.ready saves c.checkpointed.ensures.did c.heap-self.ensures surviving store.did.slots counted;
-      surviving = surviving ∙ sums_same c.requires.ready c.requires.may store.ready saves c.checkpointed.ensures.did c.heap-self.ensures surviving store.did.slots counted;
-      pages = saves.pages;
-      head = saves.head;
-      end = saves.end;
-      listing = store.listing;
-    }
-
-pub returns-clause-appends : goal.returns-clause-appends
-returns-clause-appends g c =
-    let is = c.marks-marks.ensures.marks in
-    let few = subst (λ (marks : List (ℕ × ℕ)). length marks ≤ marks_most) is c.marks-marks.ensures.few in
-    omega (arith, c.in_ok-checkpoint.ensures.appends, size_most c.requires.ready few, ap (λ (marks : List (ℕ × ℕ)). record_size (records.Checkpoint marks)) is)
