@@ -7,3 +7,4 @@ pub mod Weighed
 pub mod Outcomes
 pub mod Saved
 pub mod Made
+pub mod Redefined

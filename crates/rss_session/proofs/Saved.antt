@@ -202,17 +202,3 @@ module _ {old new : SessionView} (ready : IsReady old) (may : MaySave old) (stor
         (λ place first. marked_all old.opened (λ n. saved_head old ≤ n) t place (least_all old.store.log.end (named old.opened)) first) (ready.placed t))));
     numbers = λ t is. ready.numbers t (ap is_some (sym (opened_same t)) ∙ is);
   }
-
--- ---- where nothing is open
-
--- a checkpoint always has room in the log then
-module _ {view : SessionView} (ready : IsReady view) (closed : view.opened.transactions ≡ finite.empty) where
-  none_named : named view.opened ≡ []
-  none_named = ap (λ m. marks_of (finite.entries m)) closed ∙ no_marks
-    where
-      no_entries : (es : List (ℕ × Transaction)) → length es ≡ 0 → es ≡ []
-      no_entries [] is = refl
-      no_entries (e ∷ es) is = absurd (omega (arith, is))
-
-      no_marks : marks_of (finite.entries {K = ℕ} {X = Transaction} {R = nat_cmp} finite.empty) ≡ []
-      no_marks = ap marks_of (no_entries (finite.entries finite.empty) (sym (len-entries finite.empty) ∙ len-empty nat_cmp Transaction))
