@@ -1,2 +1,4 @@
 mod Weighed
 mod Outcomes
+mod Summed
+mod Shown
