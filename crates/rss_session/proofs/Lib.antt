@@ -2,3 +2,4 @@ mod Weighed
 mod Outcomes
 mod Summed
 mod Shown
+mod Fresh
