@@ -151,13 +151,13 @@ judged false false false slots needed free log_needed = refl
 -- ---- the numbers
 
 module _ {view : SessionView} {state : State} (ready : IsReady view) (shows : Shows view state) where
-  slots_same : state.size.slots ≡ view.store.root.slots
+  pub slots_same : state.size.slots ≡ view.store.root.slots
   slots_same = ap (λ (s : StoreSize). s.slots) shows.store.tied.size ∙ ap (λ (r : Root). r.slots) shows.store.disk.root_is
 
-  log_pages_same : state.size.log_pages ≡ view.store.log.pages
+  pub log_pages_same : state.size.log_pages ≡ view.store.log.pages
   log_pages_same = ap (λ (s : StoreSize). s.log_pages) shows.store.tied.size ∙ ap (λ (r : Root). r.log_pages) shows.store.disk.root_is ∙ sym ready.store.log.pages
 
-  end_same : state.meter.end ≡ view.store.log.end
+  pub end_same : state.meter.end ≡ view.store.log.end
   end_same = shows.store.tied.ties.meter.end ∙ sym shows.store.logged.end_is
 
   pub log_room_same : log_room state.size.log_pages state.meter ≡ free_of view.store.log
@@ -177,12 +177,12 @@ module _ {view : SessionView} {state : State} (ready : IsReady view) (shows : Sh
   owed_same = sym (owed_told view.store.catalog.listing view.opened state.marks shows.listed view.opened.since shows.told) ∙ ap owed shows.list.stamps_are
 
   -- how many changes there are, and how many transactions have some
-  count_same : (sums_in view.opened).p ≡ length state.changes
+  pub count_same : (sums_in view.opened).p ≡ length state.changes
   count_same =
       sums_told view.store.catalog.listing view.opened state.marks shows.listed view.opened.since shows.told
       ∙ sym (length-changes_in shows.listed) ∙ ap (λ (cs : List Change). length cs) shows.list.changes_are
 
-  changers_same : (sums_in view.opened).q ≡ changers state.meter.stamps
+  pub changers_same : (sums_in view.opened).q ≡ changers state.meter.stamps
   changers_same = changers_told view.store.catalog.listing view.opened state.marks shows.listed view.opened.since shows.told ∙ ap changers shows.list.stamps_are
 
   has_same : (t : ℕ) → list_any (λ other. other.by == t) state.meter.stamps ≡ nat_lt 0 (length (transaction_in view.opened t).changes)
@@ -232,7 +232,7 @@ module _ {view : SessionView} {state : State} (ready : IsReady view) (shows : Sh
       rw room refl
 
   -- the tables now fit, so that as many pages have tuples as home pages are there
-  fit_now : Fits state.size.slots (now state)
+  pub fit_now : Fits state.size.slots (now state)
   fit_now =
       let tied = shows.store.tied.ties in
       subst (λ (d : Definitions). Fits state.size.slots (record { definitions = d; contents = (now state).contents })) (sym tied.definitions)
