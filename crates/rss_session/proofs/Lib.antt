@@ -8,3 +8,6 @@ pub mod Outcomes
 pub mod Saved
 pub mod Made
 pub mod Redefined
+pub mod Summed
+pub mod Shown
+pub mod Fresh

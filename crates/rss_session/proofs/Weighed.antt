@@ -154,7 +154,7 @@ module _ {view : SessionView} {state : State} (ready : IsReady view) (shows : Sh
   pub slots_same : state.size.slots ≡ view.store.root.slots
   slots_same = ap (λ (s : StoreSize). s.slots) shows.store.tied.size ∙ ap (λ (r : Root). r.slots) shows.store.disk.root_is
 
-  log_pages_same : state.size.log_pages ≡ view.store.log.pages
+  pub log_pages_same : state.size.log_pages ≡ view.store.log.pages
   log_pages_same = ap (λ (s : StoreSize). s.log_pages) shows.store.tied.size ∙ ap (λ (r : Root). r.log_pages) shows.store.disk.root_is ∙ sym ready.store.log.pages
 
   pub end_same : state.meter.end ≡ view.store.log.end
@@ -182,7 +182,7 @@ module _ {view : SessionView} {state : State} (ready : IsReady view) (shows : Sh
       sums_told view.store.catalog.listing view.opened state.marks shows.listed view.opened.since shows.told
       ∙ sym (length-changes_in shows.listed) ∙ ap (λ (cs : List Change). length cs) shows.list.changes_are
 
-  changers_same : (sums_in view.opened).q ≡ changers state.meter.stamps
+  pub changers_same : (sums_in view.opened).q ≡ changers state.meter.stamps
   changers_same = changers_told view.store.catalog.listing view.opened state.marks shows.listed view.opened.since shows.told ∙ ap changers shows.list.stamps_are
 
   has_same : (t : ℕ) → list_any (λ other. other.by == t) state.meter.stamps ≡ nat_lt 0 (length (transaction_in view.opened t).changes)
@@ -232,7 +232,7 @@ module _ {view : SessionView} {state : State} (ready : IsReady view) (shows : Sh
       rw room refl
 
   -- the tables now fit, so that as many pages have tuples as home pages are there
-  fit_now : Fits state.size.slots (now state)
+  pub fit_now : Fits state.size.slots (now state)
   fit_now =
       let tied = shows.store.tied.ties in
       subst (λ (d : Definitions). Fits state.size.slots (record { definitions = d; contents = (now state).contents })) (sym tied.definitions)

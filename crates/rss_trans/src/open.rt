@@ -52,6 +52,7 @@ impl Open {
     pub fn new(alloc: Global) -> Self
         ensures none { (told result).transactions ≡ empty }
         ensures since { (told result).since ≡ 0 }
+        ensures since_of { (relation : ℕ) → (told result).since_of relation ≡ 0 }
     {
         Open {
             alloc,
