@@ -8,6 +8,5 @@ pub mod Outcomes
 pub mod Saved
 pub mod Made
 pub mod Redefined
-pub mod Summed
 pub mod Shown
 pub mod Fresh

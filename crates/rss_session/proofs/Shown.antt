@@ -20,7 +20,7 @@ use Rattle.rss_store.specs.Shown.{ShowsWith, Shows as StoreShows}
 use Rattle.rss_session.specs.Sessions.{SessionView, IsReady, AreRising, counts, sums_in}
 use Rattle.rss_session.specs.Shown.{Shows}
 use Rattle.rss_session.specs.Weighing.{weighed}
-use Rattle.rss_session.proofs.Summed.{insert_sum}
+use Rattle.rss_session.proofs.Sums.{insert_sum}
 
 -- ---- by the result
 
