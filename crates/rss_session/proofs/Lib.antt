@@ -10,3 +10,4 @@ pub mod Made
 pub mod Redefined
 pub mod Shown
 pub mod Fresh
+pub mod Looked

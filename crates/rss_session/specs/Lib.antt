@@ -3,4 +3,5 @@ pub mod Shown
 pub mod Weighing
 pub mod Changes
 pub mod Calls
+pub mod Looks
 pub mod Parts

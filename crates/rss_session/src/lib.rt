@@ -5,6 +5,7 @@
 mod changing;
 mod ending;
 mod going_back;
+mod looking;
 mod opening;
 mod saving;
 mod session;
