@@ -125,8 +125,8 @@ finds_place {view = view} {segment = segment} {tid = tid} chosen absent = record
       none_listed shows.store.spells (kept_fit state kept).1 number relation in_it.at tid (ap (λ (s : ℕ). body_at view.store.pages s tid) in_it.within ∙ absent told);
 }
 
-pub place_found : {view : SessionView} {segment length : ℕ} (result : Result (Option Tid) PageFault) → IfOk result (λ found. IfSome found (λ tid. IsTold view.store.pages.disk → IsFree (tuples_in view.store.pages) segment [] tid))
+pub place_found : (view : SessionView) (segment length : ℕ) (result : Result (Option Tid) PageFault) → IfOk result (λ found. IfSome found (λ tid. IsTold view.store.pages.disk → IsFree (tuples_in view.store.pages) segment [] tid))
     → IfOk result (λ found. IfSome found (λ tid. IsTold view.store.pages.disk → IsChosen view.store.pages segment length [] tid)) → IfOk result (FindsPlace view segment length)
-place_found (Ok None) free chosen = tt
-place_found (Ok (Some tid)) free chosen = finds_place chosen (λ told. (free told).absent)
-place_found (Err fault) free chosen = tt
+place_found view segment length (Ok None) free chosen = tt
+place_found view segment length (Ok (Some tid)) free chosen = finds_place chosen (λ told. (free told).absent)
+place_found view segment length (Err fault) free chosen = tt

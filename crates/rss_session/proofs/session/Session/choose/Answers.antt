@@ -25,4 +25,4 @@ returns-clause-looks g c =
     }
 
 pub returns-clause-finds : goal.returns-clause-finds
-returns-clause-finds g c = place_found c.choose.result c.choose.ensures.free c.choose.ensures.chosen
+returns-clause-finds g c = place_found (view g.S.Pages.view c.args.self.now) c.args.segment c.args.length c.choose.result c.choose.ensures.free c.choose.ensures.chosen
