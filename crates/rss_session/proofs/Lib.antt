@@ -5,3 +5,4 @@ pub mod Noted
 pub mod Changed
 pub mod Weighed
 pub mod Outcomes
+pub mod Fewer

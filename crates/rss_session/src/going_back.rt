@@ -11,7 +11,8 @@ ghost use Rattle.rss_trans.specs.Transactions.{is_open, transaction_in};
 ghost use Rattle.rss_session.specs.Sessions.{IsReady, IsEarly};
 ghost use Rattle.rss_session.specs.Shown.{Shows};
 ghost use Rattle.rss_session.specs.Calls.{GoesOn, Appends, KeepsTables, HasMarks, Restores, Aborts, ShowsNone};
-ghost use Rattle.rss_session.specs.Calls.{TakesBack, GoesBack};
+ghost use Rattle.rss_session.specs.Calls.{TakesBack, GoesBack, HasNewest, TakesNewest, TakesBackOne};
+ghost use Rattle.rss_store.specs.Changing.{AltersPages, MayNotTakeBack};
 
 use crate::Session;
 use rss_base::PageFault;
@@ -88,10 +89,30 @@ impl<S: Saving> Session<S> {
     {
         let mut first = None;
         while let Some(position) = self.open.newest(transaction, save) {
-            self.store.undo(position)?;
-            self.open.take_newest(transaction);
+            self.undo_newest(transaction, position)?;
             first = Some(position);
         }
         Ok(first)
+    }
+
+    /// Undoes a transaction's newest change, whose record begins at this position.
+    fn undo_newest(&mut self, transaction: u32, position: u64) -> Result<(), PageFault>
+        requires ready { IsReady (view S.view self.old) }
+        requires open { is_open (view S.view self.old).opened transaction ≡ true }
+        requires newest { HasNewest (view S.view self.old).opened transaction position }
+        ensures ready { OnOk result (IsReady (view S.view self.new)) }
+        ensures takes { OnOk result
+            (TakesNewest transaction (view S.view self.old) (view S.view self.new)) }
+        ensures back { OnOk result (IsTold (view S.view self.old).store.pages.disk
+            → TakesBackOne (view S.view self.old) (view S.view self.new) transaction position) }
+        ensures sound { (place : AnyPlace) → result ≡ Err (Damaged place)
+            → IsTold (view S.view self.old).store.pages.disk
+            → MayNotTakeBack (view S.view self.old).store position }
+        ensures log { (view S.view self.new).store.log ≡ (view S.view self.old).store.log }
+        ensures did { AltersPages (view S.view self.old).store (view S.view self.new).store result }
+    {
+        self.store.undo(position)?;
+        self.open.take_newest(transaction);
+        Ok(())
     }
 }
