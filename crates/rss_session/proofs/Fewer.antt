@@ -18,10 +18,10 @@ use Rattle.rss_session.specs.Calls.{taken_to}
 use Rattle.rss_session.proofs.Sums.{gone_sum, changed_sum, get_open, here, elsewhere, gone_here, gone_elsewhere}
 use Rattle.rss_session.proofs.Marked.{rising_ends}
 
-abbrev one_if : Bool → ℕ
+abbrev pub one_if : Bool → ℕ
 one_if b = cond b 1 0
 
-abbrev changers : ℕ → ℕ
+abbrev pub changers : ℕ → ℕ
 changers count = one_if (nat_lt 0 count)
 
 abbrev has : Transaction → Bool
@@ -200,3 +200,17 @@ newest_none x save is = by_test (nat_lt (count_at x save) (length x.changes))
   where
     some : {k : ℕ} → ◌≡◌ {A = Option ℕ} (Some k) None → ⊥
     some e = cc (e)
+
+pub some_newer : (x : Transaction) (save : ℕ) → true ≡ is_some (newest_after x save) → count_at x save < length x.changes
+some_newer x save is = by (newest_after x save) refl is
+  where
+    by : (o : Option ℕ) → newest_after x save ≡ o → true ≡ is_some o → count_at x save < length x.changes
+    by None at some = absurd (cc (some))
+    by (Some position) at some = let last = newest_at x save position at in omega (arith, last.count, last.more)
+
+pub none_newer : (x : Transaction) (save : ℕ) → false ≡ is_some (newest_after x save) → length x.changes ≤ count_at x save
+none_newer x save is = by (newest_after x save) refl is
+  where
+    by : (o : Option ℕ) → newest_after x save ≡ o → false ≡ is_some o → length x.changes ≤ count_at x save
+    by None at none = newest_none x save at
+    by (Some position) at none = absurd (cc (none))

@@ -6,3 +6,5 @@ pub mod Changed
 pub mod Weighed
 pub mod Outcomes
 pub mod Fewer
+pub mod Steady
+pub mod Ended
