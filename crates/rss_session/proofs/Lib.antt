@@ -8,3 +8,4 @@ pub mod Outcomes
 pub mod Fewer
 pub mod Steady
 pub mod Ended
+pub mod Undone
