@@ -1,6 +1,6 @@
 -- A transaction that goes back or ends: what is counted of all of them, and where the changes stand.
 use Rattle.std.proofs.Common.{◌≡◌, ℕ, zero, suc, ◌+◌, ◌-◌, ◌<◌, ◌≤◌, Bool, true, false, cond, List, [], ◌∷◌, length, take, refl, sym, ◌∙◌, ap, subst, arith}
-use Rattle.std.specs.Prelude.{Option, Some, None, is_some, option_map, slice_get, slice_index_or, nat_lt, count_by, sum_by}
+use Rattle.std.specs.Prelude.{Option, Some, None, min, is_some, option_map, slice_get, slice_index_or, nat_lt, count_by, sum_by}
 use Rattle.std.specs.Ordering.{nat_cmp}
 use Rattle.std.specs.Cmp.{nat_cmp_total}
 use Rattle.std.specs.FinMap as finite
@@ -123,15 +123,15 @@ placed_at low high (suc n) position (note ∷ notes) is rising =
     (omega (arith, rest.0, rising.0), rest.1)
 
 -- all of them stay
-pub taken_all : {view : OpenView} {t : ℕ} → is_open view t ≡ true → Steps t (taken_to (length (transaction_in view t).changes)) view view
-taken_all {view = view} {t = t} opened = record {
+pub taken_all : (view : OpenView) (t n : ℕ) → is_open view t ≡ true → length (transaction_in view t).changes ≤ n → Steps t (taken_to n) view view
+taken_all view t n opened all = record {
   transactions = sym (put_whole ∙ put_again);
   since = refl;
   since_of = refl;
 }
   where
-    put_whole : finite.insert view.transactions t (taken_to (length (transaction_in view t).changes) (transaction_in view t)) ≡ finite.insert view.transactions t (transaction_in view t)
-    put_whole = ap (λ (notes : List Noted). finite.insert view.transactions t (record { changes = notes; saves = (transaction_in view t).saves })) (take_all (length (transaction_in view t).changes) (transaction_in view t).changes (omega arith))
+    put_whole : finite.insert view.transactions t (taken_to n (transaction_in view t)) ≡ finite.insert view.transactions t (transaction_in view t)
+    put_whole = ap (λ (notes : List Noted). finite.insert view.transactions t (record { changes = notes; saves = (transaction_in view t).saves })) (take_all n (transaction_in view t).changes all)
 
     put_again : finite.insert view.transactions t (transaction_in view t) ≡ view.transactions
     put_again = same_map nat_cmp_total nat_cmp-IsAntisymmetric _ _ (λ q. by_same q t
@@ -214,3 +214,20 @@ none_newer x save is = by (newest_after x save) refl is
     by : (o : Option ℕ) → newest_after x save ≡ o → false ≡ is_some o → length x.changes ≤ count_at x save
     by None at none = newest_none x save at
     by (Some position) at none = absurd (cc (none))
+
+-- ---- one of those that stay
+
+pub taken_get : (n k : ℕ) (notes : List Noted) → k < n → slice_get (take n notes) k ≡ slice_get notes k
+taken_get n k [] less = ap (λ (l : List Noted). slice_get l k) (take_none n)
+taken_get zero k (note ∷ notes) less = absurd (omega (arith, less))
+taken_get (suc n) zero (note ∷ notes) less = refl
+taken_get (suc n) (suc k) (note ∷ notes) less = taken_get n k notes (omega (arith, less))
+
+pub length_taken : (n : ℕ) (notes : List Noted) → length (take n notes) ≡ min n (length notes)
+length_taken n notes = grind (arith, length-take)
+
+-- there is one where its position is found
+pub none_from : (n : ℕ) (notes : List Noted) → ◌≡◌ {A = Option ℕ} None (option_map (λ (note : Noted). note.position) (slice_get notes n)) → length notes ≤ n
+none_from n [] none = omega arith
+none_from zero (note ∷ notes) none = absurd (cc (none))
+none_from (suc n) (note ∷ notes) none = let rest = none_from n notes none in omega (arith, rest)

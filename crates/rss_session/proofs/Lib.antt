@@ -9,3 +9,4 @@ pub mod Fewer
 pub mod Steady
 pub mod Ended
 pub mod Undone
+pub mod Backwards

@@ -16,7 +16,7 @@ use Rattle.rss_model.specs.Meter.{Meter}
 use Rattle.rss_model.specs.Spares.{PageCounts, page_counts, TakesTwo, IsInSession}
 use Rattle.rss_model.proofs.Sparing.{session_goes_back, spare_for_all}
 use Rattle.rss_trans.specs.declared.noted.Noted.{Noted}
-use Rattle.rss_trans.specs.Transactions.{OpenView, is_open, transaction_in, any, change_count, without_newest, Steps}
+use Rattle.rss_trans.specs.Transactions.{Transaction, OpenView, is_open, transaction_in, any, change_count, without_newest, newest_after, Steps}
 use Rattle.rss_trans.specs.Told.{TellsSince}
 use Rattle.rss_trans.proofs.Summing.{count_any}
 use Rattle.rss_trans.proofs.Told.{taken_tells, recounted_tells, same_names}
@@ -28,7 +28,7 @@ use Rattle.rss_session.specs.Sessions.{SessionView, AreRising, IsReady, sums_in,
 use Rattle.rss_session.specs.Sessions as sessions
 use Rattle.rss_session.specs.Shown.{Counts, ShowsBack}
 use Rattle.rss_session.specs.Calls.{HasNewest, taken_to}
-use Rattle.rss_session.proofs.Fewer.{changers, put_p, put_q, put_opened, put_placed, taken_placed}
+use Rattle.rss_session.proofs.Fewer.{changers, newest_at, put_here, put_p, put_q, put_opened, put_placed, taken_placed}
 use Rattle.rss_session.proofs.Sums.{gone_sum, get_open}
 
 -- the changes of one transaction are among all
@@ -105,3 +105,10 @@ module _ (old new : SessionView) (t position : ℕ) (ready : IsReady old) (opene
             (ap (λ (names : List (Option Name)). numbered names number) (same_names old.store.catalog.listing new.store.catalog.listing same) ∙ is);
         fewer = since.fewer;
       }
+
+-- it has fewer changes then
+pub taken_shorter : (old new : OpenView) (t save position : ℕ) → is_open old t ≡ true → newest_after (transaction_in old t) save ≡ Some position → Steps t without_newest old new → length (transaction_in new t).changes < length (transaction_in old t).changes
+taken_shorter old new t save position opened newest steps =
+    let last = newest_at (transaction_in old t) save position newest in
+    let now = ap (λ (x : Transaction). length x.changes) (put_here old new t _ opened steps.transactions) in
+    omega (arith, now, last.count, shorter (transaction_in old t).changes last.older last.count)
