@@ -32,11 +32,11 @@ use Rattle.rss_session.specs.Calls.{GoesOn, KeepsTables, ShowsNone, HasMarks, ta
 use Rattle.rss_session.proofs.Fewer.{IsLastAt, put_here, taken_all, taken_then, newest_at, newest_none, taken_get, length_taken, none_from}
 use Rattle.rss_session.proofs.Steady.{changes_kept, none_there}
 
-abbrev position_of : Noted → ℕ
+abbrev pub position_of : Noted → ℕ
 position_of note = note.position
 
 -- its changes, and how many of them a save point leaves
-abbrev changes_in_all : SessionView → ℕ → List Noted
+abbrev pub changes_in_all : SessionView → ℕ → List Noted
 changes_in_all view t = (transaction_in view.opened t).changes
 
 -- So many of its changes are left, and at least as many as at the save point. What is fixed of the device's pages stays.
@@ -59,11 +59,11 @@ pub record WayBack (t save : ℕ) (old new : SessionView) (first : Option ℕ) :
 
 -- ---- what is shown at the beginning
 
-own_count : {view : SessionView} {state : State} (t : ℕ) → Shows view state → length (own t state.changes) ≡ length (changes_in_all view t)
+pub own_count : {view : SessionView} {state : State} (t : ℕ) → Shows view state → length (own t state.changes) ≡ length (changes_in_all view t)
 own_count {view = view} {state = state} t shows =
     ap (λ (cs : List Change). length (own t cs)) (sym shows.list.changes_are) ∙ sym (changes_told view.store.catalog.listing view.opened state.marks shows.listed shows.told t)
 
-none_cut : {changes : List Change} (t n : ℕ) → kept_to maker t n changes ≡ changes → cut_off maker t n changes ≡ []
+pub none_cut : {changes : List Change} (t n : ℕ) → kept_to maker t n changes ≡ changes → cut_off maker t n changes ≡ []
 none_cut {changes = changes} t n all = none_there (cut_off maker t n changes) (omega (arith, kept_and_cut maker t n changes, ap (λ (cs : List Change). length cs) all))
 
 pub all_shown : (view : SessionView) (state : State) (t n : ℕ) → length (changes_in_all view t) ≤ n → Shows view state → ShowsBack view state t n

@@ -10,3 +10,4 @@ pub mod Steady
 pub mod Ended
 pub mod Undone
 pub mod Backwards
+pub mod Restored

@@ -44,7 +44,7 @@ can_alter view t ready opened some =
     record { heaps = ready.store.heaps; spare = omega (arith, spare, listed_some view.opened t opened, some) }
 
 -- the counts of fewer changes
-fewer_changers : (some more : ℕ) → some ≤ more → changers some ≤ changers more
+pub fewer_changers : (some more : ℕ) → some ≤ more → changers some ≤ changers more
 fewer_changers zero more le = omega arith
 fewer_changers (suc some) more le =
     let yes : nat_lt 0 (suc some) ≡ true = grind (arith, nat_tests) in

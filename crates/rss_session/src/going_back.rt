@@ -39,10 +39,11 @@ impl<S: Saving> Session<S> {
         ensures appends { Appends restore_size (view S.view self.old) (view S.view self.new) }
         ensures goes { GoesOn (view S.view self.old) (view S.view self.new) result }
     {
-        if let Some(first) = self.undo_after(transaction, save)? {
+        let first = self.undo_after(transaction, save)?;
+        self.open.cut(transaction, save);
+        if let Some(first) = first {
             self.store.cut(transaction, first);
         }
-        self.open.cut(transaction, save);
         Ok(())
     }
 
@@ -61,10 +62,11 @@ impl<S: Saving> Session<S> {
         ensures appends { Appends end_size (view S.view self.old) (view S.view self.new) }
         ensures goes { GoesOn (view S.view self.old) (view S.view self.new) result }
     {
-        if self.undo_after(transaction, 0)?.is_some() {
+        let first = self.undo_after(transaction, 0)?;
+        self.open.gone(transaction);
+        if first.is_some() {
             self.store.abort(transaction);
         }
-        self.open.gone(transaction);
         Ok(())
     }
 
