@@ -72,7 +72,7 @@ free_grown {size = size} {old = old} {new = new} grows =
 
 -- ---- a transaction that ends
 
-one_more : (count : ℕ) → 1 ≤ count → changers count ≡ 1
+pub one_more : (count : ℕ) → 1 ≤ count → changers count ≡ 1
 one_more count some = let yes : nat_lt 0 count ≡ true = grind (arith, nat_tests) in rw yes refl
 
 module _ (old new : SessionView) (t : ℕ) (ready : IsReady old) (opened : is_open old.opened t ≡ true) (ends : Ends t old.opened new.opened) where

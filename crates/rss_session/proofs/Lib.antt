@@ -11,3 +11,4 @@ pub mod Ended
 pub mod Undone
 pub mod Backwards
 pub mod Restored
+pub mod Aborted

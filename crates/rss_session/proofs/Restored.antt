@@ -87,12 +87,12 @@ module _ (old mid : SessionView) (t save : ℕ) (first : Option ℕ) (ready : Is
   pub save_there : save ≤ length before.saves → save ≤ length (transaction_in mid.opened t).saves
   save_there le = subst (λ (x : Transaction). save ≤ length x.saves) (sym there) le
 
-  fewer_p : (sums_in mid.opened).p + length before.changes ≡ (sums_in old.opened).p + min left (length before.changes)
+  pub fewer_p : (sums_in mid.opened).p + length before.changes ≡ (sums_in old.opened).p + min left (length before.changes)
   fewer_p =
       let less = put_p old.opened mid.opened t (taken_to left before) opened takes.opened.transactions in
       omega (arith, less, length_taken left before.changes)
 
-  fewer_q : (sums_in mid.opened).q + changers (length before.changes) ≡ (sums_in old.opened).q + changers (min left (length before.changes))
+  pub fewer_q : (sums_in mid.opened).q + changers (length before.changes) ≡ (sums_in old.opened).q + changers (min left (length before.changes))
   fewer_q =
       let less = put_q old.opened mid.opened t (taken_to left before) opened takes.opened.transactions in
       omega (arith, less, ap (λ (n : ℕ). changers n) (length_taken left before.changes))
@@ -100,7 +100,7 @@ module _ (old mid : SessionView) (t save : ℕ) (first : Option ℕ) (ready : Is
   no_more_q : (sums_in mid.opened).q ≤ (sums_in old.opened).q
   no_more_q = omega (arith, fewer_q, fewer_changers (min left (length before.changes)) (length before.changes) (omega arith))
 
-  free_same : free_of mid.store.log ≡ free_of old.store.log
+  pub free_same : free_of mid.store.log ≡ free_of old.store.log
   free_same = ap free_of takes.log
 
   module _ (position : ℕ) (some : first ≡ Some position) where
@@ -119,7 +119,7 @@ module _ (old mid : SessionView) (t save : ℕ) (first : Option ℕ) (ready : Is
     }
 
   module _ (new : SessionView) (ready_mid : IsReady mid) (heap : new.heap ≡ mid.heap) (surviving : new.surviving ≡ mid.surviving) (pages : page_counts new.store.pages ≡ page_counts mid.store.pages) (store : IsStoreReady new.store) where
-    grown_placed : {size : ℕ} → Grows size mid.store.log new.store.log → (u : ℕ) → AreRising new.store.log.head new.store.log.end (transaction_in mid.opened u).changes
+    pub grown_placed : {size : ℕ} → Grows size mid.store.log new.store.log → (u : ℕ) → AreRising new.store.log.head new.store.log.end (transaction_in mid.opened u).changes
     grown_placed grows u = subst (λ (n : ℕ). AreRising n new.store.log.end (transaction_in mid.opened u).changes) (sym grows.head)
         (rising_higher mid.store.log.head mid.store.log.end new.store.log.end (transaction_in mid.opened u).changes (omega (arith, grows.end)) (ready_mid.placed u))
 
@@ -160,10 +160,10 @@ module _ (old mid : SessionView) (t n : ℕ) (first : Option ℕ) (state : State
       all : kept_to maker t n state.changes ≡ state.changes
       all = changes_kept shows.list t n few
 
-      same_over : state.meter.over ≡ over
+      pub same_over : state.meter.over ≡ over
       same_over = none_undone (cut_off maker t n state.changes) (none_cut t n all) back.shows.store.way
 
-      same_shown : StoreShows mid.store state
+      pub same_shown : StoreShows mid.store state
       same_shown =
           subst (λ (k : ℕ). ShowsWith mid.store state state.changes k) (sym same_over)
           (subst (λ (cs : List Change). ShowsWith mid.store state cs over) all back.shows.store.shows)
