@@ -11,3 +11,10 @@ pub mod Redefined
 pub mod Shown
 pub mod Fresh
 pub mod Looked
+pub mod Fewer
+pub mod Steady
+pub mod Ended
+pub mod Undone
+pub mod Backwards
+pub mod Restored
+pub mod Aborted
