@@ -1,7 +1,7 @@
 -- What a change of a tuple leaves of a durable store, whatever is in its tables.
 use Rattle.std.proofs.Common.{◌≡◌, inl, inr, true, refl, sym, ◌∙◌, ap, subst, arith}
 use Rattle.std.specs.Prelude.{Option, Some, None, Result, Ok, Err, IsErrAnd, OnOk}
-use Rattle.std.proofs.lemmas.Result.{err_from_is_err_and}
+use Rattle.std.proofs.lemmas.Result.{err_from_is_err_and, on_ok_weaker}
 use Rattle.rss_base.specs.DiskRule.{IsTold}
 use Rattle.rss_base.specs.Paged.{Fixed, Backing, HasFixed, page_key}
 use Rattle.rss_base.specs.Layout.{IsWellFormed}
@@ -45,6 +45,9 @@ module _ {T : Type 0} {change : told.Change} (old new : StoreView) {result : Res
   keeps : KeepsCatalog (access old) (access new)
   keeps = keeps_made (access old) (access new) heap_step result makes
 
+  same_definitions : OnOk result (SameDefinitions old.catalog.listing new.catalog.listing)
+  same_definitions = on_ok_weaker result (λ alters. counts_same change alters.relation old.catalog new.catalog alters.listed alters.counts) makes.alters
+
 -- ---- what a call passes on
 
 pub alters_made : {T : Type 0} {change : told.Change} {old new : StoreView} {result : Result T PageFault} → Makes change (access old) (access new) result → new.root ≡ old.root → new.number ≡ old.number → AltersPages old new result
@@ -52,6 +55,7 @@ alters_made {old = old} {new = new} makes root number = record {
   step = heap_step old new makes;
   takes = makes.takes;
   keeps = keeps old new makes;
+  definitions = same_definitions old new makes;
   failed = makes.failed;
   memory = makes.memory;
   root = root;
@@ -64,6 +68,7 @@ alters_done {old = old} {new = new} answer makes root number = record {
   step = heap_step old new makes;
   takes = makes.takes;
   keeps = keeps old new makes;
+  definitions = same_definitions old new makes;
   failed = λ is. absurd (cc);
   memory = λ is. absurd (cc);
   root = root;
@@ -78,6 +83,7 @@ alters_fail {U = U} {old = old} {new = new} {fault = fault} result is makes root
       step = heap_step old new makes;
       takes = tt;
       keeps = keeps old new makes;
+      definitions = tt;
       failed = λ is. let same : fault ≡ DeviceFailed = cc in makes.failed (ap Err same);
       memory = λ is. let same : fault ≡ NoMemory = cc in makes.memory (ap Err same);
       root = root;
@@ -90,6 +96,7 @@ alters_nothing view place = record {
   step = rests view.pages;
   takes = tt;
   keeps = keeps_itself (access view);
+  definitions = tt;
   failed = λ is. absurd (cc);
   memory = λ is. absurd (cc);
   root = refl;

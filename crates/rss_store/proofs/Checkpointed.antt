@@ -45,7 +45,7 @@ use Rattle.rss_model.proofs.PlainStores.{none_imaged, plain_nodes}
 use Rattle.rss_model.proofs.Sparing.{session_begins}
 use Rattle.rss_model.proofs.StorePages.{pages_are}
 use Rattle.rss_store.specs.Stores.{StoreView, IsReady, IsSaved, IsLogBehind}
-use Rattle.rss_store.specs.Commits.{HasLogRoom, CanCheckpoint, IsSavedStore, least_mark}
+use Rattle.rss_store.specs.Commits.{HasLogRoom, CanCheckpoint, IsSavedStore, least_mark, Saves}
 use Rattle.rss_store.specs.Selecting.{IsMeant, CanSelect, IsNextStore}
 use Rattle.rss_store.specs.Shown.{HoldsLogged, LeavesStore, Shows}
 use Rattle.rss_store.proofs.Growing.{Appends, behind_appended, logged_appended}
@@ -359,12 +359,6 @@ module _ {view : StoreView} {marks : List (ℕ × ℕ)} {mid saved : PagesView} 
         (subst (λ (r : Root). IsLogBehind r new.log) (sym root_is) (saved_behind checkpoint log.end (tail_of log) refl refl moved))
         slots_last mapped_last log_pages_last pending heaps_last
 
-    pub saved_all : new.root ≡ next_root → IsSaved new
-    saved_all root = record {
-      log = ap (λ (r : Root). r.end) (root ∙ root_is) ∙ ap (λ (l : LogView). l.end) (sym moved);
-      pages = saveable_last.mapped ∙ ap mapped_by (both.current ∙ sym shadow);
-    }
-
     -- as many pages are saved as are mapped: those of the system space and of the heap
     counted_pages : mapped_pages view.pages.slots view.pages.mapped ≡ heap_now view.pages + system_pages
     counted_pages = pages_are view.pages.mapped (λ key there. ready.only key there) view.pages.slots ready.system
@@ -374,6 +368,22 @@ module _ {view : StoreView} {marks : List (ℕ × ℕ)} {mid saved : PagesView} 
         let owners : page_count saving_last.current ≡ mapped_pages new.pages.slots new.pages.mapped =
         sym (mapped_pages-owners new.pages.slots saving_last.current new.pages.mapped (λ slot key owned. subst (λ (n : ℕ). IsKey n key) (sym saveable_last.slots) (saveable_last.table.allowed slot key owned)) saveable_last.table.distinct (λ key. ap (λ (m : Mapped). m key) saveable_last.mapped)) in
         ap page_count (shadow ∙ sym both.current) ∙ owners
+
+    pub saved_all : new.root ≡ next_root → IsSaved new
+    saved_all root = record {
+      log = ap (λ (r : Root). r.end) (root ∙ root_is) ∙ ap (λ (l : LogView). l.end) (sym moved);
+      pages = saveable_last.mapped ∙ ap mapped_by (both.current ∙ sym shadow);
+      count = saved_pages;
+    }
+
+    pub saves_so : Saves marks view new
+    saves_so = record {
+      pages = ap (λ (l : LogView). l.pages) moved ∙ pages_is;
+      head = ap (λ (l : LogView). l.head) moved;
+      end = ap (λ (l : LogView). l.end) moved ∙ end_is;
+      mapped = mapped_last;
+      shadow = saved_pages;
+    }
 
     mapped_same : mapped_pages new.pages.slots new.pages.mapped ≡ mapped_pages view.pages.slots view.pages.mapped
     mapped_same = λ i. mapped_pages (slots_last i) (mapped_last i)

@@ -1,7 +1,7 @@
 mod Places
 mod Pieces
 mod Selected
-mod Nexts
+pub mod Nexts
 mod Ended
 mod Checkpointed
 mod Passed

@@ -169,7 +169,11 @@ module _ {root : Root} {number frames writes : ℕ} {owners : List (Option PageK
       }
 
       read_saved : IsSaved read_view
-      read_saved = record { log = sym read.end; pages = new_mapped ∙ ap (λ (o : List (Option PageKey)). mapped_by o) (sym new_shadow) }
+      read_saved = record {
+        log = sym read.end;
+        pages = new_mapped ∙ ap (λ (o : List (Option PageKey)). mapped_by o) (sym new_shadow);
+        count = ap page_count (new_shadow ∙ sym fresh.current) ∙ sym (current_counted saveable) ∙ (λ i. mapped_pages (sym did.looks.step.passes.slots i) (sym did.looks.mapped i));
+      }
 
       fixed_now : (told : IsTold old.disk) → new.fixed ≡ fixed_by (slots_at root.slots root.log_pages) owners (Some told.pages)
       fixed_now told = did.looks.step.passes.leaves.same fresh.settled told ∙ fixed_is told.pages told.is

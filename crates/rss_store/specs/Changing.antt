@@ -10,6 +10,7 @@ use Rattle.rss_model.specs.Tables.{content}
 use Rattle.rss_model.specs.Changes.{Change, mine}
 use Rattle.rss_model.specs.Meter.{Stamp}
 use Rattle.rss_model.specs.Machine.{State, now}
+use Rattle.rss_model.specs.Meanings.{SameDefinitions}
 use Rattle.rss_model.specs.Steps.{IsOver, stamp_by}
 use Rattle.rss_model.specs.Kept.{FitMixed}
 use Rattle.rss_model.specs.Restart.{OnlyBy}
@@ -69,12 +70,13 @@ CutsAll old new t = (state : State) (back : ShowsBack old state t 0)
 abbrev pub access : StoreView → AccessView
 access view = both view.pages view.catalog
 
--- By the result: home and overflow pages alone are touched, and two are taken at most. The catalog is sound still. Each failure of the device has its cause, and memory never runs out.
+-- By the result: home and overflow pages alone are touched, and two are taken at most. The catalog is sound still, and lists the same definitions. Each failure of the device has its cause, and memory never runs out.
 pub record AltersPages {T : Type 0} (old new : StoreView) (result : Result T PageFault) : Type 0 where
   pub step : PagesStep IsHeapKey (alter_cost old.pages.slots) (alter_cost old.pages.slots)
       old.pages new.pages
   pub takes : OnOk result (Takes 2 old.pages new.pages)
   pub keeps : KeepsCatalog (access old) (access new)
+  pub definitions : OnOk result (SameDefinitions old.catalog.listing new.catalog.listing)
   pub failed : IsErrOf result DeviceFailed → Rises old.pages.faults new.pages.faults
   pub memory : IsErrOf result NoMemory → ⊥
   pub root : new.root ≡ old.root

@@ -4,8 +4,9 @@ use Rattle.rss_base.specs.DiskRule.{Pages, IsTold, Continues}
 use Rattle.rss_base.specs.Faults.{Rises}
 use Rattle.rss_base.specs.Sizes.{piece_bytes, largest_checkpoint, position_limit}
 use Rattle.rss_base.specs.Layout.{map_pages}
-use Rattle.rss_base.specs.Paged.{Mapped, mapped_of}
-use Rattle.rss_base.specs.LogRecords.{ArePlaced, IsSpellable}
+use Rattle.rss_base.specs.PageMap.{page_count}
+use Rattle.rss_base.specs.Paged.{Mapped, mapped_of, mapped_pages}
+use Rattle.rss_base.specs.LogRecords.{ArePlaced, IsSpellable, record_size}
 use Rattle.rss_base.specs.LogPages.{IsNewPiece}
 use Rattle.rss_base.specs.Steps.{PagesView}
 use Rattle.rss_base.specs.declared.fault.PageFault.{PageFault}
@@ -43,6 +44,12 @@ pub data IsEndPlace (number : ℕ) (root : Root) (end : ℕ) (q : ℕ) : Type 0 
   selector : q ≡ 0 → IsEndPlace number root end q
   root : q ≡ 3 - number → IsEndPlace number root end q
   piece : IsNewPiece root end q → IsEndPlace number root end q
+
+-- the same pages are there and were saved
+pub record SamePages (old new : PagesView) : Type 0 where
+  pub mapped : new.mapped ≡ old.mapped
+  pub shadow : new.backing.shadow ≡ old.backing.shadow
+  pub slots : new.slots ≡ old.slots
 
 -- How many pieces become full where the log grows up to this end.
 abbrev pub new_pieces : Root → ℕ → ℕ
@@ -90,6 +97,14 @@ abbrev pub other_writes : StoreView → ℕ → ℕ
 other_writes view size =
     count_by (λ b. b) view.catalog.pending + map_pages view.pages.slots
     + new_pieces view.root (view.log.end + size) + 2
+
+-- The log is kept from the least of the marks' positions on and has its record. Each page has one slot then.
+pub record Saves (marks : List (ℕ × ℕ)) (old new : StoreView) : Type 0 where
+  pub pages : new.log.pages ≡ old.log.pages
+  pub head : new.log.head ≡ least_mark old.log.end marks
+  pub end : new.log.end ≡ old.log.end + record_size (records.Checkpoint marks)
+  pub mapped : new.pages.mapped ≡ old.pages.mapped
+  pub shadow : page_count new.pages.backing.shadow ≡ mapped_pages new.pages.slots new.pages.mapped
 
 -- a store as it is left behind it, whose tables are the committed ones of this state
 abbrev pub IsSavedStore : StoreView → State → Pages → Type 0

@@ -1,8 +1,10 @@
 -- A durable store as its callers see it, and what holds of it between two calls, whatever its device tells.
-use Rattle.std.specs.Prelude.{◌≡◌, ℕ, ◌<◌, ◌≤◌, true, List, ◌++◌, length}
+use Rattle.std.specs.Prelude.{◌≡◌, ℕ, ◌+◌, ◌<◌, ◌≤◌, true, List, ◌++◌, length}
 use Rattle.rss_base.specs.DiskRule.{IsTold}
 use Rattle.rss_base.specs.Sizes.{system_pages}
 use Rattle.rss_base.specs.Layout.{IsWellFormed}
+use Rattle.rss_base.specs.PageMap.{page_count}
+use Rattle.rss_base.specs.Paged.{mapped_pages}
 use Rattle.rss_base.specs.Steps.{PagesView}
 use Rattle.rss_base.specs.StoredPages.{mapped_by}
 use Rattle.rss_base.specs.declared.key.PageKey.{PageKey}
@@ -47,7 +49,16 @@ pub record IsReady (view : StoreView) : Type 0 where
   pub settled_now : view.pages.settled ≡ true
   pub heaps : IsTold view.pages.disk → AreHeaps view.pages
 
--- The selected root has the whole log, and the map that it names has each page.
+-- The selected root has the whole log, and the map that it names has each page, once.
 pub record IsSaved (view : StoreView) : Type 0 where
   pub log : view.root.end ≡ view.log.end
   pub pages : view.pages.mapped ≡ mapped_by view.pages.backing.shadow
+  pub count : page_count view.pages.backing.shadow ≡ mapped_pages view.pages.slots view.pages.mapped
+
+-- ---- the log in memory
+
+-- it has so many bytes more
+pub record Grows (size : ℕ) (old new : LogView) : Type 0 where
+  pub pages : new.pages ≡ old.pages
+  pub head : new.head ≡ old.head
+  pub end : new.end ≡ old.end + size

@@ -4,7 +4,7 @@ ghost use Rattle.rss_base.specs.DiskRule.{IsTold};
 ghost use Rattle.rss_model.specs.Meter.{restore_size, end_size};
 ghost use Rattle.rss_store.specs.Changing.{CutsAt, CutsAll};
 ghost use Rattle.rss_store.specs.Commits.{HasLogRoom};
-ghost use Rattle.rss_store.specs.Stores.{IsReady};
+ghost use Rattle.rss_store.specs.Stores.{IsReady, Grows};
 
 use crate::DurableStore;
 use rss_base::LogRecord;
@@ -21,8 +21,10 @@ impl<S: Saving> DurableStore<S> {
         ensures ready { IsReady (view S.view self.new) }
         ensures cuts { IsTold (view S.view self.old).pages.disk
             → CutsAt (view S.view self.old) (view S.view self.new) transaction position }
+        ensures log { Grows restore_size (view S.view self.old).log (view S.view self.new).log }
         ensures pages { self.new.tuples.pages ≡ self.old.tuples.pages }
         ensures catalog { (view S.view self.new).catalog ≡ (view S.view self.old).catalog }
+        ensures root { (view S.view self.new).root ≡ (view S.view self.old).root }
     {
         self.log.append(&LogRecord::Restore(transaction, position));
     }
@@ -35,8 +37,10 @@ impl<S: Saving> DurableStore<S> {
         ensures ready { IsReady (view S.view self.new) }
         ensures cuts { IsTold (view S.view self.old).pages.disk
             → CutsAll (view S.view self.old) (view S.view self.new) transaction }
+        ensures log { Grows end_size (view S.view self.old).log (view S.view self.new).log }
         ensures pages { self.new.tuples.pages ≡ self.old.tuples.pages }
         ensures catalog { (view S.view self.new).catalog ≡ (view S.view self.old).catalog }
+        ensures root { (view S.view self.new).root ≡ (view S.view self.old).root }
     {
         self.log.append(&LogRecord::Abort(transaction));
     }

@@ -1,5 +1,5 @@
 // Changes, made and taken back.
-ghost use Rattle.std.specs.Prelude.{◌≡◌, ◌≤◌, Err, IfOk, OnOk};
+ghost use Rattle.std.specs.Prelude.{◌≡◌, ◌≤◌, Err, IfOk, OnOk, OnErr};
 ghost use Rattle.rss_base.specs.DiskRule.{IsTold};
 ghost use Rattle.rss_base.specs.LogRecords.{record_size, IsChangeBounded};
 ghost use Rattle.rss_base.specs.declared.log_record.LogRecord.TheVariants as records;
@@ -8,7 +8,7 @@ ghost use Rattle.rss_base.specs.declared.place.Place.{Place as AnyPlace};
 ghost use Rattle.rss_access.specs.Changes.{IsTupleRecord, CanAlter};
 ghost use Rattle.rss_store.specs.Changing.{MakesChange, TakesBackOne, AltersPages, MayNotMake, MayNotTakeBack};
 ghost use Rattle.rss_store.specs.Commits.{HasLogRoom};
-ghost use Rattle.rss_store.specs.Stores.{IsReady};
+ghost use Rattle.rss_store.specs.Stores.{IsReady, Grows};
 
 use crate::DurableStore;
 use rss_access::{apply, undo};
@@ -33,6 +33,9 @@ impl<S: Saving> DurableStore<S> {
             (record_size (records.Change transaction change)) (view S.view self.old).log.head }
         ensures ready { OnOk result (IsReady (view S.view self.new)) }
         ensures at { IfOk result (λ at. at ≡ (view S.view self.old).log.end) }
+        ensures log { OnOk result (Grows (record_size (records.Change transaction change))
+            (view S.view self.old).log (view S.view self.new).log) }
+        ensures unlogged { OnErr result ((view S.view self.new).log ≡ (view S.view self.old).log) }
         ensures makes { OnOk result (IsTold (view S.view self.old).pages.disk
             → MakesChange (view S.view self.old) (view S.view self.new) transaction change) }
         ensures sound { (place : AnyPlace) → result ≡ Err (Damaged place)

@@ -11,11 +11,11 @@ ghost use Rattle.rss_model.specs.Meter.{end_size};
 ghost use Rattle.rss_model.specs.LogLaws.{committed_now};
 ghost use Rattle.rss_model.specs.Store.{Stored, size_of, IsStore};
 ghost use Rattle.rss_store.specs.Commits.{HasLogRoom, IsEndPlace, MayCommit, CanCheckpoint};
-ghost use Rattle.rss_store.specs.Commits.{IsSavedStore, CommitsPages, least_mark, new_pieces};
+ghost use Rattle.rss_store.specs.Commits.{IsSavedStore, CommitsPages, Saves, SamePages, least_mark, new_pieces};
 ghost use Rattle.rss_store.specs.Commits.{changed_with, other_writes};
 ghost use Rattle.rss_store.specs.Selecting.{CanSelect, IsNextStore, Selects};
 ghost use Rattle.rss_store.specs.Shown.{HoldsTables, Shows};
-ghost use Rattle.rss_store.specs.Stores.{IsReady, IsSaved};
+ghost use Rattle.rss_store.specs.Stores.{IsReady, IsSaved, Grows};
 
 use crate::DurableStore;
 use crate::writing::{tail_of, write_pieces};
@@ -50,6 +50,9 @@ impl<S: Saving> DurableStore<S> {
             (view S.view self.old).pages.disk (view S.view self.new).pages.disk }
         ensures writes { (view S.view self.new).pages.writes ≤ (view S.view self.old).pages.writes
             + new_pieces (view S.view self.old).root ((view S.view self.old).log.end + end_size) + 2 }
+        ensures log { Grows end_size (view S.view self.old).log (view S.view self.new).log }
+        ensures pages { OnOk result (SamePages (view S.view self.old).pages (view S.view self.new).pages) }
+        ensures size { size_of (view S.view self.new).root ≡ size_of (view S.view self.old).root }
         ensures did { CommitsPages (view S.view self.old).pages (view S.view self.new).pages result }
         ensures catalog { (view S.view self.new).catalog ≡ (view S.view self.old).catalog }
     {
@@ -97,6 +100,10 @@ impl<S: Saving> DurableStore<S> {
             (other_writes (view S.view self.old) (record_size (records.Checkpoint marks)))
             (view S.view self.old).pages.writes (view S.view self.new).pages.writes }
         ensures saved { OnOk result (IsSaved (view S.view self.new)) }
+        ensures saves { OnOk result (Saves marks (view S.view self.old) (view S.view self.new)) }
+        ensures appends { (view S.view self.new).log.end
+            ≤ (view S.view self.old).log.end + record_size (records.Checkpoint marks) }
+        ensures size { size_of (view S.view self.new).root ≡ size_of (view S.view self.old).root }
         ensures listing { (view S.view self.new).catalog.listing
             ≡ (view S.view self.old).catalog.listing }
     {
@@ -145,6 +152,7 @@ impl<S: Saving> DurableStore<S> {
         ensures stage { OnOk result
             ((S.saving self.old.tuples.pages).stage ≡ AnyStage.Saved next.area
             → (S.saving self.new.tuples.pages).stage ≡ AnyStage.Switched) }
+        ensures size { size_of (view S.view self.new).root ≡ size_of (view S.view self.old).root }
         ensures log { (view S.view self.new).log ≡ (view S.view self.old).log }
         ensures catalog { (view S.view self.new).catalog ≡ (view S.view self.old).catalog }
         ensures did { SavingCall (view S.view self.old).pages (view S.view self.new).pages
@@ -158,7 +166,7 @@ impl<S: Saving> DurableStore<S> {
 }
 
 /// The least of the marks' positions, or this one where there is none less.
-fn least_mark(marks: &Marks, end: u64) -> u64
+pub(crate) fn least_mark(marks: &Marks, end: u64) -> u64
     ensures { result ≡ least_mark end marks.now }
 {
     marks

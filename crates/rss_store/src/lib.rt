@@ -6,6 +6,7 @@ mod appending;
 mod changing;
 mod checking;
 mod committing;
+mod counting;
 mod formatting;
 mod opening;
 mod store;

@@ -11,8 +11,10 @@ use rss_tuple::Store;
 /// `commit` and `checkpoint` alone. A call that fails leaves the store as it may not be called
 /// again: a stop then leaves what it left before the call, or what the call was to bring there.
 pub struct DurableStore<S: Saving> {
-    pub(crate) tuples: Store<S>,
-    pub(crate) catalog: Catalog,
+    /// For looks at tuples. Changes of them go by `change` and `undo`.
+    pub tuples: Store<S>,
+    /// What is defined. A new definition is on the disk behind the next checkpoint.
+    pub catalog: Catalog,
     pub(crate) log: Log,
     /// The selected root, and its number.
     pub(crate) root: Root,

@@ -16,7 +16,7 @@ use rss_buffer::Saving;
 use rss_log::Log;
 
 /// How many bytes of the log a piece has.
-const PIECE_LENGTH: u64 = PIECE_BYTES as u64;
+pub(crate) const PIECE_LENGTH: u64 = PIECE_BYTES as u64;
 
 /// Writes the pieces of the log that became full since this root was written.
 pub(crate) fn write_pieces<S: Saving>(

@@ -43,7 +43,7 @@ Entries = List (ℕ × Transaction)
 
 -- ---- keys in order
 
-abbrev AreOrdered : Entries → Type 0
+abbrev pub AreOrdered : Entries → Type 0
 AreOrdered [] = Unit {0}
 AreOrdered (e ∷ es) = AllByRecursion (λ f. e.0 < f.0) es × AreOrdered es
 
@@ -63,7 +63,7 @@ ordered : (es : Entries) → T (listed.is_sorted nat_cmp es) → AreOrdered es
 ordered [] sorted = tt
 ordered (e ∷ es) sorted = (below_is e.0 es (first _ _ sorted), ordered es (second _ _ sorted))
 
-abbrev found : ℕ → Entries → Option Transaction
+abbrev pub found : ℕ → Entries → Option Transaction
 found t es = listed.find nat_cmp t es
 
 found_here : (t : ℕ) (e : ℕ × Transaction) (es : Entries) → t ≡ e.0 → found t (e ∷ es) ≡ Some e.1
@@ -84,7 +84,7 @@ Tell listing es ls = (t : ℕ) → AreNotesOf listing (done (found t es)).change
 told_entries : {listing : Listing} {view : OpenView} {marks : FinMap nat_cmp (List ℕ)} {ls : List Listed} → TellsOpen listing view marks ls → Tell listing (finite.entries view.transactions) ls
 told_entries {listing = listing} {view = view} {ls = ls} is t = subst (λ (o : Option Transaction). AreNotesOf listing (done o).changes (own_in t ls)) (get-entries view.transactions t) (is.changes t)
 
-order_of : (view : OpenView) → AreOrdered (finite.entries view.transactions)
+pub order_of : (view : OpenView) → AreOrdered (finite.entries view.transactions)
 order_of view = ordered (finite.entries view.transactions) (entries_sorted view.transactions)
 
 no_changes : (listing : Listing) (ls : List Listed) → Tell listing [] ls → ls ≡ []
@@ -116,7 +116,7 @@ module _ (listing : Listing) (of_one all : List Listed → ℕ) (parts : (t : �
 
 -- ---- how many
 
-count_any : (notes : List Noted) → count_by any notes ≡ length notes
+pub count_any : (notes : List Noted) → count_by any notes ≡ length notes
 count_any [] = refl
 count_any (n ∷ ns) = omega (arith, sum_by-cons (λ (c : Noted). cond (any c) 1 0) n ns, count_any ns)
 
@@ -265,7 +265,7 @@ first_noted listing notes (l ∷ ls) is =
 abbrev marked : ℕ → Option ℕ → Option (ℕ × ℕ)
 marked t o = option_map (λ position. (t, position)) o
 
-named_is : (t : ℕ) (es : Entries) → AreOrdered es → named_in t (marks_of es) ≡ first_position (done (found t es))
+pub named_is : (t : ℕ) (es : Entries) → AreOrdered es → named_in t (marks_of es) ≡ first_position (done (found t es))
 named_is t [] order = refl
 named_is t (e ∷ es) order = by_same t e.0
     (λ is. by_first (first_position e.1) refl is (named_is t es order.1))
@@ -283,7 +283,7 @@ named_is t (e ∷ es) order = by_same t e.0
     by_off None off = refl
     by_off (Some place) off = let other : (e.0 == t) ≡ false = ne_eqb e.0 t off in simp other refl
 
-rising_is : (least : ℕ) (es : Entries) → AllByRecursion (λ f. least ≤ f.0) es → AreOrdered es → AreRising least (marks_of es)
+pub rising_is : (least : ℕ) (es : Entries) → AllByRecursion (λ f. least ≤ f.0) es → AreOrdered es → AreRising least (marks_of es)
 rising_is least [] all order = tt
 rising_is least (e ∷ es) all order = by (first_position e.1) (rising_is least es all.1 order.1) (all.0, rising_is (e.0 + 1) es (all_weaker (λ f. e.0 < f.0) (λ f. e.0 + 1 ≤ f.0) es (λ f lt. omega (arith, lt)) order.0) order.1)
   where
@@ -316,7 +316,7 @@ count_marks (e ∷ es) = by e.1.changes (marks_of es) ∙ omega (arith, count_ma
 pub names_counted : NamesCounted
 names_counted listing view marks ls is = count_marks (finite.entries view.transactions) ∙ changers_told listing view marks ls 0 is
 
-marks_few : (es : Entries) → length (marks_of es) ≤ length es
+pub marks_few : (es : Entries) → length (marks_of es) ≤ length es
 marks_few [] = omega arith
 marks_few (e ∷ es) = by (first_position e.1) (marks_few es)
   where
@@ -328,7 +328,7 @@ pub names_few : NamesFew
 names_few view = omega (arith, marks_few (finite.entries view.transactions), len-entries view.transactions)
 
 -- what holds of each name that is found holds of all
-all_named : (P : ℕ × ℕ → Type 0) (least : ℕ) (named : List (ℕ × ℕ)) → AreRising least named → ((t place : ℕ) → least ≤ t → named_in t named ≡ Some place → P (t, place)) → AllByRecursion P named
+pub all_named : (P : ℕ × ℕ → Type 0) (least : ℕ) (named : List (ℕ × ℕ)) → AreRising least named → ((t place : ℕ) → least ≤ t → named_in t named ≡ Some place → P (t, place)) → AllByRecursion P named
 all_named P least [] rising each = tt
 all_named P least (m ∷ ms) rising each =
     let here : (m.0 == m.0) ≡ true = eq-eqb m.0 m.0 refl in (

@@ -154,7 +154,7 @@ names_counted (o ∷ relations) = λ i. by o i ∷ names_counted relations i
     by None = refl
     by (Some relation) = refl
 
-same_names : (listing other : Listing) → SameDefinitions listing other → names_of kinds.Relation listing ≡ names_of kinds.Relation other
+pub same_names : (listing other : Listing) → SameDefinitions listing other → names_of kinds.Relation listing ≡ names_of kinds.Relation other
 same_names listing other same =
     sym (names_counted listing.relations) ∙ ap (map (option_map (λ relation. relation.name))) (sym same.relations) ∙ names_counted other.relations
 

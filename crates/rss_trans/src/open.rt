@@ -52,6 +52,7 @@ impl Open {
     pub fn new(alloc: Global) -> Self
         ensures none { (told result).transactions ≡ empty }
         ensures since { (told result).since ≡ 0 }
+        ensures since_of { (relation : ℕ) → (told result).since_of relation ≡ 0 }
     {
         Open {
             alloc,
@@ -206,7 +207,8 @@ impl Open {
 
     /// A checkpoint was taken: no change was made since.
     pub fn checkpointed(&mut self)
-        ensures { Checkpoints (told self.old) (told self.new) }
+        ensures did { Checkpoints (told self.old) (told self.new) }
+        ensures room { (told self.new).room ≡ (told self.old).room }
     {
         self.since = 0;
         self.since_of = no_changes();

@@ -11,7 +11,7 @@ use Rattle.rss_store.specs.Stores.{StoreView}
 use Rattle.rss_store.proofs.Growing.{Appends}
 use Rattle.rss_store.proofs.Nexts.{fixes_now}
 use Rattle.rss_store.proofs.Passed.{writes_all, unsaved, saved_so, half_saved}
-use Rattle.rss_store.proofs.Checkpointed.{IsPrepared, saved_same, saved_can, saved_moments, saved_left, saved_next, saved_store, saved_ready, saved_all, saved_shows, slots_last, log_pages_last, head_high}
+use Rattle.rss_store.proofs.Checkpointed.{IsPrepared, saved_same, saved_can, saved_moments, saved_left, saved_next, saved_store, saved_ready, saved_all, saves_so, saved_shows, slots_last, log_pages_last, head_high}
 use Rattle.rss_store.proofs.store.DurableStore.checkpoint.Goals as goal
 
 -- ---- the catalog is written
@@ -224,6 +224,40 @@ returns-clause-saved g c =
     let moved : c.set_head.new.self ≡ with_head log (least_mark self.log.end marks) = c.set_head.ensures.moved ∙ (λ i. with_head (select.log i) (heads i)) in
     let listing : c.select.new.self.catalog.listing ≡ self.catalog.listing = ap (λ (k : CatalogView). k.listing) select.catalog ∙ store.same in
     saved_all c.requires.ready prepared c.requires.low c.requires.room _ append.position root_is steps saveable_last shadow moved listing select.selected.root
+
+pub returns-clause-saves : goal.returns-clause-saves
+returns-clause-saves g c =
+    let self = c.args.self.now in
+    let marks = c.args.marks in
+    let pages = c.store.new.pages in
+    let log = c.append-checkpoint.new.self in
+    let store = c.in_ok-store.ensures in
+    let save = c.in_ok-save.ensures in
+    let append = c.append-checkpoint.ensures in
+    let appends : Appends (records.Checkpoint marks) c.append-checkpoint.result self.log log = record { position = append.position; grown = append.appended; records = append.records } in
+    let prepared : IsPrepared (view g.S.Pages.view self) marks (g.S.Pages.view pages) (g.S.Pages.view c.save.new.self) (g.S.Saving.saving pages) (g.S.Saving.saving c.save.new.self) log = record {
+      count = _;
+      at = c.append-checkpoint.result;
+      step = store.did.step;
+      stores = store.stores;
+      saveable = g.met.S.Saving.saveable pages;
+      saveable_now = g.met.S.Saving.saveable c.save.new.self;
+      saving = save.did.step;
+      only = save.only;
+      pages = save.saved;
+      backing = save.backing;
+      appends = appends;
+    } in
+    let heads : c.least_mark-head.result ≡ least_mark self.log.end marks = c.least_mark-head.ensures ∙ ap (λ (n : ℕ). least_mark n marks) c.end.ensures.end in
+    let root_is = saved_same self.root (1 - self.root.area) c.append-checkpoint.result heads c.end-2.ensures.end c.tail_of.ensures in
+    let select = c.in_ok-select.ensures in
+    let adopt = c.adopt.ensures in
+    let steps = saving_then select.did.step adopt.did in
+    let saveable_last = g.met.S.Saving.saveable c.adopt.new.self in
+    let shadow = adopt.adopted.shadow ∙ select.did.step.current ∙ save.did.step.current in
+    let moved : c.set_head.new.self ≡ with_head log (least_mark self.log.end marks) = c.set_head.ensures.moved ∙ (λ i. with_head (select.log i) (heads i)) in
+    let listing : c.select.new.self.catalog.listing ≡ self.catalog.listing = ap (λ (k : CatalogView). k.listing) select.catalog ∙ store.same in
+    saves_so c.requires.ready prepared c.requires.low c.requires.room _ append.position root_is steps saveable_last shadow moved listing
 
 pub returns-clause-moments : goal.returns-clause-moments
 returns-clause-moments g c = λ told stored next can.

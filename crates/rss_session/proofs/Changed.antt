@@ -1,0 +1,178 @@
+-- A change that goes on as it is: the session is ready again, and in the machine's next state.
+use Rattle.std.proofs.Common.{◌≡◌, ℕ, suc, ◌+◌, ◌-◌, ◌*◌, ◌^◌, ◌<◌, ◌≤◌, Bool, true, false, List, [], ◌∷◌, length, map, refl, sym, ◌∙◌, ap, subst, arith}
+use Rattle.std.specs.Prelude.{Option, Some, None, is_some, is_none, unwrap_or, ◌&&◌, Result, Ok, Err, ⊤}
+use Rattle.rss_base.specs.declared.change.Change as told
+use Rattle.rss_base.specs.declared.change.Change.TheVariants.{Insert, Delete, Update, Connect, Disconnect}
+use Rattle.rss_base.specs.declared.item.Item.{Item}
+use Rattle.rss_base.specs.declared.item.Item.TheVariants.{Tuple as TupleItem}
+use Rattle.rss_base.specs.declared.name.Name.{Name}
+use Rattle.rss_base.specs.declared.refusal.Kind.TheVariants.{Relation as RelationKind}
+use Rattle.rss_base.specs.declared.refusal.Refusal.{Refusal}
+use Rattle.rss_base.specs.declared.log_record.LogRecord.TheVariants as records
+use Rattle.rss_base.specs.declared.root.Root.{Root}
+use Rattle.rss_base.specs.Listings.{Listing, ListingFits, relation_at, numbered, names_of, IsNumberOf}
+use Rattle.rss_base.specs.LogRecords.{record_size}
+use Rattle.rss_log.specs.Logs.{LogView, room_end, free_of}
+use Rattle.rss_model.specs.Items.{Content, Values}
+use Rattle.rss_model.specs.Changes.{Change}
+use Rattle.rss_model.specs.Kept.{Kept}
+use Rattle.rss_model.specs.Locks.{Locks}
+use Rattle.rss_model.specs.Machine.{State}
+use Rattle.rss_model.specs.Meter.{Stamp, Meter, counted, change_size}
+use Rattle.rss_model.specs.Meanings.{name_at, nameless, item_told, IsChangeTold, TellsValues, Means, SameDefinitions}
+use Rattle.rss_model.specs.Records.{Listed}
+use Rattle.rss_model.specs.LogLaws.{noted}
+use Rattle.rss_model.specs.Rules.{ruling, refusal_by, meter_behind, goes_on}
+use Rattle.rss_model.specs.Ruled.{HasBothRooms, ruled}
+use Rattle.rss_model.specs.Spares.{PageCounts, page_counts, TakesTwo, HasRoomFor, IsInSession, with_one}
+use Rattle.rss_model.specs.Steps.{IsOver}
+use Rattle.rss_model.proofs.BothRooms.{changes_keep_rooms}
+use Rattle.rss_model.proofs.LogCounting.{change_told_size}
+use Rattle.rss_model.proofs.Relisted.{number_of}
+use Rattle.rss_model.proofs.Ruling.{behind}
+use Rattle.rss_model.proofs.Sparing.{session_changes}
+use Rattle.rss_trans.specs.declared.noted.Noted.{Noted}
+use Rattle.rss_trans.specs.Transactions.{OpenView, is_open, transaction_in, Notes}
+use Rattle.rss_trans.specs.Told.{IsNumbered, is_tuple, takes_away, IsNoteOf, TellsOpen, TellsSince, IsListOf}
+use Rattle.rss_trans.proofs.Told.{change_tells, recounted_tells, same_names}
+use Rattle.rss_trans.proofs.Summing.{since_told}
+use Rattle.rss_access.specs.Changes.{IsTupleRecord, number_told}
+use Rattle.rss_store.specs.Stores.{Grows}
+use Rattle.rss_store.specs.Stores.{IsReady as IsStoreReady}
+use Rattle.rss_store.specs.Shown.{Shows as StoreShows}
+use Rattle.rss_store.specs.Changing.{MayMake}
+use Rattle.rss_store.specs.Changing.{MakesOne as StoreMakesOne}
+use Rattle.rss_store.proofs.Definitions.{same_back}
+use Rattle.rss_session.specs.Changes.{is_delete_told}
+use Rattle.rss_session.specs.Sessions.{SessionView, AreRising, IsReady, sums_in, owed_for, owed_by}
+use Rattle.rss_session.specs.Sessions as sessions
+use Rattle.rss_session.specs.Shown.{Counts, Shows}
+use Rattle.rss_session.specs.Weighing.{changers_with, weighed, outcome}
+use Rattle.rss_session.specs.Calls.{MakesOne}
+use Rattle.rss_session.proofs.Noted.{Goes, noted_p, noted_q, noted_placed, noted_open, weighed_on}
+use Rattle.rss_session.proofs.Weighed.{goes_on_right}
+
+-- ---- a call may be made again
+
+module _ {old new : SessionView} {t size : ℕ} {note : Noted} (ready : IsReady old) (opened : is_open old.opened t ≡ true) (goes : Goes old t size) (store : IsStoreReady new.store) (notes : Notes t note old.opened new.opened)
+    (at : old.store.log.end ≡ note.position) (grows : Grows size old.store.log new.store.log) (some : 0 < size) (two : TakesTwo (page_counts old.store.pages) (page_counts new.store.pages)) (heap : new.heap ≡ old.heap) (surviving : new.surviving ≡ old.surviving) (root : new.store.root ≡ old.store.root) where
+  since_now : new.opened.since ≡ old.opened.since + 1
+  since_now = let few = ready.room in let most = ready.store.formed.slots_most in omega (arith, notes.since, few, most, ready.store.size)
+
+  free_now : free_of new.store.log ≡ free_of old.store.log - size
+  free_now =
+      let same : room_end new.store.log.pages new.store.log.head ≡ room_end old.store.log.pages old.store.log.head = λ i. room_end (grows.pages i) (grows.head i) in
+      omega (arith, same, grows.end)
+
+  pub ready_noted : IsReady new
+  ready_noted = record {
+    store = store;
+    pages =
+        subst (λ (n : ℕ). IsInSession (sessions.counts new) n (page_counts new.store.pages)) (sym (noted_p opened notes))
+        (subst (λ (since : ℕ). IsInSession (record { heap = new.heap; surviving = new.surviving; since = since }) ((sums_in old.opened).p + 1) (page_counts new.store.pages)) (sym since_now)
+        (subst (λ (s : ℕ). IsInSession (record { heap = new.heap; surviving = s; since = old.opened.since + 1 }) ((sums_in old.opened).p + 1) (page_counts new.store.pages)) (sym surviving)
+        (subst (λ (h : ℕ). IsInSession (record { heap = h; surviving = old.surviving; since = old.opened.since + 1 }) ((sums_in old.opened).p + 1) (page_counts new.store.pages)) (sym heap)
+        (session_changes (sessions.counts old) (sums_in old.opened).p (page_counts old.store.pages) (page_counts new.store.pages) ready.pages two))));
+    room = omega (arith, goes.room, heap, surviving, since_now, store.size, ap (λ (r : Root). r.slots) root);
+    log = omega (arith, goes.log, free_now, noted_p opened notes, noted_q opened notes);
+    placed = λ u. subst (λ (n : ℕ). AreRising n new.store.log.end (transaction_in new.opened u).changes) (sym grows.head) (noted_placed opened notes old.store.log.head old.store.log.end new.store.log.end at (omega (arith, grows.end, some)) ready.placed u);
+    numbers = λ u is. ready.numbers u (noted_open opened notes u is);
+  }
+
+-- ---- what is noted of it
+
+-- the relation of its number, whose name the item has
+listed_name : (listing : Listing) (number : ℕ) → {spelled : List ℕ} {held : Option Content} → TellsValues listing number spelled held → IsNumberOf RelationKind listing (name_at RelationKind listing number) number
+listed_name listing number tells =
+    let is = number_of listing number tells.relation tells.at in
+    is ∙ ap Some (sym (ap (λ (o : Option Name). unwrap_or o (nameless number)) is))
+
+abbrev takes : Item → Option Content → Option Content → Bool
+takes item old new = is_tuple item && is_some old && is_none new
+
+module _ (listing : Listing) (by : ℕ) (change : Change) where
+  numbered_told : (told_change : told.Change) → IsTupleRecord told_change → IsChangeTold listing by told_change change → Means listing told_change change → IsNumbered listing change.item (Some (number_told told_change))
+  numbered_told (Insert number tid values) tuple tells means = subst (λ (item : Item). IsNumbered listing item (Some number)) (sym tells.item) (number, refl, listed_name listing number means.1)
+  numbered_told (Delete number tid values) tuple tells means = subst (λ (item : Item). IsNumbered listing item (Some number)) (sym tells.item) (number, refl, listed_name listing number means.0)
+  numbered_told (Update number tid was next) tuple tells means = subst (λ (item : Item). IsNumbered listing item (Some number)) (sym tells.item) (number, refl, listed_name listing number means.0)
+  numbered_told (Connect link parent child left) tuple tells means = absurd tuple
+  numbered_told (Disconnect link parent child left) tuple tells means = absurd tuple
+
+  taken_told : (told_change : told.Change) → IsTupleRecord told_change → IsChangeTold listing by told_change change → Means listing told_change change → is_delete_told told_change ≡ takes_away change
+  taken_told (Insert number tid values) tuple tells means = sym (λ i. takes (tells.item i) (means.0 i) (means.1.is i))
+  taken_told (Delete number tid values) tuple tells means = sym (λ i. takes (tells.item i) (means.0.is i) (means.1 i))
+  taken_told (Update number tid was next) tuple tells means = sym (λ i. takes (tells.item i) (means.0.is i) (means.1.is i))
+  taken_told (Connect link parent child left) tuple tells means = absurd tuple
+  taken_told (Disconnect link parent child left) tuple tells means = absurd tuple
+
+-- ---- the next state
+
+-- the counts go by the relations' numbers, which stay
+pub since_relisted : {listing other : Listing} {view : OpenView} {meter : Meter} → SameDefinitions listing other → TellsSince listing view meter → TellsSince other view meter
+since_relisted {listing = listing} {other = other} same is = record {
+  all = is.all;
+  each = λ relation number at. is.each relation number (subst (λ (names : List (Option Name)). numbered names number ≡ Some relation) (sym (same_names listing other same)) at);
+  fewer = is.fewer;
+}
+
+module _ {told_change : told.Change} {old new : SessionView} {t : ℕ} {note : Noted} (tuple : IsTupleRecord told_change) (ready : IsReady old) (opened : is_open old.opened t ≡ true) (weighed_so : weighed old t (record_size (records.Change t told_change)) ≡ Ok false) (notes : Notes t note old.opened new.opened)
+    (at : note.position ≡ old.store.log.end) (relation : note.relation ≡ Some (number_told told_change)) (is_delete : note.is_delete ≡ is_delete_told told_change) (definitions : SameDefinitions old.store.catalog.listing new.store.catalog.listing) (heap : new.heap ≡ old.heap) (surviving : new.surviving ≡ old.surviving)
+    (state : State) (change : Change) (by : change.by ≡ t) (shows : Shows old state) (may : MayMake old.store state told_change change) (store : StoreMakesOne new.store state change) where
+  abbrev listing : Listing
+  listing = old.store.catalog.listing
+
+  size_is : change_size change ≡ record_size (records.Change change.by told_change)
+  size_is = sym (change_told_size listing change.by told_change change may.told.tells may.told.means)
+
+  on : goes_on state change ≡ true
+  on =
+      goes_on_right old state change (record_size (records.Change change.by told_change)) ready shows size_is
+      ∙ weighed_on old change.by (record_size (records.Change change.by told_change)) (subst (λ (u : ℕ). weighed old u (record_size (records.Change u told_change)) ≡ Ok false) (sym by) weighed_so)
+
+  let_through : refusal_by (ruling state change) ≡ None
+  let_through = rw on refl
+
+  ruled_is : ruled change store.over state ≡ noted change store.over state
+  ruled_is = λ i. record state { changes = change ∷ state.changes; meter = counted change store.over (ap (behind state) on i) }
+
+  abbrev l : Listed
+  l = record { at = state.meter.end; change = change }
+
+  notes_by : Notes change.by note old.opened new.opened
+  notes_by = subst (λ (u : ℕ). Notes u note old.opened new.opened) (sym by) notes
+
+  is_note : IsNoteOf listing note l
+  is_note = record {
+    position = at ∙ shows.store.logged.end_is ∙ sym shows.store.tied.ties.meter.end;
+    relation = subst (IsNumbered listing change.item) (sym relation) (numbered_told listing change.by change told_change tuple may.told.tells may.told.means);
+    is_delete = is_delete ∙ taken_told listing change.by change told_change tuple may.told.tells may.told.means;
+  }
+
+  few : state.meter.since < 2 ^ 64 - 1
+  few = let room = ready.room in let most = ready.store.formed.slots_most in omega (arith, shows.counted.since.all, room, most, ready.store.size)
+
+  pub shows_noted : Shows new (noted change store.over state)
+  shows_noted = record {
+    store = store.shows;
+    listed = l ∷ shows.listed;
+    list = record {
+      changes_are = ap (λ (cs : List Change). change ∷ cs) shows.list.changes_are;
+      stamps_are = ap (λ (ss : List Stamp). record { by = change.by; at = state.meter.end } ∷ ss) shows.list.stamps_are;
+    };
+    told = recounted_tells listing new.store.catalog.listing new.opened state.marks (l ∷ shows.listed)
+        (change_tells listing old.opened new.opened state.marks shows.listed note l shows.told (ap (is_open old.opened) by ∙ opened) is_note notes_by) definitions;
+    counted = record {
+      since = since_relisted definitions (since_told listing old.opened new.opened state.meter note l store.over shows.counted.since shows.store.spells.listed.relations_once is_note notes_by few);
+      heap = shows.counted.heap ∙ sym heap;
+      surviving = shows.counted.surviving ∙ sym surviving;
+      rooms = subst HasBothRooms ruled_is (changes_keep_rooms state change store.over state.locks shows.counted.rooms.metered let_through store.allowed);
+    };
+    rested = λ none. absurd (omega (arith, none));
+  }
+
+  pub makes_noted : MakesOne new state change
+  makes_noted = record {
+    over = store.over;
+    allowed = store.allowed;
+    shows = subst (Shows new) (sym ruled_is) shows_noted;
+  }

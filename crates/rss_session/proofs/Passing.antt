@@ -1,0 +1,92 @@
+-- What a call of the store passes on to the session.
+use Rattle.std.proofs.Common.{◌≡◌, ℕ, ◌≤◌, true, refl, sym, ◌∙◌, ap, arith}
+use Rattle.std.specs.Prelude.{Result, Ok, Err, IsErrOf, IsErrAnd, OnOk}
+use Rattle.std.proofs.lemmas.Result.{err_from_is_err_and}
+use Rattle.rss_base.specs.DiskRule.{IsTold, Passes}
+use Rattle.rss_base.specs.Faults.{Rises}
+use Rattle.rss_base.specs.Paged.{Backing}
+use Rattle.rss_base.specs.Steps.{PagesView, PassesOn}
+use Rattle.rss_base.specs.declared.fault.PageFault.{PageFault}
+use Rattle.rss_base.specs.declared.fault.PageFault.TheVariants.{Device as DeviceFailed, NoMemory}
+use Rattle.rss_base.specs.declared.root.Root.{Root}
+use Rattle.rss_base.proofs.Moments.{widened, continues, continues_then, rises_since}
+use Rattle.rss_model.specs.Machine.{State}
+use Rattle.rss_store.specs.Stores.{StoreView}
+use Rattle.rss_store.specs.Stores.{IsReady as IsStoreReady}
+use Rattle.rss_store.specs.Shown.{Shows as StoreShows, HoldsTables}
+use Rattle.rss_store.specs.Changing.{AltersPages}
+use Rattle.rss_store.specs.Stores.{IsSaved}
+use Rattle.rss_trans.specs.Transactions.{Checkpoints}
+use Rattle.rss_session.specs.Sessions.{SessionView, IsReady}
+use Rattle.rss_session.specs.Calls.{GoesOn, CountsAnew}
+use Rattle.rss_session.proofs.Looked.{with_pages}
+
+-- a step of pages leaves what is fixed, and so the committed tables
+pub keeps_altered : {T : Type 0} {result : Result T PageFault} {old new : StoreView} → IsStoreReady old → AltersPages old new result → IsTold old.pages.disk → (state : State) → StoreShows old state → Passes old.pages.disk new.pages.disk (HoldsTables state.size state.base)
+keeps_altered ready alters told state shows =
+    widened (alters.step.passes.leaves.moments ready.settled_now told) (λ image has. record {
+      stored = shows.stored;
+      store = shows.disk.fixes image has;
+      same_size = shows.tied.size;
+      holds = sym shows.tied.tables;
+    })
+
+-- by another result, which fails only where the first did
+pub goes_altered : {T U : Type 0} {result : Result T PageFault} {old new : SessionView} (other : Result U PageFault) → IsStoreReady old.store → (IsErrOf other DeviceFailed → IsErrOf result DeviceFailed) → (IsErrOf other NoMemory → IsErrOf result NoMemory) → AltersPages old.store new.store result → GoesOn old new other
+goes_altered other ready device memory alters = record {
+  told = alters.step.passes.leaves.told.0;
+  history = λ told. continues (alters.step.passes.leaves.moments ready.settled_now told);
+  later = alters.step.passes.later;
+  failed = λ is. alters.failed (device is);
+  memory = λ is. alters.memory (memory is);
+  slots = ap (λ (r : Root). r.slots) alters.root;
+  log_pages = ap (λ (r : Root). r.log_pages) alters.root;
+  frames = ap (λ (b : Backing). b.frames) alters.step.passes.backing;
+}
+
+-- a fault that is passed on is the one that came
+pub fault_same : {T U : Type 0} {result : Result U PageFault} {fault other : PageFault} {first : Result T PageFault} → first ≡ Err fault → IsErrAnd result (λ why. why ≡ fault) → IsErrOf result other → IsErrOf first other
+fault_same {U = U} {result = result} {fault = fault} {other = other} was is of =
+    let why = err_from_is_err_and result is in
+    let same : ◌≡◌ {A = Result U PageFault} (Err fault) (Err other) = sym (why.1 ∙ ap Err why.2) ∙ of in
+    let one : fault ≡ other = cc (same) in
+    was ∙ ap Err one
+
+-- one call behind another
+pub goes_then : {T U : Type 0} {first : Result T PageFault} {second : Result U PageFault} {old mid new : SessionView} → GoesOn old mid first → GoesOn mid new second → GoesOn old new second
+goes_then one two = record {
+  told = λ told. two.told (one.told told);
+  history = λ told. continues_then (one.history told) (two.history (one.told told));
+  later = omega (arith, one.later, two.later);
+  failed = λ is. rises_since one.later (two.failed is);
+  memory = two.memory;
+  slots = two.slots ∙ one.slots;
+  log_pages = two.log_pages ∙ one.log_pages;
+  frames = two.frames ∙ one.frames;
+}
+
+-- ---- behind a checkpoint
+
+pub record IsBehind (old new : SessionView) : Type 0 where
+  pub ready : IsReady new
+  pub saved : IsSaved new.store
+  pub checkpoints : Checkpoints old.opened new.opened
+  pub anew : CountsAnew old new
+
+pub on_ok_behind : {T : Type 0} (old new : SessionView) (result : Result T PageFault) → OnOk result (IsReady new) → OnOk result (IsSaved new.store) → OnOk result (Checkpoints old.opened new.opened) → OnOk result (CountsAnew old new) → OnOk result (IsBehind old new)
+on_ok_behind old new (Ok value) ready saved checkpoints anew = record { ready = ready; saved = saved; checkpoints = checkpoints; anew = anew }
+on_ok_behind old new (Err fault) ready saved checkpoints anew = tt
+
+-- ---- a call on pages alone
+
+pub goes_called : {T : Type 0} {result : Result T PageFault} {old : SessionView} {pages : PagesView} {asks writes : ℕ} → PassesOn asks writes old.store.pages pages → old.store.pages.settled ≡ true → (IsErrOf result DeviceFailed → Rises old.store.pages.faults pages.faults) → (IsErrOf result NoMemory → ⊥) → GoesOn old (with_pages pages old) result
+goes_called passes settled failed memory = record {
+  told = passes.leaves.told.0;
+  history = λ told. continues (passes.leaves.moments settled told);
+  later = passes.later;
+  failed = failed;
+  memory = memory;
+  slots = refl;
+  log_pages = refl;
+  frames = ap (λ (b : Backing). b.frames) passes.backing;
+}

@@ -1,0 +1,179 @@
+-- What is defined is committed, where nothing is open.
+use Rattle.std.proofs.Common.{◌≡◌, inl, inr, ⊎_elim, ℕ, ◌+◌, ◌*◌, ◌≤◌, Bool, true, List, [], ◌∷◌, ◌++◌, length, map, refl, sym, ◌∙◌, ap, subst, arith}
+use Rattle.std.specs.Prelude.{is_some, nat_lt, sum_by, count_by}
+use Rattle.std.specs.Ordering.{nat_cmp}
+use Rattle.std.specs.FinMap as finite
+use Rattle.std.specs.FinMap.{FinMap}
+use Rattle.std.proofs.lemmas.List.{append-nil}
+use Rattle.rss_base.specs.LogRecords.{ArePlaced, record_size}
+use Rattle.rss_base.specs.Sizes.{largest_checkpoint}
+use Rattle.rss_base.specs.Listings.{Listing}
+use Rattle.rss_base.specs.Paged.{mapped_of}
+use Rattle.rss_base.specs.declared.key.PageKey.{PageKey}
+use Rattle.rss_base.specs.declared.key.Space.TheVariants.{Home, Overflow}
+use Rattle.rss_base.specs.declared.log_record.LogRecord.TheVariants as records
+use Rattle.rss_base.specs.declared.root.Root.{Root}
+use Rattle.rss_catalog.specs.Catalogs.{CatalogView}
+use Rattle.rss_model.specs.Changes.{Change, maker}
+use Rattle.rss_model.specs.Defining.{with_definitions}
+use Rattle.rss_model.specs.EngineLogs.{EngineLog, all_logged, saved_log, TiesState}
+use Rattle.rss_model.specs.Fits.{Fits}
+use Rattle.rss_model.specs.LogLaws.{rested_log}
+use Rattle.rss_model.specs.Machine.{StoreSize, State, IsAtRest, with_changes, now}
+use Rattle.rss_model.specs.Meanings.{as_bytes}
+use Rattle.rss_model.specs.Meter.{Stamp, heap_pages, changes_of, changers, checkpoint_size, least_position, free_between}
+use Rattle.rss_model.specs.Records.{Listed, changes_in}
+use Rattle.rss_model.specs.Steps.{stamp_by, redefined}
+use Rattle.rss_model.specs.Store.{SpellsTables, size_of}
+use Rattle.rss_model.specs.Tables.{Definitions, Tables, tuple_count}
+use Rattle.rss_model.proofs.Listed.{heap_is}
+use Rattle.rss_model.proofs.LogOpening.{restart_ties}
+use Rattle.rss_trans.specs.Transactions.{Transaction, any, change_count, marks_of, Checkpoints}
+use Rattle.rss_trans.specs.Told.{TellsOpen}
+use Rattle.rss_trans.proofs.Told.{none_tells}
+use Rattle.rss_trans.proofs.Summing.{since_saved}
+use Rattle.rss_access.specs.Written.{heap_now}
+use Rattle.rss_store.specs.Stores.{IsSaved}
+use Rattle.rss_store.specs.Shown.{Shows as StoreShows}
+use Rattle.rss_store.specs.Commits.{least_mark, CanCheckpoint}
+use Rattle.rss_session.specs.Sessions.{SessionView, IsReady, sums_in, owed_by}
+use Rattle.rss_session.specs.Shown.{Shows}
+use Rattle.rss_session.specs.Weighing.{named, saved_free, MaySave}
+use Rattle.rss_session.proofs.Fresh.{no_entries, none_counted, none_changing}
+use Rattle.rss_session.specs.Calls.{with_catalog, CountsAnew, IsRedefined}
+
+-- ---- nothing is open
+
+module _ {view : SessionView} (ready : IsReady view) (closed : view.opened.transactions ≡ finite.empty) where
+  pub none_named : named view.opened ≡ []
+  none_named = ap (λ (m : FinMap nat_cmp Transaction). marks_of (finite.entries m)) closed ∙ ap marks_of no_entries
+
+  free_is : saved_free view ≡ free_between view.store.log.pages view.store.log.end (view.store.log.end + 2)
+  free_is = λ i. free_between view.store.log.pages (least_mark view.store.log.end (none_named i)) (view.store.log.end + record_size (records.Checkpoint (none_named i)))
+
+  -- a checkpoint always has room in the log then
+  pub may_redefine : MaySave view
+  may_redefine = omega (arith, none_counted view.opened closed, none_changing view.opened closed, free_is, ready.store.log.pages, ready.store.formed.log_least)
+
+  -- ---- the tables with other definitions
+
+  module _ {before : CatalogView} {state : State} {definitions : Definitions} (is : IsRedefined view before state definitions) where
+    abbrev tables : Tables
+    tables = with_definitions definitions state.base
+
+    abbrev next : State
+    next = redefined definitions state
+
+    abbrev store : StoreShows (with_catalog before view).store state
+    store = is.shows.store
+
+    abbrev log : EngineLog
+    log = store.log
+
+    stamps_none : state.meter.stamps ≡ []
+    stamps_none = nothing state.meter.stamps (map_none state.meter.stamps (is.shows.counted.rooms.metered.makers ∙ ap (map maker) is.none_changed))
+      where
+        map_none : (ss : List Stamp) → map stamp_by ss ≡ [] → length ss ≡ 0
+        map_none [] e = refl
+        map_none (s ∷ ss) e = absurd (cc (e))
+
+        nothing : (ss : List Stamp) → length ss ≡ 0 → ss ≡ []
+        nothing [] e = refl
+        nothing (s ∷ ss) e = absurd (omega (arith, e))
+
+    -- the state at rest with these tables
+    abbrev rested : State
+    rested = record next { changes = []; marks = finite.empty; locks = finite.empty; scans = finite.empty }
+
+    at_rest_now : IsAtRest state.size tables rested
+    at_rest_now = record {
+      idle = record { same_size = refl; committed = refl; none_changed = refl; none_open = refl; none_locked = refl; none_scanned = refl };
+      meter = λ i. record {
+        heap = heap_pages state.size.slots tables + state.meter.over;
+        surviving = length (is.none_changed i);
+        since = 0;
+        traffic = λ relation. record { entries = tuple_count tables.contents relation; surviving = changes_of (is.none_changed i) relation; since = 0 };
+        stamps = stamps_none i;
+        head = least_position state.meter.end state.meter.stamps;
+        end = state.meter.end + checkpoint_size (changers state.meter.stamps);
+        over = state.meter.over;
+      };
+    }
+
+    slots_are : state.size.slots ≡ view.store.root.slots
+    slots_are = ap (λ (size : StoreSize). size.slots) store.tied.size ∙ ap (λ (r : Root). r.slots) store.disk.root_is
+
+    fits : Fits state.size.slots tables
+    fits = subst (λ (n : ℕ). Fits n tables) (sym slots_are) is.fit
+
+    head_is : rested.meter.head ≡ log.end
+    head_is = ap (least_position state.meter.end) stamps_none ∙ store.tied.ties.meter.end
+
+    end_is : rested.meter.end ≡ log.end + 2
+    end_is = omega (arith, ap changers stamps_none, store.tied.ties.meter.end)
+
+    ties : TiesState view.store.catalog.listing tables (saved_log log log.end [] []) rested
+    ties = restart_ties view.store.catalog.listing tables rested log.end at_rest_now fits head_is end_is
+
+    ties_next : TiesState view.store.catalog.listing (now next) (saved_log log log.end [] []) next
+    ties_next = subst (λ (cs : List Change). TiesState view.store.catalog.listing (with_changes tables cs) (saved_log log log.end [] []) (record next { changes = cs })) (sym is.none_changed) (record {
+      ties = ties.ties;
+      definitions = ties.definitions;
+      fits = ties.fits;
+      placed = ties.placed;
+      own = ties.own;
+      meter = ties.meter;
+    })
+
+    now_is : tables ≡ now next
+    now_is = sym (ap (with_changes tables) is.none_changed)
+
+    module _ (held_are : (key : PageKey) → is_some (view.store.pages.held key) ≡ view.store.pages.mapped key) where
+      heap_are : next.meter.heap ≡ heap_now view.store.pages
+      heap_are = omega (
+        arith,
+        heap_is is.spells fits view.store.pages.mapped held_are,
+        ap (λ (n : ℕ). mapped_of view.store.pages.mapped Home n) (slots_are ∙ sym ready.store.size),
+        store.over_is,
+      )
+
+      can_none : CanCheckpoint view.store [] store.stored next
+      can_none = record {
+        log = log;
+        disk = record { number_is = store.disk.number_is; root_is = store.disk.root_is; owners_are = store.disk.owners_are; fixes = store.disk.fixes };
+        logged = record { head_is = store.logged.head_is; end_is = store.logged.end_is; records = store.logged.records; until = store.logged.until };
+        on_disk = λ i. (store.tied.older i) ++ (store.tied.newer i);
+        dropped = all_logged log;
+        kept = [];
+        split = sym (append-nil (all_logged log));
+        gone = store.tied.ties.placed;
+        stay = refl;
+        spellable = record { bounded = omega arith; fits = tt };
+        size = store.tied.size ∙ ap size_of store.disk.root_is;
+        ties = ties_next;
+        spells = subst (SpellsTables view.store.pages.held view.store.catalog.listing) now_is is.spells;
+        written = is.written;
+        fit = subst (Fits view.store.root.slots) now_is is.fit;
+        metered = is.rooms.metered;
+        heap = heap_are;
+        over = store.over_is;
+      }
+
+      pub can_redefine : CanCheckpoint view.store (named view.opened) store.stored next
+      can_redefine = subst (λ (marks : List (ℕ × ℕ)). CanCheckpoint view.store marks store.stored next) (sym none_named) can_none
+
+      module _ {new : SessionView} (shown : StoreShows new.store next) (saved : IsSaved new.store) (checkpoints : Checkpoints view.opened new.opened) (anew : CountsAnew view new) (slots : new.store.pages.slots ≡ new.store.root.slots) where
+        pub shows_redefined : Shows new next
+        shows_redefined = record {
+          store = shown;
+          listed = [];
+          list = record { changes_are = sym is.none_changed; stamps_are = sym stamps_none };
+          told = subst (λ marks. TellsOpen new.store.catalog.listing new.opened marks []) (sym is.none_open) (none_tells new.store.catalog.listing new.opened (checkpoints.transactions ∙ closed));
+          counted = record {
+            since = since_saved new.store.catalog.listing view.opened new.opened state.size.slots tables state.changes state.meter checkpoints;
+            heap = heap_are ∙ sym anew.heap;
+            surviving = ap (λ (cs : List Change). length cs) is.none_changed ∙ sym (anew.surviving ∙ none_counted view.opened closed);
+            rooms = is.rooms;
+          };
+          rested = λ none all. shown.over_is ∙ (λ i. mapped_of (saved.pages i) Overflow (slots i));
+        }

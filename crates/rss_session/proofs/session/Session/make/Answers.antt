@@ -1,0 +1,48 @@
+use Rattle.std.proofs.Common.{◌≡◌, ◌∙◌, ◌≤◌, ℕ, Bool, true, false, sym, ap, subst, arith}
+use Rattle.std.specs.Prelude.{Result, Ok}
+use Rattle.std.proofs.lemmas.Result.{on_ok_weaker}
+use Rattle.rss_base.specs.LogRecords.{record_size}
+use Rattle.rss_base.specs.declared.log_record.LogRecord.TheVariants as records
+use Rattle.rss_base.proofs.Moments.{then}
+use Rattle.rss_model.specs.Rules.{saved_now}
+use Rattle.rss_model.proofs.OpenKeeping.{keeps_meter}
+use Rattle.rss_session.specs.Parts.{view}
+use Rattle.rss_session.specs.Weighing.{weighed}
+use Rattle.rss_session.proofs.Made.{weighed_again, may_then, makes_then}
+use Rattle.rss_session.proofs.session.Session.make.Goals as goal
+
+pub change-requires-2-clause-place : goal.change-requires-2-clause-place
+change-requires-2-clause-place g c = omega (arith, c.requires.place, ap (λ (room : ℕ → ℕ). room c.args.transaction) c.in_ok-checkpoint.ensures.anew.places)
+
+pub change-requires-2-clause-weighed : goal.change-requires-2-clause-weighed
+change-requires-2-clause-weighed g c =
+    let saves : c.args.saves_first ≡ true = c.if-not-saves_first.false in
+    weighed_again c.in_ok-checkpoint.ensures.anew c.in_ok-checkpoint.ensures.goes.slots c.args.transaction _ (c.requires.weighed ∙ ap (λ (b : Bool). Ok b) saves)
+
+pub returns-clause-makes : goal.returns-clause-makes
+returns-clause-makes g c =
+    let saves : c.args.saves_first ≡ true = c.if-not-saves_first.false in
+    let checkpoint = c.in_ok-checkpoint.ensures in
+    let weighed_so = c.requires.weighed ∙ ap (λ (b : Bool). Ok b) saves in
+    let goes = weighed_again checkpoint.anew checkpoint.goes.slots c.args.transaction _ weighed_so in
+    on_ok_weaker c.change-2.result (λ makes told state change by kept shows may.
+    let mid = checkpoint.shows told state kept shows in
+    let may_mid = may_then checkpoint.anew c.requires.ready checkpoint.ready weighed_so goes state change by shows may mid in
+    makes_then checkpoint.anew c.requires.ready checkpoint.ready weighed_so goes state change by shows may mid
+    (makes (checkpoint.goes.told told) (record state { meter = saved_now state }) change by (keeps_meter kept (saved_now state)) mid may_mid)) c.change-2.ensures.makes
+
+pub returns-clause-sound : goal.returns-clause-sound
+returns-clause-sound g c = λ place is told state change by kept shows may.
+    let saves : c.args.saves_first ≡ true = c.if-not-saves_first.false in
+    let checkpoint = c.in_ok-checkpoint.ensures in
+    let weighed_so = c.requires.weighed ∙ ap (λ (b : Bool). Ok b) saves in
+    let goes = weighed_again checkpoint.anew checkpoint.goes.slots c.args.transaction _ weighed_so in
+    let mid = checkpoint.shows told state kept shows in
+    c.change-2.ensures.sound place is (checkpoint.goes.told told) (record state { meter = saved_now state }) change by (keeps_meter kept (saved_now state)) mid
+    (may_then checkpoint.anew c.requires.ready checkpoint.ready weighed_so goes state change by shows may mid)
+
+pub returns-clause-moments : goal.returns-clause-moments
+returns-clause-moments g c = λ told state kept shows.
+    let checkpoint = c.in_ok-checkpoint.ensures in
+    then (checkpoint.moments told state kept shows)
+    (c.change-2.ensures.moments (checkpoint.goes.told told) (record state { meter = saved_now state }) (keeps_meter kept (saved_now state)) (checkpoint.shows told state kept shows)) (λ image holds. holds)

@@ -1,0 +1,10 @@
+use Rattle.rss_session.specs.Parts.{view}
+use Rattle.rss_trans.specs.Tables.{told}
+use Rattle.rss_session.proofs.Shown.{shows_still, weighed_still}
+use Rattle.rss_session.proofs.session.Session.reserve.Goals as goal
+
+pub returns-clause-shows : goal.returns-clause-shows
+returns-clause-shows g c = shows_still {view = view g.S.Pages.view c.args.self.now} (told c.reserve.new.self) c.reserve.ensures.same
+
+pub returns-clause-weighs : goal.returns-clause-weighs
+returns-clause-weighs g c = weighed_still (view g.S.Pages.view c.args.self.now) (told c.reserve.new.self) c.reserve.ensures.same c.args.transaction

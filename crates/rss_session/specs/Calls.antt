@@ -1,0 +1,179 @@
+-- What the calls of a session leave.
+use Rattle.std.specs.Prelude.{◌≡◌, ◌⊎◌, ℕ, ◌+◌, ◌≤◌, List, [], length, take, slice_get, Option, Some, option_map, IfSome, IfNone, Result, IsErrOf}
+use Rattle.std.specs.FinMap as map
+use Rattle.rss_base.specs.DiskRule.{IsTold, Passes, Continues}
+use Rattle.rss_base.specs.Faults.{Rises}
+use Rattle.rss_base.specs.declared.change.Change as told
+use Rattle.rss_base.specs.declared.fault.PageFault.{PageFault}
+use Rattle.rss_base.specs.declared.fault.PageFault.TheVariants.{Device as DeviceFailed, NoMemory}
+use Rattle.rss_model.specs.Changes.{Change, own}
+use Rattle.rss_catalog.specs.Catalogs.{CatalogView}
+use Rattle.rss_model.specs.Tables.{Definitions}
+use Rattle.rss_model.specs.Fits.{Fits}
+use Rattle.rss_model.specs.Defining.{with_definitions}
+use Rattle.rss_model.specs.Machine.{State, now}
+use Rattle.rss_model.specs.Ruled.{HasBothRooms, ruled}
+use Rattle.rss_model.specs.Kept.{Kept, FitMixed}
+use Rattle.rss_model.specs.Steps.{IsOver, MayUndo, undone_to, left_at, restored, gone, committing, redefined}
+use Rattle.rss_model.specs.Store.{SpellsTables}
+use Rattle.rss_trans.specs.Transactions.{OpenView, Transaction, transaction_in, without_newest, count_at, Steps}
+use Rattle.rss_store.specs.Changing.{MayMake, IsOwnAt}
+use Rattle.rss_store.specs.Shown.{HoldsTables}
+use Rattle.rss_access.specs.Written.{heap_now, AreWritten}
+use Rattle.rss_session.specs.Sessions.{SessionView, sums_in}
+use Rattle.rss_session.specs.Weighing.{saved_head, saved_end}
+use Rattle.rss_session.specs.Shown.{Shows, ShowsBack}
+
+-- ---- what each call passes on
+
+-- By the result: the device tells its contents and its history as before, each failure of it has its cause, and memory never runs out. The store has its size.
+pub record GoesOn {T : Type 0} (old new : SessionView) (result : Result T PageFault) : Type 0 where
+  pub told : IsTold old.store.pages.disk → IsTold new.store.pages.disk
+  pub history : IsTold old.store.pages.disk → Continues old.store.pages.disk new.store.pages.disk
+  pub later : old.store.pages.faults ≤ new.store.pages.faults
+  pub failed : IsErrOf result DeviceFailed → Rises old.store.pages.faults new.store.pages.faults
+  pub memory : IsErrOf result NoMemory → ⊥
+  pub slots : new.store.root.slots ≡ old.store.root.slots
+  pub log_pages : new.store.root.log_pages ≡ old.store.root.log_pages
+  pub frames : new.store.pages.backing.frames ≡ old.store.pages.backing.frames
+
+-- the log has so many bytes more at most
+abbrev pub Appends : ℕ → SessionView → SessionView → Type 0
+Appends most old new = new.store.log.end ≤ old.store.log.end + most
+
+-- at each moment a stop leaves the committed tables
+abbrev pub KeepsTables : SessionView → SessionView → Type 0
+KeepsTables old new =
+    IsTold old.store.pages.disk → (state : State) → Kept state → Shows old state
+    → Passes old.store.pages.disk new.store.pages.disk (HoldsTables state.size state.base)
+
+-- ---- checkpoints
+
+-- What is counted is counted from this checkpoint on. The same transactions are open, with the same changes.
+pub record CountsAnew (old new : SessionView) : Type 0 where
+  pub transactions : new.opened.transactions ≡ old.opened.transactions
+  pub places : new.opened.room ≡ old.opened.room
+  pub since : new.opened.since ≡ 0
+  pub heap : new.heap ≡ heap_now old.store.pages
+  pub surviving : new.surviving ≡ (sums_in old.opened).p
+  pub pages : new.store.log.pages ≡ old.store.log.pages
+  pub head : new.store.log.head ≡ saved_head old
+  pub end : new.store.log.end ≡ saved_end old
+  pub listing : new.store.catalog.listing ≡ old.store.catalog.listing
+
+-- ---- definitions
+
+-- the session with another catalog
+abbrev pub with_catalog : CatalogView → SessionView → SessionView
+with_catalog catalog view = record view { store = record view.store { catalog = catalog } }
+
+-- Nothing is open, and the catalog lists other definitions than before. By its listing the pages spell the committed tables with them, which fit, once its own pages are written; and there is room.
+pub record IsRedefined (view : SessionView) (before : CatalogView) (state : State) (definitions : Definitions) : Type 0 where
+  pub shows : Shows (with_catalog before view) state
+  pub none_open : state.marks ≡ map.empty
+  pub none_changed : state.changes ≡ []
+  pub spells : SpellsTables view.store.pages.held view.store.catalog.listing (with_definitions definitions state.base)
+  pub written : AreWritten view.store.pages.held view.store.catalog
+  pub fit : Fits view.store.root.slots (with_definitions definitions state.base)
+  pub rooms : HasBothRooms (redefined definitions state)
+
+-- at each moment a stop leaves the committed tables with the definitions of before, or with these
+abbrev pub RedefinesTables : SessionView → SessionView → Type 0
+RedefinesTables old new =
+    IsTold old.store.pages.disk → (before : CatalogView) (state : State) (definitions : Definitions)
+    → IsRedefined old before state definitions
+    → Passes old.store.pages.disk new.store.pages.disk (λ image.
+    HoldsTables state.size state.base image
+    ⊎ HoldsTables state.size (with_definitions definitions state.base) image)
+
+-- ---- changes
+
+-- the change is made from this state, behind a checkpoint or as it is, with as many overflow pages as the machine allows
+pub record MakesOne (new : SessionView) (state : State) (change : Change) : Type 0 where
+  pub over : ℕ
+  pub allowed : IsOver state change over
+  pub shows : Shows new (ruled change over state)
+
+abbrev pub Makes : SessionView → SessionView → ℕ → told.Change → Type 0
+Makes old new t told_change =
+    (state : State) (change : Change) → change.by ≡ t → Kept state
+    → Shows old state → MayMake old.store state told_change change → MakesOne new state change
+
+-- in no state in which the change may be made is anything found damaged
+abbrev pub MayNotMake : SessionView → ℕ → told.Change → Type 0
+MayNotMake view t told_change =
+    (state : State) (change : Change) → change.by ≡ t → Kept state
+    → Shows view state → MayMake view.store state told_change change → ⊥
+
+-- nor in any state at all
+abbrev pub ShowsNone : SessionView → Type 0
+ShowsNone view = (state : State) → Kept state → Shows view state → ⊥
+
+-- ---- ways back
+
+-- the transaction has these save points
+abbrev pub HasMarks : State → ℕ → List ℕ → Type 0
+HasMarks state t marks = map.get state.marks t ≡ Some marks
+
+-- of its changes the oldest so many stay
+abbrev pub taken_to : ℕ → Transaction → Transaction
+taken_to left transaction = record transaction { changes = take left transaction.changes }
+
+-- Its changes since a save point are undone, and this is the position of the oldest of them, where there is one. Nothing is logged.
+pub record TakesBack (t save : ℕ) (old new : SessionView) (first : Option ℕ) : Type 0 where
+  pub opened : Steps t (taken_to (count_at (transaction_in old.opened t) save)) old.opened new.opened
+  pub oldest : first ≡ option_map (λ note. note.position)
+      (slice_get (transaction_in old.opened t).changes (count_at (transaction_in old.opened t) save))
+  pub heap : new.heap ≡ old.heap
+  pub surviving : new.surviving ≡ old.surviving
+  pub log : new.store.log ≡ old.store.log
+  pub root : new.store.root ≡ old.store.root
+  pub number : new.store.number ≡ old.store.number
+  pub backing : new.store.pages.backing ≡ old.store.pages.backing
+
+-- the newest of its changes has this position, and so many older ones
+pub record HasNewest (opened : OpenView) (t position : ℕ) : Type 0 where
+  pub older : ℕ
+  pub count : length (transaction_in opened t).changes ≡ older + 1
+  pub place : option_map (λ note. note.position) (slice_get (transaction_in opened t).changes older)
+      ≡ Some position
+
+-- it is taken away
+pub record TakesNewest (t : ℕ) (old new : SessionView) : Type 0 where
+  pub opened : Steps t without_newest old.opened new.opened
+  pub heap : new.heap ≡ old.heap
+  pub surviving : new.surviving ≡ old.surviving
+
+-- and one change less of it is in the tables
+abbrev pub TakesBackOne : SessionView → SessionView → ℕ → ℕ → Type 0
+TakesBackOne old new t position =
+    (state : State) (n : ℕ) → length (transaction_in old.opened t).changes ≡ n + 1
+    → IsOwnAt state t n position → ShowsBack old state t (n + 1) → ShowsBack new state t n
+
+-- only so many of its changes are still in the tables, where it had more
+pub record GoesBack (new : SessionView) (state : State) (t left : ℕ) (first : Option ℕ) : Type 0 where
+  pub shows : ShowsBack new state t left
+  pub some : IfSome first (IsOwnAt state t left)
+  pub none : IfNone first (length (own t state.changes) ≤ left)
+
+-- it is at a save point, with as many overflow pages as the machine allows
+pub record Restores (new : SessionView) (state : State) (t save : ℕ) (marks : List ℕ) : Type 0 where
+  pub over : ℕ
+  pub way : MayUndo (now state) (undone_to state t (left_at marks save)) state.meter.over over
+  pub shows : FitMixed (restored t save marks over state) → Shows new (restored t save marks over state)
+
+-- or gone
+pub record Aborts (new : SessionView) (state : State) (t : ℕ) : Type 0 where
+  pub over : ℕ
+  pub way : MayUndo (now state) (own t state.changes) state.meter.over over
+  pub shows : FitMixed (gone t over state) → Shows new (gone t over state)
+
+-- ---- an end
+
+-- at each moment a stop leaves the committed tables of before, or those with the transaction's changes
+abbrev pub CommitsTables : SessionView → SessionView → ℕ → Type 0
+CommitsTables old new t =
+    IsTold old.store.pages.disk → (state : State) → Kept state → FitMixed (committing t state)
+    → Shows old state
+    → Passes old.store.pages.disk new.store.pages.disk (λ image.
+    HoldsTables state.size state.base image ⊎ HoldsTables state.size (committing t state).base image)

@@ -1,0 +1,12 @@
+-- What the open transactions note of a change, as a record of the log tells it.
+use Rattle.std.specs.Prelude.{Bool, true, false}
+use Rattle.rss_base.specs.declared.change.Change.{Change}
+use Rattle.rss_base.specs.declared.change.Change.TheVariants.{Insert, Delete, Update, Connect, Disconnect}
+
+-- a tuple is taken away
+abbrev pub is_delete_told : Change → Bool
+is_delete_told (Insert relation tid values) = false
+is_delete_told (Delete relation tid values) = true
+is_delete_told (Update relation tid old new) = false
+is_delete_told (Connect link parent child left) = false
+is_delete_told (Disconnect link parent child left) = false

@@ -1,0 +1,125 @@
+// Changes of tuples.
+ghost use Rattle.std.specs.Prelude.{◌≡◌, ◌+◌, ◌≤◌, ℕ, true, false, Some, Ok, Err, OnOk, OnErr};
+ghost use Rattle.rss_base.specs.DiskRule.{IsTold};
+ghost use Rattle.rss_base.specs.LogRecords.{record_size, longest_record, IsChangeBounded};
+ghost use Rattle.rss_base.specs.Sizes.{largest_checkpoint};
+ghost use Rattle.rss_base.specs.declared.log_record.LogRecord.TheVariants as records;
+ghost use Rattle.rss_base.specs.declared.fault.PageFault.TheVariants.{Damaged};
+ghost use Rattle.rss_base.specs.declared.place.Place.{Place as AnyPlace};
+ghost use Rattle.rss_trans.specs.Transactions.{is_open};
+ghost use Rattle.rss_access.specs.Changes.{IsTupleRecord, number_told};
+ghost use Rattle.rss_session.specs.Changes.{is_delete_told};
+ghost use Rattle.rss_session.specs.Sessions.{IsReady, IsEarly};
+ghost use Rattle.rss_session.specs.Weighing.{weighed};
+ghost use Rattle.rss_session.specs.Calls.{GoesOn, Appends, KeepsTables, Makes, MayNotMake};
+ghost use Rattle.rss_session.specs.Shown.{Shows};
+ghost use Rattle.rss_model.specs.Machine.{State};
+
+use crate::Session;
+use rss_base::{Change, PageFault};
+use rss_buffer::Saving;
+use std::alloc::AllocError;
+
+impl<S: Saving> Session<S> {
+    ghost use Rattle.rss_session.specs.Parts.{view};
+
+    /// Takes the memory that one change more of a transaction will need.
+    pub fn reserve(&mut self, transaction: u32) -> Result<(), AllocError>
+        requires ready { IsReady (view S.view self.old) }
+        requires open { is_open (view S.view self.old).opened transaction ≡ true }
+        ensures ready { IsReady (view S.view self.new) }
+        ensures place { OnOk result (1 ≤ (view S.view self.new).opened.room transaction) }
+        ensures open { is_open (view S.view self.new).opened transaction ≡ true }
+        ensures shows { (state : State) → Shows (view S.view self.old) state
+            → Shows (view S.view self.new) state }
+        ensures weighs { (size : ℕ) → weighed (view S.view self.new) transaction size
+            ≡ weighed (view S.view self.old) transaction size }
+        ensures store { self.new.store ≡ self.old.store }
+    {
+        self.open.reserve(transaction)
+    }
+
+    /// Makes a change of a tuple, behind a checkpoint where the rules ask for one, as `weigh` says. It
+    /// takes no memory but what `reserve` took.
+    ///
+    /// Where the tuple isn't as the change tells it, which no device shows that tells its contents, the
+    /// fault is `Damaged`.
+    pub fn make(
+        &mut self,
+        transaction: u32,
+        change: Change,
+        saves_first: bool,
+    ) -> Result<(), PageFault>
+        requires ready { IsReady (view S.view self.old) }
+        requires open { is_open (view S.view self.old).opened transaction ≡ true }
+        requires place { 1 ≤ (view S.view self.old).opened.room transaction }
+        requires tuple { IsTupleRecord change }
+        requires bounded { IsChangeBounded change }
+        requires weighed { weighed (view S.view self.old) transaction
+            (record_size (records.Change transaction change)) ≡ Ok saves_first }
+        requires early { IsEarly (view S.view self.old) (longest_record + largest_checkpoint) }
+        ensures ready { OnOk result (IsReady (view S.view self.new)) }
+        ensures makes { OnOk result (IsTold (view S.view self.old).store.pages.disk
+            → Makes (view S.view self.old) (view S.view self.new) transaction change) }
+        ensures sound { (place : AnyPlace) → result ≡ Err (Damaged place)
+            → IsTold (view S.view self.old).store.pages.disk
+            → MayNotMake (view S.view self.old) transaction change }
+        ensures moments { KeepsTables (view S.view self.old) (view S.view self.new) }
+        ensures appends { Appends (longest_record + largest_checkpoint)
+            (view S.view self.old) (view S.view self.new) }
+        ensures goes { GoesOn (view S.view self.old) (view S.view self.new) result }
+    {
+        if !saves_first {
+            return self.change(transaction, change);
+        }
+        self.checkpoint()?;
+        self.change(transaction, change)
+    }
+
+    /// Makes a change that goes on as it is.
+    fn change(&mut self, transaction: u32, change: Change) -> Result<(), PageFault>
+        requires ready { IsReady (view S.view self.old) }
+        requires open { is_open (view S.view self.old).opened transaction ≡ true }
+        requires place { 1 ≤ (view S.view self.old).opened.room transaction }
+        requires tuple { IsTupleRecord change }
+        requires bounded { IsChangeBounded change }
+        requires weighed { weighed (view S.view self.old) transaction
+            (record_size (records.Change transaction change)) ≡ Ok false }
+        requires early { IsEarly (view S.view self.old) longest_record }
+        ensures ready { OnOk result (IsReady (view S.view self.new)) }
+        ensures makes { OnOk result (IsTold (view S.view self.old).store.pages.disk
+            → Makes (view S.view self.old) (view S.view self.new) transaction change) }
+        ensures sound { (place : AnyPlace) → result ≡ Err (Damaged place)
+            → IsTold (view S.view self.old).store.pages.disk
+            → MayNotMake (view S.view self.old) transaction change }
+        ensures moments { KeepsTables (view S.view self.old) (view S.view self.new) }
+        ensures appends { Appends longest_record (view S.view self.old) (view S.view self.new) }
+        ensures goes { GoesOn (view S.view self.old) (view S.view self.new) result }
+    {
+        let relation = relation_of(&change);
+        let is_delete = is_delete(&change);
+        let position = self.store.change(transaction, change)?;
+        self.open.note(transaction, position, relation, is_delete);
+        Ok(())
+    }
+}
+
+/// The number of the relation whose tuple is changed.
+fn relation_of(change: &Change) -> Option<u8>
+    requires { IsTupleRecord change.now }
+    ensures { result ≡ Some (number_told change.now) }
+{
+    match change {
+        Change::Insert { relation, .. }
+        | Change::Delete { relation, .. }
+        | Change::Update { relation, .. } => Some(*relation),
+        Change::Connect { .. } | Change::Disconnect { .. } => None,
+    }
+}
+
+/// Whether a tuple is taken away.
+fn is_delete(change: &Change) -> bool
+    ensures { result ≡ is_delete_told change.now }
+{
+    matches!(change, Change::Delete { .. })
+}

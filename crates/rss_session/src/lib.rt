@@ -1,0 +1,14 @@
+//! A durable store with the transactions that are open in it: changes by the rules on room and on the
+//! log, ways back, ends and checkpoints.
+#![tactic(auto)]
+
+mod changing;
+mod ending;
+mod going_back;
+mod looking;
+mod opening;
+mod saving;
+mod session;
+mod weighing;
+
+pub use session::Session;
