@@ -1,13 +1,10 @@
 -- The end of a way back to the begin: the session is ready again, and the transaction is gone.
-use Rattle.std.proofs.Common.{◌≡◌, ℕ, ◌+◌, ◌-◌, ◌*◌, ◌<◌, ◌≤◌, true, List, [], ◌∷◌, length, refl, sym, ◌∙◌, ap, subst, arith}
-use Rattle.std.specs.Prelude.{Option, Some, None, min}
+use Rattle.std.proofs.Common.{◌≡◌, ℕ, ◌+◌, ◌<◌, ◌≤◌, true, List, length, sym, ◌∙◌, ap, subst, arith}
+use Rattle.std.specs.Prelude.{Option, Some, min}
 use Rattle.std.specs.FinMap as finite
-use Rattle.rss_base.specs.Paged.{mapped_of}
-use Rattle.rss_base.specs.StoredPages.{mapped_by}
-use Rattle.rss_base.specs.declared.key.Space.TheVariants.{Overflow}
-use Rattle.rss_log.specs.Logs.{LogView, free_of}
+use Rattle.rss_log.specs.Logs.{LogView}
 use Rattle.rss_catalog.specs.Catalogs.{CatalogView}
-use Rattle.rss_model.specs.Changes.{Change, maker, own, others, theirs, kept_to}
+use Rattle.rss_model.specs.Changes.{Change, maker, own, others, theirs}
 use Rattle.rss_model.specs.Kept.{Kept}
 use Rattle.rss_model.specs.LogLaws.{all_back}
 use Rattle.rss_model.specs.Locks.{released}
@@ -30,11 +27,11 @@ use Rattle.rss_store.specs.Commits.{HasLogRoom}
 use Rattle.rss_store.specs.Stores.{StoreView, Grows}
 use Rattle.rss_store.specs.Stores.{IsReady as IsStoreReady}
 use Rattle.rss_store.specs.Shown.{Shows as StoreShows}
-use Rattle.rss_session.specs.Sessions.{SessionView, AreRising, IsReady, IsEarly, sums_in, owed_for, owed_by}
-use Rattle.rss_session.specs.Shown.{Counts, Shows, IsRested}
+use Rattle.rss_session.specs.Sessions.{SessionView, IsReady, IsEarly, sums_in}
+use Rattle.rss_session.specs.Shown.{Shows, IsRested}
 use Rattle.rss_session.specs.Calls.{TakesBack, GoesBack, Aborts}
 use Rattle.rss_session.proofs.Fewer.{changers, gone_p, gone_q, gone_opened, gone_placed}
-use Rattle.rss_session.proofs.Steady.{shows_same, size_some, none_there, changes_all, stamps_all}
+use Rattle.rss_session.proofs.Steady.{shows_same, none_more, overflow_still, size_some, none_there, changes_all, stamps_all}
 use Rattle.rss_session.proofs.Ended.{ready_again, free_grown, one_more}
 use Rattle.rss_session.proofs.Restored.{still_open, fewer_p, fewer_q, free_same, undone_some, grown_placed, same_over, same_shown, fewer_rested}
 
@@ -121,7 +118,7 @@ module _ (old mid new : SessionView) (t : ℕ) (first : Option ℕ) (state : Sta
     over = over_then;
     way = undone_own;
     shows = λ fit. next_gone (subst (λ (s : StoreView). StoreShows s (gone t over_then state)) (sym same) (subst (StoreShows mid.store) (sym same_state) (shows_same (finite.remove state.marks t) (released t state.locks) (closed t state.scans) (same_shown old mid t 0 first state shows back few))))
-        (λ zero count. sym over_is ∙ shows.rested zero (ap (λ (cs : List Change). length cs) (sym all_left) ∙ count) ∙ as_before);
+        (λ zero count. sym over_is ∙ shows.rested zero (ap (λ (cs : List Change). length cs) (sym all_left) ∙ count) ∙ overflow_still old.store mid.store new.store root backing same);
   }
     where
       few : length (own t state.changes) ≤ 0
@@ -132,14 +129,6 @@ module _ (old mid new : SessionView) (t : ℕ) (first : Option ℕ) (state : Sta
 
       over_is : state.meter.over ≡ over_then
       over_is = same_over old mid t 0 first state shows back few
-
-      as_before : mapped_of (mapped_by old.store.pages.backing.shadow) Overflow old.store.root.slots ≡ mapped_of (mapped_by new.store.pages.backing.shadow) Overflow new.store.root.slots
-      as_before =
-          (λ i. mapped_of (mapped_by (sym backing i).shadow) Overflow (sym root i).slots)
-          ∙ ap (λ (s : StoreView). mapped_of (mapped_by s.pages.backing.shadow) Overflow s.root.slots) (sym same)
-
-      no_longer : (k : ℕ) → k + 0 ≡ k
-      no_longer k = omega arith
 
       same_state : gone t over_then state ≡ record state { marks = finite.remove state.marks t; locks = released t state.locks; scans = closed t state.scans }
       same_state =
@@ -154,5 +143,5 @@ module _ (old mid new : SessionView) (t : ℕ) (first : Option ℕ) (state : Sta
             marks = finite.remove state.marks t;
             locks = released t state.locks;
             scans = closed t state.scans;
-            meter = record state.meter { end = no_longer state.meter.end i };
+            meter = record state.meter { end = none_more state.meter.end i };
           })

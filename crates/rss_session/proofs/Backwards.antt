@@ -1,5 +1,5 @@
 -- On a way back of a transaction: what holds after each change that was undone, and at the end.
-use Rattle.std.proofs.Common.{◌≡◌, ℕ, zero, suc, ◌+◌, ◌-◌, ◌<◌, ◌≤◌, true, false, List, [], ◌∷◌, length, map, take, refl, sym, ◌∙◌, ap, subst, arith}
+use Rattle.std.proofs.Common.{◌≡◌, ℕ, suc, ◌+◌, ◌-◌, ◌<◌, ◌≤◌, true, List, [], length, take, refl, sym, ◌∙◌, ap, subst, arith}
 use Rattle.std.specs.Prelude.{Option, Some, None, IfSome, IfNone, min, option_map, slice_get, Result, Ok, IsErrOf}
 use Rattle.std.proofs.lemmas.Option.{slice_get-map, slice_get_past}
 use Rattle.rss_base.specs.DiskRule.{IsTold}
@@ -11,7 +11,6 @@ use Rattle.rss_base.specs.declared.root.Root.{Root}
 use Rattle.rss_base.proofs.Calls.{leaves_then, leaves_rests}
 use Rattle.rss_base.proofs.Moments.{widened, continues}
 use Rattle.rss_model.specs.Changes.{Change, maker, own, kept_to, cut_off}
-use Rattle.rss_model.specs.Kept.{Kept}
 use Rattle.rss_model.specs.Machine.{State, now}
 use Rattle.rss_model.specs.Meter.{Stamp}
 use Rattle.rss_model.specs.Records.{Listed}
@@ -20,14 +19,13 @@ use Rattle.rss_model.specs.Steps.MayUndo.{none}
 use Rattle.rss_model.proofs.Stamps.{kept_and_cut}
 use Rattle.rss_trans.specs.declared.noted.Noted.{Noted}
 use Rattle.rss_trans.specs.Transactions.{Transaction, is_open, transaction_in, count_at, newest_after, Steps}
-use Rattle.rss_trans.specs.Told.{listed_by, TellsOpen}
+use Rattle.rss_trans.specs.Told.{TellsOpen}
 use Rattle.rss_trans.proofs.Asked.{changes_told, positions_told, saves_told}
 use Rattle.rss_trans.proofs.Noting.{all_stay}
 use Rattle.rss_store.specs.Changing.{own_positions, IsOwnAt, AltersPages, MayNotTakeBack}
-use Rattle.rss_store.specs.Shown.{ShowsWith, HoldsTables}
-use Rattle.rss_store.specs.Shown.{Shows as StoreShows, ShowsBack as StoreShowsBack}
+use Rattle.rss_store.specs.Shown.{ShowsWith}
 use Rattle.rss_session.specs.Sessions.{SessionView, IsReady}
-use Rattle.rss_session.specs.Shown.{Counts, Shows, ShowsBack}
+use Rattle.rss_session.specs.Shown.{Shows, ShowsBack}
 use Rattle.rss_session.specs.Calls.{GoesOn, KeepsTables, ShowsNone, HasMarks, taken_to, TakesNewest, TakesBackOne, TakesBack, GoesBack}
 use Rattle.rss_session.proofs.Fewer.{IsLastAt, put_here, taken_all, taken_then, newest_at, newest_none, taken_get, length_taken, none_from}
 use Rattle.rss_session.proofs.Steady.{changes_kept, none_there}

@@ -1,31 +1,29 @@
 -- A transaction that ends: the session is ready again, and in the machine's next state.
-use Rattle.std.proofs.Common.{◌≡◌, ℕ, ◌+◌, ◌-◌, ◌*◌, ◌<◌, ◌≤◌, true, List, [], ◌∷◌, length, refl, sym, ◌∙◌, ap, subst, arith}
+use Rattle.std.proofs.Common.{◌≡◌, ℕ, ◌-◌, ◌≤◌, true, List, [], length, refl, sym, ◌∙◌, ap, subst, arith}
 use Rattle.std.specs.Prelude.{nat_lt}
 use Rattle.std.specs.FinMap as finite
 use Rattle.std.proofs.lemmas.Bool.Decides.{nat_tests}
 use Rattle.rss_base.specs.Paged.{mapped_of}
 use Rattle.rss_base.specs.StoredPages.{mapped_by}
 use Rattle.rss_base.specs.declared.key.Space.TheVariants.{Overflow}
-use Rattle.rss_base.specs.declared.root.Root.{Root}
 use Rattle.rss_log.specs.Logs.{LogView, room_end, free_of}
 use Rattle.rss_catalog.specs.Catalogs.{CatalogView}
-use Rattle.rss_model.specs.Tables.{Tables}
 use Rattle.rss_model.specs.Changes.{Change, maker, own, others, theirs}
 use Rattle.rss_model.specs.Kept.{Kept, FitMixed, IsMetered}
 use Rattle.rss_model.specs.Locks.{released}
 use Rattle.rss_model.specs.Machine.{State, with_changes}
-use Rattle.rss_model.specs.Meter.{Stamp, end_size, with_record}
+use Rattle.rss_model.specs.Meter.{end_size, with_record}
 use Rattle.rss_model.specs.LogLaws.{committed_now}
 use Rattle.rss_model.specs.Ruled.{HasBothRooms}
-use Rattle.rss_model.specs.Records.{Listed, others_in}
+use Rattle.rss_model.specs.Records.{others_in}
 use Rattle.rss_model.specs.Scans.{closed}
 use Rattle.rss_model.specs.Spares.{PageCounts, page_counts, IsInSession, change_counts}
-use Rattle.rss_model.specs.Steps.{stamp_by, size_for, gone, committing}
+use Rattle.rss_model.specs.Steps.{stamp_by, size_for, committing}
 use Rattle.rss_model.proofs.BothRooms.{ends_keep_rooms}
 use Rattle.rss_model.proofs.Sparing.{session_forgets}
 use Rattle.rss_model.proofs.Stamps.{theirs_and_mine}
 use Rattle.rss_trans.specs.declared.noted.Noted.{Noted}
-use Rattle.rss_trans.specs.Transactions.{OpenView, is_open, transaction_in, Ends}
+use Rattle.rss_trans.specs.Transactions.{is_open, transaction_in, Ends}
 use Rattle.rss_trans.specs.Told.{TellsOpen, TellsSince}
 use Rattle.rss_trans.proofs.Asked.{changes_told}
 use Rattle.rss_trans.proofs.Noting.{gone_listed}
@@ -37,10 +35,10 @@ use Rattle.rss_store.specs.Stores.{IsReady as IsStoreReady}
 use Rattle.rss_store.specs.Shown.{Shows as StoreShows}
 use Rattle.rss_session.specs.Sessions.{SessionView, AreRising, IsReady, IsEarly, sums_in, owed_for, owed_by}
 use Rattle.rss_session.specs.Sessions as sessions
-use Rattle.rss_session.specs.Shown.{Counts, Shows, IsRested}
+use Rattle.rss_session.specs.Shown.{Shows, IsRested}
 use Rattle.rss_session.proofs.Fewer.{changers, gone_p, gone_q, gone_opened, gone_placed}
 use Rattle.rss_session.proofs.Marked.{rising_higher}
-use Rattle.rss_session.proofs.Steady.{shows_same, size_some, none_there, changes_all, stamps_all, not_rested}
+use Rattle.rss_session.proofs.Steady.{shows_same, none_more, size_some, none_there, changes_all, stamps_all, not_rested}
 
 -- ---- a call may be made again
 
@@ -133,9 +131,6 @@ module _ (t : ℕ) (state : State) (some : 1 ≤ length (own t state.changes)) w
 
 -- where it has none, nothing is
 module _ (t : ℕ) (state : State) (none : own t state.changes ≡ []) (all : others t state.changes ≡ state.changes) (stamps : theirs stamp_by t state.meter.stamps ≡ state.meter.stamps) where
-  no_more : (n : ℕ) → n + 0 ≡ n
-  no_more n = omega arith
-
   same_state : committing t state ≡ record state { marks = finite.remove state.marks t; locks = released t state.locks; scans = closed t state.scans }
   same_state =
       (λ i. record state {
@@ -150,7 +145,7 @@ module _ (t : ℕ) (state : State) (none : own t state.changes ≡ []) (all : ot
         marks = finite.remove state.marks t;
         locks = released t state.locks;
         scans = closed t state.scans;
-        meter = record state.meter { end = no_more state.meter.end i };
+        meter = record state.meter { end = none_more state.meter.end i };
       })
 
   unchanged_shown : {view : StoreView} → StoreShows view state → StoreShows view (committing t state)

@@ -1,6 +1,6 @@
 -- A transaction that goes back or ends: what is counted of all of them, and where the changes stand.
 use Rattle.std.proofs.Common.{◌≡◌, ℕ, zero, suc, ◌+◌, ◌-◌, ◌<◌, ◌≤◌, Bool, true, false, cond, List, [], ◌∷◌, length, take, refl, sym, ◌∙◌, ap, subst, arith}
-use Rattle.std.specs.Prelude.{Option, Some, None, min, is_some, option_map, slice_get, slice_index_or, nat_lt, count_by, sum_by}
+use Rattle.std.specs.Prelude.{Option, Some, None, min, is_some, option_map, slice_get, nat_lt, count_by, sum_by}
 use Rattle.std.specs.Ordering.{nat_cmp}
 use Rattle.std.specs.Cmp.{nat_cmp_total}
 use Rattle.std.specs.FinMap as finite
@@ -10,7 +10,7 @@ use Rattle.std.proofs.lemmas.List.{take_all, length-take}
 use Rattle.std.proofs.lemmas.Option.{same_Some, slice_get-get_or}
 use Rattle.rss_model.proofs.LogLists.{by_same, by_test}
 use Rattle.rss_trans.specs.declared.noted.Noted.{Noted}
-use Rattle.rss_trans.specs.Transactions.{Transaction, OpenView, nothing, is_open, transaction_in, any, change_count, without_newest, count_at, newest_after, Steps, Ends}
+use Rattle.rss_trans.specs.Transactions.{Transaction, OpenView, is_open, transaction_in, any, change_count, without_newest, count_at, newest_after, Steps, Ends}
 use Rattle.rss_trans.proofs.Told.{done}
 use Rattle.rss_trans.proofs.Summing.{count_any}
 use Rattle.rss_session.specs.Sessions.{AreRising, sums_in}
@@ -143,14 +143,14 @@ put_twice m t x y = same_map nat_cmp_total nat_cmp-IsAntisymmetric _ _ (λ q. by
     (λ e. ap (finite.get (finite.insert (finite.insert m t x) t y)) e ∙ here (finite.insert m t x) t y ∙ sym (ap (finite.get (finite.insert m t y)) e ∙ here m t y))
     (λ off. elsewhere (finite.insert m t x) t y q off ∙ elsewhere m t x q off ∙ sym (elsewhere m t y q off)))
 
+pub length_taken : (n : ℕ) (notes : List Noted) → length (take n notes) ≡ min n (length notes)
+length_taken n notes = grind (arith, length-take)
+
 take_less : (n : ℕ) (notes : List Noted) → suc n ≤ length notes → take (length (take (suc n) notes) - 1) (take (suc n) notes) ≡ take n notes
 take_less n notes le =
-    let count : length (take (suc n) notes) - 1 ≡ n = omega (arith, length_taken (suc n) notes le) in
+    let count : length (take (suc n) notes) - 1 ≡ n = omega (arith, length_taken (suc n) notes, le) in
     ap (λ (k : ℕ). take k (take (suc n) notes)) count ∙ again n notes
   where
-    length_taken : (k : ℕ) (ns : List Noted) → k ≤ length ns → length (take k ns) ≡ k
-    length_taken k ns le = grind (arith, length-take)
-
     again : (k : ℕ) (ns : List Noted) → take k (take (suc k) ns) ≡ take k ns
     again k [] = ap (take k) (take_none (suc k))
     again zero (note ∷ ns) = refl
@@ -222,9 +222,6 @@ taken_get n k [] less = ap (λ (l : List Noted). slice_get l k) (take_none n)
 taken_get zero k (note ∷ notes) less = absurd (omega (arith, less))
 taken_get (suc n) zero (note ∷ notes) less = refl
 taken_get (suc n) (suc k) (note ∷ notes) less = taken_get n k notes (omega (arith, less))
-
-pub length_taken : (n : ℕ) (notes : List Noted) → length (take n notes) ≡ min n (length notes)
-length_taken n notes = grind (arith, length-take)
 
 -- there is one where its position is found
 pub none_from : (n : ℕ) (notes : List Noted) → ◌≡◌ {A = Option ℕ} None (option_map (λ (note : Noted). note.position) (slice_get notes n)) → length notes ≤ n

@@ -1,22 +1,18 @@
 -- A look leaves the session as it was.
-use Rattle.std.proofs.Common.{◌≡◌, ℕ, ◌+◌, true, false, Bool, List, [], refl, sym, ◌∙◌, ap, subst, arith}
-use Rattle.std.specs.Prelude.{Option, Some, None, is_some, Result, Ok, Err, IfOk, IfSome}
-use Rattle.rss_base.specs.DiskRule.{IsTold, Passes}
+use Rattle.std.proofs.Common.{◌≡◌, ℕ, true, Bool, List, [], sym, ◌∙◌, ap, subst, arith}
+use Rattle.std.specs.Prelude.{Option, Some, None, Result, Ok, Err, IfOk, IfSome}
+use Rattle.rss_base.specs.DiskRule.{IsTold}
 use Rattle.rss_base.specs.Paged.{Held, Mapped, Fixed, Backing, HasFixed, mapped_of, mapped_pages, page_key}
 use Rattle.rss_base.specs.PageMap.{page_count}
 use Rattle.rss_base.specs.StoredPages.{mapped_by}
 use Rattle.rss_base.specs.Steps.{PagesView, PassesOn, AreCounted}
-use Rattle.rss_base.specs.Listings.{relation_at}
-use Rattle.rss_base.specs.declared.key.PageKey.{PageKey}
 use Rattle.rss_base.specs.declared.key.Space.TheVariants.{Overflow, System}
-use Rattle.rss_base.specs.declared.relation.RelationEntry.{RelationEntry}
 use Rattle.rss_base.specs.declared.fault.PageFault.{PageFault}
 use Rattle.rss_base.specs.declared.tid.Tid.{Tid}
 use Rattle.rss_base.proofs.Moments.{widened}
 use Rattle.rss_tuple.specs.Heaps.{AreHeaps}
-use Rattle.rss_model.specs.Kept.{Kept}
-use Rattle.rss_model.specs.Machine.{StoreSize, State, now}
-use Rattle.rss_model.specs.Spares.{PageCounts, page_counts, change_counts, HasRoomFor, IsInSession}
+use Rattle.rss_model.specs.Machine.{State, now}
+use Rattle.rss_model.specs.Spares.{page_counts, change_counts, HasRoomFor, IsInSession}
 use Rattle.rss_model.specs.Store.{SpellsTables}
 use Rattle.rss_model.proofs.StepKeeping.{kept_fit}
 use Rattle.rss_access.specs.Tuples.{body_at, FindsBody}
@@ -24,13 +20,11 @@ use Rattle.rss_tuple.specs.Placing.{IsChosen, IsFree}
 use Rattle.rss_tuple.specs.TupleSteps.{tuples_in}
 use Rattle.rss_access.specs.Written.{AreWritten}
 use Rattle.rss_access.proofs.Spelling.{found_values, found_none, none_listed}
-use Rattle.rss_store.specs.Stores.{IsReady as IsStoreReady}
-use Rattle.rss_store.specs.Shown.{Shows as StoreShows, HoldsTables}
 use Rattle.rss_session.specs.Sessions.{SessionView, IsReady, sums_in}
 use Rattle.rss_session.specs.Sessions as sessions
 use Rattle.rss_session.specs.Shown.{Shows}
 use Rattle.rss_session.specs.Calls.{KeepsTables}
-use Rattle.rss_session.specs.Looks.{IsRelationIn, HasTuple, FindsTuple, IsPlace, FindsPlace}
+use Rattle.rss_session.specs.Looks.{FindsTuple, IsPlace, FindsPlace}
 
 -- the session with other pages
 abbrev pub with_pages : PagesView → SessionView → SessionView

@@ -1,13 +1,11 @@
 -- What is defined is committed, where nothing is open.
-use Rattle.std.proofs.Common.{◌≡◌, inl, inr, ⊎_elim, ℕ, ◌+◌, ◌*◌, ◌≤◌, Bool, true, List, [], ◌∷◌, ◌++◌, length, map, refl, sym, ◌∙◌, ap, subst, arith}
-use Rattle.std.specs.Prelude.{is_some, nat_lt, sum_by, count_by}
+use Rattle.std.proofs.Common.{◌≡◌, ℕ, ◌+◌, List, [], ◌∷◌, ◌++◌, length, map, refl, sym, ◌∙◌, ap, subst, arith}
+use Rattle.std.specs.Prelude.{is_some}
 use Rattle.std.specs.Ordering.{nat_cmp}
 use Rattle.std.specs.FinMap as finite
 use Rattle.std.specs.FinMap.{FinMap}
 use Rattle.std.proofs.lemmas.List.{append-nil}
-use Rattle.rss_base.specs.LogRecords.{ArePlaced, record_size}
-use Rattle.rss_base.specs.Sizes.{largest_checkpoint}
-use Rattle.rss_base.specs.Listings.{Listing}
+use Rattle.rss_base.specs.LogRecords.{record_size}
 use Rattle.rss_base.specs.Paged.{mapped_of}
 use Rattle.rss_base.specs.declared.key.PageKey.{PageKey}
 use Rattle.rss_base.specs.declared.key.Space.TheVariants.{Home, Overflow}
@@ -18,17 +16,14 @@ use Rattle.rss_model.specs.Changes.{Change, maker}
 use Rattle.rss_model.specs.Defining.{with_definitions}
 use Rattle.rss_model.specs.EngineLogs.{EngineLog, all_logged, saved_log, TiesState}
 use Rattle.rss_model.specs.Fits.{Fits}
-use Rattle.rss_model.specs.LogLaws.{rested_log}
 use Rattle.rss_model.specs.Machine.{StoreSize, State, IsAtRest, with_changes, now}
-use Rattle.rss_model.specs.Meanings.{as_bytes}
 use Rattle.rss_model.specs.Meter.{Stamp, heap_pages, changes_of, changers, checkpoint_size, least_position, free_between}
-use Rattle.rss_model.specs.Records.{Listed, changes_in}
 use Rattle.rss_model.specs.Steps.{stamp_by, redefined}
 use Rattle.rss_model.specs.Store.{SpellsTables, size_of}
 use Rattle.rss_model.specs.Tables.{Definitions, Tables, tuple_count}
 use Rattle.rss_model.proofs.Listed.{heap_is}
 use Rattle.rss_model.proofs.LogOpening.{restart_ties}
-use Rattle.rss_trans.specs.Transactions.{Transaction, any, change_count, marks_of, Checkpoints}
+use Rattle.rss_trans.specs.Transactions.{Transaction, marks_of, Checkpoints}
 use Rattle.rss_trans.specs.Told.{TellsOpen}
 use Rattle.rss_trans.proofs.Told.{none_tells}
 use Rattle.rss_trans.proofs.Summing.{since_saved}
@@ -36,7 +31,7 @@ use Rattle.rss_access.specs.Written.{heap_now}
 use Rattle.rss_store.specs.Stores.{IsSaved}
 use Rattle.rss_store.specs.Shown.{Shows as StoreShows}
 use Rattle.rss_store.specs.Commits.{least_mark, CanCheckpoint}
-use Rattle.rss_session.specs.Sessions.{SessionView, IsReady, sums_in, owed_by}
+use Rattle.rss_session.specs.Sessions.{SessionView, IsReady}
 use Rattle.rss_session.specs.Shown.{Shows}
 use Rattle.rss_session.specs.Weighing.{named, saved_free, MaySave}
 use Rattle.rss_session.proofs.Fresh.{no_entries, none_counted, none_changing}

@@ -1,50 +1,41 @@
 -- The end of a way back: the session is ready again, and in the machine's next state.
-use Rattle.std.proofs.Common.{◌≡◌, ℕ, zero, suc, ◌+◌, ◌-◌, ◌*◌, ◌<◌, ◌≤◌, Bool, true, false, ◌&&◌, ◌==◌, List, [], ◌∷◌, length, take, refl, sym, ◌∙◌, ap, subst, arith}
-use Rattle.std.specs.Prelude.{Option, Some, None, min, option_map, nat_le, nat_lt, if◌then◌else◌, slice_get}
+use Rattle.std.proofs.Common.{◌≡◌, ℕ, zero, suc, ◌+◌, ◌<◌, ◌≤◌, true, ◌==◌, List, [], ◌∷◌, length, take, refl, sym, ◌∙◌, ap, subst, arith}
+use Rattle.std.specs.Prelude.{Option, Some, None, min, option_map, nat_le, slice_get}
 use Rattle.std.specs.FinMap as finite
 use Rattle.std.proofs.lemmas.Bool.Decides.{nat_tests}
-use Rattle.std.proofs.lemmas.Option.{slice_get_past}
-use Rattle.rss_base.specs.Paged.{Backing, mapped_of}
-use Rattle.rss_base.specs.StoredPages.{mapped_by}
-use Rattle.rss_base.specs.declared.key.Space.TheVariants.{Overflow}
-use Rattle.rss_base.specs.declared.root.Root.{Root}
 use Rattle.rss_log.specs.Logs.{LogView, free_of}
 use Rattle.rss_catalog.specs.Catalogs.{CatalogView}
 use Rattle.rss_model.specs.Tables.{Tables}
-use Rattle.rss_model.specs.Changes.{Change, maker, own, others, theirs, kept_to, cut_off}
-use Rattle.rss_model.specs.Kept.{Kept, FitMixed}
-use Rattle.rss_model.specs.LogLaws.{gone_back, all_back}
-use Rattle.rss_model.specs.Locks.{released}
-use Rattle.rss_model.specs.Machine.{State, now}
-use Rattle.rss_model.specs.Meter.{Stamp, restore_size, end_size, with_record}
-use Rattle.rss_model.specs.Records.{Listed, others_in}
-use Rattle.rss_model.specs.Scans.{closed}
-use Rattle.rss_model.specs.Spares.{PageCounts, page_counts, change_counts}
-use Rattle.rss_model.specs.Steps.{stamp_by, MayUndo, size_for, undone_to, left_at, restored, gone}
+use Rattle.rss_model.specs.Changes.{Change, maker, own, kept_to, cut_off}
+use Rattle.rss_model.specs.Kept.{Kept}
+use Rattle.rss_model.specs.LogLaws.{gone_back}
+use Rattle.rss_model.specs.Machine.{State}
+use Rattle.rss_model.specs.Meter.{restore_size, with_record}
+use Rattle.rss_model.specs.Spares.{page_counts, change_counts}
+use Rattle.rss_model.specs.Steps.{stamp_by, MayUndo, size_for, undone_to, left_at, restored}
 use Rattle.rss_model.specs.Steps.MayUndo.{none, more}
-use Rattle.rss_model.proofs.BothRooms.{restores_keep_rooms, aborts_keep_rooms}
+use Rattle.rss_model.proofs.BothRooms.{restores_keep_rooms}
 use Rattle.rss_model.proofs.LogLists.{by_test}
-use Rattle.rss_model.proofs.Metering.{cut_all}
-use Rattle.rss_model.proofs.Stamps.{kept_and_cut, theirs_and_mine}
+use Rattle.rss_model.proofs.Stamps.{kept_and_cut}
 use Rattle.rss_trans.specs.declared.noted.Noted.{Noted}
-use Rattle.rss_trans.specs.Transactions.{Transaction, OpenView, is_open, transaction_in, count_at, cut_at, Steps, Ends}
+use Rattle.rss_trans.specs.Transactions.{Transaction, is_open, transaction_in, count_at, cut_at, Steps}
 use Rattle.rss_trans.specs.Told.{listed_by, TellsOpen, TellsSince}
 use Rattle.rss_trans.proofs.Asked.{saves_told}
-use Rattle.rss_trans.proofs.Noting.{back_listed, gone_listed}
+use Rattle.rss_trans.proofs.Noting.{back_listed}
 use Rattle.rss_trans.proofs.Summing.{since_stays}
-use Rattle.rss_trans.proofs.Told.{cut_tells, abort_tells}
-use Rattle.rss_store.specs.Changing.{IsOwnAt, CutsAt, CutsAll}
+use Rattle.rss_trans.proofs.Told.{cut_tells}
+use Rattle.rss_store.specs.Changing.{IsOwnAt, CutsAt}
 use Rattle.rss_store.specs.Commits.{HasLogRoom}
 use Rattle.rss_store.specs.Stores.{StoreView, Grows}
 use Rattle.rss_store.specs.Stores.{IsReady as IsStoreReady}
 use Rattle.rss_store.specs.Shown.{ShowsWith}
-use Rattle.rss_store.specs.Shown.{Shows as StoreShows, ShowsBack as StoreShowsBack}
-use Rattle.rss_session.specs.Sessions.{SessionView, AreRising, IsReady, IsEarly, sums_in, owed_for, owed_by}
-use Rattle.rss_session.specs.Shown.{Counts, Shows, ShowsBack, IsRested}
-use Rattle.rss_session.specs.Calls.{HasMarks, taken_to, TakesBack, GoesBack, Restores, Aborts}
-use Rattle.rss_session.proofs.Fewer.{changers, put_here, put_open, put_p, put_q, put_opened, put_placed, gone_p, gone_q, gone_opened, gone_placed, length_taken}
+use Rattle.rss_store.specs.Shown.{Shows as StoreShows}
+use Rattle.rss_session.specs.Sessions.{SessionView, AreRising, IsReady, IsEarly, sums_in}
+use Rattle.rss_session.specs.Shown.{Shows, IsRested}
+use Rattle.rss_session.specs.Calls.{HasMarks, taken_to, TakesBack, GoesBack, Restores}
+use Rattle.rss_session.proofs.Fewer.{changers, put_here, put_open, put_p, put_q, put_opened, put_placed, length_taken}
 use Rattle.rss_session.proofs.Marked.{rising_higher}
-use Rattle.rss_session.proofs.Steady.{shows_same, size_some, none_there, changes_kept, stamps_kept, not_rested}
+use Rattle.rss_session.proofs.Steady.{shows_same, none_more, overflow_still, size_some, changes_kept, stamps_kept, not_rested}
 use Rattle.rss_session.proofs.Ended.{ready_again, free_grown}
 use Rattle.rss_session.proofs.Undone.{fewer_changers}
 use Rattle.rss_session.proofs.Backwards.{own_count, none_cut}
@@ -239,7 +230,7 @@ module _ (old mid new : SessionView) (t save : ℕ) (first : Option ℕ) (state 
     over = over_then;
     way = back.shows.store.way;
     shows = λ fit. next_restored (subst (λ (s : StoreView). StoreShows s (restored t save marks over_then state)) (sym same) (subst (StoreShows mid.store) (sym same_state) (shows_same (finite.insert state.marks t (take save marks)) state.locks state.scans (same_shown old mid t n first state shows back few))))
-        (λ none count. sym over_is ∙ shows.rested none (ap (λ (cs : List Change). length cs) (sym kept_all) ∙ count) ∙ as_before);
+        (λ none count. sym over_is ∙ shows.rested none (ap (λ (cs : List Change). length cs) (sym kept_all) ∙ count) ∙ overflow_still old.store mid.store new.store root backing same);
   }
     where
       kept_all : kept_to maker t n state.changes ≡ state.changes
@@ -247,14 +238,6 @@ module _ (old mid new : SessionView) (t save : ℕ) (first : Option ℕ) (state 
 
       over_is : state.meter.over ≡ over_then
       over_is = same_over old mid t n first state shows back few
-
-      as_before : mapped_of (mapped_by old.store.pages.backing.shadow) Overflow old.store.root.slots ≡ mapped_of (mapped_by new.store.pages.backing.shadow) Overflow new.store.root.slots
-      as_before =
-          (λ i. mapped_of (mapped_by (sym backing i).shadow) Overflow (sym root i).slots)
-          ∙ ap (λ (s : StoreView). mapped_of (mapped_by s.pages.backing.shadow) Overflow s.root.slots) (sym same)
-
-      no_longer : (k : ℕ) → k + 0 ≡ k
-      no_longer k = omega arith
 
       same_state : restored t save marks over_then state ≡ record state { marks = finite.insert state.marks t (take save marks) }
       same_state =
@@ -265,5 +248,5 @@ module _ (old mid new : SessionView) (t save : ℕ) (first : Option ℕ) (state 
           })
           ∙ (λ i. record state {
             marks = finite.insert state.marks t (take save marks);
-            meter = record state.meter { end = no_longer state.meter.end i };
+            meter = record state.meter { end = none_more state.meter.end i };
           })

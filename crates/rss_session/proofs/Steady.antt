@@ -2,18 +2,21 @@
 use Rattle.std.proofs.Common.{◌≡◌, ℕ, ◌+◌, ◌<◌, ◌≤◌, List, [], ◌∷◌, length, map, refl, sym, ◌∙◌, ap, subst, arith}
 use Rattle.std.specs.Ordering.{nat_cmp}
 use Rattle.std.specs.FinMap.{FinMap}
-use Rattle.rss_model.specs.Changes.{Change, maker, own, others, theirs, kept_to, cut_off}
+use Rattle.rss_base.specs.Paged.{mapped_of}
+use Rattle.rss_base.specs.StoredPages.{mapped_by}
+use Rattle.rss_base.specs.declared.key.Space.TheVariants.{Overflow}
+use Rattle.rss_model.specs.Changes.{Change, maker, own, others, theirs, kept_to}
 use Rattle.rss_model.specs.Locks.{Locks}
 use Rattle.rss_model.specs.Machine.{State}
 use Rattle.rss_model.specs.Meter.{Stamp}
-use Rattle.rss_model.specs.Records.{Listed, changes_in, own_in, others_in}
+use Rattle.rss_model.specs.Records.{Listed, changes_in}
 use Rattle.rss_model.specs.EngineLogs.{stamp_of}
 use Rattle.rss_model.specs.Scans.{Scans}
 use Rattle.rss_model.specs.Spares.{ChangeCounts, PageCounts, IsInSession}
 use Rattle.rss_model.specs.Steps.{stamp_by, size_for}
 use Rattle.rss_model.proofs.Metering.{kept_none}
-use Rattle.rss_trans.specs.Told.{listed_by, IsListOf}
-use Rattle.rss_trans.proofs.Noting.{all_stay, back_listed, gone_listed}
+use Rattle.rss_trans.specs.Told.{IsListOf}
+use Rattle.rss_trans.proofs.Noting.{all_stay, back_listed}
 use Rattle.rss_store.specs.Stores.{StoreView}
 use Rattle.rss_store.specs.Shown.{ShowsWith}
 
@@ -51,6 +54,9 @@ pub none_there : {A : Type 0} (items : List A) → length items ≡ 0 → items 
 none_there [] none = refl
 none_there (item ∷ items) none = absurd (omega (arith, none))
 
+pub none_more : (n : ℕ) → n + 0 ≡ n
+none_more n = omega arith
+
 -- ---- where all stay
 
 module _ {changes : List Change} {stamps : List Stamp} {listed : List Listed} (list : IsListOf changes stamps listed) (t : ℕ) where
@@ -74,3 +80,10 @@ module _ {changes : List Change} {stamps : List Stamp} {listed : List Listed} (l
 -- where no change was made since, not as many are listed as survived once one is listed no more
 pub not_rested : (counts : ChangeCounts) (listed fewer : ℕ) (pages : PageCounts) → IsInSession counts listed pages → fewer < listed → counts.since ≡ 0 → fewer ≡ counts.surviving → ⊥
 not_rested counts listed fewer pages session less none same = omega (arith, session.few, less, none, same)
+
+-- how many overflow pages there were then, where neither the root nor the map of that checkpoint was changed
+pub overflow_still : (old mid new : StoreView) → mid.root ≡ old.root → mid.pages.backing ≡ old.pages.backing → new ≡ mid
+    → mapped_of (mapped_by old.pages.backing.shadow) Overflow old.root.slots ≡ mapped_of (mapped_by new.pages.backing.shadow) Overflow new.root.slots
+overflow_still old mid new root backing same =
+    (λ i. mapped_of (mapped_by (sym backing i).shadow) Overflow (sym root i).slots)
+    ∙ ap (λ (s : StoreView). mapped_of (mapped_by s.pages.backing.shadow) Overflow s.root.slots) (sym same)

@@ -1,7 +1,7 @@
 -- Sums over the open transactions, when one of them has done something more.
-use Rattle.std.proofs.Common.{◌≡◌, ◌≢◌, ℕ, ◌+◌, ◌<◌, Bool, true, false, cond, List, [], ◌∷◌, ◌++◌, length, map, refl, sym, ◌∙◌, ap, subst, arith}
-use Rattle.std.specs.Prelude.{Option, Some, None, is_some, nat_lt, count_by, sum_by, if◌then◌else◌}
-use Rattle.std.specs.Ordering.{nat_cmp, eq_by_cmp}
+use Rattle.std.proofs.Common.{◌≡◌, ◌≢◌, ℕ, ◌+◌, Bool, true, cond, List, [], ◌∷◌, map, refl, sym, ◌∙◌, ap, arith}
+use Rattle.std.specs.Prelude.{Option, Some, None, is_some, sum_by}
+use Rattle.std.specs.Ordering.{nat_cmp}
 use Rattle.std.specs.Cmp.{nat_cmp_total}
 use Rattle.std.specs.FinMap as finite
 use Rattle.std.specs.FinMap.{FinMap, nat_cmp-IsAntisymmetric, get-entries, get-insert, get-remove, entries-insert, put as put_entry, same_map}
@@ -9,7 +9,6 @@ use Rattle.std.specs.FinMap.Entries.{find}
 use Rattle.std.specs.declared.cmp.Ordering.{Ordering}
 use Rattle.std.specs.declared.cmp.Ordering.TheVariants.{Less, Equal, Greater}
 use Rattle.std.proofs.lemmas.List.Sums.{sum_by-cons}
-use Rattle.std.proofs.lemmas.Option.{same_Some}
 use Rattle.rss_model.proofs.Contents.{tied, not_tied}
 use Rattle.rss_model.proofs.LogLists.{by_same}
 use Rattle.rss_trans.proofs.Told.{done}

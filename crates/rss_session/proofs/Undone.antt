@@ -1,19 +1,14 @@
 -- A transaction's newest change that is undone: the session is ready again, and shows one change less.
-use Rattle.std.proofs.Common.{◌≡◌, ℕ, zero, suc, ◌+◌, ◌-◌, ◌*◌, ◌<◌, ◌≤◌, true, false, length, take, List, refl, sym, ◌∙◌, ap, subst, arith}
-use Rattle.std.specs.Prelude.{nat_lt, Option, Some, Result}
+use Rattle.std.proofs.Common.{◌≡◌, ℕ, zero, suc, ◌+◌, ◌-◌, ◌<◌, ◌≤◌, true, length, take, List, sym, ◌∙◌, ap, subst, arith}
+use Rattle.std.specs.Prelude.{nat_lt, Option, Some}
 use Rattle.std.proofs.lemmas.Bool.Decides.{nat_tests}
 use Rattle.std.proofs.lemmas.List.{length-take}
 use Rattle.rss_base.specs.declared.name.Name.{Name}
-use Rattle.rss_base.specs.declared.fault.PageFault.{PageFault}
-use Rattle.rss_base.specs.declared.refusal.Kind.TheVariants as kinds
-use Rattle.rss_base.specs.DiskRule.{IsTold}
-use Rattle.rss_base.specs.Listings.{Listing, IsNumberOf, numbered, names_of}
-use Rattle.rss_base.specs.Steps.{AreCounted}
+use Rattle.rss_base.specs.Listings.{numbered}
 use Rattle.rss_log.specs.Logs.{LogView, free_of}
 use Rattle.rss_model.specs.Machine.{State}
 use Rattle.rss_model.specs.Meanings.{SameDefinitions}
-use Rattle.rss_model.specs.Meter.{Meter}
-use Rattle.rss_model.specs.Spares.{PageCounts, page_counts, TakesTwo, IsInSession}
+use Rattle.rss_model.specs.Spares.{page_counts, TakesTwo, IsInSession}
 use Rattle.rss_model.proofs.Sparing.{session_goes_back, spare_for_all}
 use Rattle.rss_trans.specs.declared.noted.Noted.{Noted}
 use Rattle.rss_trans.specs.Transactions.{Transaction, OpenView, is_open, transaction_in, any, change_count, without_newest, newest_after, Steps}
@@ -26,8 +21,8 @@ use Rattle.rss_store.specs.Changing.{TakesBackOne as StoreTakesBackOne}
 use Rattle.rss_store.specs.Stores.{IsReady as IsStoreReady}
 use Rattle.rss_session.specs.Sessions.{SessionView, AreRising, IsReady, sums_in, owed_for, owed_by}
 use Rattle.rss_session.specs.Sessions as sessions
-use Rattle.rss_session.specs.Shown.{Counts, ShowsBack}
-use Rattle.rss_session.specs.Calls.{HasNewest, taken_to}
+use Rattle.rss_session.specs.Shown.{ShowsBack}
+use Rattle.rss_session.specs.Calls.{HasNewest}
 use Rattle.rss_session.proofs.Fewer.{changers, newest_at, put_here, put_p, put_q, put_opened, put_placed, taken_placed}
 use Rattle.rss_session.proofs.Sums.{gone_sum, get_open}
 

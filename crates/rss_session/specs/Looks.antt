@@ -1,5 +1,5 @@
 -- What a look at tuples finds, and what it passes on.
-use Rattle.std.specs.Prelude.{◌≡◌, ℕ, ◌≤◌, Bool, true, false, List, [], Option, Some, None, IfSome, Result, Err, OnOk}
+use Rattle.std.specs.Prelude.{◌≡◌, ℕ, Bool, true, false, List, [], Option, Some, None, IfSome, Result, Err, OnOk}
 use Rattle.rss_base.specs.DiskRule.{IsTold}
 use Rattle.rss_base.specs.Listings.{relation_at}
 use Rattle.rss_base.specs.TupleTypes.{kinds}
@@ -14,7 +14,6 @@ use Rattle.rss_tuple.specs.Placing.{IsChosen}
 use Rattle.rss_model.specs.Items.{Values}
 use Rattle.rss_model.specs.Kept.{Kept}
 use Rattle.rss_model.specs.Machine.{State, now}
-use Rattle.rss_model.specs.Steps.{IsFree}
 use Rattle.rss_model.specs.Tables.{content}
 use Rattle.rss_access.specs.Bodies.{IsBodyOf}
 use Rattle.rss_session.specs.Sessions.{SessionView, IsReady}

@@ -1,13 +1,8 @@
-use Rattle.std.proofs.Common.{◌≡◌, ℕ, length, List, refl, sym, ◌∙◌, ap, subst, arith}
-use Rattle.std.specs.Prelude.{Option, Some, None}
-use Rattle.rss_base.specs.Steps.{PagesView}
-use Rattle.rss_model.specs.Machine.{State}
-use Rattle.rss_model.specs.Changes.{own}
+use Rattle.std.proofs.Common.{refl, ap}
 use Rattle.rss_model.specs.Spares.{page_counts}
 use Rattle.rss_model.specs.Steps.{left_at}
 use Rattle.rss_trans.specs.Tables.{told}
 use Rattle.rss_store.specs.Parts.{view as store_view}
-use Rattle.rss_session.specs.Calls.{TakesBack, GoesBack}
 use Rattle.rss_session.specs.Parts.{view}
 use Rattle.rss_session.specs.Sessions.{SessionView}
 use Rattle.rss_session.proofs.Restored.{still_open, save_there, restore_room, ready_restored, ready_unchanged, restores_some, restores_none, undone_own, none_own}

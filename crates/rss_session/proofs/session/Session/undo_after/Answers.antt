@@ -1,12 +1,11 @@
-use Rattle.std.proofs.Common.{◌≡◌, ◌≤◌, length, refl, sym, ◌∙◌, ap, subst, arith}
-use Rattle.std.specs.Prelude.{Some, None}
+use Rattle.std.proofs.Common.{◌≤◌, length, refl, sym, ◌∙◌, subst, arith}
 use Rattle.rss_base.proofs.Calls.{leaves_then}
 use Rattle.rss_base.proofs.Moments.{rises_since}
 use Rattle.rss_trans.specs.Tables.{told}
-use Rattle.rss_trans.specs.Transactions.{Transaction, transaction_in}
+use Rattle.rss_trans.specs.Transactions.{Transaction}
 use Rattle.rss_session.specs.Parts.{view}
 use Rattle.rss_session.proofs.Backwards.{begins_back, there, turns_back, none_shown, takes_back, goes_back, keeps_left, goes_left}
-use Rattle.rss_session.proofs.Fewer.{put_open, put_here}
+use Rattle.rss_session.proofs.Fewer.{put_open}
 use Rattle.rss_session.proofs.Passing.{fault_same}
 use Rattle.rss_session.proofs.Undone.{taken_shorter}
 use Rattle.rss_session.proofs.session.Session.undo_after.Goals as goal

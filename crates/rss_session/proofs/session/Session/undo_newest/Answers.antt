@@ -1,4 +1,4 @@
-use Rattle.std.proofs.Common.{◌≡◌, refl, arith}
+use Rattle.std.proofs.Common.{refl, arith}
 use Rattle.rss_model.proofs.Sparing.{takes_two}
 use Rattle.rss_trans.specs.Tables.{told}
 use Rattle.rss_store.specs.Parts.{view as store_view}
