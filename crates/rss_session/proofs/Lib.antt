@@ -11,3 +11,8 @@ pub mod Redefined
 pub mod Summed
 pub mod Shown
 pub mod Fresh
+pub mod First
+pub mod FieldNames
+pub mod Lines
+pub mod Admitted
+pub mod Defined

@@ -47,7 +47,7 @@ no_entries : (es : List (ℕ × Transaction)) → length es ≡ 0 → es ≡ []
 no_entries [] is = refl
 no_entries (e ∷ es) is = absurd (omega (arith, is))
 
-none_there : finite.entries {K = ℕ} {X = Transaction} {R = nat_cmp} finite.empty ≡ []
+pub none_there : finite.entries {K = ℕ} {X = Transaction} {R = nat_cmp} finite.empty ≡ []
 none_there = no_entries (finite.entries finite.empty) (sym (len-entries finite.empty) ∙ len-empty nat_cmp Transaction)
 
 module _ {view : SessionView} (ready : IsReady view) (closed : view.opened.transactions ≡ finite.empty) where

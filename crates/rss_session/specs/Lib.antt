@@ -4,3 +4,6 @@ pub mod Weighing
 pub mod Changes
 pub mod Calls
 pub mod Parts
+pub mod Admissions
+pub mod FieldTests
+pub mod Definitions

@@ -2,7 +2,9 @@
 //! log, ways back, ends and checkpoints.
 #![tactic(auto)]
 
+mod admitting;
 mod changing;
+mod defining;
 mod ending;
 mod going_back;
 mod opening;
