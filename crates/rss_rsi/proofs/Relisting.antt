@@ -25,28 +25,6 @@ use Rattle.rss_rsi.specs.declared.session.Session.{Session}
 use Rattle.rss_rsi.proofs.Counted.{HasEnded}
 use Rattle.rss_rsi.proofs.Refusals.{none_at, nothing}
 
--- ---- the pages
-
--- The call defines so, and the pages spell its tables, whose definitions are listed anew.
-pub record IsRelisted (held : Held) (call : Call) (listing : Listing) (tables : Tables) : Type 0 where
-  pub definitions : Definitions
-  pub so : defined call tables.definitions ≡ Some definitions
-  pub spells : SpellsTables held listing (with_definitions definitions tables)
-
-pub relisted : {held : Held} {tables : Tables} {slots : ℕ} {old new : Listing} {call : Call} → SpellsTables held old tables → Fits slots tables → Relists old call new → ListingFits new → IsRelisted held call new tables
-relisted spells fit (segment name number fresh least) fits = record { definitions = _; so = refl; spells = segment_made_spells spells number name least fits }
-relisted spells fit (relation name in_segment fields at number within fresh least) fits = record {
-  definitions = _;
-  so = refl;
-  spells = relation_made_spells spells fit number (entry_of name at fields) in_segment least fits within refl (relation_unnamed spells.listed spells.defines name fresh);
-}
-relisted spells fit (drop_segment name number at none) fits = record {
-  definitions = _;
-  so = refl;
-  spells = segment_gone_spells spells number name at (λ k r is within. none (record { number = k; relation = r; at = is; within = within })) fits;
-}
-relisted spells fit (drop_relation number entry at empty) fits = record { definitions = _; so = refl; spells = relation_gone_spells spells number entry at (spells.counts number entry at ∙ empty) fits }
-
 -- ---- the state
 
 -- where nothing is open, no change waits

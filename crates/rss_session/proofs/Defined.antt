@@ -3,7 +3,7 @@ use Rattle.std.proofs.Common.{◌≡◌, ◌≢◌, ℕ, ◌+◌, ◌-◌, ◌<�
 use Rattle.std.specs.Prelude.{nat_le, flat_map, sum_by, slice_get, Option, Some, None, is_some, IfSome, IfNone, Ok, Err, Result, IsErrAnd, option_map, ◌||◌}
 use Rattle.std.specs.Ordering.{nat_cmp}
 use Rattle.std.specs.FinMap as finite
-use Rattle.std.specs.FinMap.{FinMap}
+use Rattle.std.specs.FinMap.{FinMap, len-empty, empty_of_len}
 use Rattle.std.proofs.lemmas.Bool.{true≢false, le-leb, lt-leb, or_from, ne_eqb}
 use Rattle.rss_base.specs.Sizes.{page_bytes, relations_most, system_pages}
 use Rattle.rss_base.specs.TupleTypes.{kinds, width, most_width, are_kinds, field_names}
@@ -33,6 +33,7 @@ use Rattle.rss_model.proofs.PlainStores.{plain_defined}
 use Rattle.rss_model.proofs.Tests.{goes_on, refuses_at, passes_if, passes_unless, make_segment_taken, make_segment_many, make_segment_passes, drop_segment_lacks, drop_segment_full, drop_segment_passes, drop_relation_lacks, drop_relation_full, drop_relation_passes, make_relation_lacks, make_relation_taken, make_relation_many, make_relation_passes}
 use Rattle.rss_trans.specs.Transactions.{Transaction, any, change_count}
 use Rattle.rss_trans.specs.Tables.{told}
+use Rattle.rss_trans.proofs.Asked.{count_told}
 use Rattle.rss_trans.proofs.Summing.{sums_told}
 use Rattle.rss_session.specs.Sessions.{SessionView}
 use Rattle.rss_session.specs.Shown.{Shows}
@@ -95,6 +96,14 @@ module _ {view : SessionView} {state : State} (shows : Shows view state) (closed
   -- no change waits
   pub none_changed : state.changes ≡ []
   none_changed = sym shows.list.changes_are ∙ ap changes_in (nothing shows.listed none_listed)
+
+  -- nor has any transaction a save point
+  pub none_marked : state.marks ≡ finite.empty
+  none_marked = empty_of_len state.marks (
+    sym (count_told view.store.catalog.listing view.opened state.marks shows.listed shows.told)
+    ∙ ap (λ (m : FinMap nat_cmp Transaction). finite.len m) closed
+    ∙ len-empty nat_cmp Transaction
+  )
 
   -- the committed counts are those now
   base_live : (number : ℕ) (entry : RelationEntry) → relation_at view.store.catalog.listing number ≡ Some entry → tuple_count state.base.contents entry.name ≡ entry.live

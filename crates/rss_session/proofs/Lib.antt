@@ -16,3 +16,4 @@ pub mod FieldNames
 pub mod Lines
 pub mod Admitted
 pub mod Defined
+pub mod Relisting
