@@ -32,20 +32,11 @@ use Rattle.rss_model.proofs.Codes.{name_total, name_apart}
 use Rattle.rss_model.proofs.Contents.{tied, not_tied}
 use Rattle.rss_model.proofs.PlainStores.{plain_defined}
 use Rattle.rss_model.proofs.Tests.{goes_on, passes_if, passes_unless, none_open, one_open, make_segment_taken, make_segment_many, make_segment_passes, drop_segment_lacks, drop_segment_full, drop_segment_passes, drop_relation_lacks, drop_relation_full, drop_relation_passes, make_relation_lacks, make_relation_taken, make_relation_many, make_relation_passes}
-use Rattle.rss_rsi.specs.Sessions.{marks_of, Counts, Relists, Redefines, Defining}
-use Rattle.rss_rsi.specs.FieldTests.{fields_tests}
+use Rattle.rss_session.specs.Definitions.{Relists}
+use Rattle.rss_session.specs.FieldTests.{fields_tests}
+use Rattle.rss_rsi.specs.Sessions.{marks_of, Counts, Redefines, Defining}
 use Rattle.rss_rsi.specs.declared.session.Session.{Session}
 use Rattle.rss_rsi.proofs.Refusals.{nothing}
-
--- ---- what was found
-
-pub found : {P : ℕ → Type 0} (number : Option ℕ) → IfSome number P → is_some number ≡ true → (n : ℕ) × P n
-found None is there = absurd (true≢false (sym there))
-found (Some n) is there = (n, is)
-
-pub not_found : {P : Type 0} (number : Option ℕ) → IfNone number P → is_some number ≡ false → P
-not_found None is absent = is
-not_found (Some n) is absent = absurd (true≢false absent)
 
 -- ---- a refusal
 

@@ -19,8 +19,8 @@ use Rattle.rss_model.proofs.ByNumber.{relation_unnamed}
 use Rattle.rss_model.proofs.StepKeeping.{kept_fit, steps_keep}
 use Rattle.rss_model.proofs.Redefining.{defined_fits}
 use Rattle.rss_model.proofs.Relisted.{segment_made_spells, segment_gone_spells, relation_made_spells, relation_gone_spells}
-use Rattle.rss_rsi.specs.Sessions.{marks_of, entry_of, Counts, Relists, Redefines}
-use Rattle.rss_rsi.specs.Sessions.Relists.{segment, relation, drop_segment, drop_relation}
+use Rattle.rss_session.proofs.Relisting.{IsRelisted, relisted}
+use Rattle.rss_rsi.specs.Sessions.{marks_of, Counts, Redefines}
 use Rattle.rss_rsi.specs.declared.session.Session.{Session}
 use Rattle.rss_rsi.proofs.Counted.{HasEnded}
 use Rattle.rss_rsi.proofs.Refusals.{none_at, nothing}

@@ -100,7 +100,7 @@ impl<S: Saving> Session<S> {
 }
 
 /// Whether two fields have one name.
-fn has_twice(fields: &[FieldDef]) -> bool
+pub fn has_twice(fields: &[FieldDef]) -> bool
     ensures { result ≡ has_twice (field_names fields.now) }
 {
     for (place, field) in fields.iter().enumerate() {
@@ -119,7 +119,7 @@ fn has_name(fields: &[FieldDef], name: &Name) -> bool
 }
 
 /// A relation may have these fields: so many of them, of these kinds, and no wider than they may be.
-fn test_fields(fields: &[FieldDef]) -> Result<(), Refusal>
+pub fn test_fields(fields: &[FieldDef]) -> Result<(), Refusal>
     ensures formed { OnOk result (are_kinds (kinds fields.now) ≡ true) }
     ensures narrow { OnOk result (width (kinds fields.now) ≤ most_width) }
     ensures refused { IfErr result (λ why. first_of (fields_tests fields.now) ≡ Some why) }

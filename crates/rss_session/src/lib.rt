@@ -12,4 +12,5 @@ mod saving;
 mod session;
 mod weighing;
 
+pub use defining::{has_twice, test_fields};
 pub use session::Session;
