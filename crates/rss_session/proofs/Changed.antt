@@ -1,31 +1,26 @@
 -- A change that goes on as it is: the session is ready again, and in the machine's next state.
-use Rattle.std.proofs.Common.{◌≡◌, ℕ, suc, ◌+◌, ◌-◌, ◌*◌, ◌^◌, ◌<◌, ◌≤◌, Bool, true, false, List, [], ◌∷◌, length, map, refl, sym, ◌∙◌, ap, subst, arith}
-use Rattle.std.specs.Prelude.{Option, Some, None, is_some, is_none, unwrap_or, ◌&&◌, Result, Ok, Err, ⊤}
+use Rattle.std.proofs.Common.{◌≡◌, ℕ, ◌+◌, ◌-◌, ◌^◌, ◌<◌, Bool, true, false, List, ◌∷◌, refl, sym, ◌∙◌, ap, subst, arith}
+use Rattle.std.specs.Prelude.{Option, Some, None, is_some, is_none, unwrap_or, ◌&&◌, Ok}
 use Rattle.rss_base.specs.declared.change.Change as told
 use Rattle.rss_base.specs.declared.change.Change.TheVariants.{Insert, Delete, Update, Connect, Disconnect}
 use Rattle.rss_base.specs.declared.item.Item.{Item}
-use Rattle.rss_base.specs.declared.item.Item.TheVariants.{Tuple as TupleItem}
 use Rattle.rss_base.specs.declared.name.Name.{Name}
 use Rattle.rss_base.specs.declared.refusal.Kind.TheVariants.{Relation as RelationKind}
-use Rattle.rss_base.specs.declared.refusal.Refusal.{Refusal}
 use Rattle.rss_base.specs.declared.log_record.LogRecord.TheVariants as records
 use Rattle.rss_base.specs.declared.root.Root.{Root}
-use Rattle.rss_base.specs.Listings.{Listing, ListingFits, relation_at, numbered, names_of, IsNumberOf}
+use Rattle.rss_base.specs.Listings.{Listing, numbered, IsNumberOf}
 use Rattle.rss_base.specs.LogRecords.{record_size}
-use Rattle.rss_log.specs.Logs.{LogView, room_end, free_of}
-use Rattle.rss_model.specs.Items.{Content, Values}
+use Rattle.rss_log.specs.Logs.{room_end, free_of}
+use Rattle.rss_model.specs.Items.{Content}
 use Rattle.rss_model.specs.Changes.{Change}
-use Rattle.rss_model.specs.Kept.{Kept}
-use Rattle.rss_model.specs.Locks.{Locks}
 use Rattle.rss_model.specs.Machine.{State}
 use Rattle.rss_model.specs.Meter.{Stamp, Meter, counted, change_size}
-use Rattle.rss_model.specs.Meanings.{name_at, nameless, item_told, IsChangeTold, TellsValues, Means, SameDefinitions}
+use Rattle.rss_model.specs.Meanings.{name_at, nameless, IsChangeTold, TellsValues, Means, SameDefinitions}
 use Rattle.rss_model.specs.Records.{Listed}
 use Rattle.rss_model.specs.LogLaws.{noted}
-use Rattle.rss_model.specs.Rules.{ruling, refusal_by, meter_behind, goes_on}
+use Rattle.rss_model.specs.Rules.{ruling, refusal_by, goes_on}
 use Rattle.rss_model.specs.Ruled.{HasBothRooms, ruled}
-use Rattle.rss_model.specs.Spares.{PageCounts, page_counts, TakesTwo, HasRoomFor, IsInSession, with_one}
-use Rattle.rss_model.specs.Steps.{IsOver}
+use Rattle.rss_model.specs.Spares.{page_counts, TakesTwo, IsInSession}
 use Rattle.rss_model.proofs.BothRooms.{changes_keep_rooms}
 use Rattle.rss_model.proofs.LogCounting.{change_told_size}
 use Rattle.rss_model.proofs.Relisted.{number_of}
@@ -33,21 +28,19 @@ use Rattle.rss_model.proofs.Ruling.{behind}
 use Rattle.rss_model.proofs.Sparing.{session_changes}
 use Rattle.rss_trans.specs.declared.noted.Noted.{Noted}
 use Rattle.rss_trans.specs.Transactions.{OpenView, is_open, transaction_in, Notes}
-use Rattle.rss_trans.specs.Told.{IsNumbered, is_tuple, takes_away, IsNoteOf, TellsOpen, TellsSince, IsListOf}
+use Rattle.rss_trans.specs.Told.{IsNumbered, is_tuple, takes_away, IsNoteOf, TellsSince}
 use Rattle.rss_trans.proofs.Told.{change_tells, recounted_tells, same_names}
 use Rattle.rss_trans.proofs.Summing.{since_told}
 use Rattle.rss_access.specs.Changes.{IsTupleRecord, number_told}
 use Rattle.rss_store.specs.Stores.{Grows}
 use Rattle.rss_store.specs.Stores.{IsReady as IsStoreReady}
-use Rattle.rss_store.specs.Shown.{Shows as StoreShows}
 use Rattle.rss_store.specs.Changing.{MayMake}
 use Rattle.rss_store.specs.Changing.{MakesOne as StoreMakesOne}
-use Rattle.rss_store.proofs.Definitions.{same_back}
 use Rattle.rss_session.specs.Changes.{is_delete_told}
 use Rattle.rss_session.specs.Sessions.{SessionView, AreRising, IsReady, sums_in, owed_for, owed_by}
 use Rattle.rss_session.specs.Sessions as sessions
-use Rattle.rss_session.specs.Shown.{Counts, Shows}
-use Rattle.rss_session.specs.Weighing.{changers_with, weighed, outcome}
+use Rattle.rss_session.specs.Shown.{Shows}
+use Rattle.rss_session.specs.Weighing.{weighed}
 use Rattle.rss_session.specs.Calls.{MakesOne}
 use Rattle.rss_session.proofs.Noted.{Goes, noted_p, noted_q, noted_placed, noted_open, weighed_on}
 use Rattle.rss_session.proofs.Weighed.{goes_on_right}

@@ -1,6 +1,6 @@
 -- What the calls that define are refused for in the states in which a session may be, and what they make of it.
 use Rattle.std.proofs.Common.{◌≡◌, ◌≢◌, ℕ, ◌+◌, ◌-◌, ◌<◌, ◌≤◌, true, false, cond, List, [], ◌∷◌, length, map, refl, sym, ◌∙◌, ap, subst, Bool, arith}
-use Rattle.std.specs.Prelude.{nat_le, flat_map, sum_by, slice_get, Option, Some, None, is_some, IfSome, IfNone, Ok, Err, Result, IsErrAnd, option_map, ◌||◌}
+use Rattle.std.specs.Prelude.{nat_le, flat_map, slice_get, Option, Some, None, is_some, IfSome, IfNone, Ok, Err, Result, IsErrAnd, option_map, ◌||◌}
 use Rattle.std.specs.Ordering.{nat_cmp}
 use Rattle.std.specs.FinMap as finite
 use Rattle.std.specs.FinMap.{FinMap, len-empty, empty_of_len}
@@ -31,7 +31,7 @@ use Rattle.rss_model.proofs.ByNumber.{segment_named, segment_unnamed, relation_n
 use Rattle.rss_model.proofs.Heap.{nothing}
 use Rattle.rss_model.proofs.PlainStores.{plain_defined}
 use Rattle.rss_model.proofs.Tests.{goes_on, refuses_at, passes_if, passes_unless, make_segment_taken, make_segment_many, make_segment_passes, drop_segment_lacks, drop_segment_full, drop_segment_passes, drop_relation_lacks, drop_relation_full, drop_relation_passes, make_relation_lacks, make_relation_taken, make_relation_many, make_relation_passes}
-use Rattle.rss_trans.specs.Transactions.{Transaction, any, change_count}
+use Rattle.rss_trans.specs.Transactions.{Transaction}
 use Rattle.rss_trans.specs.Tables.{told}
 use Rattle.rss_trans.proofs.Asked.{count_told}
 use Rattle.rss_trans.proofs.Summing.{sums_told}
@@ -43,7 +43,7 @@ use Rattle.rss_session.specs.FieldTests.{fields_tests}
 use Rattle.rss_session.specs.Parts.{view}
 use Rattle.rss_session.specs.declared.session.Session.{Session}
 use Rattle.rss_session.proofs.Admitted.{least_same}
-use Rattle.rss_session.proofs.Redefined.{none_there}
+use Rattle.rss_session.proofs.Fresh.{no_entries, none_counted}
 
 -- ---- what was found
 
@@ -82,16 +82,13 @@ module _ {view : SessionView} {state : State} (shows : Shows view state) (closed
   least =
       sym (least_same shows)
       ∙ ap (λ (m : FinMap nat_cmp Transaction). slice_get (finite.keys m) 0) closed
-      ∙ ap (λ (es : List (ℕ × Transaction)). slice_get (map (λ (e : ℕ × Transaction). e.0) es) 0) none_there
+      ∙ ap (λ (es : List (ℕ × Transaction)). slice_get (map (λ (e : ℕ × Transaction). e.0) es) 0) no_entries
 
   none_is_open : if_any_open state ≡ None
   none_is_open = ap (option_map TransactionsOpen) least
 
   none_listed : length shows.listed ≡ 0
-  none_listed =
-      sym (sums_told view.store.catalog.listing view.opened state.marks shows.listed 0 shows.told)
-      ∙ ap (λ (m : FinMap nat_cmp Transaction). sum_by (change_count any) (finite.values m)) closed
-      ∙ ap (λ (es : List (ℕ × Transaction)). sum_by (change_count any) (map (λ (e : ℕ × Transaction). e.1) es)) none_there
+  none_listed = sym (sums_told view.store.catalog.listing view.opened state.marks shows.listed view.opened.since shows.told) ∙ none_counted view.opened closed
 
   -- no change waits
   pub none_changed : state.changes ≡ []

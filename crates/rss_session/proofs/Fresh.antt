@@ -26,7 +26,7 @@ use Rattle.rss_store.specs.Shown.{Shows as StoreShows}
 use Rattle.rss_session.specs.Sessions.{SessionView, IsReady, AreRising, sums_in}
 use Rattle.rss_session.specs.Shown.{Shows, IsRested}
 
-no_entries : entries {X = Transaction} {R = nat_cmp} empty ≡ []
+pub no_entries : entries {X = Transaction} {R = nat_cmp} empty ≡ []
 no_entries = no_more (entries {X = Transaction} {R = nat_cmp} empty) (sym (len-entries {X = Transaction} {R = nat_cmp} empty) ∙ len-empty nat_cmp Transaction)
 
 -- ---- nothing is counted
@@ -35,10 +35,10 @@ module _ (opened : OpenView) (none : opened.transactions ≡ empty) where
   no_changes : (t : ℕ) → (transaction_in opened t).changes ≡ []
   no_changes t = ap (λ (m : FinMap nat_cmp Transaction). (unwrap_or (get m t) nothing).changes) none ∙ ap (λ o. (unwrap_or o nothing).changes) (get-empty {X = Transaction} nat_cmp t)
 
-  none_counted : (sums_in opened).p ≡ 0
+  pub none_counted : (sums_in opened).p ≡ 0
   none_counted = ap (λ (m : FinMap nat_cmp Transaction). (sums_of any 0 (values m)).p) none ∙ ap (λ (es : List (ℕ × Transaction)). (sums_of any 0 (map (λ e. e.1) es)).p) no_entries
 
-  none_changing : (sums_in opened).q ≡ 0
+  pub none_changing : (sums_in opened).q ≡ 0
   none_changing = ap (λ (m : FinMap nat_cmp Transaction). (sums_of any 0 (values m)).q) none ∙ ap (λ (es : List (ℕ × Transaction)). (sums_of any 0 (map (λ e. e.1) es)).q) no_entries
 
 -- ---- the session

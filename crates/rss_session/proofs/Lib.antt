@@ -8,7 +8,6 @@ pub mod Outcomes
 pub mod Saved
 pub mod Made
 pub mod Redefined
-pub mod Summed
 pub mod Shown
 pub mod Fresh
 pub mod First
@@ -17,3 +16,11 @@ pub mod Lines
 pub mod Admitted
 pub mod Defined
 pub mod Relisting
+pub mod Looked
+pub mod Fewer
+pub mod Steady
+pub mod Ended
+pub mod Undone
+pub mod Backwards
+pub mod Restored
+pub mod Aborted

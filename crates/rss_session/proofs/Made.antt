@@ -1,35 +1,32 @@
 -- A change behind a checkpoint.
-use Rattle.std.proofs.Common.{◌≡◌, ℕ, ◌+◌, ◌*◌, ◌≤◌, Bool, true, false, List, [], ◌∷◌, length, refl, sym, ◌∙◌, ap, subst, arith}
-use Rattle.std.specs.Prelude.{Option, is_some, nat_lt, nat_le, if◌then◌else◌, Result, Ok, Err, OnOk}
+use Rattle.std.proofs.Common.{◌≡◌, ℕ, ◌+◌, ◌≤◌, Bool, true, false, ◌∷◌, length, refl, sym, ◌∙◌, ap, subst, arith}
+use Rattle.std.specs.Prelude.{is_some, nat_lt, nat_le, if◌then◌else◌, Result, Ok, Err}
 use Rattle.std.specs.FinMap as finite
 use Rattle.std.proofs.lemmas.Bool.{true≢false}
 use Rattle.std.proofs.lemmas.Bool.Decides.{nat_tests}
-use Rattle.std.proofs.lemmas.Result.{on_ok_weaker}
 use Rattle.rss_base.specs.LogRecords.{record_size}
 use Rattle.rss_base.specs.Listings.{Listing}
 use Rattle.rss_base.specs.declared.change.Change as told
 use Rattle.rss_base.specs.declared.log_record.LogRecord.TheVariants as records
 use Rattle.rss_base.specs.declared.refusal.Refusal.{Refusal}
-use Rattle.rss_log.specs.Logs.{LogView, free_of}
+use Rattle.rss_log.specs.Logs.{free_of}
 use Rattle.rss_model.specs.Changes.{Change}
-use Rattle.rss_model.specs.Kept.{Kept}
 use Rattle.rss_model.specs.LogLaws.{IsToldBy}
 use Rattle.rss_model.specs.Machine.{State}
-use Rattle.rss_model.specs.Meter.{Meter, counted, free_between, change_size}
+use Rattle.rss_model.specs.Meter.{counted, free_between, change_size}
 use Rattle.rss_model.specs.Rules.{saved_now, goes_on, meter_behind}
 use Rattle.rss_model.specs.Ruled.{ruled}
 use Rattle.rss_model.proofs.LogCounting.{change_told_size}
 use Rattle.rss_model.proofs.LogLists.{by_test}
-use Rattle.rss_model.proofs.OpenKeeping.{keeps_meter}
 use Rattle.rss_model.proofs.Ruling.{behind}
-use Rattle.rss_trans.specs.Transactions.{OpenView, is_open, transaction_in}
+use Rattle.rss_trans.specs.Transactions.{is_open, transaction_in}
 use Rattle.rss_trans.proofs.Told.{done}
 use Rattle.rss_store.specs.Changing.{MayMake}
-use Rattle.rss_session.specs.Sessions.{SessionView, IsReady, sums_in, owed_for}
+use Rattle.rss_session.specs.Sessions.{SessionView, IsReady, sums_in}
 use Rattle.rss_session.specs.Shown.{Shows}
 use Rattle.rss_session.specs.Weighing as weighing
 use Rattle.rss_session.specs.Weighing.{weighed, weighed_saved, saved_room_with, saved_free, needed_with, room_with, changers_with}
-use Rattle.rss_session.specs.Calls.{CountsAnew, MakesOne, Makes}
+use Rattle.rss_session.specs.Calls.{CountsAnew, MakesOne}
 use Rattle.rss_session.proofs.Noted.{weighed_on}
 use Rattle.rss_session.proofs.Outcomes.{goes_on_so}
 use Rattle.rss_session.proofs.Weighed.{goes_on_right}

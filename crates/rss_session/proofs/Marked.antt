@@ -1,16 +1,15 @@
 -- The transactions that a checkpoint names, each with the position of its first change.
 use Rattle.std.proofs.Common.{◌≡◌, ℕ, ◌+◌, ◌<◌, ◌≤◌, true, false, Bool, List, [], ◌∷◌, ◌++◌, refl, sym, ◌∙◌, ap, subst, arith}
-use Rattle.std.specs.Prelude.{Option, Some, None, option_map, slice_get, min, ◌==◌, if◌then◌else◌}
+use Rattle.std.specs.Prelude.{Option, Some, option_map, slice_get, min, ◌==◌, if◌then◌else◌}
 use Rattle.std.specs.List.{AllByRecursion}
 use Rattle.std.specs.FinMap as finite
 use Rattle.std.specs.FinMap.{get-entries}
 use Rattle.std.proofs.lemmas.Option.{same_Some}
 use Rattle.rss_model.specs.Recovers.{named_in}
-use Rattle.rss_model.proofs.LogLists.{by_same}
 use Rattle.rss_trans.specs.declared.noted.Noted.{Noted}
 use Rattle.rss_trans.specs.Transactions.{Transaction, OpenView, transaction_in, first_position, marks_of}
 use Rattle.rss_trans.proofs.Told.{done}
-use Rattle.rss_trans.proofs.Summing.{Entries, found, named_is, order_of, all_named, rising_is}
+use Rattle.rss_trans.proofs.Summing.{Entries, named_is, order_of, all_named, rising_is}
 use Rattle.rss_store.specs.Commits.{least_mark}
 use Rattle.rss_session.specs.Sessions.{AreRising}
 

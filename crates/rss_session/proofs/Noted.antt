@@ -1,19 +1,18 @@
 -- A change more of a transaction: what is counted of all of them, and where the changes stand.
-use Rattle.std.proofs.Common.{◌≡◌, ℕ, suc, ◌+◌, ◌*◌, ◌^◌, ◌<◌, ◌≤◌, Bool, true, false, cond, List, [], ◌∷◌, ◌++◌, length, map, refl, sym, ◌∙◌, ap, subst, arith}
-use Rattle.std.specs.Prelude.{Option, Some, None, is_some, unwrap_or, nat_lt, nat_le, ◌&&◌, count_by, sum_by, if◌then◌else◌, Result, Ok, Err}
+use Rattle.std.proofs.Common.{◌≡◌, ℕ, ◌+◌, ◌<◌, ◌≤◌, Bool, true, false, cond, [], ◌∷◌, ◌++◌, length, sym, ◌∙◌, ap, subst, arith}
+use Rattle.std.specs.Prelude.{is_some, nat_lt, count_by, sum_by, if◌then◌else◌, Result, Ok, Err}
 use Rattle.std.specs.FinMap as finite
 use Rattle.std.proofs.lemmas.Bool.{true≢false}
 use Rattle.std.proofs.lemmas.Bool.Decides.{nat_tests}
 use Rattle.std.proofs.lemmas.List.{length-append}
 use Rattle.rss_base.specs.declared.refusal.Refusal.{Refusal}
-use Rattle.rss_log.specs.Logs.{LogView, room_end, free_of}
+use Rattle.rss_log.specs.Logs.{free_of}
 use Rattle.rss_model.proofs.LogLists.{by_same, by_test}
 use Rattle.rss_trans.specs.declared.noted.Noted.{Noted}
-use Rattle.rss_trans.specs.Transactions.{Transaction, OpenView, is_open, transaction_in, any, change_count, with_change, Notes, counted}
+use Rattle.rss_trans.specs.Transactions.{Transaction, OpenView, is_open, transaction_in, any, change_count, with_change, Notes}
 use Rattle.rss_trans.proofs.Told.{done}
 use Rattle.rss_trans.proofs.Summing.{count_any}
-use Rattle.rss_store.specs.Stores.{Grows}
-use Rattle.rss_session.specs.Sessions.{SessionView, AreRising, IsReady, sums_in, owed_for, owed_by}
+use Rattle.rss_session.specs.Sessions.{SessionView, AreRising, sums_in}
 use Rattle.rss_session.specs.Weighing.{changers_with, needed_with, room_with, goes_on, weighed_saved, weighed}
 use Rattle.rss_session.proofs.Sums.{changed_sum, get_open, here, elsewhere}
 use Rattle.rss_session.proofs.Marked.{rising_higher, rising_push}

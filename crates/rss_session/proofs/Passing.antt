@@ -1,9 +1,11 @@
 -- What a call of the store passes on to the session.
-use Rattle.std.proofs.Common.{◌≡◌, ◌≤◌, refl, sym, ◌∙◌, ap, arith}
+use Rattle.std.proofs.Common.{◌≡◌, ℕ, true, refl, sym, ◌∙◌, ap, arith}
 use Rattle.std.specs.Prelude.{Result, Ok, Err, IsErrOf, IsErrAnd, OnOk}
 use Rattle.std.proofs.lemmas.Result.{err_from_is_err_and}
 use Rattle.rss_base.specs.DiskRule.{IsTold, Passes}
+use Rattle.rss_base.specs.Faults.{Rises}
 use Rattle.rss_base.specs.Paged.{Backing}
+use Rattle.rss_base.specs.Steps.{PagesView, PassesOn}
 use Rattle.rss_base.specs.declared.fault.PageFault.{PageFault}
 use Rattle.rss_base.specs.declared.fault.PageFault.TheVariants.{Device as DeviceFailed, NoMemory}
 use Rattle.rss_base.specs.declared.root.Root.{Root}
@@ -17,6 +19,7 @@ use Rattle.rss_store.specs.Stores.{IsSaved}
 use Rattle.rss_trans.specs.Transactions.{Checkpoints}
 use Rattle.rss_session.specs.Sessions.{SessionView, IsReady}
 use Rattle.rss_session.specs.Calls.{GoesOn, CountsAnew}
+use Rattle.rss_session.proofs.Looked.{with_pages}
 
 -- a step of pages leaves what is fixed, and so the committed tables
 pub keeps_altered : {T : Type 0} {result : Result T PageFault} {old new : StoreView} → IsStoreReady old → AltersPages old new result → IsTold old.pages.disk → (state : State) → StoreShows old state → Passes old.pages.disk new.pages.disk (HoldsTables state.size state.base)
@@ -73,3 +76,17 @@ pub record IsBehind (old new : SessionView) : Type 0 where
 pub on_ok_behind : {T : Type 0} (old new : SessionView) (result : Result T PageFault) → OnOk result (IsReady new) → OnOk result (IsSaved new.store) → OnOk result (Checkpoints old.opened new.opened) → OnOk result (CountsAnew old new) → OnOk result (IsBehind old new)
 on_ok_behind old new (Ok value) ready saved checkpoints anew = record { ready = ready; saved = saved; checkpoints = checkpoints; anew = anew }
 on_ok_behind old new (Err fault) ready saved checkpoints anew = tt
+
+-- ---- a call on pages alone
+
+pub goes_called : {T : Type 0} {result : Result T PageFault} {old : SessionView} {pages : PagesView} {asks writes : ℕ} → PassesOn asks writes old.store.pages pages → old.store.pages.settled ≡ true → (IsErrOf result DeviceFailed → Rises old.store.pages.faults pages.faults) → (IsErrOf result NoMemory → ⊥) → GoesOn old (with_pages pages old) result
+goes_called passes settled failed memory = record {
+  told = passes.leaves.told.0;
+  history = λ told. continues (passes.leaves.moments settled told);
+  later = passes.later;
+  failed = failed;
+  memory = memory;
+  slots = refl;
+  log_pages = refl;
+  frames = ap (λ (b : Backing). b.frames) passes.backing;
+}

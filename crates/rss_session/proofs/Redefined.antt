@@ -1,13 +1,11 @@
 -- What is defined is committed, where nothing is open.
-use Rattle.std.proofs.Common.{◌≡◌, inl, inr, ⊎_elim, ℕ, ◌+◌, ◌*◌, ◌≤◌, Bool, true, List, [], ◌∷◌, ◌++◌, length, map, refl, sym, ◌∙◌, ap, subst, arith}
-use Rattle.std.specs.Prelude.{is_some, nat_lt, sum_by, count_by}
+use Rattle.std.proofs.Common.{◌≡◌, ℕ, ◌+◌, List, [], ◌∷◌, ◌++◌, length, map, refl, sym, ◌∙◌, ap, subst, arith}
+use Rattle.std.specs.Prelude.{is_some}
 use Rattle.std.specs.Ordering.{nat_cmp}
 use Rattle.std.specs.FinMap as finite
-use Rattle.std.specs.FinMap.{FinMap, len-entries, len-empty}
+use Rattle.std.specs.FinMap.{FinMap}
 use Rattle.std.proofs.lemmas.List.{append-nil}
-use Rattle.rss_base.specs.LogRecords.{ArePlaced, record_size}
-use Rattle.rss_base.specs.Sizes.{largest_checkpoint}
-use Rattle.rss_base.specs.Listings.{Listing}
+use Rattle.rss_base.specs.LogRecords.{record_size}
 use Rattle.rss_base.specs.Paged.{mapped_of}
 use Rattle.rss_base.specs.declared.key.PageKey.{PageKey}
 use Rattle.rss_base.specs.declared.key.Space.TheVariants.{Home, Overflow}
@@ -18,17 +16,14 @@ use Rattle.rss_model.specs.Changes.{Change, maker}
 use Rattle.rss_model.specs.Defining.{with_definitions}
 use Rattle.rss_model.specs.EngineLogs.{EngineLog, all_logged, saved_log, TiesState}
 use Rattle.rss_model.specs.Fits.{Fits}
-use Rattle.rss_model.specs.LogLaws.{rested_log}
 use Rattle.rss_model.specs.Machine.{StoreSize, State, IsAtRest, with_changes, now}
-use Rattle.rss_model.specs.Meanings.{as_bytes}
 use Rattle.rss_model.specs.Meter.{Stamp, heap_pages, changes_of, changers, checkpoint_size, least_position, free_between}
-use Rattle.rss_model.specs.Records.{Listed, changes_in}
 use Rattle.rss_model.specs.Steps.{stamp_by, redefined}
 use Rattle.rss_model.specs.Store.{SpellsTables, size_of}
 use Rattle.rss_model.specs.Tables.{Definitions, Tables, tuple_count}
 use Rattle.rss_model.proofs.Listed.{heap_is}
 use Rattle.rss_model.proofs.LogOpening.{restart_ties}
-use Rattle.rss_trans.specs.Transactions.{Transaction, any, change_count, marks_of, Checkpoints}
+use Rattle.rss_trans.specs.Transactions.{Transaction, marks_of, Checkpoints}
 use Rattle.rss_trans.specs.Told.{TellsOpen}
 use Rattle.rss_trans.proofs.Told.{none_tells}
 use Rattle.rss_trans.proofs.Summing.{since_saved}
@@ -36,36 +31,24 @@ use Rattle.rss_access.specs.Written.{heap_now}
 use Rattle.rss_store.specs.Stores.{IsSaved}
 use Rattle.rss_store.specs.Shown.{Shows as StoreShows}
 use Rattle.rss_store.specs.Commits.{least_mark, CanCheckpoint}
-use Rattle.rss_session.specs.Sessions.{SessionView, IsReady, sums_in, owed_by}
+use Rattle.rss_session.specs.Sessions.{SessionView, IsReady}
 use Rattle.rss_session.specs.Shown.{Shows}
 use Rattle.rss_session.specs.Weighing.{named, saved_free, MaySave}
+use Rattle.rss_session.proofs.Fresh.{no_entries, none_counted, none_changing}
 use Rattle.rss_session.specs.Calls.{with_catalog, CountsAnew, IsRedefined}
 
 -- ---- nothing is open
 
-no_entries : (es : List (ℕ × Transaction)) → length es ≡ 0 → es ≡ []
-no_entries [] is = refl
-no_entries (e ∷ es) is = absurd (omega (arith, is))
-
-pub none_there : finite.entries {K = ℕ} {X = Transaction} {R = nat_cmp} finite.empty ≡ []
-none_there = no_entries (finite.entries finite.empty) (sym (len-entries finite.empty) ∙ len-empty nat_cmp Transaction)
-
 module _ {view : SessionView} (ready : IsReady view) (closed : view.opened.transactions ≡ finite.empty) where
   pub none_named : named view.opened ≡ []
-  none_named = ap (λ (m : FinMap nat_cmp Transaction). marks_of (finite.entries m)) closed ∙ ap marks_of none_there
-
-  none_changes : (sums_in view.opened).p ≡ 0
-  none_changes = ap (λ (m : FinMap nat_cmp Transaction). sum_by (change_count any) (finite.values m)) closed ∙ ap (λ (es : List (ℕ × Transaction)). sum_by (change_count any) (map (λ (e : ℕ × Transaction). e.1) es)) none_there
-
-  none_changers : (sums_in view.opened).q ≡ 0
-  none_changers = ap (λ (m : FinMap nat_cmp Transaction). count_by (λ x. nat_lt 0 (change_count any x)) (finite.values m)) closed ∙ ap (λ (es : List (ℕ × Transaction)). count_by (λ x. nat_lt 0 (change_count any x)) (map (λ (e : ℕ × Transaction). e.1) es)) none_there
+  none_named = ap (λ (m : FinMap nat_cmp Transaction). marks_of (finite.entries m)) closed ∙ ap marks_of no_entries
 
   free_is : saved_free view ≡ free_between view.store.log.pages view.store.log.end (view.store.log.end + 2)
   free_is = λ i. free_between view.store.log.pages (least_mark view.store.log.end (none_named i)) (view.store.log.end + record_size (records.Checkpoint (none_named i)))
 
   -- a checkpoint always has room in the log then
   pub may_redefine : MaySave view
-  may_redefine = omega (arith, none_changes, none_changers, free_is, ready.store.log.pages, ready.store.formed.log_least)
+  may_redefine = omega (arith, none_counted view.opened closed, none_changing view.opened closed, free_is, ready.store.log.pages, ready.store.formed.log_least)
 
   -- ---- the tables with other definitions
 
@@ -184,7 +167,7 @@ module _ {view : SessionView} (ready : IsReady view) (closed : view.opened.trans
           counted = record {
             since = since_saved new.store.catalog.listing view.opened new.opened state.size.slots tables state.changes state.meter checkpoints;
             heap = heap_are ∙ sym anew.heap;
-            surviving = ap (λ (cs : List Change). length cs) is.none_changed ∙ sym (anew.surviving ∙ none_changes);
+            surviving = ap (λ (cs : List Change). length cs) is.none_changed ∙ sym (anew.surviving ∙ none_counted view.opened closed);
             rooms = is.rooms;
           };
           rested = λ none all. shown.over_is ∙ (λ i. mapped_of (saved.pages i) Overflow (slots i));

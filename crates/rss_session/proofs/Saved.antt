@@ -1,37 +1,33 @@
 -- A checkpoint of a session: what it asks for, and what is so behind it.
-use Rattle.std.proofs.Common.{◌≡◌, inl, inr, ⊎_elim, ℕ, ◌+◌, ◌*◌, ◌^◌, ◌<◌, ◌≤◌, Bool, true, false, List, [], ◌∷◌, ◌++◌, length, refl, sym, ◌∙◌, ap, subst, arith}
+use Rattle.std.proofs.Common.{◌≡◌, ℕ, ◌+◌, ◌≤◌, true, ◌++◌, length, refl, sym, ◌∙◌, ap, subst, arith}
 use Rattle.std.specs.Prelude.{Option, Some, None, is_some}
-use Rattle.std.specs.List.{AllByRecursion}
 use Rattle.std.specs.FinMap as finite
 use Rattle.rss_base.specs.LogRecords.{ArePlaced, IsSpellable, DoesMarkFit, record_size, marks_most}
-use Rattle.rss_base.specs.Sizes.{system_pages, largest_checkpoint, position_limit}
+use Rattle.rss_base.specs.Sizes.{system_pages, largest_checkpoint}
 use Rattle.rss_base.specs.Listings.{Listing}
-use Rattle.rss_base.specs.Paged.{Mapped, mapped_of, mapped_pages}
+use Rattle.rss_base.specs.Paged.{mapped_of, mapped_pages}
 use Rattle.rss_base.specs.Steps.{AreCounted}
 use Rattle.rss_base.specs.declared.key.PageKey.{PageKey}
 use Rattle.rss_base.specs.declared.key.Space.TheVariants.{Home, Overflow}
 use Rattle.rss_base.specs.declared.log_record.LogRecord.TheVariants as records
-use Rattle.rss_base.specs.declared.root.Root.{Root}
 use Rattle.rss_record.proofs.Marks.{length-marks_bytes}
-use Rattle.rss_log.specs.Logs.{LogView, free_of}
+use Rattle.rss_log.specs.Logs.{free_of}
 use Rattle.rss_model.specs.Fits.{Fits}
 use Rattle.rss_model.specs.Kept.{Kept}
-use Rattle.rss_model.specs.Machine.{StoreSize, State, now}
+use Rattle.rss_model.specs.Machine.{State, now}
 use Rattle.rss_model.specs.Meter.{free_between, least_position}
 use Rattle.rss_model.specs.Meanings.{as_bytes}
 use Rattle.rss_model.specs.EngineLogs.{EngineLog, lists_now, saved_log, TiesState}
 use Rattle.rss_model.specs.LogLaws.{SavesTie, head_behind}
-use Rattle.rss_model.specs.Records.{Listed}
 use Rattle.rss_model.specs.Recovers.{NamesLists}
 use Rattle.rss_model.specs.Rules.{saved_now, if_no_log_room}
-use Rattle.rss_model.specs.Spares.{page_counts, HasMade, HasRoomFor, IsInSession}
+use Rattle.rss_model.specs.Spares.{page_counts, HasMade, IsInSession}
 use Rattle.rss_model.specs.Store.{size_of}
 use Rattle.rss_model.proofs.BothRooms.{checkpoints_keep_rooms}
 use Rattle.rss_model.proofs.LogSaving.{checkpoint_ties}
 use Rattle.rss_model.proofs.Sparing.{session_begins}
 use Rattle.rss_model.proofs.StepKeeping.{kept_fit}
 use Rattle.rss_model.proofs.StorePages.{pages_are}
-use Rattle.rss_trans.specs.declared.noted.Noted.{Noted}
 use Rattle.rss_trans.specs.Transactions.{Transaction, OpenView, is_open, transaction_in, first_position, Checkpoints}
 use Rattle.rss_trans.specs.Told.{TellsOpen}
 use Rattle.rss_trans.proofs.Told.{done, checkpoint_tells}
@@ -42,14 +38,12 @@ use Rattle.rss_store.specs.Stores.{IsSaved}
 use Rattle.rss_store.specs.Stores.{IsReady as IsStoreReady}
 use Rattle.rss_store.specs.Shown.{Shows as StoreShows}
 use Rattle.rss_store.specs.Commits.{HasLogRoom, least_mark, CanCheckpoint, Saves}
-
 use Rattle.rss_session.specs.Sessions.{SessionView, AreRising, IsReady, IsEarly, sums_in, owed_by}
 use Rattle.rss_session.specs.Sessions as sessions
 use Rattle.rss_session.specs.Shown.{Shows}
-use Rattle.rss_session.specs.Weighing.{named, saved_head, saved_end, saved_free, MaySave}
-use Rattle.rss_session.specs.Calls.{CountsAnew}
+use Rattle.rss_session.specs.Weighing.{named, saved_head, saved_free, MaySave}
 use Rattle.rss_session.proofs.Marked.{low_least, least_end, least_all, all_marked, marked_all, rising_higher, rising_from, first_placed}
-use Rattle.rss_session.proofs.Weighed.{count_same, slots_same, end_same, saved_head_same, saved_heap_same, may_save}
+use Rattle.rss_session.proofs.Weighed.{count_same, slots_same, saved_head_same, saved_heap_same, may_save}
 
 -- ---- what it asks for
 

@@ -5,22 +5,18 @@ use Rattle.std.specs.Cmp.{nat_cmp_total}
 use Rattle.std.specs.FinMap.{FinMap, get, insert, values, get-insert}
 use Rattle.std.specs.Ordering.{eq_by_cmp, nat_cmp}
 use Rattle.std.proofs.lemmas.Bool.{cond-true, cond-false}
-use Rattle.rss_model.specs.Tables.{Tables}
-use Rattle.rss_model.specs.Changes.{Change}
-use Rattle.rss_model.specs.Meter.{Meter}
-use Rattle.rss_model.specs.Machine.{StoreSize, State}
+use Rattle.rss_model.specs.Machine.{State}
 use Rattle.rss_model.specs.Spares.{page_counts, HasRoomFor, IsInSession}
 use Rattle.rss_model.proofs.LogLists.{by_same}
 use Rattle.rss_trans.specs.declared.noted.Noted.{Noted}
 use Rattle.rss_trans.specs.Transactions.{Transaction, nothing, OpenView, is_open, transaction_in, IsSame, any, change_count, sums_of}
 use Rattle.rss_trans.specs.Told.{SavePoints, TellsOpen}
 use Rattle.rss_trans.proofs.Told.{key_here, key_off, same_tells}
-use Rattle.rss_store.specs.Stores.{StoreView}
-use Rattle.rss_store.specs.Shown.{ShowsWith, Shows as StoreShows}
 use Rattle.rss_session.specs.Sessions.{SessionView, IsReady, AreRising, counts, sums_in}
 use Rattle.rss_session.specs.Shown.{Shows}
 use Rattle.rss_session.specs.Weighing.{weighed}
-use Rattle.rss_session.proofs.Summed.{insert_sum}
+use Rattle.rss_session.proofs.Steady.{shows_same}
+use Rattle.rss_session.proofs.Sums.{insert_sum}
 
 -- ---- by the result
 
@@ -31,55 +27,6 @@ either (Err e) ok err at_ok at_err = at_err err
 pub if_ok_with : {T E Q : Type 0} {P R : T → Type 0} (result : Result T E) → IfOk result P → OnOk result Q → ((value : T) → P value → Q → R value) → IfOk result R
 if_ok_with (Ok value) one other both = both value one other
 if_ok_with (Err e) one other both = tt
-
--- ---- of a store
-
--- the state with these in their place
-abbrev with_parts : State → StoreSize → Tables → List Change → Meter → State
-with_parts state size base changes meter = record {
-  size = size;
-  base = base;
-  changes = changes;
-  marks = state.marks;
-  locks = state.locks;
-  scans = state.scans;
-  meter = meter;
-}
-
-pub shows_with_same : {view : StoreView} {state : State} {there : List Change} {over : ℕ} (other : State)
-    → other.size ≡ state.size → other.base ≡ state.base → other.changes ≡ state.changes → other.meter ≡ state.meter
-    → ShowsWith view state there over → ShowsWith view other there over
-shows_with_same {view = view} {state = state} {there = there} {over = over} other size base changes meter shows =
-    let tied = shows.tied in
-    let ties = tied.ties in
-    let same : ShowsWith view (with_parts other state.size state.base state.changes state.meter) there over = record {
-      log = shows.log;
-      stored = shows.stored;
-      disk = shows.disk;
-      tied = record {
-        ties = record { ties = ties.ties; definitions = ties.definitions; fits = ties.fits; placed = ties.placed; own = ties.own; meter = ties.meter };
-        older = tied.older;
-        newer = tied.newer;
-        size = tied.size;
-        tables = tied.tables;
-      };
-      logged = shows.logged;
-      definitions = shows.definitions;
-      spells = shows.spells;
-      written = shows.written;
-      heap = shows.heap;
-      session = shows.session;
-      over_is = shows.over_is;
-    } in
-    let all : with_parts other state.size state.base state.changes state.meter ≡ other = λ i. with_parts other (sym size i) (sym base i) (sym changes i) (sym meter i) in
-    subst (λ (s : State). ShowsWith view s there over) all same
-
-pub shows_same : {view : StoreView} {state : State} (other : State)
-    → other.size ≡ state.size → other.base ≡ state.base → other.changes ≡ state.changes → other.meter ≡ state.meter
-    → StoreShows view state → StoreShows view other
-shows_same {view = view} {state = state} other size base changes meter shows =
-    subst (λ (cs : List Change). ShowsWith view other cs other.meter.over) (sym changes)
-    (subst (λ (m : Meter). ShowsWith view other state.changes m.over) (sym meter) (shows_with_same other size base changes meter shows))
 
 -- ---- of a session
 
@@ -95,7 +42,7 @@ pub shows_opened : {view : SessionView} {state : State} (opened : OpenView) (mar
 shows_opened {view = view} {state = state} opened marks shows told since since_of =
     let counted = shows.counted in
     let metered = counted.rooms.metered in record {
-      store = shows_same (record state { marks = marks }) refl refl refl refl shows.store;
+      store = shows_same marks state.locks state.scans shows.store;
       listed = shows.listed;
       list = shows.list;
       told = told;

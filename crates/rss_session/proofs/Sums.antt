@@ -1,7 +1,7 @@
 -- Sums over the open transactions, when one of them has done something more.
-use Rattle.std.proofs.Common.{◌≡◌, ◌≢◌, ℕ, ◌+◌, ◌<◌, Bool, true, false, cond, List, [], ◌∷◌, ◌++◌, length, map, refl, sym, ◌∙◌, ap, subst, arith}
-use Rattle.std.specs.Prelude.{Option, Some, None, is_some, nat_lt, count_by, sum_by, if◌then◌else◌}
-use Rattle.std.specs.Ordering.{nat_cmp, eq_by_cmp}
+use Rattle.std.proofs.Common.{◌≡◌, ◌≢◌, ℕ, ◌+◌, Bool, true, cond, List, [], ◌∷◌, map, refl, sym, ◌∙◌, ap, arith}
+use Rattle.std.specs.Prelude.{Option, Some, None, is_some, sum_by}
+use Rattle.std.specs.Ordering.{nat_cmp}
 use Rattle.std.specs.Cmp.{nat_cmp_total}
 use Rattle.std.specs.FinMap as finite
 use Rattle.std.specs.FinMap.{FinMap, nat_cmp-IsAntisymmetric, get-entries, get-insert, get-remove, entries-insert, put as put_entry, same_map}
@@ -9,11 +9,10 @@ use Rattle.std.specs.FinMap.Entries.{find}
 use Rattle.std.specs.declared.cmp.Ordering.{Ordering}
 use Rattle.std.specs.declared.cmp.Ordering.TheVariants.{Less, Equal, Greater}
 use Rattle.std.proofs.lemmas.List.Sums.{sum_by-cons}
-use Rattle.std.proofs.lemmas.Option.{same_Some}
 use Rattle.rss_model.proofs.Contents.{tied, not_tied}
 use Rattle.rss_model.proofs.LogLists.{by_same}
 use Rattle.rss_trans.proofs.Told.{done}
-use Rattle.rss_trans.specs.Transactions.{Transaction, OpenView, is_open, transaction_in}
+use Rattle.rss_trans.specs.Transactions.{Transaction, nothing, OpenView, is_open, transaction_in}
 
 abbrev Entries : Type 0
 Entries = List (ℕ × Transaction)
@@ -76,6 +75,14 @@ module _ (f : Transaction → ℕ) where
   changed_sum m t x y is =
       let now = ap (λ (n : FinMap nat_cmp Transaction). sum_by f (finite.values n)) (sym (put_back m t x)) ∙ added_sum (finite.remove m t) t x (gone_here m t) in
       omega (arith, now, gone_sum m t y is)
+
+  -- whether it was there or not, where nothing counts for one that has done nothing
+  pub insert_sum : f nothing ≡ 0 → (m : FinMap nat_cmp Transaction) (t : ℕ) (x : Transaction) → sum_by f (finite.values (finite.insert m t x)) + f (done (finite.get m t)) ≡ f x + sum_by f (finite.values m)
+  insert_sum none m t x = by (finite.get m t) refl
+    where
+      by : (o : Option Transaction) → finite.get m t ≡ o → sum_by f (finite.values (finite.insert m t x)) + f (done (finite.get m t)) ≡ f x + sum_by f (finite.values m)
+      by None at = let more = added_sum m t x at in let was : f (done (finite.get m t)) ≡ 0 = ap (λ (o : Option Transaction). f (done o)) at ∙ none in omega (arith, more, was)
+      by (Some y) at = let more = changed_sum m t x y at in let was : f (done (finite.get m t)) ≡ f y = ap (λ (o : Option Transaction). f (done o)) at in omega (arith, more, was)
 
 -- the transaction that is open
 pub get_open : (view : OpenView) (t : ℕ) → is_open view t ≡ true → finite.get view.transactions t ≡ Some (transaction_in view t)

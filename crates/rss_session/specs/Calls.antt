@@ -16,7 +16,7 @@ use Rattle.rss_model.specs.Ruled.{HasBothRooms, ruled}
 use Rattle.rss_model.specs.Kept.{Kept, FitMixed}
 use Rattle.rss_model.specs.Steps.{IsOver, MayUndo, undone_to, left_at, restored, gone, committing, redefined}
 use Rattle.rss_model.specs.Store.{SpellsTables}
-use Rattle.rss_trans.specs.Transactions.{Transaction, transaction_in, count_at, Steps}
+use Rattle.rss_trans.specs.Transactions.{OpenView, Transaction, transaction_in, without_newest, count_at, Steps}
 use Rattle.rss_store.specs.Changing.{MayMake, IsOwnAt}
 use Rattle.rss_store.specs.Shown.{HoldsTables}
 use Rattle.rss_access.specs.Written.{heap_now, AreWritten}
@@ -129,6 +129,26 @@ pub record TakesBack (t save : ℕ) (old new : SessionView) (first : Option ℕ)
   pub log : new.store.log ≡ old.store.log
   pub root : new.store.root ≡ old.store.root
   pub number : new.store.number ≡ old.store.number
+  pub backing : new.store.pages.backing ≡ old.store.pages.backing
+
+-- the newest of its changes has this position, and so many older ones
+pub record HasNewest (opened : OpenView) (t position : ℕ) : Type 0 where
+  pub older : ℕ
+  pub count : length (transaction_in opened t).changes ≡ older + 1
+  pub place : option_map (λ note. note.position) (slice_get (transaction_in opened t).changes older)
+      ≡ Some position
+
+-- it is taken away
+pub record TakesNewest (t : ℕ) (old new : SessionView) : Type 0 where
+  pub opened : Steps t without_newest old.opened new.opened
+  pub heap : new.heap ≡ old.heap
+  pub surviving : new.surviving ≡ old.surviving
+
+-- and one change less of it is in the tables
+abbrev pub TakesBackOne : SessionView → SessionView → ℕ → ℕ → Type 0
+TakesBackOne old new t position =
+    (state : State) (n : ℕ) → length (transaction_in old.opened t).changes ≡ n + 1
+    → IsOwnAt state t n position → ShowsBack old state t (n + 1) → ShowsBack new state t n
 
 -- only so many of its changes are still in the tables, where it had more
 pub record GoesBack (new : SessionView) (state : State) (t left : ℕ) (first : Option ℕ) : Type 0 where

@@ -3,6 +3,7 @@ pub mod Shown
 pub mod Weighing
 pub mod Changes
 pub mod Calls
+pub mod Looks
 pub mod Parts
 pub mod Admissions
 pub mod FieldTests

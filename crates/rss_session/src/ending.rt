@@ -110,10 +110,11 @@ impl<S: Saving> Session<S> {
         ensures appends { Appends end_size (view S.view self.old) (view S.view self.new) }
         ensures goes { GoesOn (view S.view self.old) (view S.view self.new) result }
     {
-        if self.open.newest(transaction, 0).is_some() {
-            self.store.commit(transaction)?;
-        }
+        let changed = self.open.newest(transaction, 0).is_some();
         self.open.gone(transaction);
-        Ok(())
+        if !changed {
+            return Ok(());
+        }
+        self.store.commit(transaction)
     }
 }

@@ -11,7 +11,8 @@ ghost use Rattle.rss_trans.specs.Transactions.{is_open, transaction_in};
 ghost use Rattle.rss_session.specs.Sessions.{IsReady, IsEarly};
 ghost use Rattle.rss_session.specs.Shown.{Shows};
 ghost use Rattle.rss_session.specs.Calls.{GoesOn, Appends, KeepsTables, HasMarks, Restores, Aborts, ShowsNone};
-ghost use Rattle.rss_session.specs.Calls.{TakesBack, GoesBack};
+ghost use Rattle.rss_session.specs.Calls.{TakesBack, GoesBack, HasNewest, TakesNewest, TakesBackOne};
+ghost use Rattle.rss_store.specs.Changing.{AltersPages, MayNotTakeBack};
 
 use crate::Session;
 use rss_base::PageFault;
@@ -38,10 +39,11 @@ impl<S: Saving> Session<S> {
         ensures appends { Appends restore_size (view S.view self.old) (view S.view self.new) }
         ensures goes { GoesOn (view S.view self.old) (view S.view self.new) result }
     {
-        if let Some(first) = self.undo_after(transaction, save)? {
+        let first = self.undo_after(transaction, save)?;
+        self.open.cut(transaction, save);
+        if let Some(first) = first {
             self.store.cut(transaction, first);
         }
-        self.open.cut(transaction, save);
         Ok(())
     }
 
@@ -60,10 +62,11 @@ impl<S: Saving> Session<S> {
         ensures appends { Appends end_size (view S.view self.old) (view S.view self.new) }
         ensures goes { GoesOn (view S.view self.old) (view S.view self.new) result }
     {
-        if self.undo_after(transaction, 0)?.is_some() {
+        let first = self.undo_after(transaction, 0)?;
+        self.open.gone(transaction);
+        if first.is_some() {
             self.store.abort(transaction);
         }
-        self.open.gone(transaction);
         Ok(())
     }
 
@@ -88,10 +91,30 @@ impl<S: Saving> Session<S> {
     {
         let mut first = None;
         while let Some(position) = self.open.newest(transaction, save) {
-            self.store.undo(position)?;
-            self.open.take_newest(transaction);
+            self.undo_newest(transaction, position)?;
             first = Some(position);
         }
         Ok(first)
+    }
+
+    /// Undoes a transaction's newest change, whose record begins at this position.
+    fn undo_newest(&mut self, transaction: u32, position: u64) -> Result<(), PageFault>
+        requires ready { IsReady (view S.view self.old) }
+        requires open { is_open (view S.view self.old).opened transaction ≡ true }
+        requires newest { HasNewest (view S.view self.old).opened transaction position }
+        ensures ready { OnOk result (IsReady (view S.view self.new)) }
+        ensures takes { OnOk result
+            (TakesNewest transaction (view S.view self.old) (view S.view self.new)) }
+        ensures back { OnOk result (IsTold (view S.view self.old).store.pages.disk
+            → TakesBackOne (view S.view self.old) (view S.view self.new) transaction position) }
+        ensures sound { (place : AnyPlace) → result ≡ Err (Damaged place)
+            → IsTold (view S.view self.old).store.pages.disk
+            → MayNotTakeBack (view S.view self.old).store position }
+        ensures log { (view S.view self.new).store.log ≡ (view S.view self.old).store.log }
+        ensures did { AltersPages (view S.view self.old).store (view S.view self.new).store result }
+    {
+        self.store.undo(position)?;
+        self.open.take_newest(transaction);
+        Ok(())
     }
 }

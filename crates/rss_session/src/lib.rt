@@ -7,6 +7,7 @@ mod changing;
 mod defining;
 mod ending;
 mod going_back;
+mod looking;
 mod opening;
 mod saving;
 mod session;

@@ -1,13 +1,9 @@
-use Rattle.std.proofs.Common.{◌≡◌, ◌∙◌, ◌≤◌, ℕ, Bool, true, false, sym, ap, subst, arith}
-use Rattle.std.specs.Prelude.{Result, Ok}
+use Rattle.std.proofs.Common.{◌≡◌, ◌∙◌, ℕ, Bool, true, ap, arith}
+use Rattle.std.specs.Prelude.{Ok}
 use Rattle.std.proofs.lemmas.Result.{on_ok_weaker}
-use Rattle.rss_base.specs.LogRecords.{record_size}
-use Rattle.rss_base.specs.declared.log_record.LogRecord.TheVariants as records
 use Rattle.rss_base.proofs.Moments.{then}
 use Rattle.rss_model.specs.Rules.{saved_now}
 use Rattle.rss_model.proofs.OpenKeeping.{keeps_meter}
-use Rattle.rss_session.specs.Parts.{view}
-use Rattle.rss_session.specs.Weighing.{weighed}
 use Rattle.rss_session.proofs.Made.{weighed_again, may_then, makes_then}
 use Rattle.rss_session.proofs.session.Session.make.Goals as goal
 

@@ -1,4 +1,4 @@
-use Rattle.std.proofs.Common.{◌≡◌, inl, inr, ⊎_elim, sym, subst}
+use Rattle.std.proofs.Common.{inl, inr, ⊎_elim, sym, subst}
 use Rattle.rss_base.proofs.Moments.{widened}
 use Rattle.rss_model.specs.Defining.{with_definitions}
 use Rattle.rss_model.specs.Machine.{StoreSize}

@@ -1,16 +1,10 @@
-use Rattle.std.proofs.Common.{◌≡◌, inl, inr, ⊎_elim, ℕ, ◌≤◌, List, length, refl, sym, ◌∙◌, ap, subst, arith}
+use Rattle.std.proofs.Common.{ℕ, ◌≤◌, List, length, sym, ◌∙◌, ap, subst, arith}
 use Rattle.rss_base.specs.LogRecords.{record_size, marks_most}
 use Rattle.rss_base.specs.declared.log_record.LogRecord.TheVariants as records
-use Rattle.rss_base.specs.declared.root.Root.{Root}
-use Rattle.rss_base.proofs.Moments.{widened}
-use Rattle.rss_model.specs.Machine.{StoreSize}
-use Rattle.rss_model.specs.Rules.{saved_now}
 use Rattle.rss_store.specs.Commits.{HasLogRoom, least_mark, CanCheckpoint, Saves}
-use Rattle.rss_store.specs.Shown.{HoldsTables}
 use Rattle.rss_store.specs.Parts.{view as store_view}
 use Rattle.rss_session.specs.Parts.{view}
-use Rattle.rss_session.specs.Weighing.{named}
-use Rattle.rss_session.proofs.Saved.{head_low, size_most, log_room, can_save, shows_saved, ready_saved, heap_same, sums_same}
+use Rattle.rss_session.proofs.Saved.{head_low, size_most, log_room, ready_saved, heap_same, sums_same}
 use Rattle.rss_session.proofs.session.Session.save_all.Goals as goal
 
 pub checkpoint-requires-clause-low : goal.checkpoint-requires-clause-low

@@ -1,4 +1,4 @@
-use Rattle.std.proofs.Common.{◌≡◌, ◌+◌, ◌<◌, ◌≤◌, length, arith}
+use Rattle.std.proofs.Common.{◌+◌, ◌<◌, ◌≤◌, length, arith}
 use Rattle.rss_base.specs.LogRecords.{longest_record, marks_most}
 use Rattle.rss_base.specs.Sizes.{position_limit}
 use Rattle.rss_record.proofs.Marks.{length-marks_bytes}

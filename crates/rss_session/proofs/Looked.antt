@@ -1,0 +1,126 @@
+-- A look leaves the session as it was.
+use Rattle.std.proofs.Common.{◌≡◌, ℕ, true, Bool, List, [], sym, ◌∙◌, ap, subst, arith}
+use Rattle.std.specs.Prelude.{Option, Some, None, Result, Ok, Err, IfOk, IfSome}
+use Rattle.rss_base.specs.DiskRule.{IsTold}
+use Rattle.rss_base.specs.Paged.{Held, Mapped, Fixed, Backing, HasFixed, mapped_of, mapped_pages, page_key}
+use Rattle.rss_base.specs.PageMap.{page_count}
+use Rattle.rss_base.specs.StoredPages.{mapped_by}
+use Rattle.rss_base.specs.Steps.{PagesView, PassesOn, AreCounted}
+use Rattle.rss_base.specs.declared.key.Space.TheVariants.{Overflow, System}
+use Rattle.rss_base.specs.declared.fault.PageFault.{PageFault}
+use Rattle.rss_base.specs.declared.tid.Tid.{Tid}
+use Rattle.rss_base.proofs.Moments.{widened}
+use Rattle.rss_tuple.specs.Heaps.{AreHeaps}
+use Rattle.rss_model.specs.Machine.{State, now}
+use Rattle.rss_model.specs.Spares.{page_counts, change_counts, HasRoomFor, IsInSession}
+use Rattle.rss_model.specs.Store.{SpellsTables}
+use Rattle.rss_model.proofs.StepKeeping.{kept_fit}
+use Rattle.rss_access.specs.Tuples.{body_at, FindsBody}
+use Rattle.rss_tuple.specs.Placing.{IsChosen, IsFree}
+use Rattle.rss_tuple.specs.TupleSteps.{tuples_in}
+use Rattle.rss_access.specs.Written.{AreWritten}
+use Rattle.rss_access.proofs.Spelling.{found_values, found_none, none_listed}
+use Rattle.rss_session.specs.Sessions.{SessionView, IsReady, sums_in}
+use Rattle.rss_session.specs.Sessions as sessions
+use Rattle.rss_session.specs.Shown.{Shows}
+use Rattle.rss_session.specs.Calls.{KeepsTables}
+use Rattle.rss_session.specs.Looks.{FindsTuple, IsPlace, FindsPlace}
+
+-- the session with other pages
+abbrev pub with_pages : PagesView → SessionView → SessionView
+with_pages pages view = record view { store = record view.store { pages = pages } }
+
+module _ (old : SessionView) {pages : PagesView} {asks writes : ℕ} (passes : PassesOn asks writes old.store.pages pages) (mapped : pages.mapped ≡ old.store.pages.mapped) (counted_old : AreCounted old.store.pages) (counted : AreCounted pages) where
+  spare_same : pages.spare ≡ old.store.pages.spare
+  spare_same =
+      let there : mapped_pages pages.slots pages.mapped ≡ mapped_pages old.store.pages.slots old.store.pages.mapped = λ i. mapped_pages (passes.slots i) (mapped i) in
+      let saved : page_count pages.backing.shadow ≡ page_count old.store.pages.backing.shadow = ap (λ (b : Backing). page_count b.shadow) passes.backing in
+      omega (arith, counted_old, counted, there, saved, passes.slots)
+
+  counts_same : page_counts pages ≡ page_counts old.store.pages
+  counts_same = λ i. record { slots = passes.slots i; saved = page_count (passes.backing i).shadow; mapped = mapped_pages (passes.slots i) (mapped i); spare = spare_same i }
+
+  pub ready_looked : IsReady old → (IsTold pages.disk → AreHeaps pages) → IsReady (with_pages pages old)
+  ready_looked ready heaps = record {
+    store = record {
+      number_low = ready.store.number_low;
+      number_high = ready.store.number_high;
+      formed = ready.store.formed;
+      size = passes.slots ∙ ready.store.size;
+      log_pages = ap (λ (b : Backing). b.log_pages) passes.backing ∙ ready.store.log_pages;
+      area = ap (λ (b : Backing). b.area) passes.backing ∙ ready.store.area;
+      log = ready.store.log;
+      system = λ page low. ap (λ (m : Mapped). m (page_key 0 System page)) mapped ∙ ready.store.system page low;
+      only = λ key is. ready.store.only key (sym (ap (λ (m : Mapped). m key) mapped) ∙ is);
+      pending_places = ready.store.pending_places;
+      settled_now = passes.leaves.stays_settled ready.store.settled_now;
+      heaps = heaps;
+    };
+    pages = subst (IsInSession (sessions.counts old) (sums_in old.opened).p) (sym counts_same) ready.pages;
+    room = subst (HasRoomFor (sessions.counts old)) (sym counts_same) ready.room;
+    log = ready.log;
+    placed = ready.placed;
+    numbers = ready.numbers;
+  }
+
+  module _ (settled : old.store.pages.settled ≡ true) (told : IsTold old.store.pages.disk) (held : pages.held ≡ old.store.pages.held) {state : State} (shows : Shows old state) where
+    pub shows_looked : Shows (with_pages pages old) state
+    shows_looked = record {
+      store = record {
+        log = shows.store.log;
+        stored = shows.store.stored;
+        disk = record {
+          number_is = shows.store.disk.number_is;
+          root_is = shows.store.disk.root_is;
+          owners_are = shows.store.disk.owners_are ∙ ap (λ (b : Backing). b.shadow) (sym passes.backing);
+          fixes = λ image has. shows.store.disk.fixes image (subst (λ (fixed : Fixed). HasFixed fixed image) (passes.leaves.same settled told) has);
+        };
+        tied = shows.store.tied;
+        logged = record { head_is = shows.store.logged.head_is; end_is = shows.store.logged.end_is; records = shows.store.logged.records; until = shows.store.logged.until };
+        definitions = shows.store.definitions;
+        spells = subst (λ (h : Held). SpellsTables h old.store.catalog.listing (now state)) (sym held) shows.store.spells;
+        written = subst (λ (h : Held). AreWritten h old.store.catalog) (sym held) shows.store.written;
+        heap = shows.store.heap;
+        session = subst (IsInSession (change_counts state.meter) _) (sym counts_same) shows.store.session;
+        over_is = shows.store.over_is ∙ (λ i. mapped_of (sym mapped i) Overflow (sym passes.slots i));
+      };
+      listed = shows.listed;
+      list = shows.list;
+      told = shows.told;
+      counted = record { since = shows.counted.since; heap = shows.counted.heap; surviving = shows.counted.surviving; rooms = shows.counted.rooms };
+      rested = λ none all. shows.rested none all ∙ ap (λ (b : Backing). mapped_of (mapped_by b.shadow) Overflow old.store.root.slots) (sym passes.backing);
+    }
+
+-- at each moment of it a stop leaves the committed tables
+pub keeps_looked : {old : SessionView} {pages : PagesView} {asks writes : ℕ} → PassesOn asks writes old.store.pages pages → old.store.pages.settled ≡ true → KeepsTables old (with_pages pages old)
+keeps_looked passes settled = λ told state kept shows.
+    widened (passes.leaves.moments settled told) (λ image has. record {
+      stored = shows.store.stored;
+      store = shows.store.disk.fixes image has;
+      same_size = shows.store.tied.size;
+      holds = sym shows.store.tied.tables;
+    })
+
+-- what was found
+pub finds_tuple : {view : SessionView} {segment number : ℕ} {tid : Tid} {there : Bool} {body : List ℕ} → FindsBody segment number tid view.store.pages there body → FindsTuple view segment number tid there body
+finds_tuple {view = view} {segment = segment} {number = number} {tid = tid} {there = there} {body = body} finds = record {
+  some = λ is state relation kept shows in_it.
+      let found = found_values shows.store.spells (kept_fit state kept).1 number relation in_it.at tid body (subst (λ (b : Bool). FindsBody relation.segment number tid view.store.pages b body) is (subst (λ (s : ℕ). FindsBody s number tid view.store.pages there body) (sym in_it.within) finds)) in
+      record { values = found.values; spelled = found.body; holds = found.holds };
+  none = λ is state relation kept shows in_it.
+      found_none shows.store.spells (kept_fit state kept).1 number relation in_it.at tid body (subst (λ (b : Bool). FindsBody relation.segment number tid view.store.pages b body) is (subst (λ (s : ℕ). FindsBody s number tid view.store.pages there body) (sym in_it.within) finds));
+}
+
+-- where a new tuple gets its identifier
+pub finds_place : {view : SessionView} {segment length : ℕ} {tid : Tid} → (IsTold view.store.pages.disk → IsChosen view.store.pages segment length [] tid) → (IsTold view.store.pages.disk → body_at view.store.pages segment tid ≡ None) → IsPlace view segment length tid
+finds_place {view = view} {segment = segment} {tid = tid} chosen absent = record {
+  chosen = chosen;
+  absent = λ told state number relation kept shows in_it.
+      none_listed shows.store.spells (kept_fit state kept).1 number relation in_it.at tid (ap (λ (s : ℕ). body_at view.store.pages s tid) in_it.within ∙ absent told);
+}
+
+pub place_found : (view : SessionView) (segment length : ℕ) (result : Result (Option Tid) PageFault) → IfOk result (λ found. IfSome found (λ tid. IsTold view.store.pages.disk → IsFree (tuples_in view.store.pages) segment [] tid))
+    → IfOk result (λ found. IfSome found (λ tid. IsTold view.store.pages.disk → IsChosen view.store.pages segment length [] tid)) → IfOk result (FindsPlace view segment length)
+place_found view segment length (Ok None) free chosen = tt
+place_found view segment length (Ok (Some tid)) free chosen = finds_place chosen (λ told. (free told).absent)
+place_found view segment length (Err fault) free chosen = tt

@@ -1,0 +1,62 @@
+-- What a look at tuples finds, and what it passes on.
+use Rattle.std.specs.Prelude.{◌≡◌, ℕ, Bool, true, false, List, [], Option, Some, None, IfSome, Result, Err, OnOk}
+use Rattle.rss_base.specs.DiskRule.{IsTold}
+use Rattle.rss_base.specs.Listings.{relation_at}
+use Rattle.rss_base.specs.TupleTypes.{kinds}
+use Rattle.rss_base.specs.declared.fault.PageFault.{PageFault}
+use Rattle.rss_base.specs.declared.fault.PageFault.TheVariants.{Damaged}
+use Rattle.rss_base.specs.declared.item.Item.TheVariants.{Tuple}
+use Rattle.rss_base.specs.declared.place.Place.{Place}
+use Rattle.rss_base.specs.declared.relation.RelationEntry.{RelationEntry}
+use Rattle.rss_base.specs.declared.tid.Tid.{Tid}
+use Rattle.rss_base.specs.declared.value.Value.{Value}
+use Rattle.rss_tuple.specs.Placing.{IsChosen}
+use Rattle.rss_model.specs.Items.{Values}
+use Rattle.rss_model.specs.Kept.{Kept}
+use Rattle.rss_model.specs.Machine.{State, now}
+use Rattle.rss_model.specs.Tables.{content}
+use Rattle.rss_access.specs.Bodies.{IsBodyOf}
+use Rattle.rss_session.specs.Sessions.{SessionView, IsReady}
+use Rattle.rss_session.specs.Shown.{Shows}
+use Rattle.rss_session.specs.Calls.{GoesOn, KeepsTables}
+
+-- By the result: the session is in the states in which it was, with the same catalog and log, and a stop leaves the committed tables. A device that tells its contents shows no damage.
+pub record LooksOn {T : Type 0} (old new : SessionView) (result : Result T PageFault) : Type 0 where
+  pub ready : OnOk result (IsReady new)
+  pub shows : IsTold old.store.pages.disk → (state : State) → Shows old state → Shows new state
+  pub catalog : new.store.catalog ≡ old.store.catalog
+  pub log : new.store.log ≡ old.store.log
+  pub opened : new.opened ≡ old.opened
+  pub sound : (place : Place) → result ≡ Err (Damaged place) → IsTold old.store.pages.disk → ⊥
+  pub moments : KeepsTables old new
+  pub goes : GoesOn old new result
+
+-- the relation of this number, and this segment, is listed
+pub record IsRelationIn (view : SessionView) (segment number : ℕ) (relation : RelationEntry) : Type 0 where
+  pub at : relation_at view.store.catalog.listing number ≡ Some relation
+  pub within : relation.segment ≡ segment
+
+-- a tuple of these values, whose body this is
+pub record HasTuple (state : State) (number : ℕ) (relation : RelationEntry) (tid : Tid) (body : List ℕ) : Type 0 where
+  pub values : List Value
+  pub spelled : IsBodyOf number (kinds relation.fields) values body
+  pub holds : content (now state).contents (Tuple relation.name tid) ≡ Some (Values values)
+
+-- Whether there is such a tuple, in each state.
+pub record FindsTuple (view : SessionView) (segment number : ℕ) (tid : Tid) (there : Bool) (body : List ℕ) : Type 0 where
+  pub some : there ≡ true → (state : State) (relation : RelationEntry) → Kept state → Shows view state
+      → IsRelationIn view segment number relation → HasTuple state number relation tid body
+  pub none : there ≡ false → (state : State) (relation : RelationEntry) → Kept state → Shows view state
+      → IsRelationIn view segment number relation
+      → content (now state).contents (Tuple relation.name tid) ≡ None
+
+-- The identifier is the one that the placing rule names, and no tuple has it.
+pub record IsPlace (view : SessionView) (segment length : ℕ) (tid : Tid) : Type 0 where
+  pub chosen : IsTold view.store.pages.disk → IsChosen view.store.pages segment length [] tid
+  pub absent : IsTold view.store.pages.disk
+      → (state : State) (number : ℕ) (relation : RelationEntry) → Kept state → Shows view state
+      → IsRelationIn view segment number relation
+      → content (now state).contents (Tuple relation.name tid) ≡ None
+
+abbrev pub FindsPlace : SessionView → ℕ → ℕ → Option Tid → Type 0
+FindsPlace view segment length found = IfSome found (IsPlace view segment length)

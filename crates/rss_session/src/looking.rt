@@ -1,0 +1,46 @@
+// Looks at tuples.
+ghost use Rattle.std.specs.Prelude.{◌≡◌, true, is_some, IfOk};
+ghost use Rattle.rss_base.specs.DiskRule.{IsTold};
+ghost use Rattle.rss_base.specs.Listings.{relation_at};
+ghost use Rattle.rss_base.specs.declared.relation.RelationEntry.{RelationEntry as AnyEntry};
+ghost use Rattle.rss_session.specs.Sessions.{IsReady};
+ghost use Rattle.rss_session.specs.Looks.{LooksOn, FindsTuple, FindsPlace};
+ghost use Rattle.rss_tuple.specs.Calls.{MayPut};
+
+use crate::Session;
+use rss_access::find;
+use rss_base::{Body, PageFault, Tid};
+use rss_buffer::Saving;
+use rss_tuple::Tuples;
+
+impl<S: Saving> Session<S> {
+    ghost use Rattle.rss_session.specs.Parts.{view};
+
+    /// Whether the tuple with this identifier is one of the relation of this number, which stands in
+    /// this segment. If so, its body is put into `into`. Asks for two pages at most.
+    pub fn look(
+        &mut self,
+        segment: u8,
+        number: u8,
+        tid: Tid,
+        into: &mut Body,
+    ) -> Result<bool, PageFault>
+        requires { IsReady (view S.view self.old) }
+        ensures looks { LooksOn (view S.view self.old) (view S.view self.new) result }
+        ensures finds { IfOk result (λ there. IsTold (view S.view self.old).store.pages.disk
+            → FindsTuple (view S.view self.old) segment number tid there into.new) }
+    {
+        find(&mut self.store.tuples, segment, number, tid, into)
+    }
+
+    /// The identifier that a new tuple gets in a segment, with a body of this length. None where no
+    /// identifier is free.
+    pub fn choose(&mut self, segment: u8, length: u16) -> Result<Option<Tid>, PageFault>
+        requires ready { IsReady (view S.view self.old) }
+        requires may { MayPut segment length }
+        ensures looks { LooksOn (view S.view self.old) (view S.view self.new) result }
+        ensures finds { IfOk result (λ found. FindsPlace (view S.view self.old) segment length found) }
+    {
+        self.store.tuples.choose(segment, length, &[])
+    }
+}
