@@ -1,16 +1,11 @@
 -- What the calls that define are refused for in the states that a session counts, and what they make of it.
-use Rattle.std.proofs.Common.{◌≡◌, ◌≢◌, ℕ, ◌+◌, ◌-◌, ◌<◌, ◌≤◌, zero, suc, Bool, true, false, cond, List, [], ◌∷◌, length, get_or, take, drop, MatchBool, length-drop, refl, sym, ◌∙◌, ap, subst, arith}
-use Rattle.std.specs.Prelude.{nat_le, flat_map, Option, Some, None, is_some, IfSome, IfNone, Ok, Err, Result, IsErrAnd, option_map, ◌||◌, ◌&&◌}
-use Rattle.std.proofs.lemmas.Bool.{true≢false, le-leb, lt-leb, or_from, ne_eqb}
-use Rattle.std.specs.List.{list_any, list_all, HoldsAt, AllWithin}
-use Rattle.std.specs.Ordering.{eq_by_cmp}
-use Rattle.std.proofs.lemmas.List.{length-map, take_all}
-use Rattle.std.proofs.lemmas.List.Folds.{list_all-map, list_any_at, list_any_none}
-use Rattle.rss_base.specs.Sizes.{page_bytes, relations_most, system_pages}
-use Rattle.rss_base.specs.TupleTypes.{kinds, width, most_width, most_fields, are_kinds, is_kind, field_names}
-use Rattle.rss_base.specs.Listings.{Listing, ListingFits, IsNumberOf, IsUnlisted, AreAllUsed, relation_at, with_number, with_segment, padded, segment_spelled, relation_spelled, relations_on, image_spelled, images_on, link_spelled, relation_pages, image_pages, catalog_page}
+use Rattle.std.proofs.Common.{◌≡◌, ◌≢◌, ℕ, ◌<◌, ◌≤◌, true, false, List, [], refl, sym, ◌∙◌, ap, subst, arith}
+use Rattle.std.specs.Prelude.{Some, None, Ok, Err, Result, IsErrAnd, option_map, ◌||◌}
+use Rattle.std.proofs.lemmas.Bool.{le-leb, lt-leb, or_from}
+use Rattle.rss_base.specs.Sizes.{system_pages}
+use Rattle.rss_base.specs.TupleTypes.{kinds, width, most_width, are_kinds, field_names}
+use Rattle.rss_base.specs.Listings.{Listing, ListingFits, IsNumberOf, IsUnlisted, AreAllUsed, relation_at, catalog_page}
 use Rattle.rss_base.specs.declared.name.Name.{Name}
-use Rattle.rss_base.specs.declared.value.FieldKind.TheVariants.{Int}
 use Rattle.rss_base.specs.declared.field.FieldDef.{FieldDef}
 use Rattle.rss_base.specs.declared.relation.RelationEntry.{RelationEntry}
 use Rattle.rss_base.specs.declared.call.Call.{Call}
@@ -19,8 +14,7 @@ use Rattle.rss_base.specs.declared.refusal.Kind.TheVariants.{Segment as SegmentK
 use Rattle.rss_base.specs.declared.refusal.LimitKind.TheVariants.{Segments as SegmentLimit, Relations as RelationLimit}
 use Rattle.rss_base.specs.declared.refusal.Refusal.{Refusal}
 use Rattle.rss_base.specs.declared.refusal.Refusal.TheVariants.{NoSuch, NameTaken, Limit, NotEmpty, TransactionsOpen}
-use Rattle.rss_catalog.specs.Catalogs.{HasRelationIn, Lists, page_of}
-use Rattle.rss_model.specs.Items.{name_cmp}
+use Rattle.rss_catalog.specs.Catalogs.{HasRelationIn, Lists}
 use Rattle.rss_model.specs.Tables.{tuple_count}
 use Rattle.rss_model.specs.Changes.{Change, after}
 use Rattle.rss_model.specs.Machine.{State}
@@ -28,8 +22,6 @@ use Rattle.rss_model.specs.Defining.{has_twice, is_relation, if_any_open, least_
 use Rattle.rss_model.specs.Steps.{first_of, refusal}
 use Rattle.rss_model.specs.ReplyText.{IsShort}
 use Rattle.rss_model.proofs.ByNumber.{segment_named, segment_unnamed, relation_named, relation_unnamed, segments_full, segments_left, relations_full, relations_left, segment_used, segment_unused}
-use Rattle.rss_model.proofs.Codes.{name_total, name_apart}
-use Rattle.rss_model.proofs.Contents.{tied, not_tied}
 use Rattle.rss_model.proofs.PlainStores.{plain_defined}
 use Rattle.rss_model.proofs.Tests.{goes_on, passes_if, passes_unless, none_open, one_open, make_segment_taken, make_segment_many, make_segment_passes, drop_segment_lacks, drop_segment_full, drop_segment_passes, drop_relation_lacks, drop_relation_full, drop_relation_passes, make_relation_lacks, make_relation_taken, make_relation_many, make_relation_passes}
 use Rattle.rss_session.specs.Definitions.{Relists}

@@ -1,24 +1,22 @@
 -- What a call that defines makes of the pages, of the machine's state and of the session.
-use Rattle.std.proofs.Common.{◌≡◌, ℕ, ◌+◌, ◌-◌, List, [], length, get_or, refl, sym, ◌∙◌, ap, subst}
-use Rattle.std.specs.Prelude.{Some, None, Ok, count_by}
+use Rattle.std.proofs.Common.{◌≡◌, ℕ, ◌+◌, ◌-◌, List, [], length, get_or, sym, ◌∙◌, ap, subst}
+use Rattle.std.specs.Prelude.{None, Ok, count_by}
 use Rattle.rss_base.specs.Paged.{Held}
 use Rattle.rss_base.specs.Listings.{Listing, ListingFits, relation_at}
 use Rattle.rss_base.specs.declared.call.Call.{Call}
 use Rattle.rss_base.specs.declared.answer.Reply.TheVariants.{Ok as Done}
-use Rattle.rss_model.specs.Tables.{Definitions, Tables, tuple_count}
+use Rattle.rss_model.specs.Tables.{Tables, tuple_count}
 use Rattle.rss_model.specs.Changes.{Change, is_delete_of}
 use Rattle.rss_model.specs.Machine.{State, with_changes, now}
 use Rattle.rss_model.specs.Meter.{heap_pages}
 use Rattle.rss_model.specs.Fits.{Fits}
 use Rattle.rss_model.specs.Kept.{Kept}
-use Rattle.rss_model.specs.Defining.{defined, with_definitions, DefinesNames}
+use Rattle.rss_model.specs.Defining.{with_definitions, DefinesNames}
 use Rattle.rss_model.specs.Steps.{Step, refusal, redefined}
 use Rattle.rss_model.specs.Steps.StepBy.{defines}
 use Rattle.rss_model.specs.Store.{Defines, SpellsTables}
-use Rattle.rss_model.proofs.ByNumber.{relation_unnamed}
 use Rattle.rss_model.proofs.StepKeeping.{kept_fit, steps_keep}
 use Rattle.rss_model.proofs.Redefining.{defined_fits}
-use Rattle.rss_model.proofs.Relisted.{segment_made_spells, segment_gone_spells, relation_made_spells, relation_gone_spells}
 use Rattle.rss_session.proofs.Relisting.{IsRelisted, relisted}
 use Rattle.rss_rsi.specs.Sessions.{marks_of, Counts, Redefines}
 use Rattle.rss_rsi.specs.declared.session.Session.{Session}

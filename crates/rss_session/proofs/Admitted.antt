@@ -1,13 +1,13 @@
 -- What a call is refused for in the states in which a session may be.
-use Rattle.std.proofs.Common.{◌≡◌, ℕ, ◌+◌, ◌<◌, ◌≤◌, Bool, true, false, List, [], ◌∷◌, length, map as list_map, refl, sym, ◌∙◌, ap, arith}
-use Rattle.std.specs.Prelude.{Option, Some, None, is_some, option_map, unwrap_or, nat_le, count_by, slice_get}
+use Rattle.std.proofs.Common.{◌≡◌, ℕ, ◌+◌, ◌<◌, ◌≤◌, true, false, List, [], ◌∷◌, length, refl, sym, ◌∙◌, ap, arith}
+use Rattle.std.specs.Prelude.{Option, Some, None, is_some, option_map, count_by, slice_get}
 use Rattle.std.specs.Ordering.{nat_cmp}
 use Rattle.std.specs.FinMap as map
 use Rattle.std.specs.FinMap.{FinMap, len-entries, empty_of_len}
 use Rattle.std.proofs.lemmas.Bool.{le-leb, lt-leb}
 use Rattle.std.proofs.lemmas.List.{length-map}
 use Rattle.rss_base.specs.TupleTypes.{kinds, misfit}
-use Rattle.rss_base.specs.Listings.{relation_at, IsNumberOf, IsUnlisted}
+use Rattle.rss_base.specs.Listings.{relation_at, IsNumberOf}
 use Rattle.rss_base.specs.declared.name.Name.{Name}
 use Rattle.rss_base.specs.declared.value.Value.{Value}
 use Rattle.rss_base.specs.declared.value.FieldKind.{FieldKind}
@@ -15,20 +15,18 @@ use Rattle.rss_base.specs.declared.relation.RelationEntry.{RelationEntry}
 use Rattle.rss_base.specs.declared.call.Call.TheVariants.{Begin}
 use Rattle.rss_base.specs.declared.refusal.Kind.TheVariants.{Relation as RelationKind}
 use Rattle.rss_base.specs.declared.refusal.LimitKind.TheVariants.{Tuples as TupleLimit}
-use Rattle.rss_base.specs.declared.refusal.Refusal.{Refusal}
-use Rattle.rss_base.specs.declared.refusal.Refusal.TheVariants.{NoTransaction, AlreadyOpen, TooMany, NoSuch, NoSave, Limit, BadTuple, TransactionsOpen}
+use Rattle.rss_base.specs.declared.refusal.Refusal.TheVariants.{AlreadyOpen, TooMany, NoSuch, Limit, BadTuple, TransactionsOpen}
 use Rattle.rss_model.specs.Changes.{Change, is_delete_of}
 use Rattle.rss_model.specs.Defining.{if_any_open, least_open}
 use Rattle.rss_model.specs.Fits.{tuple_limit}
 use Rattle.rss_model.specs.Machine.{State, now}
 use Rattle.rss_model.specs.Machine as machine
-use Rattle.rss_model.specs.Refusals.{saves_of, unless_saved}
 use Rattle.rss_model.specs.Steps.{first_of, misfit_of, unless_open, unless_defined, admission, value_admission, used_tuples, if_used_up, refusal}
 use Rattle.rss_model.specs.Store.{SpellsTables}
 use Rattle.rss_model.specs.Tables.{RelationDef, fields_of}
-use Rattle.rss_model.proofs.ByNumber.{relation_named, relation_unnamed}
+use Rattle.rss_model.proofs.ByNumber.{relation_named}
 use Rattle.rss_model.proofs.Relisted.{number_of}
-use Rattle.rss_model.proofs.Tests.{goes_on, refuses_at, refuses_if, passes_if, refuses_unless, passes_unless}
+use Rattle.rss_model.proofs.Tests.{goes_on, refuses_at, refuses_if, passes_if, passes_unless}
 use Rattle.rss_trans.specs.declared.sums.Sums.{Sums}
 use Rattle.rss_trans.specs.Transactions.{is_open, of_relation, sums_of}
 use Rattle.rss_trans.proofs.Asked.{open_told, keys_told, count_told}
@@ -59,9 +57,6 @@ module _ {view : SessionView} {state : State} (shows : Shows view state) where
 
   -- ---- the open transactions
 
-  open_here : (t : ℕ) → is_open view.opened t ≡ true → machine.is_open state t ≡ true
-  open_here t is = sym (open_told view.store.catalog.listing view.opened state.marks shows.listed shows.told t) ∙ is
-
   closed_here : (t : ℕ) → is_open view.opened t ≡ false → machine.is_open state t ≡ false
   closed_here t is = sym (open_told view.store.catalog.listing view.opened state.marks shows.listed shows.told t) ∙ is
 
@@ -78,9 +73,6 @@ module _ {view : SessionView} {state : State} (shows : Shows view state) where
   none_is_open is = ap (option_map TransactionsOpen) (sym (is ∙ least_same))
 
   -- ---- begin
-
-  pub already_open : (t : ℕ) → is_open view.opened t ≡ true → refusal state (Begin t) ≡ Some AlreadyOpen
-  already_open t is = refuses_at _ (refuses_if AlreadyOpen (open_here t is))
 
   pub too_many : (t : ℕ) → is_open view.opened t ≡ false → 1 ≤ map.len view.opened.transactions → refusal state (Begin t) ≡ Some TooMany
   too_many t closed many =

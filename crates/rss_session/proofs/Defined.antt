@@ -1,5 +1,5 @@
 -- What the calls that define are refused for in the states in which a session may be, and what they make of it.
-use Rattle.std.proofs.Common.{◌≡◌, ◌≢◌, ℕ, ◌+◌, ◌-◌, ◌<◌, ◌≤◌, true, false, cond, List, [], ◌∷◌, length, map, refl, sym, ◌∙◌, ap, subst, Bool, arith}
+use Rattle.std.proofs.Common.{◌≡◌, ◌≢◌, ℕ, ◌+◌, ◌<◌, ◌≤◌, true, false, cond, List, [], length, map, refl, sym, ◌∙◌, ap, subst, Bool, arith}
 use Rattle.std.specs.Prelude.{nat_le, flat_map, slice_get, Option, Some, None, is_some, IfSome, IfNone, Ok, Err, Result, IsErrAnd, option_map, ◌||◌}
 use Rattle.std.specs.Ordering.{nat_cmp}
 use Rattle.std.specs.FinMap as finite
@@ -22,7 +22,7 @@ use Rattle.rss_catalog.specs.Catalogs.{HasRelationIn, Lists, page_of}
 use Rattle.rss_model.specs.Tables.{tuple_count}
 use Rattle.rss_model.specs.Changes.{Change, after}
 use Rattle.rss_model.specs.Machine.{State, now}
-use Rattle.rss_model.specs.Records.{Listed, changes_in}
+use Rattle.rss_model.specs.Records.{changes_in}
 use Rattle.rss_model.specs.Defining.{has_twice, is_relation, if_any_open, least_open}
 use Rattle.rss_model.specs.Steps.{first_of, refusal}
 use Rattle.rss_model.specs.ReplyText.{IsShort}
@@ -30,7 +30,7 @@ use Rattle.rss_model.specs.Store.{SpellsTables}
 use Rattle.rss_model.proofs.ByNumber.{segment_named, segment_unnamed, relation_named, relation_unnamed, segments_full, segments_left, relations_full, relations_left, segment_used, segment_unused}
 use Rattle.rss_model.proofs.Heap.{nothing}
 use Rattle.rss_model.proofs.PlainStores.{plain_defined}
-use Rattle.rss_model.proofs.Tests.{goes_on, refuses_at, passes_if, passes_unless, make_segment_taken, make_segment_many, make_segment_passes, drop_segment_lacks, drop_segment_full, drop_segment_passes, drop_relation_lacks, drop_relation_full, drop_relation_passes, make_relation_lacks, make_relation_taken, make_relation_many, make_relation_passes}
+use Rattle.rss_model.proofs.Tests.{goes_on, passes_if, passes_unless, make_segment_taken, make_segment_many, make_segment_passes, drop_segment_lacks, drop_segment_full, drop_segment_passes, drop_relation_lacks, drop_relation_full, drop_relation_passes, make_relation_lacks, make_relation_taken, make_relation_many, make_relation_passes}
 use Rattle.rss_trans.specs.Transactions.{Transaction}
 use Rattle.rss_trans.specs.Tables.{told}
 use Rattle.rss_trans.proofs.Asked.{count_told}
@@ -97,10 +97,10 @@ module _ {view : SessionView} {state : State} (shows : Shows view state) (closed
   -- nor has any transaction a save point
   pub none_marked : state.marks ≡ finite.empty
   none_marked = empty_of_len state.marks (
-    sym (count_told view.store.catalog.listing view.opened state.marks shows.listed shows.told)
-    ∙ ap (λ (m : FinMap nat_cmp Transaction). finite.len m) closed
-    ∙ len-empty nat_cmp Transaction
-  )
+      sym (count_told view.store.catalog.listing view.opened state.marks shows.listed shows.told)
+      ∙ ap (λ (m : FinMap nat_cmp Transaction). finite.len m) closed
+      ∙ len-empty nat_cmp Transaction
+      )
 
   -- the committed counts are those now
   base_live : (number : ℕ) (entry : RelationEntry) → relation_at view.store.catalog.listing number ≡ Some entry → tuple_count state.base.contents entry.name ≡ entry.live
@@ -192,7 +192,6 @@ redefines {call = call} {old = old} page low relists lists others fits closed bu
   closed = closed;
   rest = but;
 }
-
 
 -- only the first page has the segments
 pub segment_pages : (listing : Listing) (number : ℕ) (segment : Option Name) (k : ℕ) → k ≢ 0 → catalog_page (with_segment listing number segment) k ≡ catalog_page listing k

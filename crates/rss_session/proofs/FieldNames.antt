@@ -1,6 +1,6 @@
 -- The names and the kinds of a relation's fields, as the loops over them find them.
 use Rattle.std.proofs.Common.{◌≡◌, ◌≢◌, ℕ, ◌+◌, ◌-◌, ◌<◌, ◌≤◌, zero, suc, Bool, true, false, List, [], ◌∷◌, length, get_or, take, drop, MatchBool, length-drop, sym, ◌∙◌, ap, refl, arith}
-use Rattle.std.specs.Prelude.{nat_le, ◌||◌, ◌&&◌}
+use Rattle.std.specs.Prelude.{◌||◌, ◌&&◌}
 use Rattle.std.proofs.lemmas.Bool.{le-leb}
 use Rattle.std.specs.List.{list_any, list_all, HoldsAt, AllWithin}
 use Rattle.std.specs.Ordering.{eq_by_cmp}

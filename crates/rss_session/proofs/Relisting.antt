@@ -1,7 +1,6 @@
 -- What a call that defines makes of the pages, of the machine's state and of the session.
-use Rattle.std.proofs.Common.{◌≡◌, inl, inr, ℕ, ◌<◌, ◌≤◌, true, false, Bool, List, [], length, get_or, refl, sym, ◌∙◌, ap, subst, arith}
+use Rattle.std.proofs.Common.{◌≡◌, inl, inr, ℕ, ◌≤◌, true, false, Bool, List, length, get_or, refl, sym, ◌∙◌, ap, subst, arith}
 use Rattle.std.specs.Prelude.{Some, None, slice_set}
-use Rattle.std.specs.Ordering.{nat_cmp}
 use Rattle.std.specs.FinMap.{empty}
 use Rattle.std.proofs.lemmas.Bool.{cases_eq}
 use Rattle.std.proofs.lemmas.List.{get_or-set_same, get_or-set_other, length-set}
@@ -11,8 +10,6 @@ use Rattle.rss_base.specs.Sizes.{log_pages_least, system_pages}
 use Rattle.rss_base.specs.Steps.{PagesView}
 use Rattle.rss_base.specs.Listings.{Listing, ListingFits}
 use Rattle.rss_base.specs.declared.call.Call.{Call}
-use Rattle.rss_base.specs.declared.root.Root.{Root}
-use Rattle.rss_catalog.specs.Catalogs.{CatalogView}
 use Rattle.rss_model.specs.Tables.{Definitions, Tables}
 use Rattle.rss_model.specs.Changes.{Change}
 use Rattle.rss_model.specs.Machine.{StoreSize, State, with_changes}
@@ -132,10 +129,10 @@ module _ {S : Type 0} (pages_view : S → PagesView) {call : Call} {old new : Se
     written : AreWritten before.store.pages.held new.store.catalog
     written page low not = elim (cases_eq page redefines.page) [
       | inl here ↦ absurd (not (
-        ap (λ (pending : List Bool). get_or pending page false) redefines.lists.pending
-        ∙ ap (λ (q : ℕ). get_or (slice_set old.store.catalog.pending redefines.page true) q false) here
-        ∙ get_or-set_same old.store.catalog.pending redefines.page true false (omega (arith, redefines.low spells.listed, ready.store.pending_places))
-      ))
+          ap (λ (pending : List Bool). get_or pending page false) redefines.lists.pending
+          ∙ ap (λ (q : ℕ). get_or (slice_set old.store.catalog.pending redefines.page true) q false) here
+          ∙ get_or-set_same old.store.catalog.pending redefines.page true false (omega (arith, redefines.low spells.listed, ready.store.pending_places))
+          ))
       | inr other ↦
           let was = shows.store.written page low (λ pending. not (ap (λ (l : List Bool). get_or l page false) redefines.lists.pending ∙ get_or-set_other old.store.catalog.pending redefines.page page true false other ∙ pending)) in
           was ∙ ap Some (sym (redefines.others page other))

@@ -9,7 +9,8 @@ use Rattle.rss_session.specs.Shown.{Shows}
 
 -- on a device that tells its contents the test says this in each state in which the session may be
 abbrev pub Says : SessionView → (State → Option Refusal) → Option Refusal → Type 0
-Says view test why = IsTold view.store.pages.disk → (state : State) → Shows view state → test state ≡ why
+Says view test why =
+    IsTold view.store.pages.disk → (state : State) → Shows view state → test state ≡ why
 
 -- it refuses so, by a line that is short
 abbrev pub Refuses : SessionView → (State → Option Refusal) → Refusal → Type 0

@@ -1,5 +1,5 @@
 -- What the calls that define make of a session.
-use Rattle.std.specs.Prelude.{◌≡◌, ◌≢◌, ℕ, ◌<◌, List, Option, Some, None, Result, OnOk, OnErr}
+use Rattle.std.specs.Prelude.{◌≡◌, ◌≢◌, ℕ, ◌<◌, List, Some, None, Result, OnOk, OnErr}
 use Rattle.std.specs.FinMap.{empty}
 use Rattle.rss_base.specs.Sizes.{system_pages}
 use Rattle.rss_base.specs.Steps.{PagesView}
@@ -63,7 +63,8 @@ pub record Redefines {S : Type 0} (call : Call) (old new : Session S) : Type 0 w
   pub rest : IsBut old new
 
 -- A call that defines, by its result: it is refused as the machine says, and then nothing has changed; or the catalog lists what it defines.
-pub record Defining {S : Type 0} (pages_view : S → PagesView) (old new : Session S) (call : Call) (result : Result (Unit {0}) Refusal) : Type 0 where
+pub record Defining {S : Type 0} (pages_view : S → PagesView) (old new : Session S) (call : Call)
+    (result : Result (Unit {0}) Refusal) : Type 0 where
   pub tests : Tests (view pages_view old) (λ state. refusal state call) result
   pub redefines : OnOk result (Redefines call old new)
   pub same : OnErr result (new ≡ old)

@@ -1,5 +1,6 @@
 // What a call is refused for, by the tests that look neither at pages nor at room.
-ghost use Rattle.std.specs.Prelude.{◌≡◌, ◌<◌, ◌≤◌, true, false, is_some, length, Some, None, OnOk, IfOk};
+ghost use Rattle.std.specs.Prelude.{◌≡◌, ◌<◌, ◌≤◌, true, false, length};
+ghost use Rattle.std.specs.Prelude.{is_some, Some, None, OnOk, IfOk};
 ghost use Rattle.std.specs.FinMap.{empty, len};
 ghost use Rattle.rss_base.specs.TupleTypes.{kinds, misfit};
 ghost use Rattle.rss_base.specs.Listings.{relation_at, IsNumberOf};
@@ -8,7 +9,8 @@ ghost use Rattle.rss_base.specs.declared.refusal.Kind.TheVariants.{Relation as R
 ghost use Rattle.rss_base.specs.declared.relation.RelationEntry.{RelationEntry as Entry};
 ghost use Rattle.rss_model.specs.Defining.{if_any_open};
 ghost use Rattle.rss_model.specs.Refusals.{unless_saved};
-ghost use Rattle.rss_model.specs.Steps.{unless_open, admission, value_admission, if_used_up, refusal};
+ghost use Rattle.rss_model.specs.Steps.{unless_open, admission, value_admission, if_used_up};
+ghost use Rattle.rss_model.specs.Steps.{refusal};
 ghost use Rattle.rss_trans.specs.Transactions.{is_open, transaction_in};
 ghost use Rattle.rss_session.specs.Admissions.{Tests};
 

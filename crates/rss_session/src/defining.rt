@@ -14,7 +14,9 @@ ghost use Rattle.rss_session.specs.FieldTests.{fields_tests};
 ghost use Rattle.rss_session.specs.Definitions.{Defining};
 
 use crate::Session;
-use rss_base::{FieldDef, Fields, Kind, LimitKind, MOST_FIELDS, MOST_WIDTH, Name, Refusal, RelationEntry};
+use rss_base::{
+    FieldDef, Fields, Kind, LimitKind, MOST_FIELDS, MOST_WIDTH, Name, Refusal, RelationEntry,
+};
 use rss_buffer::Saving;
 use rss_value::width;
 

@@ -1,4 +1,4 @@
-use Rattle.std.proofs.Common.{◌∙◌, List, [], ◌∷◌, ap, sym, arith}
+use Rattle.std.proofs.Common.{◌∙◌, List, ap, sym, arith}
 use Rattle.std.specs.Prelude.{is_some}
 use Rattle.rss_base.specs.TupleTypes.{kinds, misfit}
 use Rattle.rss_base.specs.declared.field.FieldDef.{FieldDef}
