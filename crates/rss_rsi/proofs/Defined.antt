@@ -1,16 +1,11 @@
 -- What the calls that define are refused for in the states that a session counts, and what they make of it.
-use Rattle.std.proofs.Common.{◌≡◌, ◌≢◌, ℕ, ◌+◌, ◌-◌, ◌<◌, ◌≤◌, zero, suc, Bool, true, false, cond, List, [], ◌∷◌, length, get_or, take, drop, MatchBool, length-drop, refl, sym, ◌∙◌, ap, subst, arith}
-use Rattle.std.specs.Prelude.{nat_le, flat_map, Option, Some, None, is_some, IfSome, IfNone, Ok, Err, Result, IsErrAnd, option_map, ◌||◌, ◌&&◌}
-use Rattle.std.proofs.lemmas.Bool.{true≢false, le-leb, lt-leb, or_from, ne_eqb}
-use Rattle.std.specs.List.{list_any, list_all, HoldsAt, AllWithin}
-use Rattle.std.specs.Ordering.{eq_by_cmp}
-use Rattle.std.proofs.lemmas.List.{length-map, take_all}
-use Rattle.std.proofs.lemmas.List.Folds.{list_all-map, list_any_at, list_any_none}
-use Rattle.rss_base.specs.Sizes.{page_bytes, relations_most, system_pages}
-use Rattle.rss_base.specs.TupleTypes.{kinds, width, most_width, most_fields, are_kinds, is_kind, field_names}
-use Rattle.rss_base.specs.Listings.{Listing, ListingFits, IsNumberOf, IsUnlisted, AreAllUsed, relation_at, with_number, with_segment, padded, segment_spelled, relation_spelled, relations_on, image_spelled, images_on, link_spelled, relation_pages, image_pages, catalog_page}
+use Rattle.std.proofs.Common.{◌≡◌, ◌≢◌, ℕ, ◌<◌, ◌≤◌, true, false, List, [], refl, sym, ◌∙◌, ap, subst, arith}
+use Rattle.std.specs.Prelude.{Some, None, Ok, Err, Result, IsErrAnd, option_map, ◌||◌}
+use Rattle.std.proofs.lemmas.Bool.{le-leb, lt-leb, or_from}
+use Rattle.rss_base.specs.Sizes.{system_pages}
+use Rattle.rss_base.specs.TupleTypes.{kinds, width, most_width, are_kinds, field_names}
+use Rattle.rss_base.specs.Listings.{Listing, ListingFits, IsNumberOf, IsUnlisted, AreAllUsed, relation_at, catalog_page}
 use Rattle.rss_base.specs.declared.name.Name.{Name}
-use Rattle.rss_base.specs.declared.value.FieldKind.TheVariants.{Int}
 use Rattle.rss_base.specs.declared.field.FieldDef.{FieldDef}
 use Rattle.rss_base.specs.declared.relation.RelationEntry.{RelationEntry}
 use Rattle.rss_base.specs.declared.call.Call.{Call}
@@ -19,8 +14,7 @@ use Rattle.rss_base.specs.declared.refusal.Kind.TheVariants.{Segment as SegmentK
 use Rattle.rss_base.specs.declared.refusal.LimitKind.TheVariants.{Segments as SegmentLimit, Relations as RelationLimit}
 use Rattle.rss_base.specs.declared.refusal.Refusal.{Refusal}
 use Rattle.rss_base.specs.declared.refusal.Refusal.TheVariants.{NoSuch, NameTaken, Limit, NotEmpty, TransactionsOpen}
-use Rattle.rss_catalog.specs.Catalogs.{HasRelationIn, Lists, page_of}
-use Rattle.rss_model.specs.Items.{name_cmp}
+use Rattle.rss_catalog.specs.Catalogs.{HasRelationIn, Lists}
 use Rattle.rss_model.specs.Tables.{tuple_count}
 use Rattle.rss_model.specs.Changes.{Change, after}
 use Rattle.rss_model.specs.Machine.{State}
@@ -28,24 +22,13 @@ use Rattle.rss_model.specs.Defining.{has_twice, is_relation, if_any_open, least_
 use Rattle.rss_model.specs.Steps.{first_of, refusal}
 use Rattle.rss_model.specs.ReplyText.{IsShort}
 use Rattle.rss_model.proofs.ByNumber.{segment_named, segment_unnamed, relation_named, relation_unnamed, segments_full, segments_left, relations_full, relations_left, segment_used, segment_unused}
-use Rattle.rss_model.proofs.Codes.{name_total, name_apart}
-use Rattle.rss_model.proofs.Contents.{tied, not_tied}
 use Rattle.rss_model.proofs.PlainStores.{plain_defined}
 use Rattle.rss_model.proofs.Tests.{goes_on, passes_if, passes_unless, none_open, one_open, make_segment_taken, make_segment_many, make_segment_passes, drop_segment_lacks, drop_segment_full, drop_segment_passes, drop_relation_lacks, drop_relation_full, drop_relation_passes, make_relation_lacks, make_relation_taken, make_relation_many, make_relation_passes}
-use Rattle.rss_rsi.specs.Sessions.{marks_of, Counts, Relists, Redefines, Defining}
-use Rattle.rss_rsi.specs.FieldTests.{fields_tests}
+use Rattle.rss_session.specs.Definitions.{Relists}
+use Rattle.rss_session.specs.FieldTests.{fields_tests}
+use Rattle.rss_rsi.specs.Sessions.{marks_of, Counts, Redefines, Defining}
 use Rattle.rss_rsi.specs.declared.session.Session.{Session}
 use Rattle.rss_rsi.proofs.Refusals.{nothing}
-
--- ---- what was found
-
-pub found : {P : ℕ → Type 0} (number : Option ℕ) → IfSome number P → is_some number ≡ true → (n : ℕ) × P n
-found None is there = absurd (true≢false (sym there))
-found (Some n) is there = (n, is)
-
-pub not_found : {P : Type 0} (number : Option ℕ) → IfNone number P → is_some number ≡ false → P
-not_found None is absent = is
-not_found (Some n) is absent = absurd (true≢false absent)
 
 -- ---- a refusal
 
@@ -171,60 +154,3 @@ redefines {call = call} {old = old} page low relists lists others fits closed bu
   deleted = but.deleted;
   transaction = but.transaction;
 }
-
--- only the first page has the segments
-pub segment_pages : (listing : Listing) (number : ℕ) (segment : Option Name) (k : ℕ) → k ≢ 0 → catalog_page (with_segment listing number segment) k ≡ catalog_page listing k
-segment_pages listing number segment k other = without (with_number listing.segments number segment) ∙ sym (without listing.segments)
-  where
-    rest : List ℕ
-    rest = cond (nat_le k relation_pages) (flat_map relation_spelled (relations_on listing k)) (cond (nat_le k (relation_pages + image_pages)) (flat_map image_spelled (images_on listing k)) (flat_map link_spelled listing.links))
-
-    without : (segments : List (Option Name)) → catalog_page (record listing { segments = segments }) k ≡ padded page_bytes rest
-    without segments = ap (λ (b : Bool). padded page_bytes (cond b (flat_map segment_spelled segments) rest)) (ne_eqb k 0 other)
-
--- the page of a relation is one of the system space
-pub relation_page : (number : ℕ) → number ≤ relations_most → page_of RelationKind number < system_pages
-relation_page number high = omega (arith, high)
-
--- ---- the tests of fields
-
--- one of the fields has this name
-pub any_named : (test : Name → Bool) (fields : List FieldDef) → list_any (λ (field : FieldDef). test field.name) fields ≡ list_any test (field_names fields)
-any_named test [] = refl
-any_named test (field ∷ fields) = ap (λ (b : Bool). test field.name || b) (any_named test fields)
-
--- from a place on: its name stands again, or some behind it do
-pub twice_at : (fields : List FieldDef) (k : ℕ) (d : FieldDef) → k < length fields → has_twice (drop k (field_names fields)) ≡ (list_any (eq_by_cmp name_cmp (get_or fields k d).name) (field_names (drop (suc k) fields)) || has_twice (drop (suc k) (field_names fields)))
-twice_at [] k d low = absurd (omega (arith, low))
-twice_at (field ∷ fields) zero d low = refl
-twice_at (field ∷ fields) (suc k) d low = twice_at fields k d (omega (arith, low))
-
-next : (k : ℕ) → k + 1 ≡ suc k
-next k = omega arith
-
-behind : (fields : List FieldDef) (k : ℕ) → take (length fields - (k + 1)) (drop (k + 1) fields) ≡ drop (suc k) fields
-behind fields k = ap (λ (n : ℕ). take (length fields - n) (drop n fields)) (next k) ∙ take_all (length fields - suc k) (drop (suc k) fields) (omega (arith, length-drop (suc k) fields))
-
--- where it was tested whether it stands again
-pub twice_step : (fields : List FieldDef) (k : ℕ) (d : FieldDef) (again : Bool) → k < length fields → again ≡ list_any (eq_by_cmp name_cmp (get_or fields k d).name) (field_names (take (length fields - (k + 1)) (drop (k + 1) fields)))
-    → has_twice (drop k (field_names fields)) ≡ (again || has_twice (drop (k + 1) (field_names fields)))
-twice_step fields k d again low is =
-    let named : again ≡ list_any (eq_by_cmp name_cmp (get_or fields k d).name) (field_names (drop (suc k) fields)) = is ∙ ap (λ (f : List FieldDef). list_any (eq_by_cmp name_cmp (get_or fields k d).name) (field_names f)) (behind fields k) in
-    twice_at fields k d low ∙ (λ i. sym named i || has_twice (drop (sym (next k) i) (field_names fields)))
-
--- whether one of the fields has this name
-pub named_of_cases : (name : Name) (fields : List FieldDef) (r : Bool) → MatchBool r ((k : ℕ) × (k < length fields) × HoldsAt (λ (field : FieldDef). field.name ≡ name) fields k) (AllWithin (λ (field : FieldDef). field.name ≢ name) fields 0 (length fields)) → r ≡ list_any (eq_by_cmp name_cmp name) (field_names fields)
-named_of_cases name fields true has = sym (sym (any_named (eq_by_cmp name_cmp name) fields)
-    ∙ list_any_at (λ (field : FieldDef). eq_by_cmp name_cmp name field.name) fields has.0 no_field has.1 (ap (eq_by_cmp name_cmp name) (has.2 no_field) ∙ tied name_total name_apart name))
-  where
-    no_field : FieldDef
-    no_field = record { name = name; kind = Int }
-named_of_cases name fields false none = sym (sym (any_named (eq_by_cmp name_cmp name) fields)
-    ∙ list_any_none (λ (field : FieldDef). eq_by_cmp name_cmp name field.name) fields (λ k d low. not_tied name_total name_apart name (get_or fields k d).name (λ same. none k d (omega arith) low (sym same))))
-
--- so many fields, of such kinds
-pub kinds_formed : (fields : List FieldDef) (each : Bool) → 1 ≤ length fields → length fields ≤ most_fields → each ≡ list_all (λ (field : FieldDef). is_kind field.kind) fields → each ≡ are_kinds (kinds fields)
-kinds_formed fields each some few is =
-    let places : length (kinds fields) ≡ length fields = length-map fields (λ (field : FieldDef). field.kind) in
-    is ∙ sym (list_all-map is_kind (λ (field : FieldDef). field.kind) fields)
-    ∙ (λ i. sym (le-leb 1 (length (kinds fields)) (omega (arith, places, some))) i && sym (le-leb (length (kinds fields)) most_fields (omega (arith, places, few))) i && list_all is_kind (kinds fields))

@@ -38,15 +38,17 @@ use Rattle.rss_model.proofs.Totals.{end_stops, definition_stops}
 use Rattle.rss_access.specs.Written.{heap_now, AreWritten}
 use Rattle.rss_rsi.specs.Ready.{engine_view, changed_with, IsReady, IsIn}
 use Rattle.rss_rsi.specs.Saves.{StoreParts, CanSave, Spell, PassesSave, HasSaved, SaveEnds}
-use Rattle.rss_rsi.specs.Sessions.{Answers, Relists, Redefines}
-use Rattle.rss_rsi.specs.Sessions.Relists.{segment, relation, drop_segment, drop_relation}
+use Rattle.rss_session.specs.Definitions.{Relists}
+use Rattle.rss_session.specs.Definitions.Relists.{segment, relation, drop_segment, drop_relation}
+use Rattle.rss_session.proofs.Relisting.{IsRelisted}
+use Rattle.rss_rsi.specs.Sessions.{Answers, Redefines}
 use Rattle.rss_rsi.specs.declared.session.Session.{Session}
 use Rattle.rss_rsi.proofs.Committing.{half, in_saved, has_ended}
 use Rattle.rss_rsi.proofs.Counted.{own_alone, ended_committed, ended_same, ended_over, ended_counts}
 use Rattle.rss_rsi.proofs.Engines.{in_session}
 use Rattle.rss_rsi.proofs.Pending.{trues, few_pending, one_pending, waits_now, none_waits, only_pending}
 use Rattle.rss_rsi.proofs.Refusals.{may_end, nothing}
-use Rattle.rss_rsi.proofs.Relisting.{IsRelisted, now_relisted, redefined_fits, redefined_now, redefined_kept, redefined_counts}
+use Rattle.rss_rsi.proofs.Relisting.{now_relisted, redefined_fits, redefined_now, redefined_kept, redefined_counts}
 
 -- ---- where nothing was changed
 

@@ -10,7 +10,6 @@ pub mod Following
 pub mod Numbered
 pub mod Counted
 pub mod Relisting
-pub mod Lines
 pub mod Defined
 pub mod Tested
 pub mod Pending

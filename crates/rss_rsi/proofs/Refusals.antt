@@ -33,6 +33,7 @@ use Rattle.rss_model.proofs.Contents.{tied, not_tied}
 use Rattle.rss_model.proofs.ByNumber.{relation_named, relation_unnamed}
 use Rattle.rss_model.proofs.Tests.{goes_on, refuses_at, refuses_if, passes_if, refuses_unless, passes_unless}
 use Rattle.rss_rsi.specs.Sessions.{marks_of, none_deleted, AreDeleted, Counts, Ends, needed}
+use Rattle.rss_session.proofs.First.{first_passes}
 use Rattle.rss_rsi.specs.declared.session.Session.{Session}
 use Rattle.rss_access.proofs.Numbered.{name_of, fields_listed}
 
@@ -74,18 +75,7 @@ no_mark_left t =
 
 -- ---- the first of the tests
 
--- two tests that come first
-pub first_stops : (a b : Option Refusal) (rest : List (Option Refusal)) {why : Refusal} → first_of (a ∷ b ∷ []) ≡ Some why → first_of (a ∷ b ∷ rest) ≡ Some why
-first_stops (Some x) b rest is = is
-first_stops None (Some x) rest is = is
-first_stops None None rest is = absurd (cc)
-
-pub first_passes : (a b : Option Refusal) (rest : List (Option Refusal)) → first_of (a ∷ b ∷ []) ≡ None → first_of (a ∷ b ∷ rest) ≡ first_of rest
-first_passes (Some x) b rest is = absurd (cc)
-first_passes None (Some x) rest is = absurd (cc)
-first_passes None None rest is = refl
-
--- and three
+-- three tests that come first
 pub three_stop : (a b c : Option Refusal) (rest : List (Option Refusal)) {why : Refusal} → first_of (a ∷ b ∷ c ∷ []) ≡ Some why → first_of (a ∷ b ∷ c ∷ rest) ≡ Some why
 three_stop (Some x) b c rest is = is
 three_stop None (Some x) c rest is = is

@@ -1,51 +1,27 @@
 -- What a call that defines makes of the pages, of the machine's state and of the session.
-use Rattle.std.proofs.Common.{◌≡◌, ℕ, ◌+◌, ◌-◌, List, [], length, get_or, refl, sym, ◌∙◌, ap, subst}
-use Rattle.std.specs.Prelude.{Some, None, Ok, count_by}
+use Rattle.std.proofs.Common.{◌≡◌, ℕ, ◌+◌, ◌-◌, List, [], length, get_or, sym, ◌∙◌, ap, subst}
+use Rattle.std.specs.Prelude.{None, Ok, count_by}
 use Rattle.rss_base.specs.Paged.{Held}
 use Rattle.rss_base.specs.Listings.{Listing, ListingFits, relation_at}
 use Rattle.rss_base.specs.declared.call.Call.{Call}
 use Rattle.rss_base.specs.declared.answer.Reply.TheVariants.{Ok as Done}
-use Rattle.rss_model.specs.Tables.{Definitions, Tables, tuple_count}
+use Rattle.rss_model.specs.Tables.{Tables, tuple_count}
 use Rattle.rss_model.specs.Changes.{Change, is_delete_of}
 use Rattle.rss_model.specs.Machine.{State, with_changes, now}
 use Rattle.rss_model.specs.Meter.{heap_pages}
 use Rattle.rss_model.specs.Fits.{Fits}
 use Rattle.rss_model.specs.Kept.{Kept}
-use Rattle.rss_model.specs.Defining.{defined, with_definitions, DefinesNames}
+use Rattle.rss_model.specs.Defining.{with_definitions, DefinesNames}
 use Rattle.rss_model.specs.Steps.{Step, refusal, redefined}
 use Rattle.rss_model.specs.Steps.StepBy.{defines}
 use Rattle.rss_model.specs.Store.{Defines, SpellsTables}
-use Rattle.rss_model.proofs.ByNumber.{relation_unnamed}
 use Rattle.rss_model.proofs.StepKeeping.{kept_fit, steps_keep}
 use Rattle.rss_model.proofs.Redefining.{defined_fits}
-use Rattle.rss_model.proofs.Relisted.{segment_made_spells, segment_gone_spells, relation_made_spells, relation_gone_spells}
-use Rattle.rss_rsi.specs.Sessions.{marks_of, entry_of, Counts, Relists, Redefines}
-use Rattle.rss_rsi.specs.Sessions.Relists.{segment, relation, drop_segment, drop_relation}
+use Rattle.rss_session.proofs.Relisting.{IsRelisted, relisted}
+use Rattle.rss_rsi.specs.Sessions.{marks_of, Counts, Redefines}
 use Rattle.rss_rsi.specs.declared.session.Session.{Session}
 use Rattle.rss_rsi.proofs.Counted.{HasEnded}
 use Rattle.rss_rsi.proofs.Refusals.{none_at, nothing}
-
--- ---- the pages
-
--- The call defines so, and the pages spell its tables, whose definitions are listed anew.
-pub record IsRelisted (held : Held) (call : Call) (listing : Listing) (tables : Tables) : Type 0 where
-  pub definitions : Definitions
-  pub so : defined call tables.definitions ≡ Some definitions
-  pub spells : SpellsTables held listing (with_definitions definitions tables)
-
-pub relisted : {held : Held} {tables : Tables} {slots : ℕ} {old new : Listing} {call : Call} → SpellsTables held old tables → Fits slots tables → Relists old call new → ListingFits new → IsRelisted held call new tables
-relisted spells fit (segment name number fresh least) fits = record { definitions = _; so = refl; spells = segment_made_spells spells number name least fits }
-relisted spells fit (relation name in_segment fields at number within fresh least) fits = record {
-  definitions = _;
-  so = refl;
-  spells = relation_made_spells spells fit number (entry_of name at fields) in_segment least fits within refl (relation_unnamed spells.listed spells.defines name fresh);
-}
-relisted spells fit (drop_segment name number at none) fits = record {
-  definitions = _;
-  so = refl;
-  spells = segment_gone_spells spells number name at (λ k r is within. none (record { number = k; relation = r; at = is; within = within })) fits;
-}
-relisted spells fit (drop_relation number entry at empty) fits = record { definitions = _; so = refl; spells = relation_gone_spells spells number entry at (spells.counts number entry at ∙ empty) fits }
 
 -- ---- the state
 

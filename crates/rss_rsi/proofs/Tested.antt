@@ -24,7 +24,8 @@ use Rattle.rss_model.proofs.Testing.{all_none, holds}
 use Rattle.rss_model.proofs.Tests.{goes_on, refuses_at}
 use Rattle.rss_model.proofs.Totals.{the_values}
 use Rattle.rss_rsi.specs.Interim.{if_full, needed_slots}
-use Rattle.rss_rsi.proofs.Refusals.{first_stops, first_passes, three_stop, three_pass}
+use Rattle.rss_session.proofs.First.{first_stops, first_passes}
+use Rattle.rss_rsi.proofs.Refusals.{three_stop, three_pass}
 
 -- ---- what a state is like as yet
 

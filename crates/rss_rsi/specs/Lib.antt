@@ -7,7 +7,6 @@ pub use Rattle.rss_base.specs.StoredPages
 pub use Rattle.rss_model.specs.Store
 pub use Rattle.rss_catalog.specs.Catalogs
 pub mod Interim
-pub mod FieldTests
 pub mod Sessions
 pub mod Ready
 pub mod Saves

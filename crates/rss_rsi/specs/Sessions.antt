@@ -4,20 +4,18 @@ use Rattle.std.specs.Ordering.{nat_cmp}
 use Rattle.std.specs.FinMap as map
 use Rattle.std.specs.FinMap.{FinMap}
 use Rattle.rss_base.specs.Sizes.{relations_most, system_pages}
-use Rattle.rss_base.specs.Listings.{Listing, ListingFits, catalog_page, IsUnlisted, IsLeastUnused, segment_at, relation_at, with_segment, with_relation, with_count}
-use Rattle.rss_base.specs.declared.name.Name.{Name}
-use Rattle.rss_base.specs.declared.field.FieldDef.{FieldDef}
+use Rattle.rss_base.specs.Listings.{ListingFits, catalog_page, relation_at, with_relation, with_count}
 use Rattle.rss_base.specs.declared.relation.RelationEntry.{RelationEntry}
 use Rattle.rss_base.specs.declared.call.Call.{Call}
-use Rattle.rss_base.specs.declared.call.Call.TheVariants.{MakeSegment, MakeRelation, DropSegment, DropRelation}
-use Rattle.rss_base.specs.declared.refusal.Kind.TheVariants.{Segment as SegmentKind, Relation as RelationKind}
+use Rattle.rss_base.specs.declared.refusal.Kind.TheVariants.{Relation as RelationKind}
 use Rattle.rss_base.specs.declared.refusal.Refusal.{Refusal}
-use Rattle.rss_catalog.specs.Catalogs.{HasRelationIn, Lists, page_of}
+use Rattle.rss_catalog.specs.Catalogs.{Lists, page_of}
 use Rattle.rss_model.specs.Changes.{Change, is_delete_of}
 use Rattle.rss_model.specs.Machine.{State, now}
 use Rattle.rss_model.specs.Steps.{Answer, Step, refusal}
 use Rattle.rss_model.specs.ReplyText.{IsShort}
 use Rattle.rss_model.specs.Store.{Defines, AreCounts}
+use Rattle.rss_session.specs.Definitions.{Relists}
 use Rattle.rss_rsi.specs.declared.session.Session.{Session}
 
 -- this transaction is open, if any, and has no save points
@@ -103,28 +101,6 @@ pub record Ends (heap : ℕ) (old new : Session) : Type 0 where
   pub catalog : new.catalog ≡ old.catalog
 
 -- ---- definitions
-
--- the relation as it is defined, without tuples
-abbrev pub entry_of : Name → ℕ → List FieldDef → RelationEntry
-entry_of name segment fields =
-    record { name = name; segment = segment; fields = fields; live = 0 }
-
--- What a call that defines makes of a listing. A new definition takes the least number that is not in use.
-pub data Relists (old : Listing) : Call → Listing → Type 0 where
-  segment : (name : Name) (number : ℕ) → IsUnlisted SegmentKind old name
-      → IsLeastUnused SegmentKind old number
-      → Relists old (MakeSegment name) (with_segment old number (Some name))
-  relation : (name in_segment : Name) (fields : List FieldDef) (segment number : ℕ)
-      → segment_at old segment ≡ Some in_segment → IsUnlisted RelationKind old name
-      → IsLeastUnused RelationKind old number
-      → Relists old (MakeRelation name in_segment fields)
-      (with_relation old number (Some (entry_of name segment fields)))
-  drop_segment : (name : Name) (number : ℕ) → segment_at old number ≡ Some name
-      → (HasRelationIn old number → ⊥)
-      → Relists old (DropSegment name) (with_segment old number None)
-  drop_relation : (number : ℕ) (relation : RelationEntry) → relation_at old number ≡ Some relation
-      → relation.live ≡ 0
-      → Relists old (DropRelation relation.name) (with_relation old number None)
 
 -- The session lists what the call defines, by which one page of the system space alone has changed; all else is as it was.
 pub record Redefines (call : Call) (old new : Session) : Type 0 where

@@ -1,30 +1,23 @@
 // The transaction that is open, what is defined, and the counts by which a call is refused.
-ghost use Rattle.std.specs.List.{list_any};
-ghost use Rattle.std.specs.Ordering.{eq_by_cmp};
 ghost use Rattle.std.specs.Prelude.{ℕ, ◌≡◌, ◌+◌, ◌*◌, ◌-◌, ◌<◌, ◌≤◌, true, is_some, length, slice_index_or, Some, None, Ok, IfOk, OnOk, IfErr, Err, All};
 ghost use Rattle.rss_base.specs.Names.{IsName};
 ghost use Rattle.rss_base.specs.Sizes.{slots_most, system_pages, relations_most};
-ghost use Rattle.rss_base.specs.TupleTypes.{kinds, misfit, field_names, width, most_width, are_kinds};
+ghost use Rattle.rss_base.specs.TupleTypes.{kinds, misfit, field_names};
 ghost use Rattle.rss_base.specs.Listings.{relation_at, IsNumberOf};
 ghost use Rattle.rss_base.specs.declared.call.Call.TheVariants.{Begin, End, MakeSegment, MakeRelation, DropSegment, DropRelation};
 ghost use Rattle.rss_base.specs.declared.refusal.Kind.TheVariants.{Relation as RelationKind};
 ghost use Rattle.rss_base.specs.declared.relation.RelationEntry.{RelationEntry as Entry};
 ghost use Rattle.rss_base.specs.declared.answer.Reply.TheVariants.{Ok as Done};
-ghost use Rattle.rss_model.specs.Items.{name_cmp};
 ghost use Rattle.rss_model.specs.Fits.{tuple_limit};
-ghost use Rattle.rss_model.specs.Defining.{has_twice, if_any_open};
-ghost use Rattle.rss_model.specs.Steps.{begun, ended, first_of, admission, value_admission, if_used_up};
+ghost use Rattle.rss_model.specs.Defining.{if_any_open};
+ghost use Rattle.rss_model.specs.Steps.{begun, ended, admission, value_admission, if_used_up};
 ghost use Rattle.rss_rsi.specs.Interim.{if_full};
-ghost use Rattle.rss_model.specs.ReplyText.{IsShort};
-ghost use Rattle.rss_rsi.specs.FieldTests.{fields_tests};
 
-use rss_base::{
-    FieldDef, Fields, Kind, LimitKind, MOST_FIELDS, MOST_WIDTH, Name, Refusal, RelationEntry,
-    Reply, SYSTEM_PAGES, Tuple,
-};
+use rss_base::{Fields, Kind, LimitKind, Name, Refusal, RelationEntry, Reply, SYSTEM_PAGES, Tuple};
 use rss_catalog::Catalog;
+use rss_session::{has_twice, test_fields};
 use rss_store::{RELATIONS, TUPLES_MOST};
-use rss_value::{fits, width};
+use rss_value::fits;
 
 /// The transaction that is open, what is defined, and what is counted of the store.
 #[derive(Drop)]
@@ -336,50 +329,5 @@ impl Session {
         }
         self.catalog.remove(Kind::Relation, number);
         Ok(())
-    }
-}
-
-/// Whether two fields have one name.
-fn has_twice(fields: &[FieldDef]) -> bool
-    ensures { result ≡ has_twice (field_names fields.now) }
-{
-    for (place, field) in fields.iter().enumerate() {
-        if has_name(&fields[place + 1..], &field.name) {
-            return true;
-        }
-    }
-    false
-}
-
-/// Whether one of these fields has this name.
-fn has_name(fields: &[FieldDef], name: &Name) -> bool
-    ensures { result ≡ list_any (eq_by_cmp name_cmp name.now) (field_names fields.now) }
-{
-    fields.iter().any(|field| field.name == *name)
-}
-
-/// A relation may have these fields: so many of them, of these kinds, and no wider than they may be.
-fn test_fields(fields: &[FieldDef]) -> Result<(), Refusal>
-    ensures formed { OnOk result (are_kinds (kinds fields.now) ≡ true) }
-    ensures narrow { OnOk result (width (kinds fields.now) ≤ most_width) }
-    ensures refused { IfErr result (λ why. first_of (fields_tests fields.now) ≡ Some why) }
-    ensures short { IfErr result (λ why. IsShort (Err why)) }
-{
-    if !are_kinds(fields) {
-        return Err(Refusal::Limit(LimitKind::Fields));
-    }
-    if width(fields) > MOST_WIDTH {
-        return Err(Refusal::Limit(LimitKind::Width));
-    }
-    Ok(())
-}
-
-/// Whether a relation may have so many fields, of these kinds.
-fn are_kinds(fields: &[FieldDef]) -> bool
-    ensures { result ≡ are_kinds (kinds fields.now) }
-{
-    match fields.len() {
-        1..=MOST_FIELDS => fields.iter().all(|field| field.kind.is_allowed()),
-        _ => false,
     }
 }

@@ -10,6 +10,12 @@ pub mod Made
 pub mod Redefined
 pub mod Shown
 pub mod Fresh
+pub mod First
+pub mod FieldNames
+pub mod Lines
+pub mod Admitted
+pub mod Defined
+pub mod Relisting
 pub mod Looked
 pub mod Fewer
 pub mod Steady

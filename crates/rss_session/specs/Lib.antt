@@ -5,3 +5,6 @@ pub mod Changes
 pub mod Calls
 pub mod Looks
 pub mod Parts
+pub mod Admissions
+pub mod FieldTests
+pub mod Definitions

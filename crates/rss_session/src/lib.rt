@@ -2,7 +2,9 @@
 //! log, ways back, ends and checkpoints.
 #![tactic(auto)]
 
+mod admitting;
 mod changing;
+mod defining;
 mod ending;
 mod going_back;
 mod looking;
@@ -11,4 +13,5 @@ mod saving;
 mod session;
 mod weighing;
 
+pub use defining::{has_twice, test_fields};
 pub use session::Session;

@@ -5,11 +5,12 @@ use Rattle.rss_base.specs.declared.name.Name.{Name}
 use Rattle.rss_base.specs.declared.call.Call.TheVariants.{DropRelation}
 use Rattle.rss_model.proofs.Relisted.{number_within_list}
 use Rattle.rss_model.proofs.Tests.{refuses_at}
-use Rattle.rss_rsi.specs.Sessions.{Relists}
-use Rattle.rss_rsi.specs.Sessions.Relists.{drop_relation}
+use Rattle.rss_session.specs.Definitions.{Relists}
+use Rattle.rss_session.specs.Definitions.Relists.{drop_relation}
 use Rattle.rss_access.proofs.Numbered.{entry_at, name_of}
 use Rattle.rss_access.proofs.Recounting.{page_same}
-use Rattle.rss_rsi.proofs.Defined.{refused, relation_lacks, relation_full, relation_drops, redefines, relation_page}
+use Rattle.rss_rsi.proofs.Defined.{refused, relation_lacks, relation_full, relation_drops, redefines}
+use Rattle.rss_session.proofs.Defined.{relation_page}
 use Rattle.rss_rsi.proofs.session.Session.drop_relation.Goals as goal
 
 pub returns-in_err-test_rest : goal.returns-in_err-test_rest

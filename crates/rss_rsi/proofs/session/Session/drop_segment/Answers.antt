@@ -3,8 +3,9 @@ use Rattle.std.proofs.lemmas.Bool.{true≢false}
 use Rattle.rss_base.specs.declared.call.Call.TheVariants.{DropSegment}
 use Rattle.rss_catalog.specs.Catalogs.{HasRelationIn}
 use Rattle.rss_model.proofs.Tests.{refuses_at}
-use Rattle.rss_rsi.specs.Sessions.Relists.{drop_segment}
-use Rattle.rss_rsi.proofs.Defined.{refused, segment_lacks, segment_full, segment_drops, redefines, segment_pages}
+use Rattle.rss_session.specs.Definitions.Relists.{drop_segment}
+use Rattle.rss_rsi.proofs.Defined.{refused, segment_lacks, segment_full, segment_drops, redefines}
+use Rattle.rss_session.proofs.Defined.{segment_pages}
 use Rattle.rss_rsi.proofs.session.Session.drop_segment.Goals as goal
 
 pub returns-in_err-test_rest : goal.returns-in_err-test_rest

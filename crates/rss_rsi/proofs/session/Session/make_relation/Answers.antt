@@ -10,10 +10,11 @@ use Rattle.rss_model.specs.Defining.{has_twice}
 use Rattle.rss_model.specs.Steps.{first_of}
 use Rattle.rss_model.proofs.Named.{apart_once}
 use Rattle.rss_model.proofs.Tests.{refuses_at}
-use Rattle.rss_rsi.specs.FieldTests.{fields_tests}
-use Rattle.rss_rsi.specs.Sessions.Relists.{relation}
+use Rattle.rss_session.specs.FieldTests.{fields_tests}
+use Rattle.rss_session.specs.Definitions.Relists.{relation}
 use Rattle.rss_access.proofs.Recounting.{page_same}
-use Rattle.rss_rsi.proofs.Defined.{found, not_found, refused, relation_known, fields_taken, relation_many, relation_by_fields, relation_may, redefines, relation_page}
+use Rattle.rss_session.proofs.Defined.{found, not_found, relation_page}
+use Rattle.rss_rsi.proofs.Defined.{refused, relation_known, fields_taken, relation_many, relation_by_fields, relation_may, redefines}
 use Rattle.rss_rsi.proofs.session.Session.make_relation.Goals as goal
 use Rattle.rss_rsi.proofs.session.Session.make_relation.Goals.{then-is_some-via-then-is_some, then-is_some-via-else-is_some+then-has_twice}
 

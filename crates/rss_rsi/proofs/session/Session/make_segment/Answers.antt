@@ -2,8 +2,9 @@ use Rattle.std.proofs.Common.{Some, ◌∙◌, sym, rules, refl, arith}
 use Rattle.std.proofs.lemmas.Bool.{true≢false}
 use Rattle.rss_base.specs.declared.call.Call.TheVariants.{MakeSegment}
 use Rattle.rss_model.proofs.Tests.{refuses_at}
-use Rattle.rss_rsi.specs.Sessions.Relists.{segment}
-use Rattle.rss_rsi.proofs.Defined.{found, not_found, refused, segment_taken, segment_many, segment_may, redefines, segment_pages}
+use Rattle.rss_session.specs.Definitions.Relists.{segment}
+use Rattle.rss_session.proofs.Defined.{found, not_found, segment_pages}
+use Rattle.rss_rsi.proofs.Defined.{refused, segment_taken, segment_many, segment_may, redefines}
 use Rattle.rss_rsi.proofs.session.Session.make_segment.Goals as goal
 
 pub returns-in_err-test_rest : goal.returns-in_err-test_rest

@@ -1,6 +1,6 @@
 use Rattle.std.proofs.Common.{arith}
 use Rattle.rss_rsi.proofs.Defined.{any_open, none_is_open}
-use Rattle.rss_rsi.proofs.Lines.{open_line}
+use Rattle.rss_session.proofs.Lines.{open_line}
 use Rattle.rss_rsi.proofs.session.Session.test_rest.Goals as goal
 
 pub returns-in-Some-clause-tests : goal.returns-in-Some-clause-tests

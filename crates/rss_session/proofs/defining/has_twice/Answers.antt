@@ -2,8 +2,8 @@ use Rattle.std.proofs.Common.{◌∙◌, ◌+◌, Bool, drop, sym, ap}
 use Rattle.std.specs.Prelude.{◌||◌}
 use Rattle.rss_base.specs.TupleTypes.{field_names}
 use Rattle.rss_model.specs.Defining.{has_twice}
-use Rattle.rss_rsi.proofs.Defined.{twice_step}
-use Rattle.rss_rsi.proofs.session.has_twice.Goals as goal
+use Rattle.rss_session.proofs.FieldNames.{twice_step}
+use Rattle.rss_session.proofs.defining.has_twice.Goals as goal
 
 pub loop-place-preserved : goal.loop-place-preserved
 loop-place-preserved c =

@@ -1,4 +1,4 @@
--- The line of a refusal that names a transaction is short. (Belongs with the lines of answers of the model.)
+-- The line of a refusal that names a transaction is short.
 use Rattle.std.proofs.Common.{ℕ, ◌^◌, ◌<◌, ◌≤◌, ◌++◌, length, arith, length-append}
 use Rattle.std.specs.Prelude.{Err, codes, decimal}
 use Rattle.std.proofs.lemmas.Fmt.{length-decimal-le}

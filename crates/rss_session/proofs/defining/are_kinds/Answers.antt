@@ -3,8 +3,8 @@ use Rattle.std.proofs.lemmas.Iterator.{YieldsList-from_slice}
 use Rattle.std.proofs.lemmas.Iterator.Search.{all_from_yields_List}
 use Rattle.rss_base.specs.TupleTypes.{is_kind}
 use Rattle.rss_base.specs.declared.field.FieldDef.{FieldDef}
-use Rattle.rss_rsi.proofs.Defined.{kinds_formed}
-use Rattle.rss_rsi.proofs.session.are_kinds.Goals as goal
+use Rattle.rss_session.proofs.FieldNames.{kinds_formed}
+use Rattle.rss_session.proofs.defining.are_kinds.Goals as goal
 
 pub returns-in-1-to-16 : goal.returns-in-1-to-16
 returns-in-1-to-16 c = kinds_formed c.args.fields.now _ (omega arith) (omega arith)

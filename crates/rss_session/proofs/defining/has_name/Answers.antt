@@ -1,8 +1,8 @@
 use Rattle.std.proofs.Common.{◌≡◌, ◌≢◌, rules, tests}
 use Rattle.std.proofs.lemmas.Iterator.{cases_from_any, YieldsList-from_slice}
 use Rattle.rss_base.specs.declared.field.FieldDef.{FieldDef}
-use Rattle.rss_rsi.proofs.Defined.{named_of_cases}
-use Rattle.rss_rsi.proofs.session.has_name.Goals as goal
+use Rattle.rss_session.proofs.FieldNames.{named_of_cases}
+use Rattle.rss_session.proofs.defining.has_name.Goals as goal
 
 pub returns : goal.returns
 returns c =

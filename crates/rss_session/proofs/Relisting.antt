@@ -1,0 +1,166 @@
+-- What a call that defines makes of the pages, of the machine's state and of the session.
+use Rattle.std.proofs.Common.{◌≡◌, inl, inr, ℕ, ◌≤◌, true, false, Bool, List, length, get_or, refl, sym, ◌∙◌, ap, subst, arith}
+use Rattle.std.specs.Prelude.{Some, None, slice_set}
+use Rattle.std.specs.FinMap.{empty}
+use Rattle.std.proofs.lemmas.Bool.{cases_eq}
+use Rattle.std.proofs.lemmas.List.{get_or-set_same, get_or-set_other, length-set}
+use Rattle.std.proofs.lemmas.Option.{same_Some}
+use Rattle.rss_base.specs.Paged.{Held}
+use Rattle.rss_base.specs.Sizes.{log_pages_least, system_pages}
+use Rattle.rss_base.specs.Steps.{PagesView}
+use Rattle.rss_base.specs.Listings.{Listing, ListingFits}
+use Rattle.rss_base.specs.declared.call.Call.{Call}
+use Rattle.rss_model.specs.Tables.{Definitions, Tables}
+use Rattle.rss_model.specs.Changes.{Change}
+use Rattle.rss_model.specs.Machine.{StoreSize, State, with_changes}
+use Rattle.rss_model.specs.Fits.{Fits}
+use Rattle.rss_model.specs.Kept.{Kept}
+use Rattle.rss_model.specs.Defining.{defined, with_definitions, DefinesNames}
+use Rattle.rss_model.specs.Steps.{refusal}
+use Rattle.rss_model.specs.Store.{SpellsTables, size_of}
+use Rattle.rss_model.proofs.BothRooms.{definitions_keep_rooms}
+use Rattle.rss_model.proofs.ByNumber.{relation_unnamed}
+use Rattle.rss_model.proofs.Redefining.{defined_fits}
+use Rattle.rss_model.proofs.Relisted.{segment_made_spells, segment_gone_spells, relation_made_spells, relation_gone_spells}
+use Rattle.rss_model.proofs.StepKeeping.{kept_fit}
+use Rattle.rss_trans.specs.Tables.{told}
+use Rattle.rss_access.specs.Written.{AreWritten}
+use Rattle.rss_session.specs.Calls.{with_catalog, IsRedefined}
+use Rattle.rss_session.specs.Definitions.{entry_of, Relists, Redefines}
+use Rattle.rss_session.specs.Definitions.Relists.{segment, relation, drop_segment, drop_relation}
+use Rattle.rss_session.specs.Parts.{view}
+use Rattle.rss_session.specs.Sessions.{SessionView, IsReady, IsEarly}
+use Rattle.rss_session.specs.Shown.{Shows}
+use Rattle.rss_session.specs.declared.session.Session.{Session}
+use Rattle.rss_session.proofs.Defined.{none_changed, none_marked}
+
+-- ---- the pages
+
+-- The call defines so, and the pages spell its tables, whose definitions are listed anew.
+pub record IsRelisted (held : Held) (call : Call) (listing : Listing) (tables : Tables) : Type 0 where
+  pub definitions : Definitions
+  pub so : defined call tables.definitions ≡ Some definitions
+  pub spells : SpellsTables held listing (with_definitions definitions tables)
+
+pub relisted : {held : Held} {tables : Tables} {slots : ℕ} {old new : Listing} {call : Call} → SpellsTables held old tables → Fits slots tables → Relists old call new → ListingFits new → IsRelisted held call new tables
+relisted spells fit (segment name number fresh least) fits = record { definitions = _; so = refl; spells = segment_made_spells spells number name least fits }
+relisted spells fit (relation name in_segment fields at number within fresh least) fits = record {
+  definitions = _;
+  so = refl;
+  spells = relation_made_spells spells fit number (entry_of name at fields) in_segment least fits within refl (relation_unnamed spells.listed spells.defines name fresh);
+}
+relisted spells fit (drop_segment name number at none) fits = record {
+  definitions = _;
+  so = refl;
+  spells = segment_gone_spells spells number name at (λ k r is within. none (record { number = k; relation = r; at = is; within = within })) fits;
+}
+relisted spells fit (drop_relation number entry at empty) fits = record { definitions = _; so = refl; spells = relation_gone_spells spells number entry at (spells.counts number entry at ∙ empty) fits }
+
+-- ---- the session
+
+module _ {S : Type 0} (pages_view : S → PagesView) {call : Call} {old new : Session S} (redefines : Redefines call old new) where
+  abbrev before : SessionView
+  before = view pages_view old
+
+  abbrev after : SessionView
+  after = view pages_view new
+
+  -- it has another catalog, and is else as it was
+  but_catalog : with_catalog new.store.catalog before ≡ after
+  but_catalog = λ i. record {
+    store = record {
+      pages = pages_view (sym redefines.rest.tuples i).pages;
+      catalog = new.store.catalog;
+      log = sym redefines.rest.log i;
+      root = sym redefines.rest.root i;
+      number = sym redefines.rest.number i;
+    };
+    opened = told (sym redefines.rest.opened i);
+    heap = sym redefines.rest.heap i;
+    surviving = sym redefines.rest.surviving i;
+  }
+
+  -- as many pages may have changed
+  as_many : length old.store.catalog.pending ≡ system_pages → length new.store.catalog.pending ≡ system_pages
+  as_many places = ap (λ (pending : List Bool). length pending) redefines.lists.pending ∙ length-set old.store.catalog.pending redefines.page true ∙ places
+
+  -- what is defined may be committed
+  pub ready_redefined : IsReady before → IsReady after
+  ready_redefined ready = subst IsReady but_catalog (record {
+    store = record {
+      number_low = ready.store.number_low;
+      number_high = ready.store.number_high;
+      formed = ready.store.formed;
+      size = ready.store.size;
+      log_pages = ready.store.log_pages;
+      area = ready.store.area;
+      log = ready.store.log;
+      system = ready.store.system;
+      only = ready.store.only;
+      pending_places = as_many ready.store.pending_places;
+      settled_now = ready.store.settled_now;
+      heaps = ready.store.heaps;
+    };
+    pages = ready.pages;
+    room = ready.room;
+    log = ready.log;
+    placed = ready.placed;
+    numbers = ready.numbers;
+  })
+
+  pub closed_redefined : after.opened.transactions ≡ empty
+  closed_redefined = ap (λ opened. (told opened).transactions) redefines.rest.opened ∙ redefines.closed
+
+  pub early_redefined : (bytes : ℕ) → IsEarly before bytes → IsEarly after bytes
+  early_redefined bytes early = subst (λ (v : SessionView). IsEarly v bytes) but_catalog early
+
+  module _ {state : State} (ready : IsReady before) (kept : Kept state) (shows : Shows before state) where
+    -- the committed tables are those now
+    spells : SpellsTables before.store.pages.held old.store.catalog.listing state.base
+    spells = subst (λ (changes : List Change). SpellsTables before.store.pages.held old.store.catalog.listing (with_changes state.base changes)) (none_changed shows redefines.closed) shows.store.spells
+
+    fits_new : ListingFits new.store.catalog.listing
+    fits_new = redefines.fits spells.listed
+
+    now_relisted : IsRelisted before.store.pages.held call new.store.catalog.listing state.base
+    now_relisted = relisted spells (kept_fit state kept).0 redefines.relists fits_new
+
+    -- a page that isn't to be written is spelled as it was
+    written : AreWritten before.store.pages.held new.store.catalog
+    written page low not = elim (cases_eq page redefines.page) [
+      | inl here ↦ absurd (not (
+          ap (λ (pending : List Bool). get_or pending page false) redefines.lists.pending
+          ∙ ap (λ (q : ℕ). get_or (slice_set old.store.catalog.pending redefines.page true) q false) here
+          ∙ get_or-set_same old.store.catalog.pending redefines.page true false (omega (arith, redefines.low spells.listed, ready.store.pending_places))
+          ))
+      | inr other ↦
+          let was = shows.store.written page low (λ pending. not (ap (λ (l : List Bool). get_or l page false) redefines.lists.pending ∙ get_or-set_other old.store.catalog.pending redefines.page page true false other ∙ pending)) in
+          was ∙ ap Some (sym (redefines.others page other))
+    ]
+
+    size_same : state.size ≡ size_of before.store.root
+    size_same = shows.store.tied.size ∙ ap size_of shows.store.disk.root_is
+
+    module _ (passed : refusal state call ≡ None) (names : DefinesNames call) where
+      many : log_pages_least ≤ state.size.log_pages
+      many = omega (arith, ap (λ (s : StoreSize). s.log_pages) size_same, ready.store.formed.log_least)
+
+      redefined_before : IsRedefined (with_catalog new.store.catalog before) old.store.catalog state now_relisted.definitions
+      redefined_before = record {
+        shows = shows;
+        none_open = none_marked shows redefines.closed;
+        none_changed = none_changed shows redefines.closed;
+        spells = now_relisted.spells;
+        written = written;
+        fit = subst (λ (s : StoreSize). Fits s.slots (with_definitions now_relisted.definitions state.base)) size_same (defined_fits state (kept_fit state kept).0 call now_relisted.definitions passed names now_relisted.so);
+        rooms = definitions_keep_rooms state call now_relisted.definitions kept shows.counted.rooms.metered many passed names now_relisted.so;
+      }
+
+      -- it may be committed, with the definitions that the call makes
+      pub is_redefined : (definitions : Definitions) → defined call state.base.definitions ≡ Some definitions → IsRedefined after old.store.catalog state definitions
+      is_redefined definitions so = subst (λ (d : Definitions). IsRedefined after old.store.catalog state d) (same_Some _ _ (sym now_relisted.so ∙ so))
+          (subst (λ (v : SessionView). IsRedefined v old.store.catalog state now_relisted.definitions) but_catalog redefined_before)
+
+      -- which there are
+      pub defines_some : (definitions : Definitions) × (defined call state.base.definitions ≡ Some definitions)
+      defines_some = (now_relisted.definitions, now_relisted.so)

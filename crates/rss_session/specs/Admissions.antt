@@ -1,0 +1,22 @@
+-- What a call is refused for by a test that looks neither at pages nor at room.
+use Rattle.std.specs.Prelude.{◌≡◌, Option, Some, None, Result, Ok, Err}
+use Rattle.rss_base.specs.DiskRule.{IsTold}
+use Rattle.rss_base.specs.declared.refusal.Refusal.{Refusal}
+use Rattle.rss_model.specs.Machine.{State}
+use Rattle.rss_model.specs.ReplyText.{IsShort}
+use Rattle.rss_session.specs.Sessions.{SessionView}
+use Rattle.rss_session.specs.Shown.{Shows}
+
+-- on a device that tells its contents the test says this in each state in which the session may be
+abbrev pub Says : SessionView → (State → Option Refusal) → Option Refusal → Type 0
+Says view test why =
+    IsTold view.store.pages.disk → (state : State) → Shows view state → test state ≡ why
+
+-- it refuses so, by a line that is short
+abbrev pub Refuses : SessionView → (State → Option Refusal) → Refusal → Type 0
+Refuses view test why = Says view test (Some why) × IsShort (Err why)
+
+-- The test is passed where the result is a value, and refuses so where it is a refusal.
+abbrev pub Tests : {T : Type 0} → SessionView → (State → Option Refusal) → Result T Refusal → Type 0
+Tests view test (Ok value) = Says view test None
+Tests view test (Err why) = Refuses view test why
