@@ -107,6 +107,8 @@ impl<S: Saving> Session<S> {
         ensures writes { (view S.view self.new).store.pages.writes
             ≤ (view S.view self.old).store.pages.writes + new_pieces (view S.view self.old).store.root
             ((view S.view self.old).store.log.end + end_size) + 2 }
+        ensures still { length (transaction_in (view S.view self.old).opened transaction).changes ≡ 0
+            → self.new.store ≡ self.old.store }
         ensures appends { Appends end_size (view S.view self.old) (view S.view self.new) }
         ensures goes { GoesOn (view S.view self.old) (view S.view self.new) result }
     {

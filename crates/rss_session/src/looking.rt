@@ -1,5 +1,5 @@
 // Looks at tuples.
-ghost use Rattle.std.specs.Prelude.{◌≡◌, true, is_some, IfOk};
+ghost use Rattle.std.specs.Prelude.{◌≡◌, ◌+◌, ◌≤◌, true, is_some, IfOk};
 ghost use Rattle.rss_base.specs.DiskRule.{IsTold};
 ghost use Rattle.rss_base.specs.Listings.{relation_at};
 ghost use Rattle.rss_base.specs.declared.relation.RelationEntry.{RelationEntry as AnyEntry};
@@ -17,7 +17,7 @@ impl<S: Saving> Session<S> {
     ghost use Rattle.rss_session.specs.Parts.{view};
 
     /// Whether the tuple with this identifier is one of the relation of this number, which stands in
-    /// this segment. If so, its body is put into `into`. Asks for two pages at most.
+    /// this segment. If so, its body is put into `into`. It asks for two pages at most, which may drive out as many.
     pub fn look(
         &mut self,
         segment: u8,
@@ -26,6 +26,10 @@ impl<S: Saving> Session<S> {
         into: &mut Body,
     ) -> Result<bool, PageFault>
         requires { IsReady (view S.view self.old) }
+        ensures costs { ((view S.view self.new).store.pages.asks
+            ≤ (view S.view self.old).store.pages.asks + 2)
+            × ((view S.view self.new).store.pages.writes
+            ≤ (view S.view self.old).store.pages.writes + 2) }
         ensures looks { LooksOn (view S.view self.old) (view S.view self.new) result }
         ensures finds { IfOk result (λ there. IsTold (view S.view self.old).store.pages.disk
             → FindsTuple (view S.view self.old) segment number tid there into.new) }

@@ -57,3 +57,8 @@ returns-clause-moments g c = λ on state kept fit shows.
     let new : SessionView = record { store = store_view g.S.Pages.view c.commit.new.self; opened = told c.gone.new.self; heap = old.heap; surviving = old.surviving } in
     let own = own_some old new c.args.transaction c.gone.ensures refl refl c.commit.ensures.catalog state kept shows (some_are (told c.args.self.now.open) c.args.transaction c.newest.ensures c.if-not-changed.ensures) in
     c.commit.ensures.moments on state shows.store (may_commit c.args.transaction state own kept shows.counted.rooms fit)
+
+pub returns-clause-still : goal.returns-clause-still
+returns-clause-still g c = λ none.
+    let some = some_are (told c.args.self.now.open) c.args.transaction c.newest.ensures c.if-not-changed.ensures in
+    absurd (omega (arith, some, none))
