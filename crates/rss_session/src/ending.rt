@@ -1,6 +1,6 @@
 // Begins, save points and ends.
-ghost use Rattle.std.specs.Prelude.{◌≡◌, ◌⊎◌, ◌+◌, ◌^◌, ◌<◌, ◌≤◌, ℕ, List, true, false, length, slice_get, Err, IfOk, OnOk, OnErr};
-ghost use Rattle.std.specs.FinMap.{keys, len};
+ghost use Rattle.std.specs.Prelude.{◌≡◌, ◌⊎◌, ◌+◌, ◌^◌, ◌<◌, ◌≤◌, ℕ, List, true, false, length, Err, IfOk, OnOk, OnErr};
+ghost use Rattle.std.specs.FinMap.{len};
 ghost use Rattle.rss_base.specs.DiskRule.{IsTold, WritesIn};
 ghost use Rattle.rss_base.specs.declared.fault.PageFault.TheVariants.{Damaged};
 ghost use Rattle.rss_base.specs.declared.place.Place.{Place as AnyPlace};
@@ -35,35 +35,6 @@ impl<S: Saving> Session<S> {
         ensures store { self.new.store ≡ self.old.store }
     {
         self.open.begin(transaction)
-    }
-
-    /// Whether the transaction is open.
-    pub fn is_open(&self, transaction: u32) -> bool
-        ensures { result ≡ is_open (view S.view self.now).opened transaction }
-    {
-        self.open.is_open(transaction)
-    }
-
-    /// How many transactions are open.
-    pub fn count(&self) -> u32
-        ensures { result ≡ len (view S.view self.now).opened.transactions }
-    {
-        self.open.count()
-    }
-
-    /// The least open transaction.
-    pub fn least(&self) -> Option<u32>
-        ensures { result ≡ slice_get (keys (view S.view self.now).opened.transactions) 0 }
-    {
-        self.open.least()
-    }
-
-    /// How many save points a transaction has.
-    pub fn saves(&self, transaction: u32) -> u32
-        requires { is_open (view S.view self.now).opened transaction ≡ true }
-        ensures { result ≡ length (transaction_in (view S.view self.now).opened transaction).saves }
-    {
-        self.open.saves(transaction)
     }
 
     /// Sets a save point, and answers its number.

@@ -17,7 +17,8 @@ impl<S: Saving> Session<S> {
     ghost use Rattle.rss_session.specs.Parts.{view};
 
     /// Whether the tuple with this identifier is one of the relation of this number, which stands in
-    /// this segment. If so, its body is put into `into`. It asks for two pages at most, which may drive out as many.
+    /// this segment. If so, its body is put into `into`. It asks for two pages at most, which may drive
+    /// out as many.
     pub fn look(
         &mut self,
         segment: u8,
@@ -37,8 +38,7 @@ impl<S: Saving> Session<S> {
         find(&mut self.store.tuples, segment, number, tid, into)
     }
 
-    /// The identifier that a new tuple gets in a segment, with a body of this length. None where no
-    /// identifier is free.
+    /// The identifier that a new tuple gets in a segment, with a body of this length, if it finds one.
     pub fn choose(&mut self, segment: u8, length: u16) -> Result<Option<Tid>, PageFault>
         requires ready { IsReady (view S.view self.old) }
         requires may { MayPut segment length }
