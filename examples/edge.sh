@@ -50,16 +50,19 @@ check() {
 # Scripts, and the replies that they get.
 printf 'begin 1\ninsert 1 r 7\nend 1\n' >commit
 committed=$'ok\nok 0.0\nok'
+printf 'begin 1\ninsert 1 r 7\ncheckpoint\n' >checkpoint
 printf 'begin 1\nfetch 1 r 0.0\nfetch 1 r 0.1\n' >probe
 
-# Files: a new store, the same with a relation and no tuple, after one commit of a tuple and after a
-# second one, that after one commit formatted again, whose free slots hold what they held, and files
-# that are no store.
+# Files: a new store, the same with a relation and no tuple, after one commit of a tuple and after two
+# of one run, those as an opening leaves them, which brings their log to rest, that after one commit
+# formatted again, whose free slots hold what they held, and files that are no store.
 printf 'segment s\nrelation r s a:int\n' >definitions
 "$rss" format new 64 8 >replies
 cp new empty && "$rss" run empty <definitions >replies
 cp empty one && "$rss" run one <commit >replies
-cp one two && "$rss" run two <commit >replies
+cp empty two && cat commit commit | "$rss" run two >replies
+cp one opened_one && "$rss" run opened_one </dev/null >replies
+cp two opened_two && "$rss" run opened_two </dev/null >replies
 cp one again && "$rss" format again 64 8 >replies
 echo hello >hello
 : >nothing
@@ -103,7 +106,7 @@ check long '"$rss" run a <commit' 5 "not a store size" long
 
 # A file size limit, in KiB.
 check one '(ulimit -f 16 && "$rss" format a 64 8)' 4 "" one
-check empty '(ulimit -f 16 && "$rss" run a <commit && true)' 4 $'ok\nok 0.0' empty
+check empty '(ulimit -f 16 && "$rss" run a <checkpoint && true)' 4 $'ok\nok 0.0' empty
 
 # start BEFORE: a run over a copy of the file, which waits for its input.
 start() {
@@ -150,7 +153,7 @@ faults+="$(says ok 'begin 1'; says 'ok 0.1' 'insert 1 r 7'; says ok 'end 1')"
 finish
 : >replies
 report "the commits of the first of two processes stand" "$faults$(faults_of "$first_status" 0 "" two)"
-check two '"$rss" run a <probe' 0 $'ok\nok 7\nok 7' two
+check two '"$rss" run a <probe' 0 $'ok\nok 7\nok 7' opened_two
 
 # A run that is killed holds no lock.
 start one
@@ -158,9 +161,10 @@ faults="$(says ok 'begin 1')"
 kill -KILL "$first"
 finish 2>/dev/null
 report "a run is killed" "$faults"
-check one '"$rss" run a <probe' 0 $'ok\nok 7\nrefused 9 no tuple r 0.1' one
+check one '"$rss" run a <probe' 0 $'ok\nok 7\nrefused 9 no tuple r 0.1' opened_one
+check opened_one '"$rss" run a <probe' 0 $'ok\nok 7\nrefused 9 no tuple r 0.1' opened_one
 
-# A store of 1,100 home pages, each with one tuple, in 3,072 slots behind 23 other pages. No more than
+# A store of 1,100 home pages, each with one tuple, in 3,072 slots behind 79 other pages, at rest. No more than
 # 1,024 pages are kept in memory, and an opening looks at each page, home page 0 before all others. So
 # that has left memory when a run waits for its first line, and a line that asks for it has it read from
 # the file again.
@@ -175,10 +179,11 @@ short='"y" "y" "y" "y" "y" "y" "y" "y"'
         for ((tuple = 0; tuple < 100; tuple++)); do echo "insert 1 r $long"; done
         echo 'end 1'
     done
+    echo 'checkpoint'
 } >fill
-"$rss" format many 3072 8 >replies
+"$rss" format many 3072 64 >replies
 "$rss" run many <fill >replies
-if [ "$(tail -n 2 replies)" != $'ok 1099.0\nok' ]; then report "a store of 1,100 home pages" " other replies;"; fi
+if [ "$(tail -n 3 replies)" != $'ok 1099.0\nok\nok' ]; then report "a store of 1,100 home pages" " other replies;"; fi
 
 # Where the pages of the file begin whose first 16 bytes are the header of a home page, by its number.
 heads="$(od -An -v -tx1 -w4096 many | cut -c 1-48)"
@@ -193,7 +198,7 @@ second_page="$(place_of 1)"
 # Damage to the file `a`, by what is said of it.
 turn_header() { printf '\2' | dd of=a bs=1 seek="$first_page" conv=notrunc status=none; }
 turn_entry() { printf '\3' | dd of=a bs=1 seek=$((first_page + 16)) conv=notrunc status=none; }
-set_to_zeros() { dd if=/dev/zero of=a bs=4096 seek=23 count=3072 conv=notrunc status=none; }
+set_to_zeros() { dd if=/dev/zero of=a bs=4096 seek=79 count=3072 conv=notrunc status=none; }
 exchange() {
     dd if=many of=a bs=4096 skip=$((first_page / 4096)) seek=$((second_page / 4096)) count=1 conv=notrunc status=none
     dd if=many of=a bs=4096 skip=$((second_page / 4096)) seek=$((first_page / 4096)) count=1 conv=notrunc status=none
@@ -256,8 +261,8 @@ if [ -n "$(command -v strace)" ]; then
     for call in "${!after[@]}"; do found+=" $((after[call] - before[call]))"; done
     names="pread64, read, lseek, write, pwrite64 of 4,096 bytes, fsync, fdatasync"
     faults=""
-    if [ "$found" != " 0 0 0 0 5 0 2" ]; then faults="$found;"; fi
-    report "a commit over 64 slots, by its $names: 0 0 0 0 5 0 2" "$faults"
+    if [ "$found" != " 0 0 0 0 2 0 2" ]; then faults="$found;"; fi
+    report "a commit over 64 slots, by its $names: 0 0 0 0 2 0 2" "$faults"
 
     rm -f a
     strace -f -y -o calls "$rss" format a 64 8 >replies 2>errors

@@ -114,7 +114,7 @@ must_be_granted() {
 }
 
 make_store() {
-    "$rss" format "store.$1.$2" "$1" 8 >replies
+    "$rss" format "store.$1.$2" "$1" 160 >replies
     { definitions && filling "$1" "$2"; } >filling.script
     "$rss" run "store.$1.$2" <filling.script >replies
     must_be_granted
@@ -140,13 +140,12 @@ run_store() { "$rss" run work; }
 run_sqlite() { sqlite3 work; }
 write_lines() { dd if=/dev/zero of=lines bs=5 count="$1" 2>errors; }
 
-# What so many commits at so many slots have at least to write, to pages that are there: in one write
-# the page that was changed, that of its count, the map and the root, then the selector, and each of
-# the two synced.
+# What so many commits have at least to write, to pages that are there: a root, and the selector, each
+# brought to safety.
 write_pages() {
-    local pages
-    for pages in $((($2 + 511) / 512 + 3)) 1; do
-        dd if=/dev/zero of=pages bs=$((4096 * pages)) count="$1" oflag=dsync conv=notrunc 2>errors
+    local page
+    for page in root selector; do
+        dd if=/dev/zero of=pages bs=4096 count="$1" oflag=dsync conv=notrunc 2>errors
     done
 }
 
@@ -233,8 +232,8 @@ measure_all() {
                 measure "$mode.$tuples" "$script $mode.$slots.$tuples" run_sqlite "$script.sql"
             done
         done
-        timed "nothing pages.$slots.$tuples" write_pages 0 "$slots"
-        timed "commits pages.$slots.$tuples" write_pages "$commits" "$slots"
+        timed "nothing pages.$slots.$tuples" write_pages 0
+        timed "commits pages.$slots.$tuples" write_pages "$commits"
     done
     timed "nothing lines" write_lines 0
     timed "lines lines" write_lines 1000000
@@ -347,11 +346,11 @@ calls() {
 }
 
 store_calls() {
-    local pages=$((($1 + 511) / 512 + 4)) input=commits.script
+    local input=commits.script
     if [ -n "$(command -v strace)" ]; then
         calls "store.$1.0" "$rss" run work
     else
-        echo "$((4 * pages)).0 KiB in all, 2.0 syncs (by the layout)"
+        echo "not counted: no strace"
     fi
 }
 
@@ -398,7 +397,7 @@ for store in "${stores[@]}"; do make_store ${store/ / }; done
 for mode in "${modes[@]}"; do
     for tuples in "${databases[@]}"; do make_database "$mode" "$tuples"; done
 done
-dd if=/dev/zero of=pages bs=4096 count=$((131 * commits)) 2>errors
+dd if=/dev/zero of=pages bs=4096 count="$commits" 2>errors
 sync
 
 # Both give the same values.

@@ -28,8 +28,7 @@ use Rattle.rss_tuple.specs.Calls.{IsSegment, IsBodyLength, IsNoLonger, PutsTuple
 use Rattle.rss_tuple.proofs.Seen.{high_empty}
 use Rattle.rss_tuple.proofs.Changes.{empty_absent, live_some, fits_unmapped}
 use Rattle.rss_tuple.proofs.Placed.{empty_there}
-use Rattle.rss_model.specs.Costs.{IsPageFor}
-use Rattle.rss_access.specs.Tuples.{body_at, size_of_body, bytes_at, ChangesTuple, Inserts, FindsBody}
+use Rattle.rss_access.specs.Tuples.{IsPageFor, body_at, size_of_body, bytes_at, ChangesTuple, Inserts, FindsBody}
 
 -- ---- sums over a range of numbers
 

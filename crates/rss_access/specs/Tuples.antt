@@ -7,13 +7,16 @@ use Rattle.rss_base.specs.Paged.{mapped_pages}
 use Rattle.rss_base.specs.Steps.{PagesView}
 use Rattle.rss_base.specs.declared.tid.Tid.{Tid}
 use Rattle.rss_base.specs.declared.key.PageKey.{PageKey}
-use Rattle.rss_base.specs.declared.key.Space.TheVariants.{Overflow}
+use Rattle.rss_base.specs.declared.key.Space.TheVariants.{Home, Overflow}
 use Rattle.rss_page.specs.Slotted.{bodies_room}
 use Rattle.rss_tuple.specs.Directory.{Bodies, bodies_of, with_body, tid_at}
 use Rattle.rss_tuple.specs.Heaps.{AreHeaps}
 use Rattle.rss_tuple.specs.Placing.{IsChosen}
 use Rattle.rss_model.specs.Fits.{IsIdentifier}
-use Rattle.rss_model.specs.Costs.{IsPageFor}
+
+-- the pages that a tuple may have: the home pages of its identifier's number, and overflow pages
+abbrev pub IsPageFor : Tid → PageKey → Type 0
+IsPageFor tid key = ((key.space ≡ Home) × (key.number ≡ tid.page)) ⊎ (key.space ≡ Overflow)
 
 -- the body of a segment's tuple with this identifier
 abbrev pub body_at : PagesView → ℕ → Tid → Option (List ℕ)

@@ -2,17 +2,19 @@
 //! in a transaction, and fetches them again after the store was opened anew.
 #![tactic(auto)]
 
-ghost use Rattle.std.specs.Prelude.{[], ◌∷◌, IfOk};
+ghost use Rattle.std.specs.Prelude.{◌≡◌, true, [], ◌∷◌, IfOk};
 ghost use Rattle.rss_base.specs.declared.value.Value.TheVariants.{Int};
 ghost use Rattle.rss_base.specs.declared.call.Call.TheVariants.{Insert, Fetch};
 ghost use Rattle.rss_base.specs.declared.answer.Reply.TheVariants.{Tid as Identifier, Tuple as Found};
+ghost use Rattle.rss_model.specs.Callers.{is_built};
+ghost use Rattle.rss_model.specs.Defining.{DefinesNames, LocksGranule};
 ghost use Rattle.rss_embed.specs.Made.{Made};
 
 use rss_base::{
     Call, CallError, FieldDef, FieldKind, Fields, Name, OpenFault, Reply, Tid, Tuple, Value,
 };
 use rss_device::MemDevice;
-use rss_model::Engine;
+use rss_model::{CALLS_MOST, Engine};
 use rss_rsi::{MOST_FRAMES, format, open};
 use std::alloc::{AllocError, Global};
 use std::io;
@@ -35,6 +37,8 @@ const FIELD: Name = Name {
 enum Failure {
     #[error("there is no store: {0:?}")]
     Store(#[from] OpenFault),
+    #[error("the store was asked for as many calls as it may be")]
+    Calls,
     #[error("a call failed: {0:?}")]
     Call(CallError),
     #[error("another reply than that of the call: {0:?}")]
@@ -51,6 +55,19 @@ impl From<CallError> for Failure {
     }
 }
 
+/// Makes a call, where the engine may be asked for one more.
+fn ask<E: Engine>(engine: &mut E, call: &Call) -> Result<Reply, Failure>
+    requires names { DefinesNames call.now }
+    requires granule { LocksGranule call.now }
+    requires built { is_built call.now ≡ true }
+    ensures { IfOk result (Made (E.view engine.old) (E.view engine.new) call.now) }
+{
+    if engine.calls() >= CALLS_MOST {
+        return Err(Failure::Calls);
+    }
+    Ok(engine.call(call)?)
+}
+
 /// Defines the segment and its relation, each a commit of its own.
 fn define<E: Engine>(engine: &mut E, alloc: Global) -> Result<(), Failure> {
     let mut fields = Fields::new(alloc);
@@ -58,8 +75,8 @@ fn define<E: Engine>(engine: &mut E, alloc: Global) -> Result<(), Failure> {
         name: FIELD,
         kind: FieldKind::Int,
     })?;
-    engine.call(&Call::MakeSegment(SEGMENT))?;
-    engine.call(&Call::MakeRelation(RELATION, SEGMENT, fields))?;
+    ask(engine, &Call::MakeSegment(SEGMENT))?;
+    ask(engine, &Call::MakeRelation(RELATION, SEGMENT, fields))?;
     Ok(())
 }
 
@@ -69,7 +86,7 @@ fn insert<E: Engine>(engine: &mut E, alloc: Global, value: i64) -> Result<Tid, F
         (Insert 1 RELATION (Int value ∷ [])) (Identifier tid)) }
 {
     let tuple = Tuple::single(alloc, Value::Int(value))?;
-    match engine.call(&Call::Insert(1, RELATION, tuple))? {
+    match ask(engine, &Call::Insert(1, RELATION, tuple))? {
         Reply::Tid(tid) => Ok(tid),
         other => Err(Failure::Reply(other)),
     }
@@ -78,10 +95,10 @@ fn insert<E: Engine>(engine: &mut E, alloc: Global, value: i64) -> Result<Tid, F
 /// Defines the relation, inserts two tuples, and commits them together. Answers their identifiers.
 fn insert_both<E: Engine>(engine: &mut E, alloc: Global) -> Result<[Tid; 2], Failure> {
     define(engine, alloc)?;
-    engine.call(&Call::Begin(1))?;
+    ask(engine, &Call::Begin(1))?;
     let first = insert(engine, alloc, 7)?;
     let second = insert(engine, alloc, -7)?;
-    engine.call(&Call::End(1))?;
+    ask(engine, &Call::End(1))?;
     Ok([first, second])
 }
 
@@ -90,7 +107,7 @@ fn fetch<E: Engine>(engine: &mut E, tid: Tid) -> Result<Tuple, Failure>
     ensures { IfOk result (λ tuple. Made (E.view engine.old) (E.view engine.new)
         (Fetch 1 RELATION tid) (Found tuple)) }
 {
-    match engine.call(&Call::Fetch(1, RELATION, tid))? {
+    match ask(engine, &Call::Fetch(1, RELATION, tid))? {
         Reply::Tuple(tuple) => Ok(tuple),
         other => Err(Failure::Reply(other)),
     }
@@ -98,7 +115,7 @@ fn fetch<E: Engine>(engine: &mut E, tid: Tid) -> Result<Tuple, Failure>
 
 /// Prints each of these tuples, as a run from now on finds them.
 fn print_all<E: Engine, R: Print>(rt: &R, engine: &mut E, tids: &[Tid]) -> Result<(), Failure> {
-    engine.call(&Call::Begin(1))?;
+    ask(engine, &Call::Begin(1))?;
     for tid in tids {
         let tuple = fetch(engine, *tid)?;
         println!(rt; "{}.{} holds {:?}", tid.page, tid.slot, tuple.as_slice())?;

@@ -102,7 +102,8 @@ at_quote b bytes is = ap (λ t. if t then quote ∷ quote ∷ doubled bytes else
 pub off_quote : (b : ℕ) (bytes : List ℕ) → (b ≡ quote → ⊥) → doubled (b ∷ bytes) ≡ b ∷ doubled bytes
 off_quote b bytes is = ap (λ t. if t then quote ∷ quote ∷ doubled bytes else b ∷ doubled bytes) (ne_eqb b quote is)
 
-pub no_second : (x bytes : List ℕ) → IsOff quote x → x ≡ quote ∷ bytes → ⊥
+-- what begins with another byte doesn't begin with this one
+pub no_second : {byte : ℕ} (x bytes : List ℕ) → IsOff byte x → x ≡ byte ∷ bytes → ⊥
 no_second [] bytes off e = not_empty e
 no_second (c ∷ x) bytes off e = off (same_head e)
 

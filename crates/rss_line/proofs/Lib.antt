@@ -1,13 +1,16 @@
 mod Numbers
+mod Digits
 mod Pieces
 mod Cuts
 mod Choosing
 mod Lines
 mod Plain
+mod Ints
 mod Combining
 mod ValueTexts
 mod Sequences
 mod Lengths
+mod Unquoted
 mod Tids
 mod Fields
 mod NameTexts

@@ -29,7 +29,7 @@ use Rattle.rss_line.proofs.Cuts.{IsSolid, plain_solid, bare_from}
 use Rattle.rss_line.proofs.Numbers.{mag_fits}
 
 -- a byte that no digits have
-decimal_off : (c n : ℕ) → c < 48 → n < 2 ^ 64 → All (λ b. b ≢ c) (decimal n)
+pub decimal_off : (c n : ℕ) → c < 48 → n < 2 ^ 64 → All (λ b. b ≢ c) (decimal n)
 decimal_off c n low small = let own = numerals_by_value (AllDigits 10) tells_digits in
     All-from_get_or (λ b. b ≢ c) (decimal n) 0 (not_in_digits own (decimal n) c (digits_decimal own n small) (λ h. omega (arith, low, h)))
 

@@ -1,5 +1,5 @@
 -- What the methods of the reader do. They see it as the bytes that are left.
-use Rattle.std.specs.Prelude.{◌≡◌, ◌≢◌, ℕ, ℤ, Bool, true, false, ◌==◌, List, [], ◌∷◌, ◌++◌, All, Option, Some, None, IfSome, Result, Ok, Err, IfOk, IsErrOf, ⊤, ◌<◌, length, decimal}
+use Rattle.std.specs.Prelude.{◌≡◌, ◌≢◌, ℕ, ℤ, Bool, true, false, not, ◌==◌, List, [], ◌∷◌, ◌++◌, All, Option, Some, None, IfSome, Result, Ok, Err, IfOk, IsErrOf, ⊤, ◌<◌, length, get_or, pos, decimal}
 use Rattle.std.specs.Result.{MatchResult}
 use Rattle.std.specs.Str.{IsAscii}
 use Rattle.rss_base.specs.declared.value.Value.TheVariants.{Int}
@@ -75,6 +75,23 @@ IsThe expected word done = word ≡ expected
 abbrev pub IsInt : List ℕ → ℤ → Type 0
 IsInt word z = IsValue word (Int z)
 
+-- the sign of a number below zero
+abbrev pub minus : ℕ
+minus = 45
+
+-- what stands behind that sign, if it is there
+abbrev pub IsBehindMinus : List ℕ → Option (Bor (List ℕ)) → Type 0
+IsBehindMinus word (Some digits) = word ≡ minus ∷ digits.now
+IsBehindMinus word None = IsOff minus word
+
+-- a number from zero on
+abbrev pub IsFromZero : List ℕ → ℤ → Type 0
+IsFromZero word z = (n : ℕ) × (z ≡ pos n) × IsInt word z
+
+-- some digits, with no zero before others
+abbrev pub HasOneSpelling : List ℕ → Type 0
+HasOneSpelling digits = (0 < length digits) × (get_or digits 0 0 ≡ 48 → length digits ≡ 1)
+
 -- a number without leading zeros, below a limit
 abbrev pub IsBelow : ℕ → List ℕ → ℕ → Type 0
 IsBelow limit word n = (word ≡ decimal n) × (n < limit)
@@ -132,6 +149,15 @@ ReadsByte old new (Ok (Some b)) = old ≡ doubled (b ∷ []) ++ new
 ReadsByte old new (Ok None) = (old ≡ quote ∷ new) × IsOff quote new
 ReadsByte old new (Err Words) = old ≡ []
 ReadsByte old new (Err NoMemory) = ⊥
+
+-- no quote
+abbrev pub is_unquoted : ℕ → Bool
+is_unquoted b = not (b == quote)
+
+-- a text that has no quote, and its closing quote; else nothing
+abbrev pub ReadsUnquoted : List ℕ → List ℕ → Option (Bor (List ℕ)) → Type 0
+ReadsUnquoted old new (Some text) = (old ≡ text.now ++ quote ∷ new) × IsOff quote new × (doubled text.now ≡ text.now)
+ReadsUnquoted old new None = new ≡ old
 
 -- a text and its closing quote; there is none where the line is over before
 abbrev pub ReadsText : List ℕ → List ℕ → Result (List ℕ) LineFault → Type 0

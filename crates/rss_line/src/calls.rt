@@ -17,11 +17,15 @@ pub(crate) fn is_built(call: &Call) -> bool
     matches!(
         call,
         Call::Begin(_)
+            | Call::Save(_)
+            | Call::Restore(..)
             | Call::End(_)
+            | Call::Abort(_)
             | Call::Insert(..)
             | Call::Fetch(..)
             | Call::Update(..)
             | Call::Delete(..)
+            | Call::Checkpoint
             | Call::MakeSegment(_)
             | Call::MakeRelation(..)
             | Call::DropSegment(_)

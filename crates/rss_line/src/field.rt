@@ -13,7 +13,7 @@ pub fn read_field(word: &str) -> Option<FieldDef>
     ensures { ReadsAs (IsField word.now) result }
 {
     let (name, kind) = word.split_once(':')?;
-    let name = read_name(name)?;
+    let name = read_name(name.as_bytes())?;
     let kind = read_kind(kind)?;
     Some(FieldDef { name, kind })
 }
@@ -26,7 +26,7 @@ fn read_kind(word: &str) -> Option<FieldKind>
         return Some(FieldKind::Int);
     }
     let most = word.strip_prefix("text")?;
-    let most = read_below(TEXT_LIMIT, most)?;
+    let most = read_below(TEXT_LIMIT, most.as_bytes())?;
     if most == 0 {
         None
     } else {

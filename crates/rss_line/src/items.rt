@@ -34,14 +34,14 @@ impl<'a> Reader<'a> {
         ensures reads { ReadsWord IsTransaction self.old self.new result }
         ensures memory { NeedsNoMemory result }
     {
-        read_transaction(self.word()?).ok_or(LineFault::Words)
+        read_transaction(self.bytes()).ok_or(LineFault::Words)
     }
 
     pub(crate) fn name(&mut self) -> Result<Name, LineFault>
         ensures reads { ReadsWord IsNameWord self.old self.new result }
         ensures memory { NeedsNoMemory result }
     {
-        read_name(self.word()?).ok_or(LineFault::Words)
+        read_name(self.bytes()).ok_or(LineFault::Words)
     }
 
     pub(crate) fn target(&mut self) -> Result<Target, LineFault>

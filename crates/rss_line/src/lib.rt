@@ -2,6 +2,7 @@
 #![tactic(auto)]
 
 mod calls;
+mod decimal;
 mod definitions;
 mod drawing;
 mod fault;

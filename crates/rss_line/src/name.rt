@@ -5,12 +5,11 @@ ghost use Rattle.rss_line.specs.Reads.{ReadsAs};
 
 use rss_base::{NAME_BYTES, Name, is_name_text};
 
-pub fn read_name(word: &str) -> Option<Name>
+pub fn read_name(word: &[u8]) -> Option<Name>
     ensures { ReadsAs (IsNameWord word.now) result }
 {
-    let bytes = word.as_bytes();
-    if is_name_text(bytes) {
-        Some(padded(bytes))
+    if is_name_text(word) {
+        Some(padded(word))
     } else {
         None
     }
@@ -20,7 +19,7 @@ pub fn read_name(word: &str) -> Option<Name>
 pub fn read_variable(word: &str) -> Option<Name>
     ensures { ReadsAs (IsVariable word.now) result }
 {
-    read_name(word.strip_prefix("$")?)
+    read_name(word.strip_prefix("$")?.as_bytes())
 }
 
 /// These bytes, and then zeros.

@@ -1,5 +1,5 @@
 // The bytes and the words of a line, read one after another.
-ghost use Rattle.std.specs.Prelude.{◌≡◌, ◌≤◌, ◌↔◌, IsTrue, length};
+ghost use Rattle.std.specs.Prelude.{◌≡◌, ◌≤◌, ◌↔◌, IsTrue, Ok, length};
 ghost use Rattle.std.specs.List.{list_all, prefix_len};
 ghost use Rattle.rss_model.specs.Script.{IsApart};
 ghost use Rattle.rss_model.specs.Forms.{IsEmpty, Last};
@@ -78,13 +78,20 @@ impl<'a> Reader<'a> {
         word
     }
 
+    /// The bytes of the next word, which is no text between quotes.
+    pub(crate) fn bytes(&mut self) -> &'a [u8]
+        ensures { ReadsPlain self.old self.new (Ok result) }
+    {
+        self.skip_spaces();
+        self.front()
+    }
+
     /// The next word, which is no text between quotes.
     pub(crate) fn word(&mut self) -> Result<&'a str, LineFault>
         ensures reads { ReadsPlain self.old self.new result }
         ensures memory { NeedsNoMemory result }
     {
-        self.skip_spaces();
-        let Ok(word) = str::from_utf8(self.front()) else {
+        let Ok(word) = str::from_utf8(self.bytes()) else {
             return Err(LineFault::Words);
         };
         Ok(word)

@@ -1,15 +1,24 @@
 // The values of a line.
-ghost use Rattle.std.specs.Prelude.{◌≡◌, ◌∷◌};
+ghost use Rattle.std.specs.Prelude.{◌≡◌, ◌≤◌, ◌∷◌, length};
+ghost use Rattle.std.specs.List.{prefix_len};
 ghost use Rattle.rss_model.specs.Spellings.{quote};
 ghost use Rattle.rss_model.specs.Script.{IsValue, AreValues};
 ghost use Rattle.rss_line.specs.Reads.{IsInt, ReadsWord, ReadsQuote, ReadsByte, ReadsText};
-ghost use Rattle.rss_line.specs.Reads.{HasLength, ReadsWords, NeedsNoMemory};
+ghost use Rattle.rss_line.specs.Reads.{is_unquoted, ReadsUnquoted, HasLength, ReadsWords, NeedsNoMemory};
 
 use crate::LineFault;
 use crate::number::read_int;
 use crate::reader::Reader;
 use rss_base::{MOST_FIELDS, Text, Tuple, Value};
 use std::alloc::Global;
+
+/// How many bytes stand before the first quote.
+fn count_unquoted(bytes: &[u8]) -> usize
+    ensures count { result ≡ prefix_len is_unquoted bytes.now }
+    ensures bound { result ≤ length bytes.now }
+{
+    bytes.iter().take_while(|byte| **byte != b'"').count()
+}
 
 /// How many bytes the text has whose opening quote stands before these bytes.
 fn text_length(bytes: &[u8]) -> Result<usize, LineFault>
@@ -29,7 +38,7 @@ impl<'a> Reader<'a> {
         ensures reads { ReadsWord IsInt self.old self.new result }
         ensures memory { NeedsNoMemory result }
     {
-        read_int(self.word()?).ok_or(LineFault::Words)
+        read_int(self.bytes()).ok_or(LineFault::Words)
     }
 
     /// Whether a quote is next, which is then read.
@@ -58,8 +67,32 @@ impl<'a> Reader<'a> {
         Ok(byte)
     }
 
+    /// The bytes of the text whose opening quote was read, up to its closing quote, where no quote
+    /// stands in it. Where one does, nothing is read.
+    fn unquoted(&mut self) -> Option<&'a [u8]>
+        ensures { ReadsUnquoted self.old self.new result }
+    {
+        let (text, rest) = self.rest.split_at(count_unquoted(self.rest));
+        let mut behind = Reader::new(rest);
+        let Ok(None) = behind.text_byte() else {
+            return None;
+        };
+        *self = behind;
+        Some(text)
+    }
+
     /// The text whose opening quote was read, up to its closing quote, in one allocation.
     fn text(&mut self, alloc: Global) -> Result<Text, LineFault>
+        ensures { ReadsText self.old self.new result }
+    {
+        match self.unquoted() {
+            Some(bytes) => Ok(Text::from_slice(alloc, bytes)?),
+            None => self.text_of_bytes(alloc),
+        }
+    }
+
+    /// The same, byte by byte, since a quote in a text stands twice.
+    fn text_of_bytes(&mut self, alloc: Global) -> Result<Text, LineFault>
         ensures { ReadsText self.old self.new result }
     {
         let mut text = Text::with_capacity(alloc, text_length(self.rest)?)?;

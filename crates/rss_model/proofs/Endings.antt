@@ -1,31 +1,30 @@
 -- The ways in which a call on an engine ends.
-use Rattle.std.proofs.Common.{◌≡◌, inl, ℕ, ◌≤◌, length, ◌+◌, Option, Some, None, refl, sym, ◌∙◌, ap, subst, arith}
-use Rattle.std.specs.Prelude.{true, Result, Ok, Err, IsErrAnd, IsErrOf, IfSome}
+use Rattle.std.proofs.Common.{◌≡◌, inl, ℕ, ◌≤◌, ◌+◌, Option, Some, None, refl, sym, ◌∙◌, ap, subst, arith}
+use Rattle.std.specs.Prelude.{Result, Ok, Err, IsErrAnd, IsErrOf, IfSome}
 use Rattle.std.proofs.lemmas.Result.{err_from_is_err_and}
 use Rattle.rss_base.specs.DiskRule.{IsTold, Passes, Continues}
 use Rattle.rss_base.specs.Answers.{page_error}
-use Rattle.rss_base.specs.Paged.{AreAmong, HasPageCause}
+use Rattle.rss_base.specs.Faults.{Rises}
 use Rattle.rss_base.specs.declared.call.Call.{Call}
-use Rattle.rss_base.specs.declared.call.Call.TheVariants.{End, Insert}
+use Rattle.rss_base.specs.declared.call.Call.TheVariants.{Insert}
 use Rattle.rss_base.specs.declared.answer.Reply.{Reply}
 use Rattle.rss_base.specs.declared.answer.Reply.TheVariants.{Ok as Done}
-use Rattle.rss_base.specs.declared.key.PageKey.{PageKey}
 use Rattle.rss_base.specs.declared.answer.CallError.{CallError}
 use Rattle.rss_base.specs.declared.answer.CallError.TheVariants.{Refused, Down}
 use Rattle.rss_base.specs.declared.fault.PageFault.{PageFault}
+use Rattle.rss_base.specs.declared.place.Place.{Place}
 use Rattle.rss_base.specs.declared.fault.PageFault.TheVariants.{Device as PageDevice, Damaged as PageDamaged, NoMemory as PageNoMemory}
 use Rattle.rss_base.specs.declared.refusal.Refusal.{Refusal}
 use Rattle.rss_base.proofs.Moments.{started, widened}
 use Rattle.rss_model.specs.Turns.{IsStopped}
 use Rattle.rss_model.specs.Machine.{State}
 use Rattle.rss_model.specs.Tables.{Definitions}
-use Rattle.rss_model.specs.Callers.{is_definition}
 use Rattle.rss_model.specs.Defining.{defined, with_definitions, DefinesNames}
 use Rattle.rss_model.specs.Steps.{refusal, left_by, redefined}
 use Rattle.rss_model.specs.Steps.StepBy.{refuses, defines}
 use Rattle.rss_model.specs.Store.{OpensTo, OpensToEither}
 use Rattle.rss_model.specs.ReplyText.{IsShort}
-use Rattle.rss_model.specs.Costs.{RisesAtMost, most_asks, most_writes, LeavesChanged, changes_after}
+use Rattle.rss_model.specs.Costs.{RisesAtMost, most_asks, most_writes}
 use Rattle.rss_model.specs.Calls.{EngineView, GoesOn, GetsPlace, IsAnswer, IsOutcome, IsCallOf}
 
 -- a count that rises by so many at most, rises by no more than it may
@@ -38,10 +37,11 @@ none_within None = tt
 none_within (Some m) = omega arith
 
 -- a call that costs nothing
-pub costs_nothing : {old new : EngineView} (call : Call) → new.asks ≡ old.asks → new.writes ≡ old.writes → new.slots ≡ old.slots → (IsTold old.disk → IsTold new.disk) → (IsTold old.disk → Continues old.disk new.disk) → old.faults ≤ new.faults → GoesOn old new call
-costs_nothing {old = old} {new = new} call same_asks same_writes same_slots told history later = record {
+pub costs_nothing : {old new : EngineView} (call : Call) → new.asks ≡ old.asks → new.writes ≡ old.writes → new.calls ≤ old.calls + 1 → new.slots ≡ old.slots → (IsTold old.disk → IsTold new.disk) → (IsTold old.disk → Continues old.disk new.disk) → old.faults ≤ new.faults → GoesOn old new call
+costs_nothing {old = old} {new = new} call same_asks same_writes calls same_slots told history later = record {
   asks = within_most (most_asks call) 0 old.asks new.asks (none_within (most_asks call)) (omega (arith, same_asks));
-  writes = λ keys has. within_most (most_writes old.slots (length keys) old.since call) 0 old.writes new.writes (none_within (most_writes old.slots (length keys) old.since call)) (omega (arith, same_writes));
+  writes = within_most (most_writes call) 0 old.writes new.writes (none_within (most_writes call)) (omega (arith, same_writes));
+  calls = calls;
   slots = same_slots;
   told = told;
   history = history;
@@ -50,18 +50,9 @@ costs_nothing {old = old} {new = new} call same_asks same_writes same_slots told
 
 -- nothing is done
 idles : (view : EngineView) (call : Call) → GoesOn view view call
-idles view call = costs_nothing call refl refl refl (λ told. told) (λ told. started view.disk _) (omega arith)
+idles view call = costs_nothing call refl refl (omega arith) refl (λ told. told) (λ told. started view.disk _) (omega arith)
 
 -- ---- refusals
-
--- a call that is refused changes nothing, and pages that were changed wait as before
-pub refused_leaves : (call : Call) (why : Refusal) → LeavesChanged call (Err why)
-refused_leaves (End t) why = tt
-refused_leaves call why = tt
-
-pub refused_since : (call : Call) (why : Refusal) (since : ℕ) → changes_after call (Err why) since ≡ since
-refused_since (End t) why since = refl
-refused_since call why since = refl
 
 -- no tuple is placed by it
 pub refused_places : (view : EngineView) (call : Call) (why : Refusal) → GetsPlace view call (Err why)
@@ -69,25 +60,18 @@ refused_places view (Insert t relation values) why = tt
 refused_places view call why = tt
 
 -- By a refusal, which leaves the engine as it was but for its pages in memory.
-pub refused_by : {old new : EngineView} {call : Call} {why : Refusal} → new.is_up → IsShort (Err why) → AreAmong new.changed old.changed → new.since ≡ old.since
+pub refused_by : {old new : EngineView} {call : Call} {why : Refusal} → new.is_up → IsShort (Err why)
     → (IsTold old.disk → (state : State) → old.shows state → (refusal state call ≡ Some why) × new.shows (left_by state call why) × Passes old.disk new.disk (λ pages. OpensTo pages state.size state.base)) → IsAnswer old new call (Err why)
-refused_by {old = old} {call = call} {why = why} up short among since stays = record {
+refused_by {old = old} {call = call} {why = why} up short stays = record {
   answered = λ told state shown.
       let so = stays told state shown in
       record { next = left_by state call why; shows = so.1; answered = record { step = refuses call why so.0; moments = widened so.2 (λ image opens. inl opens) } };
   placed = λ told. refused_places old call why;
   up = up;
   short = short;
-  changed = λ key is. inl (among key is, refused_leaves call why);
-  since = since ∙ sym (refused_since call why _);
 }
 
 -- ---- definitions
-
--- once one was made, no change waits for a commit
-pub definition_since : (call : Call) (since : ℕ) → is_definition call ≡ true → changes_after call (Ok Done) since ≡ 0
-definition_since (End t) since is = absurd (cc)
-definition_since call since is = cc
 
 -- A definition was made over a state of the machine, which was at rest: it was not refused, and it is committed.
 pub record IsDefined (old new : EngineView) (state : State) (call : Call) : Type 0 where
@@ -102,17 +86,15 @@ pub done_places : (view : EngineView) (call : Call) → GetsPlace view call (Ok 
 done_places view (Insert t relation values) = tt
 done_places view call = tt
 
--- By a definition, after which no page waits for a commit.
-pub defined_by : {old new : EngineView} {call : Call} → is_definition call ≡ true → DefinesNames call → new.is_up → ((key : PageKey) → new.changed key ≡ true → ⊥) → new.since ≡ 0 → (IsTold old.disk → (state : State) → old.shows state → IsDefined old new state call) → IsAnswer old new call (Ok Done)
-defined_by {old = old} {call = call} is names up none since made = record {
+-- By a definition.
+pub defined_by : {old new : EngineView} {call : Call} → DefinesNames call → new.is_up → (IsTold old.disk → (state : State) → old.shows state → IsDefined old new state call) → IsAnswer old new call (Ok Done)
+defined_by {old = old} {call = call} names up made = record {
   answered = λ told state shown.
       let so = made told state shown in
       record { next = redefined so.definitions state; shows = so.shows; answered = record { step = defines call so.definitions so.passed names so.so; moments = so.moments } };
   placed = λ told. done_places old call;
   up = up;
   short = omega arith;
-  changed = λ key waits. absurd (none key waits);
-  since = since ∙ sym (definition_since call old.since is);
 }
 
 -- ---- calls
@@ -123,19 +105,25 @@ comes_to is_up goes outcome = record { goes = goes; outcome = λ was. outcome; d
 
 -- by a refusal, where the call is told so at once: nothing was done
 pub refused_at_once : {view : EngineView} {call : Call} {why : Refusal} → view.is_up → IsShort (Err why) → ((state : State) → view.shows state → (refusal state call ≡ Some why) × view.shows (left_by state call why)) → IsCallOf view view call (Err (Refused why))
-refused_at_once {view = view} {call = call} {why = why} up short refused = comes_to up (idles view call) (refused_by up short (λ key is. is) refl (λ told state shown. ((refused state shown).0, (refused state shown).1, started _ _)))
+refused_at_once {view = view} {call = call} {why = why} up short refused = comes_to up (idles view call) (refused_by up short (λ told state shown. ((refused state shown).0, (refused state shown).1, started _ _)))
+
+-- What is known of a fault of pages, by which a call ended: it is none of memory; no state shows damage; and a failed device has its count risen, within a step that was on its way.
+pub record FaultsIn (old new : EngineView) (call : Call) (fault : PageFault) : Type 0 where
+  pub memory : fault ≡ PageNoMemory → ⊥
+  pub sound : (place : Place) → fault ≡ PageDamaged place → IsTold old.disk → (state : State) → old.shows state → ⊥
+  pub cause : fault ≡ PageDevice → Rises old.faults new.faults
+  pub stopped : fault ≡ PageDevice → IsTold old.disk → (state : State) → old.shows state → IsStopped old.disk new.disk state call
 
 -- By an error of its pages, each of which leaves the engine down.
-pub failed : {old new : EngineView} {call : Call} {T : Type 0} {fault : PageFault} (result : Result Reply CallError) → IsErrAnd result (λ why. why ≡ page_error fault) → old.is_up → GoesOn old new call → HasPageCause {T = T} old.disk old.faults new.faults (Err fault) → (new.is_up → ⊥)
-    → (fault ≡ PageDevice → IsTold old.disk → (state : State) → old.shows state → IsStopped old.disk new.disk state call) → IsCallOf old new call result
-failed {old = old} {new = new} {call = call} {T = T} {fault = fault} result is is_up goes cause down stopped =
+pub failed : {old new : EngineView} {call : Call} {fault : PageFault} (result : Result Reply CallError) → IsErrAnd result (λ why. why ≡ page_error fault) → old.is_up → GoesOn old new call → (new.is_up → ⊥) → FaultsIn old new call fault → IsCallOf old new call result
+failed {old = old} {new = new} {call = call} {fault = fault} result is is_up goes down faults =
     let why = err_from_is_err_and result is in
-    subst (IsCallOf old new call) (sym (why.1 ∙ ap Err why.2)) (comes_to is_up goes (by_fault fault cause stopped))
+    subst (IsCallOf old new call) (sym (why.1 ∙ ap Err why.2)) (comes_to is_up goes (by_fault fault faults))
   where
-    by_fault : (fault : PageFault) → HasPageCause {T = T} old.disk old.faults new.faults (Err fault) → (fault ≡ PageDevice → IsTold old.disk → (state : State) → old.shows state → IsStopped old.disk new.disk state call) → IsOutcome old new call (Err (page_error fault))
-    by_fault PageDevice cause stopped = record { stopped = stopped refl; down = down; cause = cause.failed refl }
-    by_fault (PageDamaged place) cause stopped = record { sound = cause.sound place refl; down = down }
-    by_fault PageNoMemory cause stopped = absurd (cause.memory refl)
+    by_fault : (fault : PageFault) → FaultsIn old new call fault → IsOutcome old new call (Err (page_error fault))
+    by_fault PageDevice faults = record { stopped = faults.stopped refl; down = down; cause = faults.cause refl }
+    by_fault (PageDamaged place) faults = record { sound = faults.sound place refl; down = down }
+    by_fault PageNoMemory faults = absurd (faults.memory refl)
 
 -- an engine that is up isn't found down
 pub never_down : {old new : EngineView} {call : Call} {result : Result Reply CallError} → IsCallOf old new call result → old.is_up → IsErrOf result Down → ⊥

@@ -72,6 +72,7 @@ pub mod DefinitionRoom
 pub mod DefinitionKeeping
 pub mod Changers
 pub mod BothRooms
+pub mod StepRooms
 pub mod LogOnce
 pub mod StorePages
 pub mod Stores

@@ -25,7 +25,7 @@ use Rattle.rss_model.specs.Meter.{Stamp, Meter, heap_pages, changes_of, change_s
 use Rattle.rss_model.specs.Machine.{State, now}
 use Rattle.rss_model.specs.Rules.{saved_now, room_with, goes_on, if_no_room, meter_for, meter_behind}
 use Rattle.rss_model.specs.Steps.StepBy.{refuses, begins, saves, restores, ends, aborts, inserts, fetches, updates, deletes, connects, disconnects, finds, finds_none, opens, gives, stops, closes, locks as locks_it, checkpoints, defines}
-use Rattle.rss_model.specs.Steps.{Answer, Step, refusal, redefined, keeps_locks, locked_by, own_count, with_scan, with_given, stamp_by, size_for, left_at, undone_to, changed, restored, gone, committing, meter_after, ended, MayUndo}
+use Rattle.rss_model.specs.Steps.{Answer, Step, refusal, redefined, keeps_locks, locked_by, own_count, with_scan, with_given, stamp_by, size_for, left_at, undone_to, changed, restored, gone, committing, ended, MayUndo}
 use Rattle.rss_model.specs.Kept.{AreStamps, IsMetered, Kept}
 use Rattle.rss_model.proofs.Alone.{Marks}
 use Rattle.rss_model.proofs.Counts.{one_if, counts_same, counts_put}
@@ -36,7 +36,7 @@ use Rattle.rss_model.proofs.EndKeeping.{lone_kept, end_now}
 use Rattle.rss_model.proofs.Transfer.{undo_same}
 use Rattle.rss_model.proofs.Testing.{all_none}
 use Rattle.rss_model.proofs.Saving.{more_pages}
-use Rattle.rss_model.proofs.Ruling.{behind}
+use Rattle.rss_model.proofs.Ruling.{behind, lets_through}
 use Rattle.rss_model.proofs.Metering.{kept_none, cut_all, cut_counts, makers, back_heap, back_tuples, back_positions}
 
 -- with other save points, locks and scans
@@ -120,15 +120,6 @@ size_some c = by c.by c.item c.old c.new
     by u (Chain link parent) old new = omega arith
     by u (Key image values) old new = omega arith
 
--- it is not refused where there is room for it
-allowed : (state : State) (c : Change) → if_no_room state c ≡ None → room_with state c state.meter ≤ state.size.slots
-allowed state c is = by_test (nat_lt state.size.slots (room_with state c state.meter))
-    (λ e. absurd (clash (rw e at is)))
-    (λ e. ltb-false _ _ e)
-  where
-    clash : {why : Refusal} → Some why ≡ None → ⊥
-    clash e = cc (e)
-
 -- from a meter that says enough
 pub metered_from : (state : State) (c : Change) (over : ℕ) (locks : Locks) (meter : Meter) → Says state meter → room_with state c meter ≤ state.size.slots → over ≤ state.meter.over + 1 → IsMetered (record state { locks = locks; changes = c ∷ state.changes; meter = counted c over meter })
 metered_from state c over locks meter said room one = record {
@@ -148,7 +139,7 @@ metered_from state c over locks meter said room one = record {
 }
 
 pub metered_change : (state : State) (c : Change) (over : ℕ) (locks : Locks) → IsMetered state → if_no_room state c ≡ None → over ≤ state.meter.over + 1 → IsMetered (changed c over (record state { locks = locks }))
-metered_change state c over locks metered is one = metered_from state c over locks (meter_for state c) (says_now state metered) (allowed state c is) one
+metered_change state c over locks metered is one = metered_from state c over locks (meter_for state c) (says_behind state c metered) (lets_through state c is).pages one
 
 -- ---- ways back, and ends
 
@@ -198,11 +189,7 @@ metered_committing state kept metered t =
 
 -- an end with changes is a checkpoint, as yet
 pub metered_end : (state : State) → Kept state → IsMetered state → (t : ℕ) → IsMetered (ended t state)
-metered_end state kept metered t = by (own t state.changes)
-  where
-    by : (changes : List Change) → IsMetered (record (committing t state) { meter = meter_after changes (committing t state) })
-    by [] = metered_committing state kept metered t
-    by (c ∷ cs) = metered_checkpoint (committing t state) (metered_committing state kept metered t)
+metered_end state kept metered t = metered_committing state kept metered t
 
 -- ---- all steps
 

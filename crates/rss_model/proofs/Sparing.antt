@@ -1,5 +1,5 @@
 -- The room that the room number asks for is enough for each change and each way back.
-use Rattle.std.proofs.Common.{ℕ, ◌+◌, ◌≤◌, ap, arith}
+use Rattle.std.proofs.Common.{ℕ, ◌+◌, ◌-◌, ◌≤◌, ap, arith}
 use Rattle.rss_base.specs.PageMap.{page_count}
 use Rattle.rss_base.specs.Paged.{Backing, mapped_pages}
 use Rattle.rss_base.specs.Steps.{PagesView, Keys, PagesStep, AreCounted}
@@ -32,33 +32,41 @@ takes_two step counted two = record {
 
 -- ---- a session
 
+-- so many times at most, and so more at most
+made_more : (counts : ChangeCounts) (times most : ℕ) (pages : PageCounts) → times ≤ most → HasMade counts times pages → HasMade counts most pages
+made_more counts times most pages few made = record { before = made.before; now = omega (arith, made.now, few); all = made.all }
+
 pub session_begins : SessionBegins
-session_begins counts pages made = record { times = 0; made = made; few = omega arith }
+session_begins counts pages made = record { most = omega arith; made = made_more counts 0 (times_in_session counts - counts.surviving) pages (omega arith) made }
 
 -- one change more is allowed
 made_with_one : (counts : ChangeCounts) (times : ℕ) (pages : PageCounts) → HasMade counts times pages → HasMade (with_one counts) times pages
 made_with_one counts times pages made = record { before = made.before; now = made.now; all = made.all }
 
 pub session_changes : SessionChanges
-session_changes counts listed old new is takes = record {
-  times = is.times + 1;
-  made = once_more (with_one counts) is.times old new (made_with_one counts is.times old is.made) takes;
-  few = omega (arith, is.few);
-}
+session_changes counts listed old new is takes =
+    let left : ℕ = times_in_session counts - listed in record {
+      most = omega (arith, is.most);
+      made = made_more (with_one counts) (left + 1) (times_in_session (with_one counts) - (listed + 1)) new (omega (arith, is.most)) (once_more (with_one counts) left old new (made_with_one counts left old is.made) takes);
+    }
 
 pub session_goes_back : SessionGoesBack
-session_goes_back counts listed old new is takes = record {
-  times = is.times + 1;
-  made = once_more counts is.times old new is.made takes;
-  few = omega (arith, is.few);
-}
+session_goes_back counts listed old new is takes =
+    let left : ℕ = times_in_session counts - (listed + 1) in record {
+      most = omega (arith, is.most);
+      made = made_more counts (left + 1) (times_in_session counts - listed) new (omega (arith, is.most)) (once_more counts left old new is.made takes);
+    }
 
 pub session_forgets : SessionForgets
-session_forgets counts listed fewer pages is le = record { times = is.times; made = is.made; few = omega (arith, is.few, le) }
+session_forgets counts listed fewer pages is le = record {
+  most = omega (arith, is.most, le);
+  made = made_more counts (times_in_session counts - listed) (times_in_session counts - fewer) pages (omega (arith, is.most, le)) is.made;
+}
 
 pub spare_for_all : SparesForAll
-spare_for_all counts listed pages room is = spare_in_session counts pages is.times listed room is.made is.few
+spare_for_all counts listed pages room is = spare_in_session counts pages (times_in_session counts - listed) listed room is.made (omega (arith, is.most))
 
 pub spare_for_next : SparesForNext
 spare_for_next counts listed pages room is =
-    spare_in_session (with_one counts) pages is.times (1 + (listed + 1)) room (made_with_one counts is.times pages is.made) (omega (arith, is.few))
+    let left : ℕ = times_in_session counts - listed in
+    spare_in_session (with_one counts) pages left (1 + (listed + 1)) room (made_with_one counts left pages is.made) (omega (arith, is.most))

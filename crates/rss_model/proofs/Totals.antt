@@ -1,6 +1,7 @@
 -- Each call has a step, so that a device that fails within it stops the call within a step.
-use Rattle.std.proofs.Common.{◌≡◌, inl, ℕ, true, List, refl, ◌∙◌, ap, arith}
+use Rattle.std.proofs.Common.{◌≡◌, inl, ℕ, ◌+◌, true, List, [], ◌∷◌, length, refl, ◌∙◌, ap, arith}
 use Rattle.std.specs.Prelude.{Option, Some, None, is_some, Ok, Err}
+use Rattle.std.specs.FinMap as map
 use Rattle.rss_base.specs.DiskRule.{Disk, Passes}
 use Rattle.rss_base.specs.declared.name.Name.{Name}
 use Rattle.rss_base.specs.declared.tid.Tid.{Tid}
@@ -8,21 +9,23 @@ use Rattle.rss_base.specs.declared.value.Value.{Value}
 use Rattle.rss_base.specs.declared.item.Item.{Item}
 use Rattle.rss_base.specs.declared.item.Item.TheVariants.{Tuple}
 use Rattle.rss_base.specs.declared.call.Call.{Call}
-use Rattle.rss_base.specs.declared.call.Call.TheVariants.{Begin, End, Insert, Fetch, Update, Delete, MakeSegment, MakeRelation, DropSegment, DropRelation}
-use Rattle.rss_base.specs.declared.answer.Reply.TheVariants.{Ok as Done, Tid as Identifier, Tuple as TupleReply}
+use Rattle.rss_base.specs.declared.call.Call.TheVariants.{Begin, Save, Restore, End, Abort, Insert, Fetch, Update, Delete, Checkpoint, MakeSegment, MakeRelation, DropSegment, DropRelation}
+use Rattle.rss_base.specs.declared.answer.Reply.TheVariants.{Ok as Done, Tid as Identifier, Number, Tuple as TupleReply}
 use Rattle.rss_base.specs.declared.refusal.Refusal.{Refusal}
 use Rattle.rss_base.proofs.Moments.{widened}
 use Rattle.rss_model.specs.Tables.{Definitions, Tables, content}
 use Rattle.rss_model.specs.Defining.{DefinesNames, defined, with_definitions}
 use Rattle.rss_model.specs.Commits.{MayCommit}
-use Rattle.rss_model.specs.Changes.{own}
+use Rattle.rss_model.specs.Changes.{Change, own, undo}
 use Rattle.rss_model.specs.Callers.{is_built}
 use Rattle.rss_model.specs.Items.{Content}
 use Rattle.rss_model.specs.Kept.{Kept}
 use Rattle.rss_model.specs.Machine.{State, with_changes, now}
 use Rattle.rss_model.specs.Meter.{MayLead}
-use Rattle.rss_model.specs.Steps.{Answer, Step, tests, refusal, is_open, HasValues, left_by, locked, holding, begun, changed, insertion, replacement, deletion, ended, redefined}
-use Rattle.rss_model.specs.Steps.StepBy.{refuses, begins, inserts, fetches, updates, deletes, ends, defines}
+use Rattle.rss_model.specs.Steps.{Answer, Step, tests, refusal, is_open, HasValues, MayUndo, undone_to, left_at, left_by, locked, holding, begun, with_save, restored, gone, changed, insertion, replacement, deletion, ended, redefined}
+use Rattle.rss_model.specs.Steps.MayUndo.{none, more}
+use Rattle.rss_model.specs.Rules.{saved_now}
+use Rattle.rss_model.specs.Steps.StepBy.{refuses, begins, saves, restores, aborts, checkpoints, inserts, fetches, updates, deletes, ends, defines}
 use Rattle.rss_model.specs.Store.{OpensToEither}
 use Rattle.rss_model.specs.Turns.{IsStopped, IsUnmade}
 use Rattle.rss_model.proofs.Testing.{all_none, holds}
@@ -36,6 +39,15 @@ use Rattle.rss_model.proofs.Frees.{free_there}
 -- a change may leave as many overflow pages as there are
 pub as_many : {tables : Tables} {item : Item} {old new : Option Content} (over : ℕ) → MayLead tables item old new over over
 as_many over = record { one = omega arith; only = λ not. omega arith }
+
+-- and so may the undoing of changes
+pub as_many_undone : {tables : Tables} (changes : List Change) (over : ℕ) → MayUndo tables changes over over
+as_many_undone {tables = tables} [] over = none
+as_many_undone {tables = tables} (change ∷ changes) over = more (as_many over) (as_many_undone {tables = record tables { contents = undo tables.contents change }} changes over)
+
+-- an open transaction has save points
+the_marks : (state : State) (t : ℕ) → is_open state t ≡ true → (marks : List ℕ) × (map.get state.marks t ≡ Some marks)
+the_marks state t is = some_of (map.get state.marks t) is
 
 -- a tuple that is there has values
 pub the_values : {state : State} → Kept state → (relation : Name) (tid : Tid) → is_some (content (now state).contents (Tuple relation tid)) ≡ true → (values : List Value) × HasValues state relation tid values
@@ -64,6 +76,25 @@ has_definition state call definitions names is so = record {
 module _ {state : State} (kept : Kept state) where
   passes : (call : Call) → is_built call ≡ true → DefinesNames call → refusal state call ≡ None → HasStep state call
   passes (Begin t) built names is = record { answer = Ok Done; next = begun t state; step = begins t is; same_base = λ not. refl }
+  passes (Save t) built names is =
+      let passed = all_none (tests state (Save t)) is in
+      let marks = the_marks state t (holds (is_open state t) _ (passed 0 None (omega arith))) in
+      record { answer = Ok (Number (length marks.0 + 1)); next = with_save t marks.0 state; step = saves t marks.0 is marks.1; same_base = λ not. refl }
+  passes (Restore t save) built names is =
+      let passed = all_none (tests state (Restore t save)) is in
+      let marks = the_marks state t (holds (is_open state t) _ (passed 0 None (omega arith))) in
+      let over = state.meter.over in
+      record {
+        answer = Ok Done;
+        next = restored t save marks.0 over state;
+        step = restores t save marks.0 over is marks.1 (as_many_undone (undone_to state t (left_at marks.0 save)) over);
+        same_base = λ not. refl;
+      }
+  passes (Abort t) built names is =
+      let over = state.meter.over in
+      record { answer = Ok Done; next = gone t over state; step = aborts t over is (as_many_undone (own t state.changes) over); same_base = λ not. refl }
+  passes Checkpoint built names is =
+      record { answer = Ok Done; next = record state { meter = saved_now state }; step = checkpoints is; same_base = λ not. refl }
   passes (End t) built names is = record { answer = Ok Done; next = ended t state; step = ends t is; same_base = λ not. absurd (not (tt {0})) }
   passes (Insert t relation values) built names is =
       let passed = all_none (tests state (Insert t relation values)) is in

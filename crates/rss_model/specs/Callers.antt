@@ -57,11 +57,15 @@ is_definition call = by (class_of call)
 -- the calls that the engine makes as yet
 abbrev pub is_built : Call → Bool
 is_built (Begin t) = true
+is_built (Save t) = true
+is_built (Restore t save) = true
 is_built (End t) = true
+is_built (Abort t) = true
 is_built (Insert t relation values) = true
 is_built (Fetch t relation tid) = true
 is_built (Update t relation tid values) = true
 is_built (Delete t relation tid) = true
+is_built Checkpoint = true
 is_built (MakeSegment name) = true
 is_built (MakeRelation name segment fields) = true
 is_built (DropSegment name) = true

@@ -1,9 +1,7 @@
 -- A call on an engine, whichever call it is: what it leaves, by its result.
-use Rattle.std.specs.Prelude.{◌≡◌, ◌⊎◌, ℕ, ◌≤◌, true, List, [], length, Result, Ok, Err, IsErrOf}
+use Rattle.std.specs.Prelude.{◌≡◌, ℕ, ◌+◌, ◌-◌, ◌^◌, ◌≤◌, List, [], Result, Ok, Err, IsErrOf}
 use Rattle.rss_base.specs.DiskRule.{Disk, Pages, IsTold, Leaves, Continues}
 use Rattle.rss_base.specs.Faults.{Rises}
-use Rattle.rss_base.specs.Paged.{Mapped, AreAmong, HasEach}
-use Rattle.rss_base.specs.declared.key.PageKey.{PageKey}
 use Rattle.rss_base.specs.declared.name.Name.{Name}
 use Rattle.rss_base.specs.declared.tid.Tid.{Tid}
 use Rattle.rss_base.specs.declared.value.Value.{Value}
@@ -18,7 +16,7 @@ use Rattle.rss_model.specs.Steps.{Answer}
 use Rattle.rss_model.specs.Store.{HoldsState}
 use Rattle.rss_model.specs.Turns.{IsAnswered, IsStopped, IsUnmade}
 use Rattle.rss_model.specs.ReplyText.{IsShort}
-use Rattle.rss_model.specs.Costs.{RisesAtMost, most_asks, most_writes, ChangesPage, LeavesChanged, changes_after}
+use Rattle.rss_model.specs.Costs.{RisesAtMost, most_asks, most_writes}
 
 -- states of the machine
 abbrev pub States : Type 1
@@ -35,7 +33,7 @@ Places = Name → List Value → List Tid → Tid → Type 0
 -- places: which identifiers its pages have for a new tuple.
 -- is_up: it answers calls.
 -- slots: how many slots its device has for pages.
--- changed, since: which pages were changed since the last commit, and how many changes of tuples were made.
+-- calls: how many calls it was asked for.
 -- asks, writes, faults: how many pages were asked for, writes of the device made, and faults of it met.
 pub record EngineView : Type 1 where
   pub disk : Disk
@@ -43,8 +41,7 @@ pub record EngineView : Type 1 where
   pub places : Places
   pub is_up : Type 0
   pub slots : ℕ
-  pub changed : Mapped
-  pub since : ℕ
+  pub calls : ℕ
   pub asks : ℕ
   pub writes : ℕ
   pub faults : ℕ
@@ -52,17 +49,12 @@ pub record EngineView : Type 1 where
 -- What each call passes on, whatever it does: it costs no more than it may, a device tells its contents and its history as before, and no fault is forgotten.
 pub record GoesOn (old new : EngineView) (call : Call) : Type 0 where
   pub asks : RisesAtMost (most_asks call) old.asks new.asks
-  pub writes : (keys : List PageKey) → HasEach keys old.changed
-      → RisesAtMost (most_writes old.slots (length keys) old.since call) old.writes new.writes
+  pub writes : RisesAtMost (most_writes call) old.writes new.writes
+  pub calls : new.calls ≤ old.calls + 1
   pub slots : new.slots ≡ old.slots
   pub told : IsTold old.disk → IsTold new.disk
   pub history : IsTold old.disk → Continues old.disk new.disk
   pub later : old.faults ≤ new.faults
-
--- the engine may be in a state
-pub record ShowsState (view : EngineView) : Type 0 where
-  pub state : State
-  pub shows : view.shows state
 
 -- A stop leaves the committed tables of each state that is shown; and where no change was made since the last checkpoint, as many overflow pages as that state counts.
 abbrev pub OpensShown : EngineView → Type 0
@@ -90,9 +82,6 @@ pub record IsAnswer (old new : EngineView) (call : Call) (answer : Answer) : Typ
   pub placed : IsTold old.disk → GetsPlace old call answer
   pub up : new.is_up
   pub short : IsShort answer
-  pub changed : (key : PageKey) → new.changed key ≡ true
-      → ((old.changed key ≡ true) × LeavesChanged call answer) ⊎ ChangesPage call answer key
-  pub since : new.since ≡ changes_after call answer old.since
 
 -- By a fault of the device, within a step that was on its way.
 pub record IsFault (old new : EngineView) (call : Call) : Type 0 where
@@ -101,9 +90,9 @@ pub record IsFault (old new : EngineView) (call : Call) : Type 0 where
   pub down : new.is_up → ⊥
   pub cause : Rises old.faults new.faults
 
--- By damage, which no device shows that tells its contents.
+-- By damage, which no device shows that tells its contents, where the engine is in any state.
 pub record IsDamaged (old new : EngineView) : Type 0 where
-  pub sound : IsTold old.disk → ⊥
+  pub sound : IsTold old.disk → (state : State) → old.shows state → ⊥
   pub down : new.is_up → ⊥
 
 -- By want of memory, which a call finds before it changes anything: the engine is up and in the same states, and no page changed. A stop leaves the committed tables.
@@ -112,8 +101,6 @@ pub record IsUnanswered (old new : EngineView) : Type 0 where
       → IsUnmade old.disk new.disk state
   pub up : new.is_up
   pub same : IsTold old.disk → (state : State) → old.shows state → new.shows state
-  pub changed : AreAmong new.changed old.changed
-  pub since : new.since ≡ old.since
 
 -- an engine that is up is never found down
 abbrev pub IsOutcome : EngineView → EngineView → Call → Result Reply CallError → Type 0
@@ -129,3 +116,7 @@ pub record IsCallOf (old new : EngineView) (call : Call) (result : Result Reply 
   pub goes : GoesOn old new call
   pub outcome : old.is_up → IsOutcome old new call result
   pub down : (old.is_up → ⊥) → IsErrOf result Down
+
+-- so many calls an engine may be asked for: positions of its log, and numbers of its save points, stay numbers
+abbrev pub calls_most : ℕ
+calls_most = 2 ^ 32 - 2

@@ -9,7 +9,7 @@ use Rattle.rss_model.specs.Meter.{Meter, change_size, restore_size, end_size, ch
 use Rattle.rss_model.specs.Machine.{State, now}
 use Rattle.rss_model.specs.Rules.{Verdict, GoesOn, SavesFirst, NoRoom, NoLogRoom, saved_now, room_with, log_needed, ruling, refusal_by, meter_behind, if_no_log_room}
 use Rattle.rss_model.specs.Defining.{defined, DefinesNames}
-use Rattle.rss_model.specs.Steps.{IsOver, MayUndo, undone_to, left_at, size_for, restored, gone, committing, redefined, refusal}
+use Rattle.rss_model.specs.Steps.{Answer, Step, IsOver, MayUndo, undone_to, left_at, size_for, restored, gone, committing, redefined, refusal}
 use Rattle.rss_model.specs.Kept.{IsMetered, HasLogRoom, Kept}
 
 -- ---- what the rule says of a change
@@ -121,6 +121,11 @@ abbrev pub DefinitionsKeepRooms : Type 0
 DefinitionsKeepRooms = (state : State) (call : Call) (definitions : Definitions) → Kept state → IsMetered state
     → log_pages_least ≤ state.size.log_pages → refusal state call ≡ None → DefinesNames call
     → defined call state.base.definitions ≡ Some definitions → HasBothRooms (redefined definitions state)
+
+-- and so does each step of each call
+abbrev pub StepsKeepRooms : Type 0
+StepsKeepRooms = (old new : State) (call : Call) (answer : Answer) → Step old call answer new
+    → log_pages_least ≤ old.size.log_pages → Kept old → HasBothRooms old → HasBothRooms new
 
 -- Before each record is appended, the log has room for it: for that of a change from the meter that the rule says,
 abbrev pub ChangesFitLog : Type 0

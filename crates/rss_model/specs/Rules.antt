@@ -53,15 +53,12 @@ after_saving state change =
     else (if fits_log state change (saved_now state) then SavesFirst
     else NoLogRoom (log_room state.size.log_pages (saved_now state)) (log_needed change state.meter))
 
--- As yet no checkpoint comes before a change, and nothing is logged: it is refused exactly where more slots may be needed than there are.
-abbrev pub verdict : State → Change → Verdict
-verdict state change =
-    if nat_lt state.size.slots (room_with state change state.meter)
-    then NoRoom state.size.slots (room_with state change state.meter) else GoesOn
-
--- The exact rule, which takes its place once changes are logged: a change goes on where it may; else it is asked what a checkpoint would help.
+-- A change goes on where it may; else it is asked what a checkpoint would help.
 abbrev pub ruling : State → Change → Verdict
 ruling state change = if goes_on state change then GoesOn else after_saving state change
+
+abbrev pub verdict : State → Change → Verdict
+verdict state change = ruling state change
 
 abbrev pub refusal_by : Verdict → Option Refusal
 refusal_by GoesOn = None
@@ -72,13 +69,12 @@ refusal_by (NoLogRoom free needed) = Some (LogFull free needed)
 abbrev pub if_no_room : State → Change → Option Refusal
 if_no_room state change = refusal_by (verdict state change)
 
--- the meter from which a change is made: as it is, as yet
-abbrev pub meter_for : State → Change → Meter
-meter_for state change = state.meter
-
--- by the exact rule: as it is where the change goes on, else as a checkpoint leaves it
+-- the meter from which a change is made: as it is where the change goes on, else as a checkpoint leaves it
 abbrev pub meter_behind : State → Change → Meter
 meter_behind state change = if goes_on state change then state.meter else saved_now state
+
+abbrev pub meter_for : State → Change → Meter
+meter_for state change = meter_behind state change
 
 -- ---- other calls
 

@@ -1,5 +1,5 @@
 -- That there is always room: two spare pages for each change that is made, undone or made again.
-use Rattle.std.specs.Prelude.{◌≡◌, ℕ, ◌+◌, ◌*◌, ◌≤◌}
+use Rattle.std.specs.Prelude.{◌≡◌, ℕ, ◌+◌, ◌-◌, ◌*◌, ◌≤◌}
 use Rattle.rss_base.specs.PageMap.{page_count}
 use Rattle.rss_base.specs.Paged.{mapped_pages}
 use Rattle.rss_base.specs.Sizes.{system_pages}
@@ -90,11 +90,10 @@ MakesOnceMore = (counts : ChangeCounts) (times : ℕ) (old new : PageCounts)
 abbrev pub with_one : ChangeCounts → ChangeCounts
 with_one counts = record counts { since = counts.since + 1 }
 
--- So many changes are listed, each of which may still be taken back. With these it comes to no more times than a session may have.
+-- So many changes are listed, each of which may still be taken back. Without these a session has made the others of its times at most.
 pub record IsInSession (counts : ChangeCounts) (listed : ℕ) (pages : PageCounts) : Type 0 where
-  pub times : ℕ
-  pub made : HasMade counts times pages
-  pub few : times + listed ≤ times_in_session counts
+  pub most : listed ≤ times_in_session counts
+  pub made : HasMade counts (times_in_session counts - listed) pages
 
 -- It begins at a checkpoint; a change is made; one is taken back; or some are listed no more.
 abbrev pub SessionBegins : Type 0

@@ -21,7 +21,7 @@ use Rattle.rss_model.specs.Fits.{IsIdentifier}
 use Rattle.rss_model.specs.Changes.{Change, maker, own, others, theirs, kept_to, cut_off, undo}
 use Rattle.rss_model.specs.Locks.{held, with_lock, granted, released}
 use Rattle.rss_model.specs.Scans.{Path, RelationPath, ImagePath, LinkPath, Scan, number_limit, scan_of, closed, new_scan, next_of_scan, path_relation}
-use Rattle.rss_model.specs.Meter.{Meter, Stamp, MayLead, restore_size, end_size, counted, with_record, checkpointed}
+use Rattle.rss_model.specs.Meter.{Stamp, MayLead, restore_size, end_size, counted, with_record, checkpointed}
 use Rattle.rss_model.specs.Machine.{State, with_changes, now}
 use Rattle.rss_model.specs.Callers.{caller}
 use Rattle.rss_model.specs.Needs.{need, needs}
@@ -152,14 +152,8 @@ gone t over state = record state {
 abbrev pub committing : ℕ → State → State
 committing t state = record (gone t state.meter.over state) { base = with_changes state.base (own t state.changes) }
 
--- the end of a transaction that made these changes is a checkpoint, where there is one, as yet
-abbrev pub meter_after : List Change → State → Meter
-meter_after [] state = state.meter
-meter_after (change ∷ changes) state = saved_now state
-
 abbrev pub ended : ℕ → State → State
-ended t state =
-    record (committing t state) { meter = meter_after (own t state.changes) (committing t state) }
+ended t state = committing t state
 
 -- ---- scans
 

@@ -393,11 +393,10 @@ pub record IsStore (pages : Pages) (stored : Stored) : Type 0 where
 abbrev pub size_of : Root → StoreSize
 size_of root = record { slots = root.slots; log_pages = root.log_pages }
 
--- The pages are a store of this size with these tables. As yet nothing is logged, and the log is the first one.
+-- The pages are a store of this size with these tables.
 pub record OpensTo (pages : Pages) (size : StoreSize) (tables : Tables) : Type 0 where
   pub stored : Stored
   pub store : IsStore pages stored
-  pub first : HasFirstLog stored.root
   pub same_size : size ≡ size_of stored.root
   pub holds : tables ≡ stored.tables
 
@@ -416,10 +415,11 @@ pub record OpensIn (pages : Pages) (size : StoreSize) (tables : Tables) (state :
   pub head : (stored : Stored) → IsStore pages stored → state.meter.head ≡ stored.root.head
   pub end : (stored : Stored) → IsStore pages stored → state.meter.end ≡ stored.root.end
 
--- The pages open to the committed tables of a state; and where no change was made since its last checkpoint, it counts their overflow pages.
+-- The pages open to the committed tables of a state; and where no change was made since its last checkpoint and none undone, it counts their overflow pages.
 pub record HoldsState (pages : Pages) (state : State) : Type 0 where
   pub opens : OpensTo pages state.size state.base
-  pub over : state.meter.since ≡ 0 → CountsOverflow pages state
+  pub over : state.meter.since ≡ 0 → length state.changes ≡ state.meter.surviving
+      → CountsOverflow pages state
 
 -- a stop now leaves pages that open to these tables
 abbrev pub Opens : Disk → StoreSize → Tables → Type 0

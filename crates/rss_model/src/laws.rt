@@ -11,7 +11,7 @@ ghost use Rattle.rss_model.specs.Store.{OpensOnce, OpeningsAreMetered, OpeningsH
 ghost use Rattle.rss_model.specs.Changes.{UndoTurnsBack};
 ghost use Rattle.rss_model.specs.Commits.{CommitsOnly, OpenLeavesNoTrace};
 ghost use Rattle.rss_model.specs.Kept.{SavingNeedsNoMore, StepsKeep, RestKeeps, StepsLeaveSize, KeptFit, EachFits, MixturesFit, FirstFindsBase, LastLeavesNow, OwnersAreAlone, StepsKeepRoom};
-ghost use Rattle.rss_model.specs.Ruled.{RulingIsExact, RulingLetsThrough, MeterFollows, SavingFirstPasses, SavedGoesOn, ChangesKeepRooms, CheckpointsKeepRooms, CheckpointsPassAtRest, RestoresKeepRooms, AbortsKeepRooms, EndsKeepRooms, DefinitionsKeepRooms};
+ghost use Rattle.rss_model.specs.Ruled.{RulingIsExact, RulingLetsThrough, MeterFollows, SavingFirstPasses, SavedGoesOn, ChangesKeepRooms, CheckpointsKeepRooms, CheckpointsPassAtRest, RestoresKeepRooms, AbortsKeepRooms, EndsKeepRooms, DefinitionsKeepRooms, StepsKeepRooms};
 ghost use Rattle.rss_model.specs.Ruled.{ChangesFitLog, WaysBackFitLog, EndsFitLog, CheckpointsFitLog};
 ghost use Rattle.rss_model.specs.Locks.{JoinDisagrees};
 ghost use Rattle.rss_model.specs.Steps.{FreeIsFound};
@@ -131,6 +131,7 @@ pub fn rooms_are_kept()
     ensures aborts { AbortsKeepRooms }
     ensures ends { EndsKeepRooms }
     ensures definitions { DefinitionsKeepRooms }
+    ensures steps { StepsKeepRooms }
 {}
 
 /// And the log has room for each record before it is appended.

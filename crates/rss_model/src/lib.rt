@@ -5,7 +5,7 @@
 mod engine;
 mod laws;
 
-pub use engine::Engine;
+pub use engine::{CALLS_MOST, Engine};
 pub use laws::{
     disk_has_log, exact_rule, free_identifiers, joined_locks, kept_tables, logs_tie, openings_tie,
     pages_are_spare, records_fit, restart_of_a_store, restart_recovers, room_is_kept, room_rule,

@@ -8,12 +8,14 @@ use rss_scripts::without_moments;
 use std::alloc::Global;
 use std::test::Fail;
 
-/// How many slots the store has: as many as the first transaction needs.
-const SLOTS: u32 = 1052;
+/// How many slots the store has: as many as each transaction needs with no checkpoint within it.
+const SLOTS: u32 = 128;
 
-/// How many tuples it inserts, each with its place as its value. The last one stands on a second
-/// page.
+/// How many tuples it has, each with its place as its value, and how many a transaction inserted. The
+/// last one stands on a second page.
 const TUPLES: u32 = 129;
+
+const INSERTS: u32 = 10;
 
 /// It updates a tuple, deletes one in the middle of a page and the only one of another, whose page is
 /// given back and taken again, and gets their identifiers for others.
@@ -77,9 +79,9 @@ ok 501
 ok 503
 ",
     },
-    // Two pages with tuples, that of their count, the map's three, the root and the selector.
-    writes: 8,
-    root: 1,
+    opening: 0,
+    writes: 2,
+    root: 2,
 };
 
 /// It deletes all tuples of the second page, and takes back one of its own inserts.
@@ -131,21 +133,38 @@ ok 0.127
 ok 1.0
 ",
     },
-    // One page with tuples is left.
-    writes: 7,
+    // Two pages with tuples, that of their count, the map, root 1 and the selector.
+    opening: 6,
+    writes: 2,
     root: 2,
 };
 
-/// A store of the first transaction's tuples, with no moments yet.
+/// Writes the transaction that inserts the tuples of these places, with a checkpoint behind it, and
+/// what it gets.
+fn write_transaction(
+    script: &mut String,
+    replies: &mut String,
+    first: u32,
+    end: u32,
+) -> Result<(), Fail> {
+    write_lines(script, "begin 1\n")?;
+    write_inserts(script, first, end)?;
+    write_lines(script, "end 1\ncheckpoint\n")?;
+    write_lines(replies, "ok\n")?;
+    write_inserted(replies, first, end)?;
+    write_lines(replies, "ok\nok\n")?;
+    Ok(())
+}
+
+/// A store of all tuples, at rest, with no moments yet.
 fn store_with_tuples(alloc: Global) -> Result<MemDevice, Fail> {
     let mut script = String::new(alloc);
-    write_lines(&mut script, "begin 1\n")?;
-    write_inserts(&mut script, 0, TUPLES)?;
-    write_lines(&mut script, "end 1\n")?;
     let mut replies = String::new(alloc);
-    write_lines(&mut replies, "ok\n")?;
-    write_inserted(&mut replies, 0, TUPLES)?;
-    write_lines(&mut replies, "ok\n")?;
+    for number in 0..TUPLES.div_ceil(INSERTS) {
+        let first = number * INSERTS;
+        let end = TUPLES.min(first + INSERTS);
+        write_transaction(&mut script, &mut replies, first, end)?;
+    }
     let row = Row {
         script: script.as_bytes(),
         replies: replies.as_bytes(),
@@ -170,6 +189,10 @@ fn changes_stopped_at_each_moment_open_to_the_tables_before_or_after(
 fn changes_with_a_device_call_that_fails_leave_the_tables_before_or_after(
     rt: HostRuntime,
 ) -> Result<(), Fail> {
-    let store = store_with_tuples(rt.alloc())?;
-    assert_failures(rt.alloc(), &store, &CHANGED)
+    let mut device = store_with_tuples(rt.alloc())?;
+    for commit in [&CHANGED, &EMPTIED] {
+        assert_failures(rt.alloc(), &device, commit)?;
+        device = assert_commit(rt.alloc(), device, commit, &[])?;
+    }
+    Ok(())
 }

@@ -20,6 +20,7 @@ fn defining(
             replies: b"ok\n",
         },
         probe,
+        opening: 0,
         writes: 4,
         root,
     }

@@ -24,6 +24,9 @@ const DEFINITIONS: &[u8] = b"segment s\nrelation r s a:int\n";
 /// A script with one commit, and one that tells whether it was made.
 const COMMIT: &[u8] = b"begin 1\ninsert 1 r 8\nend 1\n";
 
+/// The commit with a checkpoint behind it, which brings the tuple from the log to the pages.
+const SAVED: &[u8] = b"begin 1\ninsert 1 r 8\nend 1\ncheckpoint\n";
+
 pub(crate) const PROBE: &[u8] = b"begin 1\nfetch 1 r 0.0\n";
 
 /// What the probe gets where nothing is defined, where no commit of a tuple was made, and where one
@@ -123,8 +126,14 @@ pub(crate) fn store_with_r(alloc: Global, slots: u32) -> Result<MemDevice, Fail>
     store_after(alloc, empty_store(alloc, slots)?, DEFINITIONS)
 }
 
-/// The pages of a small store with one tuple in `r`, whose value is 8.
+/// The pages of a small store at rest with one tuple in `r`, whose value is 8.
 pub(crate) fn store_with_tuple(alloc: Global) -> Result<Vec<Page>, Fail> {
+    let device = store_after(alloc, store_with_r(alloc, SMALL)?, SAVED)?;
+    Ok(copy_of_pages(alloc, &device)?)
+}
+
+/// The same where the log alone has the tuple.
+pub(crate) fn store_with_log(alloc: Global) -> Result<Vec<Page>, Fail> {
     let device = store_after(alloc, store_with_r(alloc, SMALL)?, COMMIT)?;
     Ok(copy_of_pages(alloc, &device)?)
 }

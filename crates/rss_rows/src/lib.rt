@@ -24,9 +24,13 @@ mod lines;
 #[cfg(test)]
 mod many;
 #[cfg(test)]
+mod recovering;
+#[cfg(test)]
 mod refusals;
 #[cfg(test)]
 mod relations;
+#[cfg(test)]
+mod ring;
 #[cfg(test)]
 mod scripts;
 #[cfg(test)]

@@ -9,12 +9,26 @@ use std::alloc::Global;
 use std::test::Fail;
 
 /// How many transactions there are, and how many tuples each inserts.
-const TRANSACTIONS: u32 = 20;
+const TRANSACTIONS: u32 = 8;
 
 const INSERTS: u32 = 100;
 
+/// How many slots the store has: as many as a transaction needs with no checkpoint within it.
+const SLOTS: u32 = 1024;
+
 /// How many pages the map of the store has.
-const MAP_PAGES: usize = 8;
+const MAP_PAGES: usize = 2;
+
+/// Where the log of the store ends at first: three Checkpoint records, of the format and of the
+/// definitions.
+const FIRST_END: usize = 3 * CHECKPOINT_BYTES;
+
+/// How many bytes the log has of a Checkpoint record, of a transaction, and of a piece.
+const CHECKPOINT_BYTES: usize = 2;
+
+const TRANSACTION_BYTES: usize = INSERTS as usize * 22 + 5;
+
+const PIECE_BYTES: usize = 4000;
 
 /// A transaction as text: a script that inserts tuples, one that fetches them, and what each gets.
 #[derive(Drop)]
@@ -74,6 +88,33 @@ fn home_pages(first: u32, end: u32) -> u32 {
     (last / 128).saturating_sub(first / 128) + 1
 }
 
+/// Where the log ends behind the transaction of this number. In front of each but the first one the
+/// opening takes a checkpoint.
+fn log_end(number: u32) -> usize {
+    let transactions = (number as usize + 1) * TRANSACTION_BYTES;
+    FIRST_END + transactions + number as usize * CHECKPOINT_BYTES
+}
+
+/// How many writes the opening before a transaction makes: of the home pages with tuples of the one
+/// before it, of the page of their count, of the map, of a root and of the selector; and of a piece of
+/// the log, where the Checkpoint record makes it full.
+fn opening_writes(number: u32, first: u32) -> usize {
+    let Some(before) = number.checked_sub(1) else {
+        return 0;
+    };
+    let homes = home_pages(first.saturating_sub(INSERTS), first) as usize;
+    let end = log_end(before);
+    let pieces = pieces_between(end, end.saturating_add(CHECKPOINT_BYTES));
+    homes
+        .saturating_add(pieces)
+        .saturating_add(1 + MAP_PAGES + 2)
+}
+
+/// How many pieces of the log become full between two of its ends.
+fn pieces_between(from: usize, until: usize) -> usize {
+    (until / PIECE_BYTES).saturating_sub(from / PIECE_BYTES)
+}
+
 /// Commits the transaction of this number, counted from 0, which inserts the tuples from this place
 /// on, and stops it. Answers the store, with no moments yet.
 fn assert_transaction(
@@ -85,6 +126,7 @@ fn assert_transaction(
 ) -> Result<MemDevice, Fail> {
     let end = first.saturating_add(INSERTS);
     let made = new_transaction(alloc, first, end)?;
+    let last = log_end(number);
     let commit = Commit {
         number,
         row: Row {
@@ -96,16 +138,17 @@ fn assert_transaction(
             before: made.before.as_bytes(),
             after: made.after.as_bytes(),
         },
-        // The count of the tuples has a page, and so have the root and the selector.
-        writes: home_pages(first, end) as usize + MAP_PAGES + 3,
-        root: if number % 2 == 0 { 2 } else { 1 },
+        opening: opening_writes(number, first),
+        // The pieces of the log that become full, the root and the selector.
+        writes: pieces_between(last.saturating_sub(TRANSACTION_BYTES), last).saturating_add(2),
+        root: 2,
     };
     assert_commit(alloc, device, &commit, &[unsynced])
 }
 
 /// Makes all transactions over a store without tuples, and stops each.
 fn assert_transactions(alloc: Global, unsynced: Unsynced) -> Result<(), Fail> {
-    let mut device = store_with_r(alloc, 4096)?;
+    let mut device = store_with_r(alloc, SLOTS)?;
     for number in 0..TRANSACTIONS {
         device = assert_transaction(alloc, device, number, INSERTS * number, unsynced)?;
     }

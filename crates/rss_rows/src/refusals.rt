@@ -1,6 +1,7 @@
 // Devices that hold no store, and the places that are named.
 use crate::harness::{
-    ABSENT, PRESENT, PROBE, SMALL, UNDEFINED, empty_store, has_writes, store_with_tuple,
+    ABSENT, PRESENT, PROBE, SMALL, UNDEFINED, empty_store, has_writes, store_with_log,
+    store_with_tuple,
 };
 use rss_asserts::assert_same;
 use rss_base::{Page, PageKey, Place, Source, Space, Tid};
@@ -54,7 +55,15 @@ const OPENS_EMPTY: Ending = Ending::Opens(ABSENT);
 
 const NO_ROOM: Ending = Ending::Damaged(Place::Room, b"damaged room\n");
 
-const NOT_THE_FIRST_LOG: Ending = Ending::Damaged(Place::Log(0), b"damaged log 0\n");
+const NOT_LOG_4: Ending = Ending::Damaged(Place::Log(4), b"damaged log 4\n");
+
+const NOT_LOG_6: Ending = Ending::Damaged(Place::Log(6), b"damaged log 6\n");
+
+const NOT_LOG_18: Ending = Ending::Damaged(Place::Log(18), b"damaged log 18\n");
+
+const NOT_LOG_33: Ending = Ending::Damaged(Place::Log(33), b"damaged log 33\n");
+
+const NOT_LOG_34: Ending = Ending::Damaged(Place::Log(34), b"damaged log 34\n");
 
 const NOT_CATALOG_0: Ending = Ending::Damaged(Place::Catalog(0), b"damaged catalog 0\n");
 
@@ -126,7 +135,7 @@ const NOT_COUNT_9: Ending = Ending::Damaged(Place::Count(9), b"damaged count 9\n
 const PAGES: usize = 77;
 
 /// The pages of the selector and the roots, the two maps, and the first log page; and behind them the
-/// slots, as three commits left them. The segment moved its page of the catalog from slot 0 to 10, the
+/// slots, as three checkpoints left them. The segment moved its page of the catalog from slot 0 to 10, the
 /// relation moved its own from 1 to 0, and the tuple that one to 11, beside the home page in 1.
 const SELECTOR: usize = 0;
 
@@ -157,31 +166,38 @@ const CATALOG_0: usize = 23;
 
 const CATALOG_1: usize = 24;
 
-/// Bytes of a store of 64 slots with one tuple of value 8, in root 2 and map 1: page, offset, the
-/// bits that are turned, and how the probe ends then.
-static TURNED: [(usize, usize, u8, Ending); 79] = [
+/// Bytes of a store of 64 slots at rest with one tuple of value 8, in root 1 and map 1: page, offset,
+/// the bits that are turned, and how the probe ends then. Its log has the records of the format and of
+/// the definitions, at 0, 2 and 4, the insert at 6, its end at 28, and the checkpoint at 33.
+static TURNED: [(usize, usize, u8, Ending); 82] = [
     // The mark, the version, and the zeros behind them.
-    (ROOT_2, 0, 1, NOT_ROOT_2),
-    (ROOT_2, 3, 128, NOT_ROOT_2),
-    (ROOT_2, 5, 1, NOT_ROOT_2),
-    (ROOT_2, 7, 1, NOT_ROOT_2),
+    (ROOT_1, 0, 1, NOT_ROOT_1),
+    (ROOT_1, 3, 128, NOT_ROOT_1),
+    (ROOT_1, 5, 1, NOT_ROOT_1),
+    (ROOT_1, 7, 1, NOT_ROOT_1),
     // The slots and the log pages: one more of them, and too many.
-    (ROOT_2, 11, 1, NOT_THE_SIZE),
-    (ROOT_2, 15, 1, NOT_THE_SIZE),
-    (ROOT_2, 8, 1, NOT_ROOT_2),
-    (ROOT_2, 12, 1, NOT_ROOT_2),
+    (ROOT_1, 11, 1, NOT_THE_SIZE),
+    (ROOT_1, 15, 1, NOT_THE_SIZE),
+    (ROOT_1, 8, 1, NOT_ROOT_1),
+    (ROOT_1, 12, 1, NOT_ROOT_1),
     // The area: the other one still has the map of the store without tuples.
-    (ROOT_2, 16, 1, OPENS_EMPTY),
-    (ROOT_2, 16, 2, NOT_ROOT_2),
-    (ROOT_2, 17, 1, NOT_ROOT_2),
-    // The log's head, checkpoint and end, which is where its tail ends.
-    (ROOT_2, 31, 1, NOT_ROOT_2),
-    (ROOT_2, 39, 1, NOT_THE_FIRST_LOG),
-    (ROOT_2, 47, 1, NOT_THE_FIRST_LOG),
-    (ROOT_2, 95, 1, NOT_ROOT_2),
-    (ROOT_2, 96, 1, NOT_THE_FIRST_LOG),
-    (ROOT_2, 98, 1, NOT_ROOT_2),
-    (ROOT_2, 4095, 1, NOT_ROOT_2),
+    (ROOT_1, 16, 1, OPENS_EMPTY),
+    (ROOT_1, 16, 2, NOT_ROOT_1),
+    (ROOT_1, 17, 1, NOT_ROOT_1),
+    // The log's head, which may not lie behind the checkpoint; the checkpoint, at which its record
+    // stands; and the end, which is where the tail ends.
+    (ROOT_1, 31, 2, NOT_ROOT_1),
+    (ROOT_1, 39, 1, NOT_ROOT_1),
+    (ROOT_1, 39, 3, NOT_LOG_34),
+    (ROOT_1, 47, 1, NOT_LOG_33),
+    (ROOT_1, 95, 1, NOT_ROOT_1),
+    // The tail, of which the bytes in front of the head mean nothing; and the bytes behind it.
+    (ROOT_1, 96, 1, OPENS),
+    (ROOT_1, 128, 1, OPENS),
+    (ROOT_1, 129, 1, NOT_LOG_33),
+    (ROOT_1, 130, 1, NOT_LOG_33),
+    (ROOT_1, 131, 1, NOT_ROOT_1),
+    (ROOT_1, 4095, 1, NOT_ROOT_1),
     // The entries of the map, of which the first is free, and the bytes behind the last one.
     (MAP_1, 0, 1, NOT_SLOT_0),
     (MAP_1, 16, 1, NOT_SLOT_2),
@@ -251,13 +267,32 @@ static TURNED: [(usize, usize, u8, Ending); 79] = [
     (TUPLES, 4095, 1, OPENS),
     // The root and the map that aren't selected, all of the selector but one bit, the log pages and
     // a free slot mean nothing.
-    (ROOT_1, 0, 255, OPENS),
+    (ROOT_2, 0, 255, OPENS),
     (MAP_0, 0, 255, OPENS),
     (SELECTOR, 0, 254, OPENS),
     (LOG, 0, 255, OPENS),
     (FREE, 0, 255, OPENS),
-    // That bit selects the other root, which is that of the store without tuples.
-    (SELECTOR, 0, 1, OPENS_EMPTY),
+];
+
+/// Bytes of root 2 of a store of 64 slots whose log alone has the one tuple of value 8: offset, the bits
+/// that are turned, and how the probe ends then. The tail begins at 96. The last checkpoint stands at 4,
+/// the insert at 6, and its end at 28.
+static LOGGED: [(usize, u8, Ending); 12] = [
+    (0, 1, NOT_ROOT_2),
+    (99, 1, OPENS),
+    // The kind of the checkpoint, and the number of transactions that it names, at 12 bytes each.
+    (100, 1, NOT_LOG_4),
+    (101, 1, NOT_LOG_18),
+    // The kind of the insert, its transaction, its relation, its identifier and its value.
+    (102, 1, NOT_LOG_6),
+    (106, 2, OPENS_EMPTY),
+    (107, 3, NOT_LOG_6),
+    (113, 128, NOT_LOG_6),
+    (123, 1, Ending::Opens(b"ok\nok 9\n")),
+    // The kind of the end, which may be that of an abort, and its transaction.
+    (124, 15, OPENS_EMPTY),
+    (128, 2, OPENS_EMPTY),
+    (129, 1, NOT_ROOT_2),
 ];
 
 /// The bytes of an entry of a page.
@@ -342,6 +377,13 @@ fn turned(alloc: Global, at: usize, offset: usize, bits: u8) -> Result<Vec<Page>
     Ok(pages)
 }
 
+/// The pages of a store whose log has one tuple, with bits of a byte of root 2 turned.
+fn turned_log(alloc: Global, offset: usize, bits: u8) -> Result<Vec<Page>, Fail> {
+    let mut pages = store_with_log(alloc)?;
+    turn(pages.as_mut_slice(), ROOT_2, offset, bits)?;
+    Ok(pages)
+}
+
 /// Slots of a store with one tuple that the map leaves free: those of four pages of the catalog, and that
 /// of the tuple; and how the probe ends then.
 static UNMAPPED: [(u8, Ending); 5] = [
@@ -421,22 +463,33 @@ fn pages_with(alloc: Global, held: Held, count: usize) -> Result<Vec<Page>, Fail
     }
 }
 
-/// Runs the probe. Where it is refused, it is to have read nothing.
+/// Runs the probe. Where it is refused, it is to have read nothing. Answers the device that it left.
+fn assert_end<C: Debug + Copy>(
+    alloc: Global,
+    pages: Vec<Page>,
+    ending: &Ending,
+    case: C,
+) -> Result<MemDevice, Fail> {
+    let device = MemDevice::new(alloc, pages)?;
+    let mut source = MemSource::new(PROBE);
+    let mut sink = MemSink::new(alloc);
+    let (status, device) = run_words(alloc, &["run", "FILE"], &mut source, &mut sink, device)?;
+    assert_same(&ending.is(status, sink.bytes()), &true, (case, status))?;
+    if status != Status::Ok {
+        assert_same(&source.read(&mut [0; 100]), &Ok(PROBE.len()), case)?;
+    }
+    Ok(device)
+}
+
+/// Runs the probe, which writes nothing.
 fn assert_ending<C: Debug + Copy>(
     alloc: Global,
     pages: Vec<Page>,
     ending: &Ending,
     case: C,
 ) -> Result<(), Fail> {
-    let device = MemDevice::new(alloc, pages)?;
-    let mut source = MemSource::new(PROBE);
-    let mut sink = MemSink::new(alloc);
-    let (status, device) = run_words(alloc, &["run", "FILE"], &mut source, &mut sink, device)?;
-    assert_same(&ending.is(status, sink.bytes()), &true, (case, status))?;
+    let device = assert_end(alloc, pages, ending, case)?;
     assert_same(&has_writes(&device, 0), &true, case)?;
-    if status != Status::Ok {
-        assert_same(&source.read(&mut [0; 100]), &Ok(PROBE.len()), case)?;
-    }
     Ok(())
 }
 
@@ -459,6 +512,15 @@ fn a_byte_that_is_turned_is_found_where_it_matters(rt: HostRuntime) -> Result<()
             ending,
             ("page, byte, bits", *at, *offset, *bits),
         )?;
+    }
+    Ok(())
+}
+
+#[test]
+fn a_byte_of_the_log_that_is_turned_is_found_where_it_matters(rt: HostRuntime) -> Result<(), Fail> {
+    for (offset, bits, ending) in &LOGGED {
+        let pages = turned_log(rt.alloc(), *offset, *bits)?;
+        assert_end(rt.alloc(), pages, ending, ("byte, bits", *offset, *bits))?;
     }
     Ok(())
 }

@@ -8,20 +8,28 @@ use rss_top::Status;
 use std::alloc::Global;
 use std::test::Fail;
 
-/// Scripts, and how many writes of the device they make: of what is named, of the map, of the root
-/// and of the selector.
-static WRITES: [(&[u8], usize); 14] = [
+/// Scripts, each over the store that the one before it left, and how many writes of the device they
+/// make. A commit writes the root and the selector, and a checkpoint what is named, the map, the root
+/// and the selector. Where the log isn't at rest the opening takes one.
+static WRITES: [(&[u8], usize); 18] = [
     (b"", 0),
     (b"begin 1\nend 1\n", 0),
     (b"begin 1\ninsert 1 r 1\n", 0),
-    // The home page, and that of the count.
-    (b"begin 1\ninsert 1 r 1\ninsert 1 r 2\nend 1\n", 5),
-    // An update leaves the count as it is.
-    (b"begin 1\nupdate 1 r 0.0 3\nend 1\n", 4),
-    (b"begin 1\nupdate 1 r 0.0 3\ndelete 1 r 0.1\n", 0),
-    // With no tuple left there is no home page.
-    (b"begin 1\ndelete 1 r 0.0\ndelete 1 r 0.1\nend 1\n", 4),
-    (b"begin 1\nfetch 1 r 0.0\nend 1\n", 0),
+    (b"begin 1\ninsert 1 r 1\ninsert 1 r 2\nend 1\n", 2),
+    // The opening: the home page, and that of the count. Then a commit.
+    (b"begin 1\nupdate 1 r 0.0 3\nend 1\n", 5 + 2),
+    // The opening: an update leaves the count as it is.
+    (b"begin 1\nupdate 1 r 0.0 3\ndelete 1 r 0.1\n", 4),
+    (b"begin 1\ndelete 1 r 0.0\ndelete 1 r 0.1\nend 1\n", 2),
+    // The opening: with no tuple left there is no home page.
+    (b"begin 1\nfetch 1 r 0.0\nend 1\n", 4),
+    // A checkpoint where nothing has changed, and one in a transaction, which isn't at rest.
+    (b"checkpoint\n", 3),
+    (b"begin 1\ninsert 1 r 1\ncheckpoint\n", 5),
+    // The opening takes the insert back.
+    (b"", 4),
+    // What is taken back within the transaction is written all the same.
+    (b"begin 1\ninsert 1 r 1\nabort 1\n", 0),
     // A page of the catalog.
     (b"segment t\n", 4),
     (b"relation q t a:int\n", 4),

@@ -1,8 +1,10 @@
 // The calls that define.
-ghost use Rattle.std.specs.Prelude.{◌≡◌, true, All, IfOk};
+ghost use Rattle.std.specs.Prelude.{◌≡◌, ◌<◌, true, All, IfOk, IsErrOf};
 ghost use Rattle.rss_base.specs.Names.{IsName};
 ghost use Rattle.rss_base.specs.TupleTypes.{field_names};
+ghost use Rattle.rss_base.specs.declared.answer.CallError.TheVariants.{NoMemory};
 ghost use Rattle.rss_base.specs.declared.call.Call.TheVariants.{MakeSegment, MakeRelation, DropSegment, DropRelation};
+ghost use Rattle.rss_model.specs.Calls.{calls_most};
 
 use crate::Rss;
 use rss_base::{CallError, Fields, Name, Refusal, Reply};
@@ -10,38 +12,39 @@ use rss_buffer::Saving;
 use std::alloc::{AllocError, Global};
 
 impl<S: Saving> Rss<S> {
-    ghost use Rattle.rss_base.specs.declared.call.Call.{Call as AnyCall};
     ghost use Rattle.rss_model.specs.Calls.{IsCallOf};
-    ghost use Rattle.rss_rsi.specs.Parts.{view, parts};
-    ghost use Rattle.rss_rsi.specs.Saves.{IsDefining, IsRedefining, view_before};
-    ghost use Rattle.rss_rsi.specs.declared.session.Session.{Session as AnySession};
+    ghost use Rattle.rss_rsi.specs.Definitions.{Definition, IsDefining, view_of};
+    ghost use Rattle.rss_rsi.specs.Parts.{view};
 
-    /// Defines a segment.
+    /// Defines a segment. It takes no memory.
     pub fn make_segment(&mut self, name: &Name) -> Result<Reply, CallError>
+        requires few { (view self.old).calls < calls_most }
         requires name { IsName name.now }
         ensures did { IsCallOf (view self.old) (view self.new) (MakeSegment name.now) result }
         ensures untouched { ((view self.old).is_up → ⊥) → self.new ≡ self.old }
+        ensures memory { IsErrOf result NoMemory → ⊥ }
     {
-        self.test_up()?;
+        self.ask()?;
         self.down = true;
         let made = self.session.make_segment(name);
         self.redefine(made)
     }
 
-    /// Defines a relation.
+    /// Defines a relation. It takes memory for its fields, and else none.
     pub fn make_relation(
         &mut self,
         name: &Name,
         segment: &Name,
         fields: &Fields,
     ) -> Result<Reply, CallError>
+        requires few { (view self.old).calls < calls_most }
         requires name { IsName name.now }
         requires fields { All IsName (field_names fields.now) }
         ensures did { IsCallOf (view self.old) (view self.new)
             (MakeRelation name.now segment.now fields.now) result }
         ensures untouched { ((view self.old).is_up → ⊥) → self.new ≡ self.old }
     {
-        self.test_up()?;
+        self.ask()?;
         let Ok(fields) = copy_of(self.alloc, fields) else {
             return Err(CallError::NoMemory);
         };
@@ -50,23 +53,27 @@ impl<S: Saving> Rss<S> {
         self.redefine(made)
     }
 
-    /// Takes a segment away.
+    /// Takes a segment away. It takes no memory.
     pub fn drop_segment(&mut self, name: &Name) -> Result<Reply, CallError>
+        requires few { (view self.old).calls < calls_most }
         ensures did { IsCallOf (view self.old) (view self.new) (DropSegment name.now) result }
         ensures untouched { ((view self.old).is_up → ⊥) → self.new ≡ self.old }
+        ensures memory { IsErrOf result NoMemory → ⊥ }
     {
-        self.test_up()?;
+        self.ask()?;
         self.down = true;
         let made = self.session.drop_segment(name);
         self.redefine(made)
     }
 
-    /// Takes a relation away.
+    /// Takes a relation away. It takes no memory.
     pub fn drop_relation(&mut self, name: &Name) -> Result<Reply, CallError>
+        requires few { (view self.old).calls < calls_most }
         ensures did { IsCallOf (view self.old) (view self.new) (DropRelation name.now) result }
         ensures untouched { ((view self.old).is_up → ⊥) → self.new ≡ self.old }
+        ensures memory { IsErrOf result NoMemory → ⊥ }
     {
-        self.test_up()?;
+        self.ask()?;
         self.down = true;
         let made = self.session.drop_relation(name);
         self.redefine(made)
@@ -75,15 +82,17 @@ impl<S: Saving> Rss<S> {
     /// Commits what the session has defined, or answers why it has not.
     fn redefine(&mut self, made: Result<(), Refusal>) -> Result<Reply, CallError>
         requires down { self.old.down ≡ true }
-        requires some { IsRedefining (parts self.old) made }
-        ensures { (before : AnySession) (call : AnyCall) → IsDefining (parts self.old) before call made
-            → IsCallOf (view_before (parts self.old) before) (view self.new) call result }
+        requires some { (to : Definition S)
+            × IsDefining S.view to self.old.session self.old.calls made }
+        ensures did { (to : Definition S) → IsDefining S.view to self.old.session self.old.calls made
+            → IsCallOf (view_of S.view to) (view self.new) to.call result }
+        ensures memory { IsErrOf result NoMemory → ⊥ }
     {
         if let Err(why) = made {
             self.down = false;
             return Err(CallError::Refused(why));
         }
-        self.save()?;
+        self.session.redefine()?;
         self.down = false;
         Ok(Reply::Ok)
     }

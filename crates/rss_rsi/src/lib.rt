@@ -2,13 +2,18 @@
 //! opened and called.
 #![tactic(auto)]
 
-mod checkpoint;
+mod accessors;
+mod changing;
 mod definitions;
+mod deleting;
 mod engine;
+mod fetching;
+mod inserting;
+mod looking;
 mod opening;
-mod session;
 mod transactions;
-mod tuples;
+mod updating;
+mod values;
 
 pub use engine::Rss;
 pub use opening::open;

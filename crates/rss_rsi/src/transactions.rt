@@ -1,39 +1,115 @@
 // The calls on transactions.
-ghost use Rattle.std.specs.Prelude.{◌≡◌};
-ghost use Rattle.rss_base.specs.declared.call.Call.TheVariants.{Begin, End};
+ghost use Rattle.std.specs.Prelude.{◌≡◌, ◌+◌, ◌<◌, ◌≤◌, length, IsErrOf};
+ghost use Rattle.rss_base.specs.DiskRule.{WritesIn};
+ghost use Rattle.rss_base.specs.declared.answer.CallError.TheVariants.{NoMemory};
+ghost use Rattle.rss_base.specs.declared.call.Call.TheVariants.{Begin, Save, Restore, End, Abort, Checkpoint};
+ghost use Rattle.rss_model.specs.Calls.{calls_most};
+ghost use Rattle.rss_model.specs.Meter.{end_size};
+ghost use Rattle.rss_trans.specs.Transactions.{transaction_in};
+ghost use Rattle.rss_store.specs.Commits.{IsEndPlace, new_pieces};
 
 use crate::Rss;
-use rss_base::{CallError, Refusal, Reply};
+use rss_base::{CallError, Reply};
 use rss_buffer::Saving;
 
 impl<S: Saving> Rss<S> {
     ghost use Rattle.rss_model.specs.Calls.{IsCallOf};
-    ghost use Rattle.rss_rsi.specs.Parts.{view};
+    ghost use Rattle.rss_rsi.specs.Parts.{view, session_of, store_of};
 
     /// Begins a transaction.
     pub fn begin(&mut self, transaction: u32) -> Result<Reply, CallError>
+        requires few { (view self.old).calls < calls_most }
         ensures did { IsCallOf (view self.old) (view self.new) (Begin transaction) result }
         ensures untouched { ((view self.old).is_up → ⊥) → self.new ≡ self.old }
     {
-        self.test_up()?;
-        Ok(self.session.begin(transaction)?)
+        self.ask()?;
+        self.session.test_begin(transaction)?;
+        let Ok(()) = self.session.begin(transaction) else {
+            return Err(CallError::NoMemory);
+        };
+        Ok(Reply::Ok)
     }
 
-    /// Ends a transaction. Where it changed nothing, nothing is written.
-    pub fn end(&mut self, transaction: u32) -> Result<Reply, CallError>
-        ensures did { IsCallOf (view self.old) (view self.new) (End transaction) result }
+    /// Sets a save point, and answers its number.
+    pub fn save(&mut self, transaction: u32) -> Result<Reply, CallError>
+        requires few { (view self.old).calls < calls_most }
+        ensures did { IsCallOf (view self.old) (view self.new) (Save transaction) result }
         ensures untouched { ((view self.old).is_up → ⊥) → self.new ≡ self.old }
     {
-        self.test_up()?;
-        if self.session.transaction != Some(transaction) {
-            return Err(CallError::Refused(Refusal::NoTransaction));
-        }
-        if self.session.since == 0 {
-            self.session.close(transaction);
-            return Ok(Reply::Ok);
-        }
+        self.ask()?;
+        self.session.test_open(transaction)?;
+        let Ok(save) = self.session.save(transaction) else {
+            return Err(CallError::NoMemory);
+        };
+        Ok(Reply::Number(save))
+    }
+
+    /// Takes a transaction back to a save point, 0 being its begin.
+    pub fn restore(&mut self, transaction: u32, save: u32) -> Result<Reply, CallError>
+        requires few { (view self.old).calls < calls_most }
+        ensures did { IsCallOf (view self.old) (view self.new) (Restore transaction save) result }
+        ensures untouched { ((view self.old).is_up → ⊥) → self.new ≡ self.old }
+        ensures memory { IsErrOf result NoMemory → ⊥ }
+    {
+        self.ask()?;
+        self.session.test_open(transaction)?;
+        self.session.test_save(transaction, save)?;
         self.down = true;
-        self.save()?;
+        self.session.restore(transaction, save)?;
+        self.down = false;
+        Ok(Reply::Ok)
+    }
+
+    /// Ends a transaction: its changes are committed. Where it changed nothing, nothing is written.
+    pub fn end(&mut self, transaction: u32) -> Result<Reply, CallError>
+        requires few { (view self.old).calls < calls_most }
+        ensures did { IsCallOf (view self.old) (view self.new) (End transaction) result }
+        ensures untouched { ((view self.old).is_up → ⊥) → self.new ≡ self.old }
+        ensures memory { IsErrOf result NoMemory → ⊥ }
+        ensures only { WritesIn (IsEndPlace (session_of self.old).store.number
+            (session_of self.old).store.root (session_of self.new).store.log.end)
+            (view self.old).disk (view self.new).disk }
+        ensures writes { (view self.new).writes ≤ (view self.old).writes
+            + new_pieces (session_of self.old).store.root
+            ((session_of self.old).store.log.end + end_size) + 2 }
+        ensures still { length (transaction_in (session_of self.old).opened transaction).changes ≡ 0
+            → store_of self.new ≡ store_of self.old }
+    {
+        self.ask()?;
+        self.session.test_open(transaction)?;
+        self.down = true;
+        self.session.commit(transaction)?;
+        self.down = false;
+        Ok(Reply::Ok)
+    }
+
+    /// Undoes all changes of a transaction, and lets it go.
+    pub fn abort(&mut self, transaction: u32) -> Result<Reply, CallError>
+        requires few { (view self.old).calls < calls_most }
+        ensures did { IsCallOf (view self.old) (view self.new) (Abort transaction) result }
+        ensures untouched { ((view self.old).is_up → ⊥) → self.new ≡ self.old }
+        ensures memory { IsErrOf result NoMemory → ⊥ }
+    {
+        self.ask()?;
+        self.session.test_open(transaction)?;
+        self.down = true;
+        self.session.abort(transaction)?;
+        self.down = false;
+        Ok(Reply::Ok)
+    }
+
+    /// Takes a checkpoint, from which on the log is kept. It is refused where what is free behind it is
+    /// less than what is owed to the changes of open transactions.
+    pub fn checkpoint(&mut self) -> Result<Reply, CallError>
+        requires few { (view self.old).calls < calls_most }
+        ensures did { IsCallOf (view self.old) (view self.new) Checkpoint result }
+        ensures untouched { ((view self.old).is_up → ⊥) → self.new ≡ self.old }
+        ensures memory { IsErrOf result NoMemory → ⊥ }
+    {
+        self.ask()?;
+        self.session.test_checkpoint()?;
+        self.down = true;
+        self.session.checkpoint()?;
         self.down = false;
         Ok(Reply::Ok)
     }

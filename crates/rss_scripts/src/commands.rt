@@ -6,7 +6,7 @@ ghost use Rattle.rss_device.specs.MemDevice.{view_of, IsFresh};
 use rss_base::{Device, Sink, Source, Unopened};
 use rss_device::{MemDevice, MemSink, MemSource};
 use rss_line::Names;
-use rss_model::Engine;
+use rss_model::{CALLS_MOST, Engine};
 use rss_rsi::{LEAST_FRAMES, MOST_FRAMES, open};
 use rss_top::{Status, run, run_line};
 use std::alloc::{AllocError, Global};
@@ -58,7 +58,8 @@ fn line_length(bytes: &[u8]) -> usize
     }
 }
 
-/// Runs the lines of a script over a store that is open, up to the first that stops the run.
+/// Runs the lines of a script over a store that is open, up to the first that stops the run. A script
+/// is too long that has more lines than the store may be asked for calls.
 fn run_lines<E: Engine>(store: &mut E, alloc: Global, script: &[u8], sink: &mut MemSink) -> Status
     requires { (E.view store.old).is_up }
 {
@@ -66,6 +67,9 @@ fn run_lines<E: Engine>(store: &mut E, alloc: Global, script: &[u8], sink: &mut 
     let mut reply = Vec::new(alloc);
     let mut done = 0;
     while done < script.len() {
+        if store.calls() >= CALLS_MOST {
+            return Status::TooLong;
+        }
         let end = done + line_length(&script[done..]);
         if let Err(status) = run_line(
             store,

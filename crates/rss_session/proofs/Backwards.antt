@@ -26,7 +26,7 @@ use Rattle.rss_store.specs.Changing.{own_positions, IsOwnAt, AltersPages, MayNot
 use Rattle.rss_store.specs.Shown.{ShowsWith}
 use Rattle.rss_session.specs.Sessions.{SessionView, IsReady}
 use Rattle.rss_session.specs.Shown.{Shows, ShowsBack}
-use Rattle.rss_session.specs.Calls.{GoesOn, KeepsTables, ShowsNone, HasMarks, taken_to, TakesNewest, TakesBackOne, TakesBack, GoesBack}
+use Rattle.rss_session.specs.Calls.{NoMoreSaves, GoesOn, KeepsTables, ShowsNone, HasMarks, taken_to, TakesNewest, TakesBackOne, TakesBack, GoesBack}
 use Rattle.rss_session.proofs.Fewer.{IsLastAt, put_here, taken_all, taken_then, newest_at, newest_none, taken_get, length_taken, none_from}
 use Rattle.rss_session.proofs.Steady.{changes_kept, none_there}
 
@@ -224,9 +224,9 @@ keeps_left old new ready leaves = λ told state kept shows.
 
 pub goes_left : {T : Type 0} (old new : SessionView) (result : Result T PageFault) → IsReady old → LeavesFixed (old.store.pages.settled ≡ true) (new.store.pages.settled ≡ true) old.store.pages.disk new.store.pages.disk old.store.pages.fixed new.store.pages.fixed
     → old.store.pages.faults ≤ new.store.pages.faults → new.store.root ≡ old.store.root → new.store.pages.backing ≡ old.store.pages.backing
-    → (IsErrOf result DeviceFailed → Rises old.store.pages.faults new.store.pages.faults) → (IsErrOf result NoMemory → ⊥) → GoesOn old new result
-goes_left old new result ready leaves later root backing failed memory = record {
-  told = leaves.told.0;
+    → (IsErrOf result DeviceFailed → Rises old.store.pages.faults new.store.pages.faults) → (IsErrOf result NoMemory → ⊥) → NoMoreSaves old new → GoesOn old new result
+goes_left old new result ready leaves later root backing failed memory saves = record {
+  told = leaves.told;
   history = λ told. continues (leaves.moments ready.store.settled_now told);
   later = later;
   failed = failed;
@@ -234,4 +234,5 @@ goes_left old new result ready leaves later root backing failed memory = record 
   slots = ap (λ (r : Root). r.slots) root;
   log_pages = ap (λ (r : Root). r.log_pages) root;
   frames = ap (λ (b : Backing). b.frames) backing;
+  saves = saves;
 }

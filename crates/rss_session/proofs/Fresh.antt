@@ -54,9 +54,8 @@ module _ (store : StoreView) (opened : OpenView) (heap : ℕ) (none : opened.tra
       record {
         store = ready;
         pages = record {
-          times = 0;
           made = record { before = omega (arith, saved.count, pages, heap_is); now = omega (arith, pages, heap_is); all = counted };
-          few = omega (arith, none_counted opened none, since);
+          most = omega (arith, none_counted opened none, since);
         };
         room = omega (arith, half, pages, heap_is, since);
         log = omega (arith, none_counted opened none, none_changing opened none, ready.formed.room, saved.log, ready.log.pages, ready.log.head);

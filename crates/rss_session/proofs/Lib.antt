@@ -1,5 +1,6 @@
 pub mod Marked
 pub mod Sums
+pub mod SavePoints
 pub mod Passing
 pub mod Noted
 pub mod Changed
@@ -24,3 +25,4 @@ pub mod Undone
 pub mod Backwards
 pub mod Restored
 pub mod Aborted
+pub mod Props

@@ -1,30 +1,40 @@
 -- A look leaves the session as it was.
-use Rattle.std.proofs.Common.{◌≡◌, ℕ, true, Bool, List, [], sym, ◌∙◌, ap, subst, arith}
+use Rattle.std.proofs.Common.{◌≡◌, ℕ, true, Bool, List, [], refl, sym, ◌∙◌, ap, subst, arith}
 use Rattle.std.specs.Prelude.{Option, Some, None, Result, Ok, Err, IfOk, IfSome}
 use Rattle.rss_base.specs.DiskRule.{IsTold}
+use Rattle.std.proofs.lemmas.Option.{none-some}
+use Rattle.rss_base.specs.Listings.{segment_at}
 use Rattle.rss_base.specs.Paged.{Held, Mapped, Fixed, Backing, HasFixed, mapped_of, mapped_pages, page_key}
 use Rattle.rss_base.specs.PageMap.{page_count}
 use Rattle.rss_base.specs.StoredPages.{mapped_by}
 use Rattle.rss_base.specs.Steps.{PagesView, PassesOn, AreCounted}
 use Rattle.rss_base.specs.declared.key.Space.TheVariants.{Overflow, System}
 use Rattle.rss_base.specs.declared.fault.PageFault.{PageFault}
+use Rattle.rss_base.specs.declared.item.Item.TheVariants.{Tuple as TupleItem}
+use Rattle.rss_base.specs.declared.name.Name.{Name}
+use Rattle.rss_base.specs.declared.relation.RelationEntry.{RelationEntry}
+use Rattle.rss_base.specs.declared.root.Root.{Root}
 use Rattle.rss_base.specs.declared.tid.Tid.{Tid}
 use Rattle.rss_base.proofs.Moments.{widened}
 use Rattle.rss_tuple.specs.Heaps.{AreHeaps}
-use Rattle.rss_model.specs.Machine.{State, now}
+use Rattle.rss_model.specs.Machine.{StoreSize, State, now}
 use Rattle.rss_model.specs.Spares.{page_counts, change_counts, HasRoomFor, IsInSession}
-use Rattle.rss_model.specs.Store.{SpellsTables}
+use Rattle.rss_model.specs.Store.{IsListed, SpellsTables}
+use Rattle.rss_model.specs.Tables.{segment_of}
+use Rattle.rss_model.proofs.Keeping.{is_alone}
+use Rattle.rss_model.proofs.Listed.{listed, stands_within}
+use Rattle.rss_model.proofs.PlainStores.{contents_spelled}
 use Rattle.rss_model.proofs.StepKeeping.{kept_fit}
 use Rattle.rss_access.specs.Tuples.{body_at, FindsBody}
-use Rattle.rss_tuple.specs.Placing.{IsChosen, IsFree}
-use Rattle.rss_tuple.specs.TupleSteps.{tuples_in}
+use Rattle.rss_tuple.specs.Placing.{IsNameable, IsChosen, IsFree}
+use Rattle.rss_tuple.specs.TupleSteps.{NoneIs, tuples_in}
 use Rattle.rss_access.specs.Written.{AreWritten}
-use Rattle.rss_access.proofs.Spelling.{found_values, found_none, none_listed}
+use Rattle.rss_access.proofs.Spelling.{found_values, found_none, none_beside}
 use Rattle.rss_session.specs.Sessions.{SessionView, IsReady, sums_in}
 use Rattle.rss_session.specs.Sessions as sessions
 use Rattle.rss_session.specs.Shown.{Shows}
 use Rattle.rss_session.specs.Calls.{KeepsTables}
-use Rattle.rss_session.specs.Looks.{FindsTuple, IsPlace, FindsPlace}
+use Rattle.rss_session.specs.Looks.{IsRelationIn, FindsTuple, IsPlace, FindsPlace, HasNoPlace}
 
 -- the session with other pages
 abbrev pub with_pages : PagesView → SessionView → SessionView
@@ -111,16 +121,54 @@ finds_tuple {view = view} {segment = segment} {number = number} {tid = tid} {the
       found_none shows.store.spells (kept_fit state kept).1 number relation in_it.at tid body (subst (λ (b : Bool). FindsBody relation.segment number tid view.store.pages b body) is (subst (λ (s : ℕ). FindsBody s number tid view.store.pages there body) (sym in_it.within) finds));
 }
 
+-- ---- identifiers for new tuples
+
+-- a state that is shown has as many slots
+slots_shown : {view : SessionView} {state : State} → IsReady view → Shows view state → view.store.pages.slots ≡ state.size.slots
+slots_shown ready shows = ready.store.size ∙ ap (λ (r : Root). r.slots) (sym shows.store.disk.root_is) ∙ ap (λ (s : StoreSize). s.slots) (sym shows.store.tied.size)
+
+-- the relations of a segment have its name
+module _ {view : SessionView} {state : State} (shows : Shows view state) {segment number : ℕ} {relation : RelationEntry} (in_it : IsRelationIn view segment number relation) where
+  its_segment : (name : Name) × IsListed view.store.catalog.listing number relation name
+  its_segment = listed shows.store.spells.listed shows.store.spells.defines number relation in_it.at
+
+  stands : segment_of (now state) relation.name ≡ Some its_segment.0
+  stands = stands_within (now state) shows.store.spells.listed shows.store.spells.defines number relation in_it.at its_segment.0 its_segment.1.within
+
 -- where a new tuple gets its identifier
-pub finds_place : {view : SessionView} {segment length : ℕ} {tid : Tid} → (IsTold view.store.pages.disk → IsChosen view.store.pages segment length [] tid) → (IsTold view.store.pages.disk → body_at view.store.pages segment tid ≡ None) → IsPlace view segment length tid
-finds_place {view = view} {segment = segment} {tid = tid} chosen absent = record {
+pub finds_place : {view : SessionView} {segment length : ℕ} {tid : Tid} → IsReady view → IsNameable view.store.pages.slots [] tid → (IsTold view.store.pages.disk → IsChosen view.store.pages segment length [] tid) → (IsTold view.store.pages.disk → body_at view.store.pages segment tid ≡ None) → IsPlace view segment length tid
+finds_place {view = view} {segment = segment} {tid = tid} ready named chosen absent = record {
+  named = named;
   chosen = chosen;
-  absent = λ told state number relation kept shows in_it.
-      none_listed shows.store.spells (kept_fit state kept).1 number relation in_it.at tid (ap (λ (s : ℕ). body_at view.store.pages s tid) in_it.within ∙ absent told);
+  free = λ told state number relation kept shows in_it t opened. record {
+    within = record { page = omega (arith, named.within, slots_shown ready shows); slot = named.low };
+    absent = λ other same.
+        none_beside shows.store.spells (kept_fit state kept).1 relation.segment (its_segment shows in_it).0 (its_segment shows in_it).1.within other (same ∙ stands shows in_it) tid
+        (ap (λ (s : ℕ). body_at view.store.pages s tid) in_it.within ∙ absent told);
+    alone = λ other u same apart. is_alone kept t opened u (TupleItem other tid) apart;
+  };
 }
 
-pub place_found : (view : SessionView) (segment length : ℕ) (result : Result (Option Tid) PageFault) → IfOk result (λ found. IfSome found (λ tid. IsTold view.store.pages.disk → IsFree (tuples_in view.store.pages) segment [] tid))
+pub place_found : (view : SessionView) (segment length : ℕ) (result : Result (Option Tid) PageFault) → IsReady view → IfOk result (λ found. IfSome found (IsNameable view.store.pages.slots []))
+    → IfOk result (λ found. IfSome found (λ tid. IsTold view.store.pages.disk → IsFree (tuples_in view.store.pages) segment [] tid))
     → IfOk result (λ found. IfSome found (λ tid. IsTold view.store.pages.disk → IsChosen view.store.pages segment length [] tid)) → IfOk result (FindsPlace view segment length)
-place_found view segment length (Ok None) free chosen = tt
-place_found view segment length (Ok (Some tid)) free chosen = finds_place chosen (λ told. (free told).absent)
-place_found view segment length (Err fault) free chosen = tt
+place_found view segment length (Ok None) ready named free chosen = tt
+place_found view segment length (Ok (Some tid)) ready named free chosen = finds_place ready named chosen (λ told. (free told).absent)
+place_found view segment length (Err fault) ready named free chosen = tt
+
+-- where no identifier of the segment is free in the pages, none is in the machine
+pub has_no_place : {view : SessionView} {segment : ℕ} → IsReady view → (IsTold view.store.pages.disk → NoneIs (IsFree (tuples_in view.store.pages) segment [])) → HasNoPlace view segment
+has_no_place {view = view} {segment = segment} ready none told state number relation kept shows in_it t tid free =
+    none told tid (record {
+      named = record { within = omega (arith, free.within.page, slots_shown ready shows); low = free.within.slot; allowed = λ has. omega (arith, has.1) };
+      absent = by (body_at view.store.pages segment tid) refl;
+    })
+  where
+    by : (body : Option (List ℕ)) → body_at view.store.pages segment tid ≡ body → body ≡ None
+    by None is = refl
+    by (Some body) is =
+        let of = (contents_spelled shows.store.spells).bodies_are segment tid body is in
+        let name = its_segment shows in_it in
+        let same : segment_at view.store.catalog.listing of.relation.segment ≡ Some name.0 = ap (segment_at view.store.catalog.listing) (of.within ∙ sym in_it.within) ∙ name.1.within in
+        let other = stands_within (now state) shows.store.spells.listed shows.store.spells.defines of.number of.relation of.at name.0 same in
+        absurd (none-some _ (sym (free.absent of.relation.name (other ∙ sym (stands shows in_it))) ∙ of.holds))

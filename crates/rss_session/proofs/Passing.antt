@@ -1,25 +1,28 @@
 -- What a call of the store passes on to the session.
-use Rattle.std.proofs.Common.{◌≡◌, ℕ, true, refl, sym, ◌∙◌, ap, arith}
-use Rattle.std.specs.Prelude.{Result, Ok, Err, IsErrOf, IsErrAnd, OnOk}
+use Rattle.std.proofs.Common.{◌≡◌, ℕ, ◌≤◌, true, refl, sym, ◌∙◌, ap, subst, arith}
+use Rattle.std.specs.Prelude.{◌↔◌, Result, Ok, Err, IsErrOf, IsErrAnd, OnOk}
 use Rattle.std.proofs.lemmas.Result.{err_from_is_err_and}
-use Rattle.rss_base.specs.DiskRule.{IsTold, Passes}
+use Rattle.rss_base.specs.DiskRule.{IsTold, Passes, Continues}
 use Rattle.rss_base.specs.Faults.{Rises}
 use Rattle.rss_base.specs.Paged.{Backing}
 use Rattle.rss_base.specs.Steps.{PagesView, PassesOn}
 use Rattle.rss_base.specs.declared.fault.PageFault.{PageFault}
 use Rattle.rss_base.specs.declared.fault.PageFault.TheVariants.{Device as DeviceFailed, NoMemory}
 use Rattle.rss_base.specs.declared.root.Root.{Root}
-use Rattle.rss_base.proofs.Moments.{widened, continues, continues_then, rises_since}
-use Rattle.rss_model.specs.Machine.{State}
+use Rattle.rss_base.proofs.Moments.{started, widened, continues, continues_then, rises_since}
+use Rattle.rss_model.specs.Machine.{State, StoreSize}
+use Rattle.rss_model.specs.Store.{size_of}
 use Rattle.rss_store.specs.Stores.{StoreView}
 use Rattle.rss_store.specs.Stores.{IsReady as IsStoreReady}
 use Rattle.rss_store.specs.Shown.{Shows as StoreShows, HoldsTables}
 use Rattle.rss_store.specs.Changing.{AltersPages}
 use Rattle.rss_store.specs.Stores.{IsSaved}
-use Rattle.rss_trans.specs.Transactions.{Checkpoints}
+use Rattle.rss_store.specs.Commits.{CommitsPages}
+use Rattle.rss_trans.specs.Transactions.{OpenView, Checkpoints}
 use Rattle.rss_session.specs.Sessions.{SessionView, IsReady}
-use Rattle.rss_session.specs.Calls.{GoesOn, CountsAnew}
+use Rattle.rss_session.specs.Calls.{NoMoreSaves, GoesOn, CountsAnew}
 use Rattle.rss_session.proofs.Looked.{with_pages}
+use Rattle.rss_session.proofs.Shown.{with_opened}
 
 -- a step of pages leaves what is fixed, and so the committed tables
 pub keeps_altered : {T : Type 0} {result : Result T PageFault} {old new : StoreView} → IsStoreReady old → AltersPages old new result → IsTold old.pages.disk → (state : State) → StoreShows old state → Passes old.pages.disk new.pages.disk (HoldsTables state.size state.base)
@@ -32,9 +35,9 @@ keeps_altered ready alters told state shows =
     })
 
 -- by another result, which fails only where the first did
-pub goes_altered : {T U : Type 0} {result : Result T PageFault} {old new : SessionView} (other : Result U PageFault) → IsStoreReady old.store → (IsErrOf other DeviceFailed → IsErrOf result DeviceFailed) → (IsErrOf other NoMemory → IsErrOf result NoMemory) → AltersPages old.store new.store result → GoesOn old new other
-goes_altered other ready device memory alters = record {
-  told = alters.step.passes.leaves.told.0;
+pub goes_altered : {T U : Type 0} {result : Result T PageFault} {old new : SessionView} (other : Result U PageFault) → IsStoreReady old.store → (IsErrOf other DeviceFailed → IsErrOf result DeviceFailed) → (IsErrOf other NoMemory → IsErrOf result NoMemory) → AltersPages old.store new.store result → NoMoreSaves old new → GoesOn old new other
+goes_altered other ready device memory alters saves = record {
+  told = alters.step.passes.leaves.told;
   history = λ told. continues (alters.step.passes.leaves.moments ready.settled_now told);
   later = alters.step.passes.later;
   failed = λ is. alters.failed (device is);
@@ -42,6 +45,7 @@ goes_altered other ready device memory alters = record {
   slots = ap (λ (r : Root). r.slots) alters.root;
   log_pages = ap (λ (r : Root). r.log_pages) alters.root;
   frames = ap (λ (b : Backing). b.frames) alters.step.passes.backing;
+  saves = saves;
 }
 
 -- a fault that is passed on is the one that came
@@ -55,14 +59,57 @@ fault_same {U = U} {result = result} {fault = fault} {other = other} was is of =
 -- one call behind another
 pub goes_then : {T U : Type 0} {first : Result T PageFault} {second : Result U PageFault} {old mid new : SessionView} → GoesOn old mid first → GoesOn mid new second → GoesOn old new second
 goes_then one two = record {
-  told = λ told. two.told (one.told told);
-  history = λ told. continues_then (one.history told) (two.history (one.told told));
+  told = (λ told. two.told.0 (one.told.0 told), λ told. one.told.1 (two.told.1 told));
+  history = λ told. continues_then (one.history told) (two.history (one.told.0 told));
   later = omega (arith, one.later, two.later);
   failed = λ is. rises_since one.later (two.failed is);
   memory = two.memory;
   slots = two.slots ∙ one.slots;
   log_pages = two.log_pages ∙ one.log_pages;
   frames = two.frames ∙ one.frames;
+  saves = λ t. omega (arith, one.saves t, two.saves t);
+}
+
+-- and then the pages stay
+pub goes_still : {T U : Type 0} {first : Result T PageFault} {old mid new : SessionView} (value : U) → GoesOn old mid first → new.store.pages ≡ mid.store.pages → new.store.root ≡ mid.store.root → NoMoreSaves mid new → GoesOn old new (Ok value)
+goes_still {old = old} value one pages root saves = record {
+  told = subst (λ (p : PagesView). IsTold old.store.pages.disk ↔ IsTold p.disk) (sym pages) one.told;
+  history = λ told. subst (λ (p : PagesView). Continues old.store.pages.disk p.disk) (sym pages) (one.history told);
+  later = subst (λ (p : PagesView). old.store.pages.faults ≤ p.faults) (sym pages) one.later;
+  failed = λ is. absurd (cc (is));
+  memory = λ is. absurd (cc (is));
+  slots = ap (λ (r : Root). r.slots) root ∙ one.slots;
+  log_pages = ap (λ (r : Root). r.log_pages) root ∙ one.log_pages;
+  frames = ap (λ (p : PagesView). p.backing.frames) pages ∙ one.frames;
+  saves = λ t. omega (arith, one.saves t, saves t);
+}
+
+-- where a root was selected
+pub goes_committed : {T : Type 0} {result : Result T PageFault} {old new : SessionView} → CommitsPages old.store.pages new.store.pages result → size_of new.store.root ≡ size_of old.store.root → NoMoreSaves old new → GoesOn old new result
+goes_committed did size saves = record {
+  told = did.told;
+  history = did.history;
+  later = did.later;
+  failed = did.failed;
+  memory = did.memory;
+  slots = ap (λ (s : StoreSize). s.slots) size;
+  log_pages = ap (λ (s : StoreSize). s.log_pages) size;
+  frames = did.frames;
+  saves = saves;
+}
+
+-- nothing was done to the store
+pub goes_opened : {U : Type 0} {old : SessionView} {opened : OpenView} (value : U) → NoMoreSaves old (with_opened old opened) → GoesOn old (with_opened old opened) (Ok value)
+goes_opened {old = old} value saves = record {
+  told = (λ told. told, λ told. told);
+  history = λ told. started old.store.pages.disk _;
+  later = omega arith;
+  failed = λ is. absurd (cc (is));
+  memory = λ is. absurd (cc (is));
+  slots = refl;
+  log_pages = refl;
+  frames = refl;
+  saves = saves;
 }
 
 -- ---- behind a checkpoint
@@ -81,7 +128,7 @@ on_ok_behind old new (Err fault) ready saved checkpoints anew = tt
 
 pub goes_called : {T : Type 0} {result : Result T PageFault} {old : SessionView} {pages : PagesView} {asks writes : ℕ} → PassesOn asks writes old.store.pages pages → old.store.pages.settled ≡ true → (IsErrOf result DeviceFailed → Rises old.store.pages.faults pages.faults) → (IsErrOf result NoMemory → ⊥) → GoesOn old (with_pages pages old) result
 goes_called passes settled failed memory = record {
-  told = passes.leaves.told.0;
+  told = passes.leaves.told;
   history = λ told. continues (passes.leaves.moments settled told);
   later = passes.later;
   failed = failed;
@@ -89,4 +136,5 @@ goes_called passes settled failed memory = record {
   slots = refl;
   log_pages = refl;
   frames = ap (λ (b : Backing). b.frames) passes.backing;
+  saves = λ t. omega arith;
 }

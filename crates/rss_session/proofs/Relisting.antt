@@ -66,7 +66,7 @@ module _ {S : Type 0} (pages_view : S → PagesView) {call : Call} {old new : Se
   after = view pages_view new
 
   -- it has another catalog, and is else as it was
-  but_catalog : with_catalog new.store.catalog before ≡ after
+  pub but_catalog : with_catalog new.store.catalog before ≡ after
   but_catalog = λ i. record {
     store = record {
       pages = pages_view (sym redefines.rest.tuples i).pages;

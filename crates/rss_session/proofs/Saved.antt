@@ -186,7 +186,7 @@ module _ {old new : SessionView} (ready : IsReady old) (may : MaySave old) (stor
   ready_saved = record {
     store = store;
     pages = subst (λ (n : ℕ). IsInSession (sessions.counts new) n (page_counts new.store.pages)) surviving (session_begins (sessions.counts new) (page_counts new.store.pages) made);
-    room = let was = ready.pages in let times = was.made.now in let few = was.few in let room = ready.room in omega (arith, times, few, room, mapped_now, mapped_same, heap, surviving, sums_same, checkpoints.since, slots);
+    room = let was = ready.pages in let times = was.made.now in let few = was.most in let room = ready.room in omega (arith, times, few, room, mapped_now, mapped_same, heap, surviving, sums_same, checkpoints.since, slots);
     log = omega (arith, may, free_same, sums_same, changers_same);
     placed = λ t.
         subst (λ (x : Option Transaction). AreRising new.store.log.head new.store.log.end (done x).changes) (sym (opened_same t))

@@ -79,7 +79,7 @@ module _ {changes : List Change} {stamps : List Stamp} {listed : List Listed} (l
 
 -- where no change was made since, not as many are listed as survived once one is listed no more
 pub not_rested : (counts : ChangeCounts) (listed fewer : ℕ) (pages : PageCounts) → IsInSession counts listed pages → fewer < listed → counts.since ≡ 0 → fewer ≡ counts.surviving → ⊥
-not_rested counts listed fewer pages session less none same = omega (arith, session.few, less, none, same)
+not_rested counts listed fewer pages session less none same = omega (arith, session.most, less, none, same)
 
 -- how many overflow pages there were then, where neither the root nor the map of that checkpoint was changed
 pub overflow_still : (old mid new : StoreView) → mid.root ≡ old.root → mid.pages.backing ≡ old.pages.backing → new ≡ mid

@@ -150,9 +150,12 @@ judged false false false slots needed free log_needed = refl
 
 -- ---- the numbers
 
+pub slots_are : {view : SessionView} {state : State} → Shows view state → state.size.slots ≡ view.store.root.slots
+slots_are shows = ap (λ (s : StoreSize). s.slots) shows.store.tied.size ∙ ap (λ (r : Root). r.slots) shows.store.disk.root_is
+
 module _ {view : SessionView} {state : State} (ready : IsReady view) (shows : Shows view state) where
   pub slots_same : state.size.slots ≡ view.store.root.slots
-  slots_same = ap (λ (s : StoreSize). s.slots) shows.store.tied.size ∙ ap (λ (r : Root). r.slots) shows.store.disk.root_is
+  slots_same = slots_are shows
 
   pub log_pages_same : state.size.log_pages ≡ view.store.log.pages
   log_pages_same = ap (λ (s : StoreSize). s.log_pages) shows.store.tied.size ∙ ap (λ (r : Root). r.log_pages) shows.store.disk.root_is ∙ sym ready.store.log.pages
@@ -230,6 +233,13 @@ module _ {view : SessionView} {state : State} (ready : IsReady view) (shows : Sh
       let enough : owed state.meter.stamps ≤ log_room state.size.log_pages (saved_now state) = omega (arith, may, owed_same, saved_free_same) in
       let room : nat_lt (log_room state.size.log_pages (saved_now state)) (owed state.meter.stamps) ≡ false = grind (arith, nat_tests, enough) in
       rw room refl
+
+  -- one that may not be taken is, with what is free behind it and what is owed
+  pub may_not_save : weighing.saved_free view < owed_by view.opened → if_no_log_room state ≡ Some (LogFull (weighing.saved_free view) (owed_by view.opened))
+  may_not_save short =
+      let lacks : log_room state.size.log_pages (saved_now state) < owed state.meter.stamps = omega (arith, short, owed_same, saved_free_same) in
+      let room : nat_lt (log_room state.size.log_pages (saved_now state)) (owed state.meter.stamps) ≡ true = grind (arith, nat_tests, lacks) in
+      rw room (λ i. Some (LogFull (sym saved_free_same i) (sym owed_same i)))
 
   -- the tables now fit, so that as many pages have tuples as home pages are there
   pub fit_now : Fits state.size.slots (now state)

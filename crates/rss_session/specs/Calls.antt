@@ -1,5 +1,5 @@
 -- What the calls of a session leave.
-use Rattle.std.specs.Prelude.{◌≡◌, ◌⊎◌, ℕ, ◌+◌, ◌≤◌, List, [], length, take, slice_get, Option, Some, option_map, IfSome, IfNone, Result, IsErrOf}
+use Rattle.std.specs.Prelude.{◌≡◌, ◌↔◌, ◌⊎◌, ℕ, ◌+◌, ◌≤◌, List, [], length, take, slice_get, Option, Some, option_map, IfSome, IfNone, Result, IsErrOf}
 use Rattle.std.specs.FinMap as map
 use Rattle.rss_base.specs.DiskRule.{IsTold, Passes, Continues}
 use Rattle.rss_base.specs.Faults.{Rises}
@@ -26,9 +26,19 @@ use Rattle.rss_session.specs.Shown.{Shows, ShowsBack}
 
 -- ---- what each call passes on
 
--- By the result: the device tells its contents and its history as before, each failure of it has its cause, and memory never runs out. The store has its size.
+-- no transaction has more save points; one that isn't open has none
+abbrev pub NoMoreSaves : SessionView → SessionView → Type 0
+NoMoreSaves old new =
+    (t : ℕ) → length (transaction_in new.opened t).saves ≤ length (transaction_in old.opened t).saves
+
+-- each has one more at most
+abbrev pub OneSaveMore : SessionView → SessionView → Type 0
+OneSaveMore old new =
+    (t : ℕ) → length (transaction_in new.opened t).saves ≤ length (transaction_in old.opened t).saves + 1
+
+-- By the result: the device tells its contents and its history as before, each failure of it has its cause, and memory never runs out. The store has its size, and no transaction more save points.
 pub record GoesOn {T : Type 0} (old new : SessionView) (result : Result T PageFault) : Type 0 where
-  pub told : IsTold old.store.pages.disk → IsTold new.store.pages.disk
+  pub told : IsTold old.store.pages.disk ↔ IsTold new.store.pages.disk
   pub history : IsTold old.store.pages.disk → Continues old.store.pages.disk new.store.pages.disk
   pub later : old.store.pages.faults ≤ new.store.pages.faults
   pub failed : IsErrOf result DeviceFailed → Rises old.store.pages.faults new.store.pages.faults
@@ -36,6 +46,7 @@ pub record GoesOn {T : Type 0} (old new : SessionView) (result : Result T PageFa
   pub slots : new.store.root.slots ≡ old.store.root.slots
   pub log_pages : new.store.root.log_pages ≡ old.store.root.log_pages
   pub frames : new.store.pages.backing.frames ≡ old.store.pages.backing.frames
+  pub saves : NoMoreSaves old new
 
 -- the log has so many bytes more at most
 abbrev pub Appends : ℕ → SessionView → SessionView → Type 0

@@ -10,10 +10,11 @@ use Rattle.rss_base.specs.declared.place.Place.{Place}
 use Rattle.rss_base.specs.declared.relation.RelationEntry.{RelationEntry}
 use Rattle.rss_base.specs.declared.tid.Tid.{Tid}
 use Rattle.rss_base.specs.declared.value.Value.{Value}
-use Rattle.rss_tuple.specs.Placing.{IsChosen}
+use Rattle.rss_tuple.specs.Placing.{IsNameable, IsChosen}
 use Rattle.rss_model.specs.Items.{Values}
 use Rattle.rss_model.specs.Kept.{Kept}
 use Rattle.rss_model.specs.Machine.{State, now}
+use Rattle.rss_model.specs.Steps.{is_open, IsFree}
 use Rattle.rss_model.specs.Tables.{content}
 use Rattle.rss_access.specs.Bodies.{IsBodyOf}
 use Rattle.rss_session.specs.Sessions.{SessionView, IsReady}
@@ -50,13 +51,22 @@ pub record FindsTuple (view : SessionView) (segment number : ℕ) (tid : Tid) (t
       → IsRelationIn view segment number relation
       → content (now state).contents (Tuple relation.name tid) ≡ None
 
--- The identifier is the one that the placing rule names, and no tuple has it.
+-- The identifier is the one that the placing rule names, and it is free for a new tuple of any relation of the segment, whichever transaction it is of.
 pub record IsPlace (view : SessionView) (segment length : ℕ) (tid : Tid) : Type 0 where
+  pub named : IsNameable view.store.pages.slots [] tid
   pub chosen : IsTold view.store.pages.disk → IsChosen view.store.pages segment length [] tid
-  pub absent : IsTold view.store.pages.disk
+  pub free : IsTold view.store.pages.disk
       → (state : State) (number : ℕ) (relation : RelationEntry) → Kept state → Shows view state
       → IsRelationIn view segment number relation
-      → content (now state).contents (Tuple relation.name tid) ≡ None
+      → (t : ℕ) → is_open state t ≡ true → IsFree state t relation.name tid
 
 abbrev pub FindsPlace : SessionView → ℕ → ℕ → Option Tid → Type 0
 FindsPlace view segment length found = IfSome found (IsPlace view segment length)
+
+-- none is
+abbrev pub HasNoPlace : SessionView → ℕ → Type 0
+HasNoPlace view segment =
+    IsTold view.store.pages.disk
+    → (state : State) (number : ℕ) (relation : RelationEntry) → Kept state → Shows view state
+    → IsRelationIn view segment number relation
+    → (t : ℕ) (tid : Tid) → IsFree state t relation.name tid → ⊥

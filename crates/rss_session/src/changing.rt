@@ -1,5 +1,5 @@
 // Changes of tuples.
-ghost use Rattle.std.specs.Prelude.{◌≡◌, ◌+◌, ◌≤◌, ℕ, true, false, Some, Ok, Err, OnOk, OnErr};
+ghost use Rattle.std.specs.Prelude.{◌≡◌, ◌+◌, ◌≤◌, ℕ, length, true, false, Some, Ok, Err, IfErr, OnOk, OnErr};
 ghost use Rattle.rss_base.specs.DiskRule.{IsTold};
 ghost use Rattle.rss_base.specs.LogRecords.{record_size, longest_record, IsChangeBounded};
 ghost use Rattle.rss_base.specs.Sizes.{largest_checkpoint};
@@ -10,18 +10,41 @@ ghost use Rattle.rss_trans.specs.Transactions.{is_open};
 ghost use Rattle.rss_access.specs.Changes.{IsTupleRecord, number_told};
 ghost use Rattle.rss_session.specs.Changes.{is_delete_told};
 ghost use Rattle.rss_session.specs.Sessions.{IsReady, IsEarly};
-ghost use Rattle.rss_session.specs.Weighing.{weighed};
-ghost use Rattle.rss_session.specs.Calls.{GoesOn, Appends, KeepsTables, Makes, MayNotMake};
+ghost use Rattle.rss_session.specs.Weighing.{weighed, RulesSo};
+ghost use Rattle.rss_session.specs.Calls.{GoesOn, NoMoreSaves, Appends, KeepsTables, Makes, MayNotMake};
 ghost use Rattle.rss_session.specs.Shown.{Shows};
 ghost use Rattle.rss_model.specs.Machine.{State};
+ghost use Rattle.rss_model.specs.ReplyText.{IsShort};
 
 use crate::Session;
-use rss_base::{Change, PageFault};
+use rss_base::{Body, Change, PageFault, Refusal};
 use rss_buffer::Saving;
 use std::alloc::AllocError;
 
+/// How many bytes the record of a tuple's change has, up to its values.
+const TUPLE_BYTES: u64 = 12;
+
+/// How many bytes that of a chain's change has.
+const CHAIN_BYTES: u64 = 24;
+
 impl<S: Saving> Session<S> {
     ghost use Rattle.rss_session.specs.Parts.{view};
+
+    /// What comes of a change of a transaction by the rules on room and on the log: whether a
+    /// checkpoint comes before it, or why it is refused.
+    pub fn weigh_change(&self, transaction: u32, change: &Change) -> Result<bool, Refusal>
+        requires ready { IsReady (view S.view self.now) }
+        requires open { is_open (view S.view self.now).opened transaction ≡ true }
+        requires bounded { IsChangeBounded change.now }
+        requires early { IsEarly (view S.view self.now) longest_record }
+        ensures weighed { result ≡ weighed (view S.view self.now) transaction
+            (record_size (records.Change transaction change.now)) }
+        ensures rules { RulesSo (view S.view self.now) transaction
+            (record_size (records.Change transaction change.now)) result }
+        ensures short { IfErr result (λ why. IsShort (Err why)) }
+    {
+        self.weigh(transaction, record_size(change))
+    }
 
     /// Takes the memory that one change more of a transaction will need.
     pub fn reserve(&mut self, transaction: u32) -> Result<(), AllocError>
@@ -34,12 +57,14 @@ impl<S: Saving> Session<S> {
             → Shows (view S.view self.new) state }
         ensures weighs { (size : ℕ) → weighed (view S.view self.new) transaction size
             ≡ weighed (view S.view self.old) transaction size }
+        ensures saves { NoMoreSaves (view S.view self.old) (view S.view self.new) }
         ensures store { self.new.store ≡ self.old.store }
     {
         self.open.reserve(transaction)
     }
 
-    /// Makes a change of a tuple, behind a checkpoint where the rules ask for one, as `weigh` says. It
+    /// Makes a change of a tuple, behind a checkpoint where the rules ask for one, as `weigh_change`
+    /// says. It
     /// takes no memory but what `reserve` took.
     ///
     /// Where the tuple isn't as the change tells it, which no device shows that tells its contents, the
@@ -122,4 +147,26 @@ fn is_delete(change: &Change) -> bool
     ensures { result ≡ is_delete_told change.now }
 {
     matches!(change, Change::Delete { .. })
+}
+
+/// How many bytes the record of a change has.
+fn record_size(change: &Change) -> u64
+    requires { IsChangeBounded change.now }
+    ensures size { (by : ℕ) → result ≡ record_size (records.Change by change.now) }
+    ensures short { result ≤ longest_record }
+{
+    match change {
+        Change::Insert { values, .. } | Change::Delete { values, .. } => {
+            TUPLE_BYTES + sized_bytes(values)
+        }
+        Change::Update { from, to, .. } => TUPLE_BYTES + sized_bytes(from) + sized_bytes(to),
+        Change::Connect { .. } | Change::Disconnect { .. } => CHAIN_BYTES,
+    }
+}
+
+/// How many bytes values take in a record, with their length.
+fn sized_bytes(values: &Body) -> u64
+    ensures { result ≡ length values.now + 2 }
+{
+    values.as_slice().len() as u64 + 2
 }

@@ -12,7 +12,8 @@ ghost use Rattle.rss_trans.specs.Transactions.{is_open, transaction_in};
 ghost use Rattle.rss_store.specs.Commits.{IsEndPlace, new_pieces};
 ghost use Rattle.rss_session.specs.Sessions.{IsReady, IsEarly};
 ghost use Rattle.rss_session.specs.Shown.{Shows};
-ghost use Rattle.rss_session.specs.Calls.{GoesOn, Appends, CommitsTables, HasMarks};
+ghost use Rattle.rss_session.specs.Calls.{GoesOn, NoMoreSaves, OneSaveMore, Appends, CommitsTables};
+ghost use Rattle.rss_session.specs.Calls.{HasMarks};
 
 use crate::Session;
 use rss_base::PageFault;
@@ -32,6 +33,7 @@ impl<S: Saving> Session<S> {
             → Shows (view S.view self.new) (begun transaction state)) }
         ensures same { OnErr result ((state : State) → Shows (view S.view self.old) state
             → Shows (view S.view self.new) state) }
+        ensures saves { NoMoreSaves (view S.view self.old) (view S.view self.new) }
         ensures store { self.new.store ≡ self.old.store }
     {
         self.open.begin(transaction)
@@ -49,6 +51,7 @@ impl<S: Saving> Session<S> {
             × Shows (view S.view self.new) (with_save transaction marks state)) }
         ensures same { OnErr result ((state : State) → Shows (view S.view self.old) state
             → Shows (view S.view self.new) state) }
+        ensures more { OneSaveMore (view S.view self.old) (view S.view self.new) }
         ensures store { self.new.store ≡ self.old.store }
     {
         self.open.save(transaction)
@@ -78,6 +81,8 @@ impl<S: Saving> Session<S> {
         ensures writes { (view S.view self.new).store.pages.writes
             ≤ (view S.view self.old).store.pages.writes + new_pieces (view S.view self.old).store.root
             ((view S.view self.old).store.log.end + end_size) + 2 }
+        ensures asks { (view S.view self.new).store.pages.asks
+            ≡ (view S.view self.old).store.pages.asks }
         ensures still { length (transaction_in (view S.view self.old).opened transaction).changes ≡ 0
             → self.new.store ≡ self.old.store }
         ensures appends { Appends end_size (view S.view self.old) (view S.view self.new) }

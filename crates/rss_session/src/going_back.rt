@@ -11,7 +11,7 @@ ghost use Rattle.rss_trans.specs.Transactions.{is_open, transaction_in};
 ghost use Rattle.rss_session.specs.Sessions.{IsReady, IsEarly};
 ghost use Rattle.rss_session.specs.Shown.{Shows};
 ghost use Rattle.rss_session.specs.Calls.{GoesOn, Appends, KeepsTables, HasMarks, Restores, Aborts, ShowsNone};
-ghost use Rattle.rss_session.specs.Calls.{TakesBack, GoesBack, HasNewest, TakesNewest, TakesBackOne};
+ghost use Rattle.rss_session.specs.Calls.{NoMoreSaves, TakesBack, GoesBack, HasNewest, TakesNewest, TakesBackOne};
 ghost use Rattle.rss_store.specs.Changing.{AltersPages, MayNotTakeBack};
 
 use crate::Session;
@@ -111,6 +111,7 @@ impl<S: Saving> Session<S> {
             → IsTold (view S.view self.old).store.pages.disk
             → MayNotTakeBack (view S.view self.old).store position }
         ensures log { (view S.view self.new).store.log ≡ (view S.view self.old).store.log }
+        ensures saves { NoMoreSaves (view S.view self.old) (view S.view self.new) }
         ensures did { AltersPages (view S.view self.old).store (view S.view self.new).store result }
     {
         self.store.undo(position)?;

@@ -4,6 +4,7 @@
 
 mod admitting;
 mod changing;
+mod counting;
 mod defining;
 mod ending;
 mod going_back;

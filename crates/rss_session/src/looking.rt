@@ -1,10 +1,10 @@
 // Looks at tuples.
-ghost use Rattle.std.specs.Prelude.{◌≡◌, ◌+◌, ◌≤◌, true, is_some, IfOk};
+ghost use Rattle.std.specs.Prelude.{◌≡◌, ◌+◌, ◌≤◌, true, is_some, None, IfOk};
 ghost use Rattle.rss_base.specs.DiskRule.{IsTold};
 ghost use Rattle.rss_base.specs.Listings.{relation_at};
 ghost use Rattle.rss_base.specs.declared.relation.RelationEntry.{RelationEntry as AnyEntry};
 ghost use Rattle.rss_session.specs.Sessions.{IsReady};
-ghost use Rattle.rss_session.specs.Looks.{LooksOn, FindsTuple, FindsPlace};
+ghost use Rattle.rss_session.specs.Looks.{LooksOn, FindsTuple, FindsPlace, HasNoPlace};
 ghost use Rattle.rss_tuple.specs.Calls.{MayPut};
 
 use crate::Session;
@@ -27,23 +27,25 @@ impl<S: Saving> Session<S> {
         into: &mut Body,
     ) -> Result<bool, PageFault>
         requires { IsReady (view S.view self.old) }
+        ensures looks { LooksOn (view S.view self.old) (view S.view self.new) result }
         ensures costs { ((view S.view self.new).store.pages.asks
             ≤ (view S.view self.old).store.pages.asks + 2)
             × ((view S.view self.new).store.pages.writes
             ≤ (view S.view self.old).store.pages.writes + 2) }
-        ensures looks { LooksOn (view S.view self.old) (view S.view self.new) result }
         ensures finds { IfOk result (λ there. IsTold (view S.view self.old).store.pages.disk
             → FindsTuple (view S.view self.old) segment number tid there into.new) }
     {
         find(&mut self.store.tuples, segment, number, tid, into)
     }
 
-    /// The identifier that a new tuple gets in a segment, with a body of this length, if it finds one.
+    /// The identifier that a new tuple gets in a segment, with a body of this length, if one is free.
     pub fn choose(&mut self, segment: u8, length: u16) -> Result<Option<Tid>, PageFault>
         requires ready { IsReady (view S.view self.old) }
         requires may { MayPut segment length }
         ensures looks { LooksOn (view S.view self.old) (view S.view self.new) result }
         ensures finds { IfOk result (λ found. FindsPlace (view S.view self.old) segment length found) }
+        ensures none { IfOk result (λ found. found ≡ None
+            → HasNoPlace (view S.view self.old) segment) }
     {
         self.store.tuples.choose(segment, length, &[])
     }

@@ -47,6 +47,8 @@ impl<S: Saving> Session<S> {
         ensures moments { KeepsTables (view S.view self.old) (view S.view self.new) }
         ensures anew { OnOk result (CountsAnew (view S.view self.old) (view S.view self.new)) }
         ensures saved { OnOk result (IsSaved (view S.view self.new).store) }
+        ensures asks { (view S.view self.new).store.pages.asks
+            ≡ (view S.view self.old).store.pages.asks }
         ensures appends { Appends largest_checkpoint (view S.view self.old) (view S.view self.new) }
         ensures goes { GoesOn (view S.view self.old) (view S.view self.new) result }
     {
@@ -70,6 +72,8 @@ impl<S: Saving> Session<S> {
         ensures moments { RedefinesTables (view S.view self.old) (view S.view self.new) }
         ensures anew { OnOk result (CountsAnew (view S.view self.old) (view S.view self.new)) }
         ensures saved { OnOk result (IsSaved (view S.view self.new).store) }
+        ensures asks { (view S.view self.new).store.pages.asks
+            ≡ (view S.view self.old).store.pages.asks }
         ensures appends { Appends largest_checkpoint (view S.view self.old) (view S.view self.new) }
         ensures goes { GoesOn (view S.view self.old) (view S.view self.new) result }
     {
@@ -98,6 +102,8 @@ impl<S: Saving> Session<S> {
         ensures checkpoints { OnOk result
             (Checkpoints (view S.view self.old).opened (view S.view self.new).opened) }
         ensures saved { OnOk result (IsSaved (view S.view self.new).store) }
+        ensures asks { (view S.view self.new).store.pages.asks
+            ≡ (view S.view self.old).store.pages.asks }
         ensures appends { Appends largest_checkpoint (view S.view self.old) (view S.view self.new) }
         ensures goes { GoesOn (view S.view self.old) (view S.view self.new) result }
     {

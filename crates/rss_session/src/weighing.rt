@@ -1,9 +1,12 @@
 // The rules on room and on the log.
-ghost use Rattle.std.specs.Prelude.{◌≡◌, ◌^◌, ◌<◌, ◌≤◌, true};
+ghost use Rattle.std.specs.Prelude.{◌≡◌, ◌^◌, ◌<◌, ◌≤◌, true, Err, IfErr, OnOk};
 ghost use Rattle.rss_base.specs.LogRecords.{longest_record};
+ghost use Rattle.rss_model.specs.ReplyText.{IsShort};
+ghost use Rattle.rss_model.specs.Rules.{if_no_log_room};
 ghost use Rattle.rss_trans.specs.Transactions.{is_open};
+ghost use Rattle.rss_session.specs.Admissions.{Tests};
 ghost use Rattle.rss_session.specs.Sessions.{IsReady, IsEarly, sums_in, owed_for};
-ghost use Rattle.rss_session.specs.Weighing.{room_of, needed_with, saved_free, weighed, RulesSo};
+ghost use Rattle.rss_session.specs.Weighing.{room_of, needed_with, saved_free, weighed, MaySave, RulesSo};
 
 use crate::Session;
 use rss_base::{Refusal, SYSTEM_PAGES};
@@ -24,13 +27,14 @@ impl<S: Saving> Session<S> {
 
     /// What comes of a change of a transaction whose record has this size: whether a checkpoint comes
     /// before it, or why it is refused.
-    pub fn weigh(&self, transaction: u32, size: u64) -> Result<bool, Refusal>
+    pub(crate) fn weigh(&self, transaction: u32, size: u64) -> Result<bool, Refusal>
         requires ready { IsReady (view S.view self.now) }
         requires open { is_open (view S.view self.now).opened transaction ≡ true }
         requires short { size ≤ longest_record }
         requires early { IsEarly (view S.view self.now) longest_record }
         ensures weighed { result ≡ weighed (view S.view self.now) transaction size }
         ensures rules { RulesSo (view S.view self.now) transaction size result }
+        ensures short { IfErr result (λ why. IsShort (Err why)) }
     {
         let sums = self.open.sums();
         let slots = self.store.slots();
@@ -51,6 +55,22 @@ impl<S: Saving> Session<S> {
             return Err(Refusal::LogFull { free, needed });
         }
         Ok(true)
+    }
+
+    /// A checkpoint leaves room in the log for what is owed.
+    pub fn test_checkpoint(&self) -> Result<(), Refusal>
+        requires ready { IsReady (view S.view self.now) }
+        requires early { IsEarly (view S.view self.now) longest_record }
+        ensures may { OnOk result (MaySave (view S.view self.now)) }
+        ensures tests { Tests (view S.view self.now) if_no_log_room result }
+    {
+        let sums = self.open.sums();
+        let needed = owed_for(sums.p, sums.q);
+        let free = self.saved_free();
+        if needed > free {
+            return Err(Refusal::LogFull { free, needed });
+        }
+        Ok(())
     }
 
     /// How many bytes of the log a change needs whose record has this size, with what is owed then.

@@ -3,10 +3,14 @@
 //! engines.
 #![tactic(auto)]
 
+ghost use Rattle.std.specs.Prelude.{◌≡◌, true};
+ghost use Rattle.rss_model.specs.Callers.{is_built};
+ghost use Rattle.rss_model.specs.Defining.{DefinesNames, LocksGranule};
+
 use anyhow::{Result, bail, ensure};
 use rss_base::{Call, FieldDef, FieldKind, Fields, Name, Reply, Tid, Tuple, Value};
 use rss_device::FileDevice;
-use rss_model::Engine;
+use rss_model::{CALLS_MOST, Engine};
 use rss_rsi::{MOST_FRAMES, format, open};
 use std::alloc::Global;
 use std::env;
@@ -16,7 +20,7 @@ use std::time::{Clock, Duration, Instant};
 /// How large the store is.
 const SLOTS: u32 = 65_536;
 
-const LOG_PAGES: u32 = 8;
+const LOG_PAGES: u32 = 160;
 
 /// What is defined: a segment, and in it a relation of one INT.
 const SEGMENT: Name = Name {
@@ -43,6 +47,19 @@ struct Work {
     batch: u32,
 }
 
+/// Makes a call, where the engine may be asked for one more.
+fn ask<E: Engine>(engine: &mut E, call: &Call) -> Result<Reply>
+    requires names { DefinesNames call.now }
+    requires granule { LocksGranule call.now }
+    requires built { is_built call.now ≡ true }
+{
+    ensure!(engine.calls() < CALLS_MOST, "too many calls");
+    match engine.call(call) {
+        Ok(reply) => Ok(reply),
+        Err(error) => bail!("{call:?} was answered {error:?}"),
+    }
+}
+
 /// Defines the segment and its relation.
 fn define<E: Engine>(engine: &mut E, alloc: Global) -> Result<()> {
     let mut fields = Fields::new(alloc);
@@ -50,40 +67,32 @@ fn define<E: Engine>(engine: &mut E, alloc: Global) -> Result<()> {
         name: FIELD,
         kind: FieldKind::Int,
     })?;
-    if let Err(error) = engine.call(&Call::MakeSegment(SEGMENT)) {
-        bail!("a segment was answered {error:?}");
-    }
-    if let Err(error) = engine.call(&Call::MakeRelation(RELATION, SEGMENT, fields)) {
-        bail!("a relation was answered {error:?}");
-    }
+    ask(engine, &Call::MakeSegment(SEGMENT))?;
+    ask(engine, &Call::MakeRelation(RELATION, SEGMENT, fields))?;
     Ok(())
 }
 
 fn begin<E: Engine>(engine: &mut E) -> Result<()> {
-    if let Err(error) = engine.call(&Call::Begin(1)) {
-        bail!("a begin was answered {error:?}");
-    }
+    ask(engine, &Call::Begin(1))?;
     Ok(())
 }
 
 fn end<E: Engine>(engine: &mut E) -> Result<()> {
-    if let Err(error) = engine.call(&Call::End(1)) {
-        bail!("an end was answered {error:?}");
-    }
+    ask(engine, &Call::End(1))?;
     Ok(())
 }
 
 fn insert<E: Engine>(engine: &mut E, alloc: Global, value: u32) -> Result<Tid> {
     let tuple = Tuple::single(alloc, Value::Int(i64::from(value)))?;
-    match engine.call(&Call::Insert(1, RELATION, tuple)) {
-        Ok(Reply::Tid(tid)) => Ok(tid),
+    match ask(engine, &Call::Insert(1, RELATION, tuple))? {
+        Reply::Tid(tid) => Ok(tid),
         other => bail!("an insert was answered {other:?}"),
     }
 }
 
 fn fetch<E: Engine>(engine: &mut E, tid: Tid) -> Result<i64> {
-    match engine.call(&Call::Fetch(1, RELATION, tid)) {
-        Ok(Reply::Tuple(tuple)) => match tuple.as_slice() {
+    match ask(engine, &Call::Fetch(1, RELATION, tid))? {
+        Reply::Tuple(tuple) => match tuple.as_slice() {
             [Value::Int(value)] => Ok(*value),
             _ => bail!("a tuple of other fields"),
         },

@@ -8,13 +8,14 @@ use Rattle.rss_base.specs.declared.fault.PageFault.TheVariants.{Device as PageDe
 use Rattle.rss_base.specs.declared.key.Space.{Space}
 use Rattle.rss_base.specs.declared.key.Space.TheVariants.{Home, Overflow, Image, System}
 use Rattle.rss_base.specs.declared.key.PageKey.{PageKey}
+use Rattle.rss_base.specs.declared.log_record.LogRecord.TheVariants as records
 use Rattle.rss_base.specs.declared.place.Place.{Place}
 use Rattle.rss_base.specs.declared.place.Place.TheVariants.{Log as LogPlace}
 use Rattle.rss_base.specs.declared.root.Root.{Root}
 use Rattle.rss_base.specs.DiskRule.{Pages, IsTold, Leaves, Passes}
 use Rattle.rss_base.specs.Faults.{Rises}
 use Rattle.rss_base.specs.Listings.{Listing}
-use Rattle.rss_base.specs.LogRecords.{ArePlaced}
+use Rattle.rss_base.specs.LogRecords.{ArePlaced, record_size}
 use Rattle.rss_base.specs.PageMap.{page_count}
 use Rattle.rss_base.specs.Paged.{Held, Fixed, Backing, HasFixed, page_key, mapped_of, mapped_pages}
 use Rattle.rss_base.specs.Sizes.{system_pages}
@@ -48,8 +49,8 @@ use Rattle.rss_restart.specs.Restarting.{CanRestart, Recovered, NoneRecovered, R
 use Rattle.rss_restart.proofs.Opening.{few_changes, stores_restart, gives_tables}
 use Rattle.rss_store.specs.Stores.{StoreView, IsReady, IsSaved}
 use Rattle.rss_store.specs.Shown.{HoldsTables, LeavesStore, HoldsLogged, Shows}
-use Rattle.rss_store.specs.Commits.{CanCheckpoint, IsSavedStore, CommitsPages}
-use Rattle.rss_store.specs.Opening.{position_most, RestsAt, NamesNone, IsReadFrom, OpensAt, BeginsIn, FindsDamage, Begins}
+use Rattle.rss_store.specs.Commits.{CanCheckpoint, IsSavedStore, CommitsPages, Saves}
+use Rattle.rss_store.specs.Opening.{RestsAt, NamesNone, IsReadFrom, OpensAt, BeginsIn, HasRoomTwice, FindsDamage, Begins}
 use Rattle.rss_store.proofs.Resting.{StandsThere, stands_there, not_none, rests, rested}
 
 -- ---- the state at rest
@@ -205,13 +206,12 @@ module _ {stored : Stored} {view : StoreView} (ready : IsReady view) (saved : Is
     written = read.written;
     heap = heap_here ∙ (λ i. mapped_of (read.opened.mapped i) Home (read.opened.slots i) + mapped_of (read.opened.mapped i) Overflow (read.opened.slots i));
     session = record {
-      times = 0;
       made = record {
         before = omega (arith, ap page_count read.opened.shadow, count_read read, heap_here);
         now = omega (arith, pages_here, heap_here);
         all = read.opened.counted;
       };
-      few = omega arith;
+      most = omega arith;
     };
     over_is = refl;
   }
@@ -377,6 +377,8 @@ pub begins_err : {T : Type 0} {old new : StoreView} (fault : PageFault) → Went
 begins_err fault went cause damage = record {
   ready = tt;
   saved = tt;
+  half = tt;
+  appends = tt;
   begins = tt;
   moments = λ stored read. widened (went.moments (read_told read)) (read_holds read);
   told = went.told;
@@ -395,9 +397,6 @@ begins_damaged {old = old} {new = new} place went damage = begins_err (PageDamag
     same_damage : {other : Place} → PageDamaged place ≡ PageDamaged other → place ≡ other
     same_damage is = cc (is)
 
-pub at_end : {T : Type 0} (view : StoreView) {end : ℕ} → view.log.end ≡ end → Begins {T = T} view view (Err (PageDamaged (LogPlace view.log.end))) → Begins {T = T} view view (Err (PageDamaged (LogPlace end)))
-at_end {T = T} view is begins = subst (λ (n : ℕ). Begins {T = T} view view (Err (PageDamaged (LogPlace n)))) is begins
-
 pub is_true : {b : Bool} → b ≡ true → IsTrue b
 is_true is = search rules
 
@@ -405,10 +404,12 @@ pub not_true : {b : Bool} → IsTrue b → b ≡ false → ⊥
 not_true is not' = search rules
 
 -- nothing is done
-pub begins_rested : {view : StoreView} → IsReady view → IsSaved view → (IsTold view.pages.disk → (key : PageKey) → is_some (view.pages.held key) ≡ view.pages.mapped key) → (IsTold view.pages.disk → (image : Pages) → Leaves view.pages.disk image → HasFixed view.pages.fixed image) → RestsAt view.log view.root.checkpoint → Begins {T = Unit {0}} view view (Ok tt)
-begins_rested {view = view} ready saved held_are stays rests = record {
+pub begins_rested : {view : StoreView} → IsReady view → IsSaved view → (IsTold view.pages.disk → (key : PageKey) → is_some (view.pages.held key) ≡ view.pages.mapped key) → (IsTold view.pages.disk → (image : Pages) → Leaves view.pages.disk image → HasFixed view.pages.fixed image) → HasRoomTwice view.pages → RestsAt view.log view.root.checkpoint → Begins {T = Unit {0}} view view (Ok tt)
+begins_rested {view = view} ready saved held_are stays half rests = record {
   ready = ready;
   saved = saved;
+  half = half;
+  appends = omega arith;
   begins = λ stored read. begins_here ready saved held_are stays read rests;
   moments = λ stored read. started view.pages.disk (HoldsTables (size_of stored.root) stored.tables);
   told = λ told. told;
@@ -422,14 +423,6 @@ begins_rested {view = view} ready saved held_are stays rests = record {
 
 -- ---- what is found damaged
 
--- the end of the log
-pub finds_used_up : {view : StoreView} → IsReady view → (RestsAt view.log view.root.checkpoint → ⊥) → position_most ≤ view.log.end → FindsDamage view view (LogPlace view.log.end)
-finds_used_up {view = view} ready busy past = record {
-  at = record { at = view.log.end; low = ready.log.is_log.ring.order; high = omega arith; is = refl };
-  why = inr (record { end = past; is = refl; busy = λ stored read rested. busy (read_rests read rested) });
-  keeps = started view.pages.disk (HasFixed view.pages.fixed);
-}
-
 at_checkpoint : {view : StoreView} → IsReady view → IsLogPlace view.log (LogPlace view.root.checkpoint)
 at_checkpoint {view = view} ready = record {
   at = view.root.checkpoint;
@@ -442,7 +435,7 @@ at_checkpoint {view = view} ready = record {
 pub finds_none : {view : StoreView} → IsReady view → NamesNone view.log view.root.checkpoint → FindsDamage view view (LogPlace view.root.checkpoint)
 finds_none {view = view} ready none = record {
   at = at_checkpoint ready;
-  why = inl (λ stored read. read_named read none);
+  why = λ stored read. read_named read none;
   keeps = started view.pages.disk (HasFixed view.pages.fixed);
 }
 
@@ -451,7 +444,7 @@ module _ {T : Type 0} {old : StoreView} {pages : PagesView} {catalog : CatalogVi
   pub finds_damaged : (place : Place) → result ≡ Err (PageDamaged place) → NoneRecovered old.log old.root.checkpoint (both old.pages old.catalog) → IsTold old.pages.disk → FindsDamage old (changed_view old pages catalog) place
   finds_damaged place is none told = record {
     at = passes.place place is;
-    why = inl (λ stored read. none (recovery_of stored) (can_restart read));
+    why = λ stored read. none (recovery_of stored) (can_restart read);
     keeps = mid_moments ready passes told;
   }
 
@@ -467,7 +460,7 @@ begins_unrestarted {U = U} {old = old} {pages = pages} {catalog = catalog} {faul
 pub finds_no_room : {T : Type 0} {value : T} {old : StoreView} {pages : PagesView} {catalog : CatalogView} → IsReady old → RestartPasses {T = T} old.log old.root.checkpoint (both old.pages old.catalog) (both pages catalog) (Ok value) → (2 * mapped_pages pages.slots pages.mapped ≤ pages.slots → ⊥) → IsTold old.pages.disk → FindsDamage old (changed_view old pages catalog) (LogPlace old.root.checkpoint)
 finds_no_room ready passes over told = record {
   at = at_checkpoint ready;
-  why = inl (λ stored read. over (half_kept ready passes read));
+  why = λ stored read. over (half_kept ready passes read);
   keeps = mid_moments ready passes told;
 }
 
@@ -496,14 +489,26 @@ module _ {T : Type 0} {value : T} {old : StoreView} {pages : PagesView} {catalog
       }
   begins_behind new (Err fault) stays told ready_new saved shows = tt
 
+  room_behind : {U : Type 0} (new : StoreView) (result : Result U PageFault) → OnOk result (Saves marks (changed_view old pages catalog) new) → new.pages.slots ≡ pages.slots → OnOk result (HasRoomTwice new.pages)
+  room_behind new (Ok value) saves slots =
+      let same : mapped_pages new.pages.slots new.pages.mapped ≡ mapped_pages pages.slots pages.mapped = λ i. mapped_pages (slots i) (saves.mapped i) in
+      omega (arith, half, slots, same)
+  room_behind new (Err fault) saves slots = tt
+
+  log_behind : {U : Type 0} (new : StoreView) (result : Result U PageFault) → OnOk result (Saves marks (changed_view old pages catalog) new) → OnOk result (new.log.end ≤ old.log.end + record_size (records.Checkpoint []))
+  log_behind new (Ok value) saves = omega (arith, saves.end, ap (λ (m : List (ℕ × ℕ)). record_size (records.Checkpoint m)) none)
+  log_behind new (Err fault) saves = tt
+
   pub begins_saved : {U : Type 0} (new : StoreView) (result : Result U PageFault) → (IsTold new.pages.disk → (image : Pages) → Leaves new.pages.disk image → new.pages.settled ≡ true → HasFixed new.pages.fixed image) → OnOk result (IsReady new) → OnOk result (IsSaved new)
       → OnOk result (IsTold pages.disk → (stored : Stored) (next : State) → CanCheckpoint (changed_view old pages catalog) marks stored next → Shows new next)
-      → (IsTold pages.disk → (stored : Stored) (next : State) → CanCheckpoint (changed_view old pages catalog) marks stored next → Passes pages.disk new.pages.disk (λ image. IsStore image stored ⊎ IsSavedStore (changed_view old pages catalog) next image)) → CommitsPages pages new.pages result → Begins old new result
-  begins_saved new result stays ready_new saved shows moments did =
+      → (IsTold pages.disk → (stored : Stored) (next : State) → CanCheckpoint (changed_view old pages catalog) marks stored next → Passes pages.disk new.pages.disk (λ image. IsStore image stored ⊎ IsSavedStore (changed_view old pages catalog) next image)) → OnOk result (Saves marks (changed_view old pages catalog) new) → CommitsPages pages new.pages result → Begins old new result
+  begins_saved new result stays ready_new saved shows moments saves did =
       let still : IsTold old.pages.disk → IsTold new.pages.disk = λ told. did.told.0 (mid_told ready passes told) in
       record {
         ready = ready_new;
         saved = saved;
+        half = room_behind new result saves did.slots;
+        appends = log_behind new result saves;
         begins = begins_behind new result stays still ready_new saved shows;
         moments = λ stored read.
             then (widened (mid_moments ready passes (read_told read)) (read_holds read)) (moments (mid_told ready passes (read_told read)) stored (behind stored read) (may stored read)) (λ image. ⊎_elim

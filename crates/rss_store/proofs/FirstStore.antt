@@ -208,7 +208,6 @@ opens_empty slots log_pages pages made =
         nodes = plain_nodes (none_imaged spells);
         fit = no_tables_fit slots;
       };
-      first = record { head = refl; checkpoint = refl; end = refl; tail = refl };
       same_size = refl;
       holds = refl;
     }

@@ -4,11 +4,12 @@ use Rattle.std.proofs.lemmas.List.{drop-append-le, length-append, map-append}
 use Rattle.rss_base.specs.LogRecords.{Placed, ArePlaced, record_bytes, record_size}
 use Rattle.rss_base.specs.declared.log_record.LogRecord.{LogRecord}
 use Rattle.rss_base.specs.declared.root.Root.{Root}
-use Rattle.rss_log.specs.Logs.{LogView, HasRecords, piece_start, free_of, with_bytes}
+use Rattle.rss_store.proofs.Nexts.{seamed}
+use Rattle.rss_log.specs.Logs.{LogView, bytes_from, HasRecords, piece_start, free_of, with_bytes}
 use Rattle.rss_model.specs.Records.{LogEntry}
 use Rattle.rss_model.specs.Meanings.{Logged, as_bytes}
 use Rattle.rss_model.specs.EngineLogs.{EngineLog, all_logged, appended}
-use Rattle.rss_store.specs.Stores.{StoreView, IsLogBehind}
+use Rattle.rss_store.specs.Stores.{StoreView, IsLogBehind, appended_since}
 use Rattle.rss_store.specs.Shown.{HoldsLogged}
 
 -- the log stays that of the root
@@ -27,10 +28,9 @@ behind_still {root = root} {log = log} bytes behind room limit = record {
   pages = behind.pages;
   head = behind.head;
   later = omega (arith, behind.later);
-  more = behind.more ++ bytes;
-  bytes = drop-append-le (piece_start root.end - piece_start log.head) log.kept bytes (omega (arith, behind.is_log.long, behind.later))
+  bytes = seamed (bytes_from (with_bytes log bytes) (piece_start root.end)) root.tail (appended_since root log ++ bytes) (drop-append-le (piece_start root.end - piece_start log.head) log.kept bytes (omega (arith, behind.is_log.long, behind.later))
       ∙ ap (λ (l : List ℕ). l ++ bytes) behind.bytes
-      ∙ append_assoc root.tail behind.more bytes;
+      ∙ append_assoc root.tail (appended_since root log) bytes);
 }
 
 -- all records with it

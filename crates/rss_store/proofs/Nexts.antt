@@ -1,7 +1,8 @@
 -- The next root of a store, and what is so once it is selected.
-use Rattle.std.proofs.Common.{◌≡◌, ℕ, ◌-◌, ◌%◌, ◌≤◌, true, List, [], ◌++◌, length, Some, sym, ◌∙◌, ap, subst, arith}
+use Rattle.std.proofs.Common.{◌≡◌, ℕ, ◌-◌, ◌%◌, ◌≤◌, true, List, [], ◌++◌, length, drop, Some, sym, ◌∙◌, ap, subst, arith}
 use Rattle.std.specs.Prelude.{Result, Ok, Err, OnOk}
 use Rattle.std.proofs.lemmas.List.{length-drop, append-nil}
+use Rattle.std.proofs.Math.Seq.{drop-append_seam}
 use Rattle.rss_base.specs.DiskRule.{Pages, Told, IsTold, Leaves}
 use Rattle.rss_base.specs.Sizes.{piece_bytes, system_pages}
 use Rattle.rss_base.specs.Layout.{slots_at, IsWellFormed}
@@ -35,6 +36,10 @@ length-tail_of log is =
     let rest : length (tail_of log) ≡ length log.kept - (piece_start log.end - piece_start log.head) = length-drop (piece_start log.end - piece_start log.head) log.kept in
     omega (arith, rest, is.long)
 
+-- what stands behind its front
+pub seamed : (all front more : List ℕ) → all ≡ front ++ more → all ≡ front ++ drop (length front) all
+seamed all front more is = is ∙ ap (λ (l : List ℕ). front ++ l) (sym (ap (drop (length front)) is ∙ drop-append_seam front more))
+
 -- the log in memory is all of the root's
 pub behind_itself : {next : Root} {log : LogView} → IsLog log → log.pages ≡ next.log_pages → log.head ≡ next.head → next.end ≡ log.end → next.tail ≡ tail_of log → IsLogBehind next log
 behind_itself {next = next} {log = log} is pages head end tail = record {
@@ -42,8 +47,7 @@ behind_itself {next = next} {log = log} is pages head end tail = record {
   pages = pages;
   head = head;
   later = omega (arith, end);
-  more = [];
-  bytes = ap (λ (n : ℕ). bytes_from log (piece_start n)) end ∙ sym tail ∙ no_more next.tail;
+  bytes = seamed (bytes_from log (piece_start next.end)) next.tail [] (ap (λ (n : ℕ). bytes_from log (piece_start n)) end ∙ sym tail ∙ no_more next.tail);
 }
   where
     no_more : (bytes : List ℕ) → bytes ≡ bytes ++ []

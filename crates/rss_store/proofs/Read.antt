@@ -210,6 +210,7 @@ module _ {root : Root} {number frames writes : ℕ} {owners : List (Option PageK
         saved = read_saved;
         reads = record { contents = only_reads.contents; moments = only_reads.moments; same_writes = only_reads.same_writes; later = only_reads.later };
         half = omega (arith, layout.half, layout.slots, ap page_count new_shadow);
+        early = layout.early;
         layout = λ pages told. subst (HasLayout pages root number) (sym new_shadow) (holds pages told);
         named = λ pages told image fixed. record {
           number = number;

@@ -23,7 +23,7 @@ use Rattle.rss_model.specs.LogLaws.{HoldsLog}
 use Rattle.rss_model.specs.Store.{Stored, IsStore}
 use Rattle.rss_model.proofs.LogPlaced.{bytes_append}
 use Rattle.rss_store.specs.Commits.{IsEndPlace, selector as as_selector, root as as_root, piece as as_piece}
-use Rattle.rss_store.specs.Stores.{StoreView, IsLogBehind}
+use Rattle.rss_store.specs.Stores.{StoreView, IsLogBehind, appended_since}
 use Rattle.rss_store.specs.Selecting.{HoldsPiecesWithin, CanSelect, IsNextStore}
 use Rattle.rss_store.proofs.Places.{IsNext, piece_place, saves_logging, store_growing, store_switching, store_switched}
 
@@ -36,30 +36,30 @@ module _ {root : Root} {log : LogView} (formed : IsWellFormed root) (behind : Is
   rest_of : (m n : ℕ) → drop m (drop n log.kept) ≡ drop (m + n) log.kept
   rest_of m n = drop-drop m n log.kept ∙ ap (λ (k : ℕ). drop k log.kept) (omega arith)
 
-  pub more_is : drop (root.end - root.head) (bytes_from log root.head) ≡ behind.more
+  pub more_is : drop (root.end - root.head) (bytes_from log root.head) ≡ (appended_since root log)
   more_is =
       let in_order : root.head ≤ root.end = order in
       rest_of (root.end - root.head) (root.head - piece_start log.head)
       ∙ ap (λ (k : ℕ). drop k log.kept) (omega (arith, behind.head, formed.tail))
       ∙ sym (rest_of (length root.tail) (piece_start root.end - piece_start log.head))
       ∙ ap (drop (length root.tail)) behind.bytes
-      ∙ drop-append_seam root.tail behind.more
+      ∙ drop-append_seam root.tail (appended_since root log)
 
-  pub length-more : log.end ≡ root.end + length behind.more
+  pub length-more : log.end ≡ root.end + length (appended_since root log)
   length-more =
       let in_order : root.head ≤ root.end = order in
       let long : length (bytes_from log (piece_start root.end)) ≡ length log.kept - (piece_start root.end - piece_start log.head) = length-drop (piece_start root.end - piece_start log.head) log.kept in
-      omega (arith, long, behind.is_log.long, ap length behind.bytes, length-append root.tail behind.more, formed.tail, behind.later, behind.head)
+      omega (arith, long, behind.is_log.long, ap length behind.bytes, length-append root.tail (appended_since root log), formed.tail, behind.later, behind.head)
 
   pub has_room : HasRoom root log.end
   has_room = omega (arith, behind.is_log.ring.room, behind.pages, behind.head)
 
   -- the log of the root grows by them
-  pub grows_by : (pages : Pages) → log_at root.slots + root.log_pages ≤ length pages → HoldsPiecesWithin root log (log.end / piece_bytes) pages → (next : Root) → next.end ≡ log.end → next.tail ≡ bytes_from log (piece_start log.end) → Grows root behind.more pages next.end next.tail
+  pub grows_by : (pages : Pages) → log_at root.slots + root.log_pages ≤ length pages → HoldsPiecesWithin root log (log.end / piece_bytes) pages → (next : Root) → next.end ≡ log.end → next.tail ≡ bytes_from log (piece_start log.end) → Grows root (appended_since root log) pages next.end next.tail
   grows_by pages room held next end tail =
       let in_order : root.head ≤ root.end = order in
-      let grows : Grows root behind.more pages log.end (bytes_from log (piece_start log.end)) = grown log root behind.more pages behind.is_log (omega (arith, behind.head)) length-more behind.bytes (held room) in
-      subst (λ (e : ℕ). Grows root behind.more pages e next.tail) (sym end) (subst (λ (t : List ℕ). Grows root behind.more pages log.end t) (sym tail) grows)
+      let grows : Grows root (appended_since root log) pages log.end (bytes_from log (piece_start log.end)) = grown log root (appended_since root log) pages behind.is_log (omega (arith, behind.head)) length-more behind.bytes (held room) in
+      subst (λ (e : ℕ). Grows root (appended_since root log) pages e next.tail) (sym end) (subst (λ (t : List ℕ). Grows root (appended_since root log) pages log.end t) (sym tail) grows)
 
 -- ---- the store of the next root
 
@@ -74,7 +74,7 @@ module _ {view : StoreView} {next : Root} {stored after : Stored} {held : Held} 
   after_records = after.older ++ after.newer
 
   -- the records that the root doesn't have stand behind its own
-  behind_parse : ArePlaced root.head (as_bytes before_records) root.end → Parses can.log.more root.end (as_bytes is.appended) next.end
+  behind_parse : ArePlaced root.head (as_bytes before_records) root.end → Parses (appended_since view.root view.log) root.end (as_bytes is.appended) next.end
   behind_parse placed =
       let all : Parses (bytes_from view.log view.log.head) view.log.head (as_bytes before_records ++ as_bytes is.appended) view.log.end =
       subst (λ (ps : List bytes.Placed). Parses (bytes_from view.log view.log.head) view.log.head ps view.log.end) (bytes_append before_records is.appended) is.records in
@@ -84,7 +84,7 @@ module _ {view : StoreView} {next : Root} {stored after : Stored} {held : Held} 
       placed_split root.head view.log.end (as_bytes before_records) (as_bytes is.appended) here.placed in
       let same : split.0 ≡ root.end = placed_length root.head split.0 (as_bytes before_records) split.1.0 ∙ sym (placed_length root.head root.end (as_bytes before_records) placed) in
       let back : ArePlaced root.end (as_bytes is.appended) view.log.end = subst (λ (n : ℕ). ArePlaced n (as_bytes is.appended) view.log.end) same split.1.1 in
-      subst (λ (n : ℕ). Parses can.log.more root.end (as_bytes is.appended) n) (sym can.of_log.end)
+      subst (λ (n : ℕ). Parses (appended_since view.root view.log) root.end (as_bytes is.appended) n) (sym can.of_log.end)
       (subst (λ (bytes : List ℕ). Parses bytes root.end (as_bytes is.appended) view.log.end) (more_is can.formed can.log) (parses_drop root.end (as_bytes before_records) (as_bytes is.appended) here placed back))
 
   -- its log stands in these pages
@@ -95,9 +95,9 @@ module _ {view : StoreView} {next : Root} {stored after : Stored} {held : Held} 
       let old : Parses (log_bytes pages root) root.head (as_bytes before_records) root.end = subst (λ (r : Root). Parses (log_bytes pages r) r.head (as_bytes before_records) r.end) is.root_is here.log.parses in
       let row : as_bytes before_records ++ as_bytes is.appended ≡ as_bytes is.dropped ++ as_bytes after_records =
       sym (bytes_append before_records is.appended) ∙ ap as_bytes is.split ∙ bytes_append is.dropped after_records in
-      let grows : Grows root can.log.more pages next.end next.tail = grows_by can.formed can.log pages room written next can.of_log.end can.of_log.tail in
+      let grows : Grows root (appended_since view.root view.log) pages next.end next.tail = grows_by can.formed can.log pages room written next can.of_log.end can.of_log.tail in
       let parses : Parses (log_bytes pages next) next.head (as_bytes after_records) next.end =
-      next_log pages pages root next can.log.more (as_bytes before_records) (as_bytes is.appended) (as_bytes is.dropped) (as_bytes after_records) can.of_log.slots can.of_log.log_pages
+      next_log pages pages root next (appended_since view.root view.log) (as_bytes before_records) (as_bytes is.appended) (as_bytes is.dropped) (as_bytes after_records) can.of_log.slots can.of_log.log_pages
       (omega (arith, can.formed.head_first, can.formed.before_end)) can.of_log.formed.tail (λ q log. refl) grows old (behind_parse old.placed) row is.gone is.stay in
       record {
         parses = subst (λ (r : Root). Parses (log_bytes pages r) r.head (as_bytes after_records) r.end) (sym is.root_next) parses;

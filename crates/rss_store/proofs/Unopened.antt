@@ -1,5 +1,5 @@
 -- A device that didn't open, by its fault, and what an opening passes on, both seen from an earlier moment.
-use Rattle.std.proofs.Common.{◌≡◌, ◌⊎◌, inl, inr, ⊎_elim, ℕ, ◌*◌, ◌≤◌, List, Option, refl, sym, ◌∙◌, ap, subst, arith}
+use Rattle.std.proofs.Common.{◌≡◌, ◌⊎◌, inl, inr, ⊎_elim, ℕ, ◌*◌, ◌<◌, ◌≤◌, List, Option, refl, sym, ◌∙◌, ap, subst, arith}
 use Rattle.std.specs.Prelude.{is_some, count_by, Some, Result, Ok, Err}
 use Rattle.rss_base.specs.Answers.{open_error}
 use Rattle.rss_base.specs.declared.fault.OpenFault.{OpenFault}
@@ -13,7 +13,7 @@ use Rattle.rss_base.specs.declared.root.Root.{Root}
 use Rattle.rss_base.specs.Devices.{DeviceView, OnlyReads, ReadsStore}
 use Rattle.rss_base.specs.DiskRule.{Pages, Told, IsTold}
 use Rattle.rss_base.specs.Faults.{Rises}
-use Rattle.rss_base.specs.Layout.{map_at, IsLayoutFault}
+use Rattle.rss_base.specs.Layout.{map_at, IsLayoutFault, HasRoot}
 use Rattle.rss_base.specs.PageMap.{page_count, IsMap}
 use Rattle.rss_base.specs.Steps.{device_below}
 use Rattle.rss_base.proofs.Moments.{then, widened, now, continues, continues_then, reads_then, rises_since}
@@ -21,7 +21,7 @@ use Rattle.rss_model.specs.Store.{Stored, IsBrokenAt, IsOverfull}
 use Rattle.rss_model.specs.LogLaws.{IsRested}
 use Rattle.rss_model.proofs.Stores.{one_root, one_map, not_overfull, sound_unbroken, broken_once}
 use Rattle.rss_store.specs.Stores.{StoreView}
-use Rattle.rss_store.specs.Opening.{HasLayout, IsNoStore, IsSpent, IsRefused, IsUnopened, PassesOpening, IsEarlyRefusal, IsHandedBack, IsReadFrom, FindsDamage, Begins, ReadsFrom, OpensStore}
+use Rattle.rss_store.specs.Opening.{HasLayout, IsNoStore, IsSpent, IsRefused, IsUnopened, PassesOpening, IsEarlyRefusal, IsHandedBack, IsReadFrom, FindsDamage, Begins, ReadsFrom, OpensStore, position_most}
 
 -- ---- why pages don't open
 
@@ -36,13 +36,14 @@ refused_broken {pages = pages} place broken = record {
   no_store = λ other is. absurd (cc);
   only_overfull = λ is. absurd (cc);
   overfull = λ over. absurd (overfull_unbroken place over broken);
+  spent = λ stored store past. absurd (sound_unbroken store.root_there store.map place broken);
 }
 
 refused_device : (pages : Pages) → IsRefused pages DeviceFailed
-refused_device pages = record { broken = λ place is. absurd (cc); names = λ place there. inr (inl refl); no_store = λ place is. absurd (cc); only_overfull = λ is. absurd (cc); overfull = λ over. inr (inl refl) }
+refused_device pages = record { broken = λ place is. absurd (cc); names = λ place there. inr (inl refl); no_store = λ place is. absurd (cc); only_overfull = λ is. absurd (cc); overfull = λ over. inr (inl refl); spent = λ stored store past. inr (inl refl) }
 
 refused_memory : (pages : Pages) → IsRefused pages LacksMemory
-refused_memory pages = record { broken = λ place is. absurd (cc); names = λ place there. inr (inr refl); no_store = λ place is. absurd (cc); only_overfull = λ is. absurd (cc); overfull = λ over. inr (inr refl) }
+refused_memory pages = record { broken = λ place is. absurd (cc); names = λ place there. inr (inr refl); no_store = λ place is. absurd (cc); only_overfull = λ is. absurd (cc); overfull = λ over. inr (inr refl); spent = λ stored store past. inr (inr refl) }
 
 -- a fault of the layout that names the place
 pub refused_layout : {pages : Pages} (fault : OpenFault) → IsLayoutFault fault → ((place : Place) → fault ≡ NotAStore place → IsBrokenAt place pages) → IsRefused pages fault
@@ -60,6 +61,7 @@ refused_room over = record {
   no_store = λ place is. inl (λ stored store. not_overfull store over);
   only_overfull = λ is. over;
   overfull = λ other. inl refl;
+  spent = λ stored store past. absurd (not_overfull store over);
 }
 
 -- a sound layout has room
@@ -72,21 +74,35 @@ layout_room {pages = pages} has half over =
 layout_unbroken : {pages : Pages} {root : Root} {number : ℕ} {owners : List (Option PageKey)} → HasLayout pages root number owners → (place : Place) → IsBrokenAt place pages → ⊥
 layout_unbroken has place broken = sound_unbroken has.root_there has.map place broken
 
+-- a sound layout has the end of the log
+layout_end : {pages : Pages} {root : Root} {number : ℕ} {owners : List (Option PageKey)} → HasLayout pages root number owners → {other : Root} {others : ℕ} → HasRoot pages others other → root.end ≡ other.end
+layout_end has there = ap (λ (r : Root). r.end) (one_root has.root_there there).1
+
+layout_unspent : {pages : Pages} {root : Root} {number : ℕ} {owners : List (Option PageKey)} → HasLayout pages root number owners → root.end < position_most → (place : Place) → IsSpent pages place → ⊥
+layout_unspent has early place spent = omega (arith, early, spent.end, layout_end has spent.root_there)
+
 -- with a sound layout, something is damaged
-refused_damaged : {pages : Pages} {root : Root} {number : ℕ} {owners : List (Option PageKey)} (place : Place) → HasLayout pages root number owners → 2 * page_count owners ≤ root.slots → IsNoStore pages ⊎ IsSpent pages place → (place ≡ Room → ⊥) → IsRefused pages (Damaged place)
-refused_damaged {pages = pages} place has half why elsewhere = record {
+refused_damaged : {pages : Pages} {root : Root} {number : ℕ} {owners : List (Option PageKey)} (place : Place) → HasLayout pages root number owners → 2 * page_count owners ≤ root.slots → IsNoStore pages ⊎ IsSpent pages place → (place ≡ Room → ⊥) → (position_most ≤ root.end → place ≡ LogPlace root.end) → IsRefused pages (Damaged place)
+refused_damaged {pages = pages} place has half why elsewhere past = record {
   broken = λ other is. absurd (cc);
   names = λ other there. absurd (layout_unbroken has other there);
   no_store = λ other is. let same : place ≡ other = cc in subst (λ (p : Place). IsNoStore pages ⊎ IsSpent pages p) same why;
   only_overfull = λ is. let same : place ≡ Room = cc in absurd (elsewhere same);
   overfull = λ over. absurd (layout_room has half over);
+  spent = λ stored store end.
+      let same = layout_end has store.root_there in
+      inl (ap Damaged (past (omega (arith, end, same)) ∙ ap LogPlace same));
 }
 
+-- its log ends too far
+pub refused_spent : {pages : Pages} {root : Root} {number : ℕ} {owners : List (Option PageKey)} → HasLayout pages root number owners → 2 * page_count owners ≤ root.slots → position_most ≤ root.end → IsRefused pages (Damaged (LogPlace root.end))
+refused_spent has half past = refused_damaged _ has half (inr (record { number = _; root = _; root_there = has.root_there; end = past; is = refl })) (λ is. cc (is)) (λ end. refl)
+
 -- by the fault of the pages
-refused_fault : {pages : Pages} {root : Root} {number : ℕ} {owners : List (Option PageKey)} (fault : PageFault) → HasLayout pages root number owners → 2 * page_count owners ≤ root.slots → ((place : Place) → fault ≡ PageDamaged place → IsNoStore pages ⊎ IsSpent pages place) → ((place : Place) → fault ≡ PageDamaged place → place ≡ Room → ⊥) → IsRefused pages (open_error fault)
-refused_fault {pages = pages} PageDevice has half why elsewhere = refused_device pages
-refused_fault (PageDamaged place) has half why elsewhere = refused_damaged place has half (why place refl) (elsewhere place refl)
-refused_fault {pages = pages} PageNoMemory has half why elsewhere = refused_memory pages
+refused_fault : {pages : Pages} {root : Root} {number : ℕ} {owners : List (Option PageKey)} (fault : PageFault) → HasLayout pages root number owners → 2 * page_count owners ≤ root.slots → root.end < position_most → ((place : Place) → fault ≡ PageDamaged place → IsNoStore pages) → ((place : Place) → fault ≡ PageDamaged place → place ≡ Room → ⊥) → IsRefused pages (open_error fault)
+refused_fault {pages = pages} PageDevice has half early none elsewhere = refused_device pages
+refused_fault (PageDamaged place) has half early none elsewhere = refused_damaged place has half (inl (none place refl)) (elsewhere place refl) (λ past. absurd (omega (arith, early, past)))
+refused_fault {pages = pages} PageNoMemory has half early none elsewhere = refused_memory pages
 
 -- ---- a device that didn't open
 
@@ -103,6 +119,9 @@ unopened_memory device = unopened_layout LacksMemory tt (λ pages told. refused_
 -- nor is damage
 pub unopened_room : {device : DeviceView} → Told device.disk IsOverfull → IsUnopened device (Damaged Room)
 unopened_room over = record { refused = λ pages told. refused_room (over pages told); right_size = λ is. cc (is) }
+
+pub unopened_spent : {device : DeviceView} {root : Root} {number : ℕ} {owners : List (Option PageKey)} → Told device.disk (λ pages. HasLayout pages root number owners) → 2 * page_count owners ≤ root.slots → position_most ≤ root.end → IsUnopened device (Damaged (LogPlace root.end))
+unopened_spent has half past = record { refused = λ pages told. refused_spent (has pages told) half past; right_size = λ is. cc (is) }
 
 -- nor is a fault of the pages
 fault_no_size : (fault : PageFault) → open_error fault ≡ WrongSize → ⊥
@@ -121,10 +140,15 @@ fault_damaged PageDevice place is = absurd (cc (is))
 fault_damaged (PageDamaged found) place is = let same : found ≡ place = cc (is) in ap PageDamaged same
 fault_damaged PageNoMemory place is = absurd (cc (is))
 
+fault_has_layout : (fault : PageFault) (place : Place) → open_error fault ≡ NotAStore place → ⊥
+fault_has_layout PageDevice place is = cc (is)
+fault_has_layout (PageDamaged found) place is = cc (is)
+fault_has_layout PageNoMemory place is = cc (is)
+
 -- the pages were looked through, and are no store
-pub unopened_look : {device : DeviceView} {root : Root} {number : ℕ} {owners : List (Option PageKey)} (fault : PageFault) → Told device.disk (λ pages. HasLayout pages root number owners) → 2 * page_count owners ≤ root.slots → ((place : Place) → fault ≡ PageDamaged place → Told device.disk IsNoStore) → ((place : Place) → fault ≡ PageDamaged place → place ≡ Room → ⊥) → IsUnopened device (open_error fault)
-unopened_look fault has half none elsewhere = record {
-  refused = λ pages told. refused_fault fault (has pages told) half (λ place is. inl (none place is pages told)) elsewhere;
+pub unopened_look : {device : DeviceView} {root : Root} {number : ℕ} {owners : List (Option PageKey)} (fault : PageFault) → Told device.disk (λ pages. HasLayout pages root number owners) → 2 * page_count owners ≤ root.slots → root.end < position_most → ((place : Place) → fault ≡ PageDamaged place → Told device.disk IsNoStore) → ((place : Place) → fault ≡ PageDamaged place → place ≡ Room → ⊥) → IsUnopened device (open_error fault)
+unopened_look fault has half early none elsewhere = record {
+  refused = λ pages told. refused_fault fault (has pages told) half early (λ place is. none place is pages told) elsewhere;
   right_size = fault_no_size fault;
 }
 
@@ -166,6 +190,10 @@ handed_back refused cause reads = record {
   cause = cause;
   passes = passes_reading reads;
   reads = λ is told. reads;
+  no_layout = λ place is. reads;
+  broken = λ place pages told broken. reads;
+  overfull = λ pages told over. reads;
+  spent = λ pages told place is. reads;
   keeps = λ position is pages told. widened (reads.moments (record { pages = pages; is = told })) (λ image left. inl left);
 }
 
@@ -175,6 +203,10 @@ handed_before {old = old} {mid = mid} reads is = record {
   cause = λ failed. rises_since reads.later (is.cause failed);
   passes = passes_before reads is.passes;
   reads = λ refusal told. reads_then reads (is.reads refusal (record { pages = told.pages; is = reads.contents ∙ told.is }));
+  no_layout = λ place is_at. reads_then reads (is.no_layout place is_at);
+  broken = λ place pages told broken. reads_then reads (is.broken place pages (reads.contents ∙ told) broken);
+  overfull = λ pages told over. reads_then reads (is.overfull pages (reads.contents ∙ told) over);
+  spent = λ pages told place spent. reads_then reads (is.spent pages (reads.contents ∙ told) place spent);
   keeps = λ position at pages told.
       let read = reads.moments (record { pages = pages; is = told }) in
       then (widened read (λ image left. inl left)) (is.keeps position at pages (reads.contents ∙ told)) (λ image. ⊎_elim (λ left. inl (⊎_elim (λ was. was) (λ was. was) (now read image left))) (λ has. inr has));
@@ -184,28 +216,38 @@ pub opens_before : {old mid : DeviceView} {new : StoreView} → OnlyReads old mi
 opens_before reads is = record {
   ready = is.ready;
   saved = is.saved;
+  half = is.half;
+  early = is.early;
   begins = λ pages told. is.begins pages (reads.contents ∙ told);
   passes = passes_before reads is.passes;
   unbroken = λ place pages told. is.unbroken place pages (reads.contents ∙ told);
   not_overfull = λ pages told. is.not_overfull pages (reads.contents ∙ told);
+  not_spent = λ pages told. is.not_spent pages (reads.contents ∙ told);
 }
 
 -- whatever the size
 sized_reads : {old new : DeviceView} (size : ℕ) → OnlyReads old new → OnlyReads old (record new { size = size })
 sized_reads size reads = record { contents = reads.contents; moments = reads.moments; same_writes = reads.same_writes; later = reads.later }
 
+pub passes_sized : {old new : DeviceView} (size : ℕ) → PassesOpening old new → PassesOpening old (record new { size = size })
+passes_sized size is = record {
+  told = is.told;
+  history = is.history;
+  moments = is.moments;
+  rested = λ pages told stored store rested. sized_reads size (is.rested pages told stored store rested);
+  later = is.later;
+}
+
 pub handed_sized : {old back : DeviceView} {fault : OpenFault} (size : ℕ) → IsHandedBack old back fault → IsHandedBack old (record back { size = size }) fault
 handed_sized size is = record {
   refused = is.refused;
   cause = is.cause;
-  passes = record {
-    told = is.passes.told;
-    history = is.passes.history;
-    moments = is.passes.moments;
-    rested = λ pages told stored store rested. sized_reads size (is.passes.rested pages told stored store rested);
-    later = is.passes.later;
-  };
+  passes = passes_sized size is.passes;
   reads = λ refusal told. sized_reads size (is.reads refusal told);
+  no_layout = λ place is_at. sized_reads size (is.no_layout place is_at);
+  broken = λ place pages told broken. sized_reads size (is.broken place pages told broken);
+  overfull = λ pages told over. sized_reads size (is.overfull pages told over);
+  spent = λ pages told place spent. sized_reads size (is.spent pages told place spent);
   keeps = is.keeps;
 }
 
@@ -246,10 +288,13 @@ pub opens_store : {T : Type 0} {value : T} {old : DeviceView} {mid new : StoreVi
 opens_store read begins rested = record {
   ready = begins.ready;
   saved = begins.saved;
+  half = begins.half;
+  early = omega (arith, read.early, read.saved.log, begins.appends);
   begins = λ pages told stored store. begins.begins stored (read.read pages told stored store);
   passes = passes_begun read begins rested;
   unbroken = λ place pages told. layout_unbroken (read.layout pages told) place;
   not_overfull = λ pages told. layout_room (read.layout pages told) read.half;
+  not_spent = λ pages told. layout_unspent (read.layout pages told) read.early;
 }
 
 -- it is refused
@@ -257,18 +302,8 @@ module _ {T : Type 0} {old : DeviceView} {mid new : StoreView} (fault : PageFaul
   damage : (place : Place) → fault ≡ PageDamaged place → IsTold old.disk → FindsDamage mid new place
   damage place is told = begins.damaged place (ap Err is) (told_mid read begins told)
 
-  why_not : (pages : Pages) → old.disk.contents ≡ Some pages → (place : Place) → fault ≡ PageDamaged place → IsNoStore pages ⊎ IsSpent pages place
-  why_not pages told place is = ⊎_elim
-      (λ none. inl (λ stored store. none stored (read.read pages told stored store)))
-      (λ used. inr (record {
-        number = mid.number;
-        root = mid.root;
-        root_there = (read.layout pages told).root_there;
-        end = omega (arith, used.end, read.saved.log);
-        is = used.is ∙ ap LogPlace (sym read.saved.log);
-        busy = λ stored store rested. used.busy stored (read.read pages told stored store) rested;
-      }))
-      (damage place is (record { pages = pages; is = told })).why
+  no_store : (pages : Pages) → old.disk.contents ≡ Some pages → (place : Place) → fault ≡ PageDamaged place → IsNoStore pages
+  no_store pages told place is stored store = (damage place is (record { pages = pages; is = told })).why stored (read.read pages told stored store)
 
   at_log : IsTold old.disk → (place : Place) → fault ≡ PageDamaged place → (place ≡ Room → ⊥) × (IsEarlyRefusal (Damaged place) → ⊥)
   at_log told place is =
@@ -283,12 +318,16 @@ module _ {T : Type 0} {old : DeviceView} {mid new : StoreView} (fault : PageFaul
   pub refuses_store : ((stored : Stored) → IsReadFrom stored mid → IsRested stored → OnlyReads (device_below mid.pages) (device_below new.pages)) → IsHandedBack old (device_below new.pages) (open_error fault)
   refuses_store rested = record {
     refused = record {
-      refused = λ pages told. refused_fault fault (read.layout pages told) read.half (why_not pages told) (λ place is. (at_log (record { pages = pages; is = told }) place is).0);
+      refused = λ pages told. refused_fault fault (read.layout pages told) read.half read.early (no_store pages told) (λ place is. (at_log (record { pages = pages; is = told }) place is).0);
       right_size = fault_no_size fault;
     };
     cause = λ failed. rises_since read.reads.later (begins.failed (ap Err (fault_device fault failed)));
     passes = passes_begun read begins rested;
     reads = λ early told. absurd (not_early fault refl told early);
+    no_layout = λ place is. absurd (fault_has_layout fault place is);
+    broken = λ place pages told broken. absurd (layout_unbroken (read.layout pages told) place broken);
+    overfull = λ pages told over. absurd (layout_room (read.layout pages told) read.half over);
+    spent = λ pages told place is. absurd (layout_unspent (read.layout pages told) read.early place is);
     keeps = λ position is pages told.
         let told_is : IsTold old.disk = record { pages = pages; is = told } in
         then (widened (read.reads.moments told_is) (λ image left. inl left)) (damage (LogPlace position) (fault_damaged fault (LogPlace position) is) told_is).keeps (λ image has. inr (read.named pages told image has));

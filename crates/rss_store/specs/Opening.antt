@@ -1,5 +1,5 @@
 -- What an opening finds on a device, and the store to which it leads.
-use Rattle.std.specs.Prelude.{◌≡◌, ◌⊎◌, ℕ, ◌+◌, ◌*◌, ◌-◌, ◌^◌, ◌≤◌, min, List, [], length, Option, Some, None, Result, Err, IsErrOf, OnOk, ⊤}
+use Rattle.std.specs.Prelude.{◌≡◌, ◌⊎◌, ℕ, ◌+◌, ◌*◌, ◌-◌, ◌^◌, ◌<◌, ◌≤◌, min, List, [], length, Option, Some, None, Result, Err, IsErrOf, OnOk, ⊤}
 use Rattle.rss_base.specs.declared.fault.OpenFault.{OpenFault}
 use Rattle.rss_base.specs.declared.fault.OpenFault.TheVariants.{Device as DeviceFailed, NotAStore, Damaged, WrongSize, NoMemory as LacksMemory}
 use Rattle.rss_base.specs.declared.fault.PageFault.{PageFault}
@@ -16,7 +16,7 @@ use Rattle.rss_base.specs.Layout.{map_at, log_at, slots_at, IsWellFormed, HasRoo
 use Rattle.rss_base.specs.LogPages.{kept_from}
 use Rattle.rss_base.specs.LogRecords.{record_size, BeginsWith}
 use Rattle.rss_base.specs.PageMap.{owner_of, page_count, IsTable, IsMap}
-use Rattle.rss_base.specs.Paged.{HasFixed}
+use Rattle.rss_base.specs.Paged.{HasFixed, mapped_pages}
 use Rattle.rss_base.specs.Steps.{PagesView, device_below}
 use Rattle.rss_log.specs.Logs.{LogView, bytes_from}
 use Rattle.rss_model.specs.Tables.{Tables}
@@ -33,7 +33,11 @@ use Rattle.rss_store.specs.Shown.{HoldsTables, Shows}
 
 -- ---- the layout
 
--- The root of this number and its map are such as a store has.
+-- a store whose log ends here or behind isn't opened
+abbrev pub position_most : ℕ
+position_most = 2 ^ 62
+
+-- The root of this number and its map are such as a store has that is opened.
 pub record IsLayout (root : Root) (number : ℕ) (owners : List (Option PageKey)) : Type 0 where
   pub number_low : 1 ≤ number
   pub number_high : number ≤ 2
@@ -41,6 +45,7 @@ pub record IsLayout (root : Root) (number : ℕ) (owners : List (Option PageKey)
   pub table : IsTable owners
   pub slots : length owners ≡ root.slots
   pub half : 2 * page_count owners ≤ length owners
+  pub early : root.end < position_most
 
 -- the pages have this root and this map
 pub record HasLayout (pages : Pages) (root : Root) (number : ℕ) (owners : List (Option PageKey)) : Type 0 where
@@ -69,10 +74,6 @@ abbrev pub NamesNone : LogView → ℕ → Type 0
 NamesNone log position =
     (marks : List (ℕ × ℕ)) (rest : List ℕ)
     → BeginsWith (bytes_from log position) (records.Checkpoint marks) rest → ⊥
-
--- an opening takes no checkpoint of a log that ends here or behind
-abbrev pub position_most : ℕ
-position_most = 2 ^ 62
 
 -- ---- a store in memory, as it was read
 
@@ -106,22 +107,22 @@ pub record BeginsIn (stored : Stored) (new : StoreView) : Type 0 where
 
 -- ---- a store that was read is brought to rest
 
--- The positions of its log are used up, which shows at its end, and it isn't at rest.
-pub record IsUsedUp (view : StoreView) (place : Place) : Type 0 where
-  pub end : position_most ≤ view.log.end
-  pub is : place ≡ LogPlace view.log.end
-  pub busy : (stored : Stored) → IsReadFrom stored view → IsRested stored → ⊥
+-- each page has room in two slots
+abbrev pub HasRoomTwice : PagesView → Type 0
+HasRoomTwice pages = 2 * mapped_pages pages.slots pages.mapped ≤ pages.slots
 
--- At this position of the log something is found damaged: it was read from no store, or its positions are used up. Only what isn't fixed may have been written.
+-- At this position of the log something is found damaged: it was read from no store. Only what isn't fixed may have been written.
 pub record FindsDamage (old new : StoreView) (place : Place) : Type 0 where
   pub at : IsLogPlace old.log place
-  pub why : ((stored : Stored) → IsReadFrom stored old → ⊥) ⊎ IsUsedUp old place
+  pub why : (stored : Stored) → IsReadFrom stored old → ⊥
   pub keeps : Passes old.pages.disk new.pages.disk (HasFixed old.pages.fixed)
 
--- By the result: it is ready, all of it is on the disk, and it is where the store begins from which it was read. At each moment a stop leaves a store of the same tables. Each fault has its cause.
+-- By the result: it is ready, all of it is on the disk, and it is where the store begins from which it was read. Its log has one Checkpoint record more at most. At each moment a stop leaves a store of the same tables. Each fault has its cause.
 pub record Begins {T : Type 0} (old new : StoreView) (result : Result T PageFault) : Type 0 where
   pub ready : OnOk result (IsReady new)
   pub saved : OnOk result (IsSaved new)
+  pub half : OnOk result (HasRoomTwice new.pages)
+  pub appends : OnOk result (new.log.end ≤ old.log.end + record_size (records.Checkpoint []))
   pub begins : OnOk result ((stored : Stored) → IsReadFrom stored old → BeginsIn stored new)
   pub moments : (stored : Stored) → IsReadFrom stored old
       → Passes old.pages.disk new.pages.disk (HoldsTables (size_of stored.root) stored.tables)
@@ -140,14 +141,13 @@ pub record Begins {T : Type 0} (old new : StoreView) (result : Result T PageFaul
 abbrev pub IsNoStore : Pages → Type 0
 IsNoStore pages = (stored : Stored) → IsStore pages stored → ⊥
 
--- The positions of the log are used up, which shows at its end: no checkpoint is taken behind it, and one would be needed.
+-- The positions of the log are used up, which shows at its end.
 pub record IsSpent (pages : Pages) (place : Place) : Type 0 where
   pub number : ℕ
   pub root : Root
   pub root_there : HasRoot pages number root
   pub end : position_most ≤ root.end
   pub is : place ≡ LogPlace root.end
-  pub busy : (stored : Stored) → IsStore pages stored → IsRested stored → ⊥
 
 -- why the pages don't open
 pub record IsRefused (pages : Pages) (fault : OpenFault) : Type 0 where
@@ -158,6 +158,8 @@ pub record IsRefused (pages : Pages) (fault : OpenFault) : Type 0 where
   pub only_overfull : fault ≡ Damaged Room → IsOverfull pages
   pub overfull : IsOverfull pages
       → (fault ≡ Damaged Room) ⊎ (fault ≡ DeviceFailed) ⊎ (fault ≡ LacksMemory)
+  pub spent : (stored : Stored) → IsStore pages stored → position_most ≤ stored.root.end
+      → (fault ≡ Damaged (LogPlace stored.root.end)) ⊎ (fault ≡ DeviceFailed) ⊎ (fault ≡ LacksMemory)
 
 -- A device didn't open, and this is the fault: why, where it tells its contents.
 pub record IsUnopened (device : DeviceView) (fault : OpenFault) : Type 0 where
@@ -201,12 +203,17 @@ IsEarlyRefusal (Damaged (LogPlace position)) = ⊥
 IsEarlyRefusal (Damaged place) = ⊤
 IsEarlyRefusal fault = ⊥
 
--- It is handed back. One that tells its contents comes back as it was if it is refused, but that a failure of it was counted; refused at a place of its log, it may have been written in free slots.
+-- It is handed back. One that tells its contents comes back as it was if it is refused, but that a failure of it was counted; refused at a place of its log, it may have been written in free slots. One whose layout is out of form, whose map has too many pages, or whose log's positions are used up, is only read, whatever came of it.
 pub record IsHandedBack (old back : DeviceView) (fault : OpenFault) : Type 0 where
   pub refused : IsUnopened old fault
   pub cause : fault ≡ DeviceFailed → Rises old.faults back.faults
   pub passes : PassesOpening old back
   pub reads : IsEarlyRefusal fault → IsTold old.disk → OnlyReads old back
+  pub no_layout : (place : Place) → fault ≡ NotAStore place → OnlyReads old back
+  pub broken : (place : Place) → Told old.disk (λ pages. IsBrokenAt place pages
+      → OnlyReads old back)
+  pub overfull : Told old.disk (λ pages. IsOverfull pages → OnlyReads old back)
+  pub spent : Told old.disk (λ pages. (place : Place) → IsSpent pages place → OnlyReads old back)
   pub keeps : (position : ℕ) → fault ≡ Damaged (LogPlace position) → Told old.disk (λ pages.
       Passes old.disk back.disk (λ image. Leaves old.disk image ⊎ HasNamed pages image))
 
@@ -218,6 +225,7 @@ pub record ReadsFrom (old : DeviceView) (new : StoreView) : Type 0 where
   pub saved : IsSaved new
   pub reads : OnlyReads old (device_below new.pages)
   pub half : 2 * page_count new.pages.backing.shadow ≤ new.root.slots
+  pub early : new.root.end < position_most
   pub layout : Told old.disk (λ pages.
       HasLayout pages new.root new.number new.pages.backing.shadow)
   pub named : Told old.disk (λ pages. (image : Pages) → HasFixed new.pages.fixed image
@@ -229,11 +237,14 @@ pub record ReadsFrom (old : DeviceView) (new : StoreView) : Type 0 where
 pub record OpensStore (old : DeviceView) (new : StoreView) : Type 0 where
   pub ready : IsReady new
   pub saved : IsSaved new
+  pub half : HasRoomTwice new.pages
+  pub early : new.log.end < position_most + record_size (records.Checkpoint [])
   pub begins : Told old.disk (λ pages. (stored : Stored) → IsStore pages stored
       → BeginsIn stored new)
   pub passes : PassesOpening old (device_below new.pages)
   pub unbroken : (place : Place) → Told old.disk (λ pages. IsBrokenAt place pages → ⊥)
   pub not_overfull : Told old.disk (λ pages. IsOverfull pages → ⊥)
+  pub not_spent : Told old.disk (λ pages. (place : Place) → IsSpent pages place → ⊥)
 
 -- So many of the pages may be in memory at once, or as many as there are slots where these are fewer.
 abbrev pub HasFrames : ℕ → PagesView → Type 0

@@ -13,18 +13,15 @@ use Rattle.rss_model.specs.Spares.{change_counts, page_counts, IsInSession}
 use Rattle.rss_model.specs.Meanings.{as_bytes, SameDefinitions}
 use Rattle.rss_model.specs.EngineLogs.{EngineLog, all_logged}
 use Rattle.rss_model.specs.LogLaws.{IsStoredOf}
-use Rattle.rss_model.specs.Store.{Stored, SpellsTables, meter_of, size_of, IsStore}
+use Rattle.rss_model.specs.Store.{Stored, SpellsTables, meter_of, IsStore, OpensTo}
 use Rattle.rss_access.specs.Written.{AreWritten}
 use Rattle.rss_store.specs.Stores.{StoreView}
 
 -- ---- what a stop leaves
 
--- the pages are a store of this size with these tables
-pub record HoldsTables (size : StoreSize) (tables : Tables) (image : Pages) : Type 0 where
-  pub stored : Stored
-  pub store : IsStore image stored
-  pub same_size : size ≡ size_of stored.root
-  pub holds : tables ≡ stored.tables
+-- the pages open to these tables
+abbrev pub HoldsTables : StoreSize → Tables → Pages → Type 0
+HoldsTables size tables image = OpensTo image size tables
 
 -- whatever is done with the pages, a stop leaves this store, which the selected root names
 pub record LeavesStore (view : StoreView) (stored : Stored) : Type 0 where

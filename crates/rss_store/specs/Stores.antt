@@ -1,5 +1,5 @@
 -- A durable store as its callers see it, and what holds of it between two calls, whatever its device tells.
-use Rattle.std.specs.Prelude.{◌≡◌, ℕ, ◌+◌, ◌<◌, ◌≤◌, true, List, ◌++◌, length}
+use Rattle.std.specs.Prelude.{◌≡◌, ℕ, ◌+◌, ◌<◌, ◌≤◌, true, List, ◌++◌, length, drop}
 use Rattle.rss_base.specs.DiskRule.{IsTold}
 use Rattle.rss_base.specs.Sizes.{system_pages}
 use Rattle.rss_base.specs.Layout.{IsWellFormed}
@@ -25,14 +25,17 @@ pub record StoreView : Type 1 where
   pub root : Root
   pub number : ℕ
 
+-- the bytes that were appended to the log in memory since the root was written
+abbrev pub appended_since : Root → LogView → List ℕ
+appended_since root log = drop (length root.tail) (bytes_from log (piece_start root.end))
+
 -- The log in memory is that of the root, with the bytes that were appended since.
 pub record IsLogBehind (root : Root) (log : LogView) : Type 0 where
   pub is_log : IsLog log
   pub pages : log.pages ≡ root.log_pages
   pub head : log.head ≡ root.head
   pub later : root.end ≤ log.end
-  pub more : List ℕ
-  pub bytes : bytes_from log (piece_start root.end) ≡ root.tail ++ more
+  pub bytes : bytes_from log (piece_start root.end) ≡ root.tail ++ appended_since root log
 
 -- A call may be made. As yet there are neither images nor links.
 pub record IsReady (view : StoreView) : Type 0 where

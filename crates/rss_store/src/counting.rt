@@ -80,4 +80,18 @@ impl<S: Saving> DurableStore<S> {
         let pieces = head / PIECE_LENGTH + u64::from(self.root.log_pages) + 1;
         (pieces * PIECE_LENGTH - 1).saturating_sub(end + size)
     }
+
+    /// The pages, as the last call left them.
+    pub fn into_pages(self) -> S
+        ensures { result ≡ self.tuples.pages }
+    {
+        let DurableStore {
+            tuples,
+            catalog: _,
+            log: _,
+            root: _,
+            number: _,
+        } = self;
+        tuples.into_pages()
+    }
 }

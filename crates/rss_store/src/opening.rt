@@ -1,9 +1,8 @@
 // The opening of a store.
-ghost use Rattle.std.specs.Prelude.{◌≡◌, ◌↔◌, ◌*◌, ◌<◌, ◌≤◌, IsTrue, IfSome, IfNone, IfOk, IfErr, OnOk};
+ghost use Rattle.std.specs.Prelude.{◌≡◌, ◌↔◌, ◌<◌, ◌≤◌, IsTrue, IfSome, IfNone, IfOk, IfErr, OnOk};
 ghost use Rattle.rss_base.specs.DiskRule.{Told, LeavesOnly};
 ghost use Rattle.rss_base.specs.Devices.{OnlyReads, ReadsStore};
 ghost use Rattle.rss_base.specs.Layout.{IsWellFormed, device_pages};
-ghost use Rattle.rss_base.specs.Paged.{mapped_pages};
 ghost use Rattle.rss_base.specs.Steps.{device_below};
 ghost use Rattle.rss_base.specs.Answers.{open_error};
 ghost use Rattle.rss_buffer.specs.Devices.{device_of};
@@ -11,7 +10,7 @@ ghost use Rattle.rss_model.specs.LogLaws.{IsRested};
 ghost use Rattle.rss_model.specs.Store.{Stored};
 ghost use Rattle.rss_store.specs.Stores.{IsReady, IsSaved};
 ghost use Rattle.rss_store.specs.Opening.{IsLayout, HasLayout, IsLogRead, HasLogBytes, position_most};
-ghost use Rattle.rss_store.specs.Opening.{RestsAt, NamesNone, IsReadFrom, Begins};
+ghost use Rattle.rss_store.specs.Opening.{RestsAt, NamesNone, IsReadFrom, HasRoomTwice, Begins};
 ghost use Rattle.rss_store.specs.Opening.{IsUnopened, IsHandedBack, ReadsFrom, OpensStore, HasFrames};
 ghost use Rattle.rss_store.specs.Parts.{view, pages_of};
 
@@ -27,7 +26,7 @@ use rss_root::load;
 use rss_tuple::Store;
 use std::alloc::Global;
 
-/// A log that ends here or behind has no checkpoint more in an opening.
+/// A store whose log ends here or behind isn't opened.
 const POSITION_MOST: u64 = 1 << 62;
 
 /// The selected root with its number, the map that it names, and its log.
@@ -79,6 +78,9 @@ fn read_layout<D: Device>(alloc: Global, device: &mut D) -> Result<Layout, OpenF
     let table = read_table(alloc, device, &root)?;
     if 2 * pages_in(&table) > root.slots {
         return Err(OpenFault::Damaged(Place::Room));
+    }
+    if root.end >= POSITION_MOST {
+        return Err(OpenFault::Damaged(Place::Log(root.end)));
     }
     let log = read_log(alloc, device, &root)?;
     Ok(Layout {
@@ -160,6 +162,8 @@ impl<S: Saving> DurableStore<S> {
     fn bring_to_rest(&mut self, alloc: Global) -> Result<(), PageFault>
         requires ready { IsReady (view S.view self.old) }
         requires saved { IsSaved (view S.view self.old) }
+        requires half { HasRoomTwice (view S.view self.old).pages }
+        requires early { (view S.view self.old).log.end < position_most }
         ensures did { Begins (view S.view self.old) (view S.view self.new) result }
         ensures rested { (stored : Stored) → IsReadFrom stored (view S.view self.old) → IsRested stored
             → OnlyReads (device_below (view S.view self.old).pages) (device_below (view S.view self.new).pages) }
@@ -175,13 +179,9 @@ impl<S: Saving> DurableStore<S> {
     fn recover(&mut self, alloc: Global) -> Result<(), PageFault>
         requires ready { IsReady (view S.view self.old) }
         requires saved { IsSaved (view S.view self.old) }
-        requires busy { RestsAt (view S.view self.old).log (view S.view self.old).root.checkpoint → ⊥ }
+        requires early { (view S.view self.old).log.end < position_most }
         ensures { Begins (view S.view self.old) (view S.view self.new) result }
     {
-        let end = self.log.end();
-        if end >= POSITION_MOST {
-            return Err(PageFault::Damaged(Place::Log(end)));
-        }
         let checkpoint = self.root.checkpoint;
         restart(
             alloc,
@@ -199,9 +199,7 @@ impl<S: Saving> DurableStore<S> {
 
     /// Whether each page has room in two slots.
     fn has_room(&self) -> bool
-        ensures { IsTrue result
-            ↔ 2 * mapped_pages (view S.view self.now).pages.slots (view S.view self.now).pages.mapped
-            ≤ (view S.view self.now).pages.slots }
+        ensures { IsTrue result ↔ HasRoomTwice (view S.view self.now).pages }
     {
         2 * pages_in(self.tuples.pages.shadow().current()) <= self.tuples.pages.slots()
     }
@@ -238,7 +236,7 @@ fn refused<D: Device>(store: DurableStore<Buffer<D>>, fault: PageFault) -> Unope
 /// space isn't in form; at a page or a tuple that is none of a store; at `Count` where a relation
 /// hasn't as many tuples as the catalog says, or has more than it may have; or at a position of the
 /// log where no record stands that there should be, or one that doesn't fit the tables. A store
-/// whose log ends at 2^62 or behind it, and isn't at rest, is `Damaged` at that position.
+/// whose log ends at 2^62 or behind it is `Damaged` at that position.
 pub fn open<D: Device>(
     alloc: Global,
     device: D,

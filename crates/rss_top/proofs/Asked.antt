@@ -37,7 +37,7 @@ module _ (names after_names : List Variable) (variable : Option Name) (old new :
           same = refl;
         },
   )
-  stops_with sink (Damaged place) damaged = (damaged.sound, λ told. absurd (damaged.sound told))
+  stops_with sink (Damaged place) damaged = (tt, λ told state shown line spells. absurd (damaged.sound told state shown))
   stops_with sink NoMemory lacked = (tt, λ told state shown line spells. record { moments = lacked.unmade told state shown; same = refl })
   stops_with sink Done never = absurd never
   stops_with sink Words never = absurd never
@@ -54,6 +54,7 @@ module _ (names after_names : List Variable) (variable : Option Name) {old new :
   pub call_stopped : {T : Type 0} {sink : Stream} {status : Status} (result : Result T Status) → IsErrAnd result (λ why. why ≡ status) → IsAsked old new made (Err status) → RunsCall (seen_with names old sink) (seen_with after_names new sink) variable made result
   call_stopped {sink = sink} {status = status} result is asked = passed_on {S = ℕ} result is (record {
     passes = asked_passes asked (omega arith) (some_none _);
+    calls = asked.goes.calls;
     outcome = stops_with names after_names variable old new made sink status asked.outcome;
   })
 
@@ -61,6 +62,7 @@ module _ (names after_names : List Variable) (variable : Option Name) {old new :
   module _ (before after : Stream) {answer : Answer} (asked : IsAsked old new made (Ok answer)) (opens : new.is_up → IsTold new.disk → OpensShown new) where
     pub call_ran : {T : Type 0} {said : T} → after_names ≡ bound names variable answer → Writes {T = T} (answer_line answer) before after (Ok said) → (done : T) → RunsCall (seen_with names old before) (seen_with after_names new after) variable made (Ok done)
     call_ran {T = T} {said = said} is wrote done = record {
+      calls = asked.goes.calls;
       passes = asked_passes asked wrote.later (written_some {T = T} (answer_line answer) before after (Ok said) wrote.outcome);
       outcome = (
         asked.outcome.up,
@@ -99,6 +101,7 @@ module _ (names after_names : List Variable) (variable : Option Name) {old new :
 
     pub call_cut : {S T : Type 0} {status : Status} (result : Result T Status) → IsErrAnd result (λ why. why ≡ status) → Writes {T = S} (answer_line answer) before after (Err status) → RunsCall (seen_with names old before) (seen_with after_names new after) variable made result
     call_cut {S = S} {status = status} result is wrote = passed_on {S = S} result is (record {
+      calls = asked.goes.calls;
       passes = asked_passes asked wrote.later (written_some {T = S} (answer_line answer) before after (Err status) wrote.outcome);
       outcome = cut_with S status wrote.outcome;
     })

@@ -1,5 +1,5 @@
 -- Bytes of a script, run one part after another.
-use Rattle.std.proofs.Common.{◌≡◌, ℕ, ◌≤◌, List, [], ◌∷◌, ◌++◌, length, take, sym, subst, append_assoc}
+use Rattle.std.proofs.Common.{◌≡◌, ℕ, ◌≤◌, List, [], ◌∷◌, ◌++◌, length, take, sym, subst, arith, append_assoc, length-append}
 use Rattle.std.specs.Prelude.{Result, Ok, Err}
 use Rattle.std.proofs.lemmas.List.{append-nil}
 use Rattle.rss_model.specs.Script.{IsUnbroken}
@@ -18,6 +18,7 @@ bytes_as {T = T} {old = old} {new = new} {front = front} {next = next} is result
 pub bytes_none : {T : Type 0} (view : View) (front : List ℕ) (done : T) → view.is_up → RunsBytes view view front [] front (Ok done)
 bytes_none view front done up = record {
   passes = idles view.world;
+  calls = omega arith;
   outcome = (up, λ told begin given kept. subst (λ (l : List ℕ). Kept begin view l front) (sym (append-nil given)) kept);
 }
 
@@ -26,6 +27,7 @@ pub bytes_then : {S T : Type 0} {done : S} {old mid new : View} {front next last
     → RunsBytes old new front (bytes ++ more) last result
 bytes_then {new = new} {last = last} bytes more (Ok done) first second = record {
   passes = passes_then first.passes second.passes;
+  calls = omega (arith, first.calls, second.calls, length-append bytes more);
   outcome = (
     second.outcome.0,
     λ told begin given kept.
@@ -34,6 +36,7 @@ bytes_then {new = new} {last = last} bytes more (Ok done) first second = record 
 }
 bytes_then {new = new} bytes more (Err status) first second = record {
   passes = passes_then first.passes second.passes;
+  calls = omega (arith, first.calls, second.calls, length-append bytes more);
   outcome = (
     end_since new.world status first.passes second.outcome.0,
     λ told begin given kept.
@@ -45,6 +48,7 @@ bytes_then {new = new} bytes more (Err status) first second = record {
 pub bytes_stop : {T : Type 0} {old new : View} {front next last : List ℕ} {status : Status} (bytes more : List ℕ) → RunsBytes {T = T} old new front bytes next (Err status) → RunsBytes {T = T} old new front (bytes ++ more) last (Err status)
 bytes_stop {new = new} {status = status} bytes more runs = record {
   passes = runs.passes;
+  calls = omega (arith, runs.calls, length-append bytes more);
   outcome = (
     runs.outcome.0,
     λ told begin given kept.
@@ -56,12 +60,14 @@ bytes_stop {new = new} {status = status} bytes more runs = record {
 pub bytes_kept : {T : Type 0} {view : View} {front next : List ℕ} (bytes : List ℕ) (done : T) → view.is_up → IsUnbroken bytes → (length front ≤ kept_limit → next ≡ take kept_limit (front ++ bytes)) → RunsBytes view view front bytes next (Ok done)
 bytes_kept {view = view} {next = next} bytes done up unbroken is = record {
   passes = idles view.world;
+  calls = omega arith;
   outcome = (up, λ told begin given kept. kept_bytes kept bytes unbroken next (is (front_short kept)));
 }
 
 pub bytes_lack : {T : Type 0} (view : View) (front next bytes : List ℕ) → RunsBytes {T = T} view view front bytes next (Err NoMemory)
 bytes_lack view front next bytes = record {
   passes = idles view.world;
+  calls = omega arith;
   outcome = (tt, λ told begin given kept. kept_unread kept ⊥ bytes);
 }
 
@@ -70,12 +76,14 @@ module _ {old new : View} {front : List ℕ} (bytes line next : List ℕ) (unbro
   pub bytes_line : {S T : Type 0} {said : S} (done : T) → next ≡ [] → RunsLine old new line (Ok said) → RunsBytes old new front (bytes ++ 10 ∷ []) next (Ok done)
   bytes_line done empty ran = record {
     passes = ran.passes;
+    calls = omega (arith, ran.calls, length-append bytes (10 ∷ []));
     outcome = (ran.outcome.0, λ told begin given kept. kept_line kept bytes unbroken {new = new} next empty (run_as begin given kept) (ran.outcome.1 told kept.state kept.shows));
   }
 
   pub bytes_cut : {T : Type 0} {status : Status} → RunsLine {T = T} old new line (Err status) → RunsBytes {T = T} old new front (bytes ++ 10 ∷ []) next (Err status)
   bytes_cut {status = status} stop = record {
     passes = stop.passes;
+    calls = omega (arith, stop.calls, length-append bytes (10 ∷ []));
     outcome = (stop.outcome.0, λ told begin given kept. kept_stopped kept bytes unbroken new (run_as begin given kept) status (stop.outcome.1 told kept.state kept.shows));
   }
 

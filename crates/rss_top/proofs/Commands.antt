@@ -5,9 +5,10 @@ use Rattle.std.proofs.lemmas.Fmt.{decimal_injective}
 use Rattle.rss_base.specs.Devices.{DeviceView}
 use Rattle.rss_base.specs.Streams.{Stream}
 use Rattle.rss_base.proofs.Flows.{takes_none}
-use Rattle.rss_base.proofs.Moments.{started, reads_none}
+use Rattle.rss_base.proofs.Moments.{reads_none}
 use Rattle.rss_model.specs.Generator.{generated}
 use Rattle.rss_store.specs.Formatted.{AreSizes}
+use Rattle.rss_store.proofs.Unopened.{handed_back, unopened_memory}
 use Rattle.rss_words.specs.Words.{AreRun, AreFormat, AreGenerate, AskFor, IsCommand}
 use Rattle.rss_words.specs.declared.command.Command.{Command}
 use Rattle.rss_words.specs.declared.command.Command.TheVariants.{Run, Format, Generate}
@@ -19,7 +20,7 @@ use Rattle.rss_top.specs.Programs.{IsUnread, IsProgram}
 use Rattle.rss_top.specs.Programs.IsProgram.{runs, formats, generates}
 use Rattle.rss_top.specs.declared.status.Status.{Status}
 use Rattle.rss_top.specs.declared.status.Status.TheVariants.{Ok, Words, ReadFault, WriteFault, DeviceFault, NotAStore, Damaged, NoMemory, TooLong, WrongSize}
-use Rattle.rss_top.proofs.Openings.{left_alone, lacked_opening}
+use Rattle.rss_top.proofs.Openings.{lacked_opening}
 
 -- ---- one command
 
@@ -81,7 +82,7 @@ module _ (words : List (List ℕ)) (device : DeviceView) (sink source : Stream) 
   ends_with status = IsProgram words status (on device sink) (on device sink) source source
 
   lacked : (command : Command) → AskFor words command → IsUnread words NoMemory → ends_with NoMemory
-  lacked Run are unread = runs are (lacked_opening (λ pages told. started device.disk _) (λ pages told none. left_alone (reads_none device)) refl)
+  lacked Run are unread = runs are (lacked_opening (handed_back (unopened_memory device) (λ is. absurd (cc)) (reads_none device)) sink sink source refl)
   lacked (Format slots log_pages) are unread = formats are (record {
     ends = refl;
     told = ((λ told. told), (λ told. told));

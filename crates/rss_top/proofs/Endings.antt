@@ -46,6 +46,16 @@ pub not_through : IsReadThrough TooLong → ⊥
 not_through (inl a) = cc
 not_through (inr a) = cc
 
+-- nor does a run end so that met damage
+halt_undamaged : {s : Status} {place : Place} → IsHalt s → s ≡ Damaged place → ⊥
+halt_undamaged (inl a) b = cc
+halt_undamaged (inr a) b = cc
+
+stop_undamaged : {s : Status} {place : Place} → IsStop s → s ≡ Damaged place → ⊥
+stop_undamaged (inl a) b = cc
+stop_undamaged (inr (inl a)) b = cc
+stop_undamaged (inr (inr a)) b = cc
+
 -- a run that ended before all was read, and before it was too long
 pub record IsCut (status : Status) : Type 0 where
   pub within : IsReadThrough status → ⊥
@@ -116,6 +126,7 @@ module _ {begin : Beginning} {now : World} {left : Option (List ℕ)} where
     whole = λ ok. absurd (not_halt is ok);
     halted = λ halt. record { scene = scene; left = front; story = story };
     stopped = λ stop. absurd (not_both is stop);
+    undamaged = λ place damaged. halt_undamaged is damaged;
   }
 
   pub ended_stopped : (status : Status) (taken : IsTaken status begin.left left) → Stopped status begin now taken.given (IsAllOf begin.left taken.given) → Ended status begin now left
@@ -126,6 +137,7 @@ module _ {begin : Beginning} {now : World} {left : Option (List ℕ)} where
         whole = λ ok. absurd (not_stop is ok);
         halted = λ halt. absurd (not_both halt is);
         stopped = λ _. stop;
+        undamaged = λ place damaged. stop_undamaged is damaged;
       }
 
   pub ended_whole : (taken : IsTaken Ok begin.left left) → Whole begin now taken.given → Ended Ok begin now left
@@ -134,6 +146,7 @@ module _ {begin : Beginning} {now : World} {left : Option (List ℕ)} where
     whole = λ _. whole;
     halted = λ halt. absurd (not_halt halt refl);
     stopped = λ stop. absurd (not_stop stop refl);
+    undamaged = λ place damaged. cc (damaged);
   }
 
 -- a source with fewer bytes than a script may have isn't too long

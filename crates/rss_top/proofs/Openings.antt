@@ -1,31 +1,30 @@
 -- The opening of a device for a run, and its refusal.
-use Rattle.std.proofs.Common.{◌≡◌, ◌⊎◌, inl, inr, ℕ, List, [], Option, Some, refl, sym, ◌∙◌, ap, subst, arith}
+use Rattle.std.proofs.Common.{◌≡◌, ◌⊎◌, inl, inr, ⊎_elim, ℕ, List, [], Option, Some, refl, sym, ◌∙◌, ap, subst, arith}
 use Rattle.rss_base.specs.DiskRule.{Disk, Pages, Told, IsTold, Leaves, Passes, Continues}
 use Rattle.rss_base.specs.Devices.{DeviceView, OnlyReads}
-use Rattle.rss_base.specs.Faults.{Rises}
 use Rattle.rss_base.proofs.Flows.{gives_none, some_none, some_then}
 use Rattle.rss_base.specs.declared.place.Place.{Place}
-use Rattle.rss_base.specs.declared.place.Place.TheVariants.{Room, Size}
+use Rattle.rss_base.specs.declared.place.Place.TheVariants.{Size, Root as RootPlace, Slot as SlotPlace, Catalog as CatalogPlace, Page as PagePlace, Tuple as TuplePlace, Count as CountPlace, Image as ImagePlace, Link as LinkPlace, Log as LogPlace, Room}
 use Rattle.rss_base.specs.declared.fault.OpenFault.{OpenFault}
 use Rattle.rss_base.specs.declared.fault.OpenFault.TheVariants.{Device as DeviceFailed, NotAStore as NoLayout, Damaged as NoStore, NoMemory as LacksMemory}
 use Rattle.std.specs.FinMap as map
-use Rattle.rss_base.specs.declared.root.Root.{Root}
 use Rattle.rss_model.specs.Meter.{at_rest}
 use Rattle.rss_model.specs.Tables.{Tables}
-use Rattle.rss_model.specs.Machine.{StoreSize, State}
+use Rattle.rss_model.specs.Machine.{StoreSize, State, IsAtRest}
 use Rattle.rss_model.specs.ReplyText.{not_a_store_line, damaged_line}
-use Rattle.rss_model.specs.Store.{OpensTo, OpensIn, IsBrokenAt, IsOverfull, IsNoStore, overflow_pages}
+use Rattle.rss_model.specs.Store.{Stored, IsStore, OpensTo, OpensIn, IsBrokenAt, IsOverfull, IsNoStore, overflow_pages, size_of}
 use Rattle.rss_model.specs.Plays.{plain}
-use Rattle.rss_rsi.specs.Opening.{OpensLike, MayLeave as LeavesLike, PassesOpening, IsOpened, IsRefused as DoesNotOpen}
-use Rattle.rss_model.proofs.Stores.{opens_once, same_roots, same_overflow, store_unbroken, not_overfull}
+use Rattle.rss_store.specs.Opening.{IsSpent, MayLeave as StoreLeaves, PassesOpening, IsEarlyRefusal, IsHandedBack}
+use Rattle.rss_rsi.specs.Opening.{BeginsIn, IsOpened}
+use Rattle.rss_model.proofs.Stores.{store_unbroken}
 use Rattle.rss_base.specs.Streams.{Stream}
-use Rattle.rss_top.specs.Run.{World, Window, IsTaken, Ended, IsFailedOpening, MayLeave}
-use Rattle.rss_top.specs.Run.IsRun.{unopened, opened}
+use Rattle.rss_top.specs.Run.{World, Window, IsTaken, Ended, IsFailedOpening, MayLeave, BeginsAt, ImagesAt, IsRun}
+use Rattle.rss_top.specs.Run.IsRun.{unopened, refused, opened}
 use Rattle.rss_model.specs.Calls.{EngineView}
 use Rattle.rss_top.specs.Lines.{View, IsScriptEnd, RunsScript, beginning, on, world, seen}
 use Rattle.rss_top.specs.Says.{Says, TellsDamage}
 use Rattle.rss_top.specs.Says.IsSaid.{said, cut, unsaid}
-use Rattle.rss_top.specs.Programs.{IsLeftAlone, IsRefusal, IsRefused, IsRunFrom, IsDamagedAt, IsRunEnd, IsFaultless, IsScriptRun}
+use Rattle.rss_top.specs.Programs.{IsLeftAlone, IsRefusal, IsRefused, IsRunFrom, IsTurnedAway, IsRunEnd, IsFaultless, IsScriptRun}
 use Rattle.rss_top.specs.Programs.IsRefusal.{says, fails}
 use Rattle.rss_top.specs.declared.status.Status.{Status}
 use Rattle.rss_top.specs.declared.status.Status.TheVariants.{Ok, Words, ReadFault, WriteFault, DeviceFault, NotAStore, Damaged, NoMemory, TooLong, WrongSize}
@@ -33,85 +32,108 @@ use Rattle.rss_base.proofs.Moments.{rises_since, widened}
 use Rattle.rss_top.proofs.Endings.{IsCut, stop_is_cut, damaged_is_cut, layout_is_cut, taken_cut, not_too_long}
 use Rattle.rss_top.proofs.Refusals.{said_is_cut, says_some, tells_no_damage, tells_damage}
 
+-- ---- the state in which a run begins
+
+-- of a store's size and tables
+as_state : (P : StoreSize → Tables → Type 0) {size : StoreSize} {tables : Tables} (state : State) → state.size ≡ size → state.base ≡ tables → P size tables → P state.size state.base
+as_state P {tables = tables} state same_size committed is = subst (λ (t : Tables). P state.size t) (sym committed) (subst (λ (s : StoreSize). P s tables) (sym same_size) is)
+
+-- of the size and the tables to which the pages open
+as_opened : (P : StoreSize → Tables → Type 0) {pages : Pages} {size : StoreSize} {tables : Tables} (opens : OpensTo pages size tables) → P (size_of opens.stored.root) opens.stored.tables → P size tables
+as_opened P {size = size} opens is = subst (λ (t : Tables). P size t) (sym opens.holds) (subst (λ (s : StoreSize). P s opens.stored.tables) (sym opens.same_size) is)
+
+-- what a stop within the opening leaves, by the first scene
+leaves_at : (before : Disk) (stored : Stored) (first : State) → first.size ≡ size_of stored.root → first.base ≡ stored.tables → (image : Pages) → StoreLeaves before stored image → MayLeave before (plain first) image
+leaves_at before stored first same_size committed image (inl left) = inl left
+leaves_at before stored first same_size committed image (inr holds) = inr (as_state (OpensTo image) first same_size committed holds)
+
 -- ---- the store is open
 
 -- what a stop within the opening leaves, seen from a later device
 opening_window : {before opened after : Disk} {P : Pages → Type 0} → Passes before opened P → Continues opened after → Window after before.moment opened.moment P
 opening_window opening history = record { later = opening.later; each = λ t image lt le left. opening.each t image lt le ((history.past t image le).0 left) }
 
--- it is in the state in which the tables that the pages hold are opened
-opens_with : {pages : Pages} {size : StoreSize} {tables : Tables} (state : State) → OpensIn pages state.size state.base state → OpensTo pages state.size state.base → OpensTo pages size tables → OpensIn pages size tables state
-opens_with {pages = pages} {size = size} state begins read opens =
-    let same = opens_once _ _ _ _ _ opens read in
-    subst (λ (t : Tables). OpensIn pages size t state) same.1 (subst (λ (s : StoreSize). OpensIn pages s state.base state) same.0 begins)
-
--- pages that open to the same tables
-like_at : {pages image : Pages} {size : StoreSize} {tables : Tables} → OpensTo pages size tables → OpensLike pages image → OpensTo image size tables
-like_at {image = image} {size = size} opens like =
-    let same = opens_once _ _ _ _ _ opens like.was in
-    subst (λ (t : Tables). OpensTo image size t) same.1 (subst (λ (s : StoreSize). OpensTo image s like.tables) same.0 like.is)
-
--- what a stop within the opening leaves, by the first scene
-leaves_at : {pages : Pages} (before : Disk) (first : State) → OpensTo pages first.size first.base → (image : Pages) → LeavesLike before pages image → MayLeave before (plain first) image
-leaves_at before first opens image (inl left) = inl left
-leaves_at before first opens image (inr like) = inr (like_at opens like)
-
 module _ {device below : DeviceView} {engine : EngineView} {sink : Stream} {ended : View} {source_old source_new : Stream} {status : Status}
-    (opening : IsOpened device engine) (passes : PassesOpening device below) (ran : RunsScript (record { world = on below sink; shows = engine.shows; names = []; is_up = engine.is_up }) ended source_old source_new status) (tells : TellsDamage status sink ended.world.sink) where
+    (opening : IsOpened device engine) (passes : PassesOpening device below) (leaves : (image : Pages) → Leaves below.disk image → Leaves engine.disk image)
+    (ran : RunsScript (record { world = on below sink; shows = engine.shows; names = []; is_up = engine.is_up; calls = engine.calls }) ended source_old source_new status) (tells : TellsDamage status sink ended.world.sink) where
   still_told : IsTold device.disk → IsTold below.disk
   still_told told = passes.told told
 
-  completes : IsFaultless (on device sink) ended.world source_old source_new → IsTold device.disk → (end : Status) → (end ≡ TooLong → ⊥) → IsScriptEnd (on below sink) ended.world source_old source_new end → (end ≡ Ok) ⊎ (end ≡ NoMemory)
-  completes faultless told Ok long cause = inl refl
-  completes faultless told NoMemory long cause = inr refl
-  completes faultless told ReadFault long cause = absurd (faultless.source cause)
-  completes faultless told WriteFault long cause = absurd (faultless.sink cause)
-  completes faultless told DeviceFault long cause = absurd (faultless.device (rises_since passes.later cause))
-  completes faultless told (Damaged place) long cause = absurd (cause (still_told told))
-  completes faultless told TooLong long cause = absurd (long refl)
-  completes faultless told Words long cause = absurd cause
-  completes faultless told (NotAStore place) long cause = absurd cause
-  completes faultless told WrongSize long cause = absurd cause
+  completes : IsFaultless (on device sink) ended.world source_old source_new → (end : Status) → (end ≡ TooLong → ⊥) → ((place : Place) → end ≡ Damaged place → ⊥) → IsScriptEnd (on below sink) ended.world source_old source_new end → (end ≡ Ok) ⊎ (end ≡ NoMemory)
+  completes faultless Ok long damaged cause = inl refl
+  completes faultless NoMemory long damaged cause = inr refl
+  completes faultless ReadFault long damaged cause = absurd (faultless.source cause)
+  completes faultless WriteFault long damaged cause = absurd (faultless.sink cause)
+  completes faultless DeviceFault long damaged cause = absurd (faultless.device (rises_since passes.later cause))
+  completes faultless (Damaged place) long damaged cause = absurd (damaged place refl)
+  completes faultless TooLong long damaged cause = absurd (long refl)
+  completes faultless Words long damaged cause = absurd cause
+  completes faultless (NotAStore place) long damaged cause = absurd cause
+  completes faultless WrongSize long damaged cause = absurd cause
 
-  end_at : (told : IsTold device.disk) → Ended status (beginning (plain (opening.begins told.pages told.is).state) (on below sink) source_old) ended.world source_new.bytes
-  end_at told = let found = opening.begins told.pages told.is in ran.ended (still_told told) found.state found.shows
+  module _ {pages : Pages} {stored : Stored} (told : device.disk.contents ≡ Some pages) (store : IsStore pages stored) where
+    abbrev found : BeginsIn stored engine
+    found = opening.begins pages told stored store
 
-  run_end : (end : Status) → IsScriptEnd (on below sink) ended.world source_old source_new end → IsRunEnd (on device sink) ended.world source_old source_new end
-  run_end Ok cause = tt
-  run_end NoMemory cause = tt
-  run_end TooLong cause = tt
-  run_end ReadFault cause = cause
-  run_end WriteFault cause = cause
-  run_end DeviceFault cause = rises_since passes.later cause
-  run_end (Damaged place) cause = λ pages told. absurd (cause (still_told (record { pages = pages; is = told })))
-  run_end Words cause = absurd cause
-  run_end (NotAStore place) cause = absurd cause
-  run_end WrongSize cause = absurd cause
+    end_at : Ended status (beginning (plain found.state) (on below sink) source_old) ended.world source_new.bytes
+    end_at = ran.ended (still_told (record { pages = pages; is = told })) found.state found.shows
+
+    begins_at : ImagesAt below.disk.moment ended.world.disk (BeginsAt (plain found.state))
+    begins_at image left =
+        let history = ran.passes.history (still_told (record { pages = pages; is = told })) in
+        let opens = found.opens image (leaves image ((history.past below.disk.moment image (omega arith)).0 left)) in
+        let idle = found.rest.idle in
+        record {
+          opens = as_state (OpensTo image) found.state idle.same_size idle.committed opens.holds;
+          begins = as_state (λ size tables. OpensIn image size tables found.state) found.state idle.same_size idle.committed opens.begins;
+        }
+
+    run_at : IsRun status (plain found.state) (on device sink) ended.world source_old.bytes source_new.bytes
+    run_at =
+        let known : IsTold device.disk = record { pages = pages; is = told } in
+        let idle = found.rest.idle in
+        opened below.disk.moment opening.not_spent
+        (opening_window (widened (passes.moments pages told stored store) (leaves_at device.disk stored found.state idle.same_size idle.committed)) (ran.passes.history (still_told known)))
+        begins_at end_at
+
+  -- damage is found in no store
+  none_damaged : (place : Place) → status ≡ Damaged place → Told device.disk IsNoStore
+  none_damaged place is pages told size tables opens = (end_at told opens.store).undamaged place is
+
+  run_end : (end : Status) → ((place : Place) → end ≡ Damaged place → Told device.disk IsNoStore) → IsScriptEnd (on below sink) ended.world source_old source_new end → IsRunEnd (on device sink) ended.world source_old source_new end
+  run_end Ok none cause = tt
+  run_end NoMemory none cause = tt
+  run_end TooLong none cause = tt
+  run_end ReadFault none cause = cause
+  run_end WriteFault none cause = cause
+  run_end DeviceFault none cause = rises_since passes.later cause
+  run_end (Damaged place) none cause = λ pages told. inr (record { none = none place refl pages told; unbroken = λ other. opening.unbroken other pages told; not_overfull = opening.not_overfull pages told })
+  run_end Words none cause = absurd cause
+  run_end (NotAStore place) none cause = absurd cause
+  run_end WrongSize none cause = absurd cause
 
   pub script_ran : IsScriptRun status (on device sink) ended.world source_old source_new
   script_ran = record {
     run = λ size tables pages told opens.
-        let known : IsTold device.disk = record { pages = pages; is = told } in
-        let found = opening.begins pages told in
+        let first = (found told opens.store).state in
         record {
-          first = found.state;
-          begins = opens_with found.state found.begins found.reads opens;
-          run = opened below.disk.moment (opening_window (widened (passes.moments pages told) (leaves_at device.disk found.state found.reads)) (ran.passes.history (still_told known))) (end_at known);
+          first = first;
+          begins = as_opened (λ s t. IsAtRest s t first) opens (found told opens.store).rest;
+          run = run_at told opens.store;
         };
-    complete = λ size tables pages told opens script source short faultless.
-        let known : IsTold device.disk = record { pages = pages; is = told } in
-        completes faultless known status (not_too_long script source short (end_at known)) ran.cause;
+    complete = λ size tables pages told opens unspent script source short faultless.
+        let end = end_at told opens.store in
+        completes faultless status (not_too_long script source short end) end.undamaged ran.cause;
     broken = λ place pages told broken. absurd (opening.unbroken place pages told broken);
     overfull = λ pages told over. absurd (opening.not_overfull pages told over);
-    no_store = λ pages told none. absurd (none _ _ (opening.begins pages told).reads);
-    cause = run_end status ran.cause;
+    cause = run_end status none_damaged ran.cause;
     taken = ran.taken;
     tells = tells;
   }
 
 -- ---- it isn't
 
--- the state in which a store is opened
+-- the state in which the pages would be opened
 abbrev opening_state : {pages : Pages} {size : StoreSize} {tables : Tables} → OpensTo pages size tables → State
 opening_state {size = size} {tables = tables} opens = record {
   size = size;
@@ -123,143 +145,174 @@ opening_state {size = size} {tables = tables} opens = record {
   meter = at_rest size.slots tables (overflow_pages opens.stored) opens.stored.root.head opens.stored.root.end;
 }
 
-opening_in : {pages : Pages} {size : StoreSize} {tables : Tables} (opens : OpensTo pages size tables) → OpensIn pages size tables (opening_state opens)
-opening_in opens = record {
-  rest = record { idle = record { same_size = refl; committed = refl; none_changed = refl; none_open = refl; none_locked = refl; none_scanned = refl }; meter = refl };
-  over = λ stored store. same_overflow opens.store store;
-  head = λ stored store. ap (λ (r : Root). r.head) (same_roots opens.store store);
-  end = λ stored store. ap (λ (r : Root). r.end) (same_roots opens.store store);
-}
+opening_rest : {pages : Pages} {size : StoreSize} {tables : Tables} (opens : OpensTo pages size tables) → IsAtRest size tables (opening_state opens)
+opening_rest opens = record { idle = record { same_size = refl; committed = refl; none_changed = refl; none_open = refl; none_locked = refl; none_scanned = refl }; meter = refl }
 
 -- the device is handed back as it came
-pub left_alone : {device back : DeviceView} {sink_old sink_new source : Stream} → OnlyReads device back → IsLeftAlone (on device sink_old) (on back sink_new) source source
+left_alone : {device back : DeviceView} {sink_old sink_new source : Stream} → OnlyReads device back → IsLeftAlone (on device sink_old) (on back sink_new) source source
 left_alone reads = record { unread = refl; writes = reads.same_writes; moments = reads.moments }
 
 taken_none : {status : Status} (left : Option (List ℕ)) → IsCut status → IsTaken status left left
 taken_none left is = taken_cut [] (gives_none left) (omega arith) is
 
--- the opening failed, and a device that holds no store is as it came
-module _ {old new : World} {source : Stream} (moments : Told old.disk (λ pages. Passes old.disk new.disk (LeavesLike old.disk pages))) (alone : Told old.disk (λ pages. IsNoStore pages → IsLeftAlone old new source source)) where
-  -- such a state is there in any case
-  unopened_from : {status : Status} {pages : Pages} {size : StoreSize} {tables : Tables} → old.disk.contents ≡ Some pages → OpensTo pages size tables → IsFailedOpening status → new.sink.bytes ≡ old.sink.bytes → IsRunFrom (OpensIn pages size tables) status old new source.bytes source.bytes
-  unopened_from {pages = pages} told opens failed silent = record {
-    first = opening_state opens;
-    begins = opening_in opens;
-    run = unopened failed (widened (moments pages told) (leaves_at old.disk (opening_state opens) opens)) refl silent;
-  }
+-- a refusal at no position of the log comes before anything is written
+comes_early : (place : Place) → ((position : ℕ) → place ≡ LogPlace position → ⊥) → IsEarlyRefusal (NoStore place)
+comes_early Size off = tt
+comes_early (RootPlace number) off = tt
+comes_early (SlotPlace slot) off = tt
+comes_early (CatalogPlace page) off = tt
+comes_early (PagePlace key) off = tt
+comes_early (TuplePlace segment tid) off = tt
+comes_early (CountPlace relation) off = tt
+comes_early (ImagePlace image) off = tt
+comes_early (LinkPlace link) off = tt
+comes_early (LogPlace position) off = absurd (off position refl)
+comes_early Room off = tt
 
-  alone_broken : {place : Place} (pages : Pages) → old.disk.contents ≡ Some pages → IsBrokenAt place pages → IsLeftAlone old new source source
-  alone_broken {place = place} pages told broken = alone pages told (λ size tables opens. store_unbroken opens place broken)
+-- the place that a fault of the layout has, and that of a map of too many pages
+named_place : {fault : OpenFault} {place other : Place} → fault ≡ NoLayout place → (fault ≡ NoLayout other) ⊎ (fault ≡ DeviceFailed) ⊎ (fault ≡ LacksMemory) → place ≡ other
+named_place is (inl named) = cc
+named_place is (inr (inl device)) = absurd (cc)
+named_place is (inr (inr memory)) = absurd (cc)
 
-  alone_overfull : (pages : Pages) → old.disk.contents ≡ Some pages → IsOverfull pages → IsLeftAlone old new source source
-  alone_overfull pages told over = alone pages told (λ size tables opens. not_overfull opens.store over)
+named_room : {fault : OpenFault} {place : Place} → fault ≡ NoStore place → (fault ≡ NoStore Room) ⊎ (fault ≡ DeviceFailed) ⊎ (fault ≡ LacksMemory) → place ≡ Room
+named_room is (inl named) = cc
+named_room is (inr (inl device)) = absurd (cc)
+named_room is (inr (inr memory)) = absurd (cc)
 
-  -- the opening failed
-  pub failed_opening : new.sink ≡ old.sink → Rises old.faults new.faults → IsScriptRun DeviceFault old new source source
-  failed_opening same rises =
-      let silent = ap (λ (s : Stream). s.bytes) same in
-      record {
-        run = λ size tables pages told opens. unopened_from told opens (inl refl) silent;
-        complete = λ size tables pages told opens script source short faultless. absurd (faultless.device rises);
-        broken = λ place pages told broken. record { alone = alone_broken pages told broken; refusal = fails refl silent };
-        overfull = λ pages told over. record { alone = alone_overfull pages told over; refusal = fails refl silent };
-        no_store = λ pages told none. record { place = Size; refused = inl (record { alone = alone pages told none; refusal = fails refl silent }) };
-        cause = rises;
-        taken = taken_none source.bytes (stop_is_cut (inr (inl refl)));
-        tells = record { last = λ place is. absurd (cc) };
-      }
+-- neither is the other
+no_room : {fault : OpenFault} {place : Place} → fault ≡ NoLayout place → (fault ≡ NoStore Room) ⊎ (fault ≡ DeviceFailed) ⊎ (fault ≡ LacksMemory) → ⊥
+no_room is (inl named) = cc
+no_room is (inr (inl device)) = cc
+no_room is (inr (inr memory)) = cc
 
-  pub lacked_opening : new.sink ≡ old.sink → IsScriptRun NoMemory old new source source
-  lacked_opening same =
-      let silent : (meant : Status) → IsRefusal meant NoMemory old new = λ meant. says (record { later = omega (arith, ap (λ (s : Stream). s.faults) same); how = unsaid refl same }) in
-      record {
-        run = λ size tables pages told opens. unopened_from told opens (inr refl) (ap (λ (s : Stream). s.bytes) same);
-        complete = λ size tables pages told opens script source short faultless. inr refl;
-        broken = λ place pages told broken. record { alone = alone_broken pages told broken; refusal = silent (NotAStore place) };
-        overfull = λ pages told over. record { alone = alone_overfull pages told over; refusal = silent (Damaged Room) };
-        no_store = λ pages told none. record { place = Size; refused = inl (record { alone = alone pages told none; refusal = silent (NotAStore Size) }) };
-        cause = tt;
-        taken = taken_none source.bytes (stop_is_cut (inr (inr refl)));
-        tells = record { last = λ place is. absurd (cc) };
-      }
+no_place : {fault : OpenFault} {place other : Place} → fault ≡ NoStore place → (fault ≡ NoLayout other) ⊎ (fault ≡ DeviceFailed) ⊎ (fault ≡ LacksMemory) → ⊥
+no_place is (inl named) = cc
+no_place is (inr (inl device)) = cc
+no_place is (inr (inr memory)) = cc
 
--- the device was refused, and is as it came
-module _ {old new : World} {source : Stream} (alone : IsLeftAlone old new source source) where
-  -- the layout is out of form at this place
-  module _ {fault : OpenFault} {place : Place} {status : Status} (is : fault ≡ NoLayout place) (why : Told old.disk (λ pages. DoesNotOpen pages fault))
-      (line : Says (NotAStore place) (not_a_store_line place) status old.sink new.sink) where
-    broken_there : Told old.disk (IsBrokenAt place)
-    broken_there pages told = (why pages told).broken place is
+module _ {device back : DeviceView} {fault : OpenFault} (handed : IsHandedBack device back fault) where
+  -- what a stop leaves of a store, by a state in which it would be opened
+  passes_store : {pages : Pages} {size : StoreSize} {tables : Tables} → device.disk.contents ≡ Some pages → (opens : OpensTo pages size tables) → Passes device.disk back.disk (MayLeave device.disk (plain (opening_state opens)))
+  passes_store {pages = pages} told opens = widened (handed.passes.moments pages told opens.stored opens.store) (leaves_at device.disk opens.stored (opening_state opens) opens.same_size opens.holds)
 
-    the_place : {other : Place} → (fault ≡ NoLayout other) ⊎ (fault ≡ DeviceFailed) ⊎ (fault ≡ LacksMemory) → place ≡ other
-    the_place (inl named) = cc
-    the_place (inr (inl device)) = absurd (cc)
-    the_place (inr (inr memory)) = absurd (cc)
+  -- a store is refused for its log alone
+  store_spent : {pages : Pages} {stored : Stored} {place : Place} → fault ≡ NoStore place → device.disk.contents ≡ Some pages → IsStore pages stored → IsSpent pages place
+  store_spent {pages = pages} {stored = stored} {place = place} is told store = ⊎_elim (λ none. absurd (none stored store)) (λ spent. spent) ((handed.refused.refused pages told).no_store place is)
 
-    no_room : (fault ≡ NoStore Room) ⊎ (fault ≡ DeviceFailed) ⊎ (fault ≡ LacksMemory) → ⊥
-    no_room (inl named) = cc
-    no_room (inr (inl device)) = cc
-    no_room (inr (inr memory)) = cc
+  module _ (sink_old sink_new source : Stream) where
+    abbrev before : World
+    before = on device sink_old
 
-    refused : IsRefused (NotAStore place) status old new source source
-    refused = record { alone = alone; refusal = says line }
+    abbrev after : World
+    after = on back sink_new
 
-    cause_of : IsRunEnd old new source source status
-    cause_of = elim line.how [
-      | said same takes ↦ subst (λ (s : Status). IsRunEnd old new source source s) (sym same) (broken_there, subst (λ (s : Status). IsRefused (NotAStore place) s old new source source) same refused)
-      | cut same front rises ↦ subst (λ (s : Status). IsRunEnd old new source source s) (sym same) rises
-      | unsaid same silent ↦ subst (λ (s : Status). IsRunEnd old new source source s) (sym same) tt
-    ]
+    broken_alone : (place : Place) → Told device.disk (λ pages. IsBrokenAt place pages → IsLeftAlone before after source source)
+    broken_alone place pages told broken = left_alone (handed.broken place pages told broken)
 
-    pub layout_refused : IsScriptRun status old new source source
-    layout_refused = record {
-      run = λ size tables pages told opens. absurd (store_unbroken opens place (broken_there pages told));
-      complete = λ size tables pages told opens. absurd (store_unbroken opens place (broken_there pages told));
-      broken = λ other pages told there. subst (λ (p : Place). IsRefused (NotAStore p) status old new source source) (the_place ((why pages told).names other there)) refused;
-      overfull = λ pages told over. absurd (no_room ((why pages told).overfull over));
-      no_store = λ pages told none. record { place = place; refused = inl refused };
-      cause = cause_of;
-      taken = taken_none source.bytes (said_is_cut (layout_is_cut place) line);
-      tells = tells_no_damage line;
+    overfull_alone : Told device.disk (λ pages. IsOverfull pages → IsLeftAlone before after source source)
+    overfull_alone pages told over = left_alone (handed.overfull pages told over)
+
+    -- the opening failed
+    unopened_from : {status : Status} {pages : Pages} {size : StoreSize} {tables : Tables} → device.disk.contents ≡ Some pages → OpensTo pages size tables → IsFailedOpening status → sink_new.bytes ≡ sink_old.bytes → IsRunFrom (IsAtRest size tables) status before after source.bytes source.bytes
+    unopened_from told opens failed silent = record {
+      first = opening_state opens;
+      begins = opening_rest opens;
+      run = unopened failed (passes_store told opens) refl silent;
     }
 
-  -- the pages are no store
-  module _ {fault : OpenFault} {place : Place} {status : Status} (is : fault ≡ NoStore place) (why : Told old.disk (λ pages. DoesNotOpen pages fault))
-      (line : Says (Damaged place) (damaged_line place) status old.sink new.sink) where
-    damaged : Told old.disk (IsDamagedAt place)
-    damaged pages told = record { none = (why pages told).no_store place is; over = λ room. (why pages told).only_overfull (is ∙ ap NoStore room) }
+    pub failed_opening : fault ≡ DeviceFailed → sink_new ≡ sink_old → IsScriptRun DeviceFault before after source source
+    failed_opening is same =
+        let silent = ap (λ (s : Stream). s.bytes) same in
+        record {
+          run = λ size tables pages told opens. unopened_from told opens (inl refl) silent;
+          complete = λ size tables pages told opens unspent script given short faultless. absurd (faultless.device (handed.cause is));
+          broken = λ place pages told broken. record { alone = broken_alone place pages told broken; refusal = fails refl silent };
+          overfull = λ pages told over. record { alone = overfull_alone pages told over; refusal = fails refl silent };
+          cause = handed.cause is;
+          taken = taken_none source.bytes (stop_is_cut (inr (inl refl)));
+          tells = record { last = λ place is. absurd (cc) };
+        }
 
-    no_place : {other : Place} → (fault ≡ NoLayout other) ⊎ (fault ≡ DeviceFailed) ⊎ (fault ≡ LacksMemory) → ⊥
-    no_place (inl named) = cc
-    no_place (inr (inl device)) = cc
-    no_place (inr (inr memory)) = cc
+    pub lacked_opening : sink_new ≡ sink_old → IsScriptRun NoMemory before after source source
+    lacked_opening same =
+        let silent : (meant : Status) → IsRefusal meant NoMemory before after = λ meant. says (record { later = omega (arith, ap (λ (s : Stream). s.faults) same); how = unsaid refl same }) in
+        record {
+          run = λ size tables pages told opens. unopened_from told opens (inr refl) (ap (λ (s : Stream). s.bytes) same);
+          complete = λ size tables pages told opens unspent script given short faultless. inr refl;
+          broken = λ place pages told broken. record { alone = broken_alone place pages told broken; refusal = silent (NotAStore place) };
+          overfull = λ pages told over. record { alone = overfull_alone pages told over; refusal = silent (Damaged Room) };
+          cause = tt;
+          taken = taken_none source.bytes (stop_is_cut (inr (inr refl)));
+          tells = record { last = λ place is. absurd (cc) };
+        }
 
-    the_room : (fault ≡ NoStore Room) ⊎ (fault ≡ DeviceFailed) ⊎ (fault ≡ LacksMemory) → place ≡ Room
-    the_room (inl named) = cc
-    the_room (inr (inl device)) = absurd (cc)
-    the_room (inr (inr memory)) = absurd (cc)
+    -- the layout is out of form at this place
+    module _ {place : Place} {status : Status} (is : fault ≡ NoLayout place) (line : Says (NotAStore place) (not_a_store_line place) status sink_old sink_new) where
+      broken_there : Told device.disk (IsBrokenAt place)
+      broken_there pages told = (handed.refused.refused pages told).broken place is
 
-    turned_away : IsRefused (Damaged place) status old new source source
-    turned_away = record { alone = alone; refusal = says line }
+      no_layout : IsRefused (NotAStore place) status before after source source
+      no_layout = record { alone = left_alone (handed.no_layout place is); refusal = says line }
 
-    why_damaged : IsRunEnd old new source source status
-    why_damaged = elim line.how [
-      | said same takes ↦ subst (λ (s : Status). IsRunEnd old new source source s) (sym same) damaged
-      | cut same front rises ↦ subst (λ (s : Status). IsRunEnd old new source source s) (sym same) rises
-      | unsaid same silent ↦ subst (λ (s : Status). IsRunEnd old new source source s) (sym same) tt
-    ]
+      cause_of : IsRunEnd before after source source status
+      cause_of = elim line.how [
+        | said same takes ↦ subst (λ (s : Status). IsRunEnd before after source source s) (sym same) (broken_there, subst (λ (s : Status). IsRefused (NotAStore place) s before after source source) same no_layout)
+        | cut same front rises ↦ subst (λ (s : Status). IsRunEnd before after source source s) (sym same) rises
+        | unsaid same silent ↦ subst (λ (s : Status). IsRunEnd before after source source s) (sym same) tt
+      ]
 
-    pub store_refused : IsScriptRun status old new source source
-    store_refused = record {
-      run = λ size tables pages told opens. absurd ((damaged pages told).none size tables opens);
-      complete = λ size tables pages told opens. absurd ((damaged pages told).none size tables opens);
-      broken = λ other pages told there. absurd (no_place ((why pages told).names other there));
-      overfull = λ pages told over. subst (λ (p : Place). IsRefused (Damaged p) status old new source source) (the_room ((why pages told).overfull over)) turned_away;
-      no_store = λ pages told no_tables. record { place = place; refused = inr turned_away };
-      cause = why_damaged;
-      taken = taken_none source.bytes (said_is_cut (damaged_is_cut place) line);
-      tells = tells_damage (some_none _) line;
-    }
+      pub layout_refused : IsScriptRun status before after source source
+      layout_refused = record {
+        run = λ size tables pages told opens. absurd (store_unbroken opens place (broken_there pages told));
+        complete = λ size tables pages told opens. absurd (store_unbroken opens place (broken_there pages told));
+        broken = λ other pages told there. subst (λ (p : Place). IsRefused (NotAStore p) status before after source source) (named_place is ((handed.refused.refused pages told).names other there)) no_layout;
+        overfull = λ pages told over. absurd (no_room is ((handed.refused.refused pages told).overfull over));
+        cause = cause_of;
+        taken = taken_none source.bytes (said_is_cut (layout_is_cut place) line);
+        tells = tells_no_damage line;
+      }
+
+    -- the pages are no store, or the positions of their log are used up
+    module _ {place : Place} {status : Status} (is : fault ≡ NoStore place) (line : Says (Damaged place) (damaged_line place) status sink_old sink_new) where
+      turned_away : Told device.disk (λ pages. IsTurnedAway place pages before after source source)
+      turned_away pages told =
+          let known = (handed.refused.refused pages told) in
+          record {
+            why = ⊎_elim (λ none. inl (λ size tables opens. none opens.stored opens.store)) (λ spent. inr spent) (known.no_store place is);
+            over = λ room. known.only_overfull (is ∙ ap NoStore room);
+            unread = refl;
+            spent = λ spent. left_alone (handed.spent pages told place spent);
+            alone = λ off. left_alone (handed.reads (subst IsEarlyRefusal (sym is) (comes_early place off)) (record { pages = pages; is = told }));
+            keeps = λ position at. handed.keeps position (is ∙ ap NoStore at) pages told;
+          }
+
+      why_damaged : IsRunEnd before after source source status
+      why_damaged = elim line.how [
+        | said same takes ↦ subst (λ (s : Status). IsRunEnd before after source source s) (sym same) (λ pages told. inl (turned_away pages told))
+        | cut same front rises ↦ subst (λ (s : Status). IsRunEnd before after source source s) (sym same) rises
+        | unsaid same silent ↦ subst (λ (s : Status). IsRunEnd before after source source s) (sym same) tt
+      ]
+
+      pub store_refused : IsScriptRun status before after source source
+      store_refused = record {
+        run = λ size tables pages told opens.
+            let spent = store_spent is told opens.store in
+            let reads = handed.spent pages told place spent in
+            record {
+              first = opening_state opens;
+              begins = opening_rest opens;
+              run = refused
+                  (λ other there. let same : pages ≡ other = cc in subst (λ (p : Pages). IsSpent p place) same spent)
+                  line (reads.moments (record { pages = pages; is = told })) reads.same_writes refl;
+            };
+        complete = λ size tables pages told opens unspent. absurd (unspent place (store_spent is told opens.store));
+        broken = λ other pages told there. absurd (no_place is ((handed.refused.refused pages told).names other there));
+        overfull = λ pages told over. subst (λ (p : Place). IsRefused (Damaged p) status before after source source) (named_room is ((handed.refused.refused pages told).overfull over)) (record { alone = overfull_alone pages told over; refusal = says line });
+        cause = why_damaged;
+        taken = taken_none source.bytes (said_is_cut (damaged_is_cut place) line);
+        tells = tells_damage (some_none _) line;
+      }
 
 -- ---- a line found the store damaged
 
@@ -279,8 +332,9 @@ module _ (engine : EngineView) {old : View} {before after : Stream} {source_old 
     passes = record { told = ran.passes.told; history = ran.passes.history; device = ran.passes.device; sink = omega (arith, ran.passes.sink, line.later); said = some_then ran.passes.said (says_some line) };
     cause = end_said;
     taken = taken_cut ran.taken.given ran.taken.gives ran.taken.most is_cut;
+    calls = ran.calls;
     up = λ ok. absurd (is_cut.within (inl ok));
-    ended = λ told state shows. absurd (ran.cause told);
+    ended = λ told state shows. absurd ((ran.ended told state shows).undamaged place refl);
   }
 
   pub damage_told : TellsDamage status old.world.sink after

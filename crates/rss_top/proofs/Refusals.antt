@@ -7,7 +7,7 @@ use Rattle.rss_model.specs.ReplyText.{damaged_line}
 use Rattle.rss_top.specs.Says.{Says, TellsDamage}
 use Rattle.rss_top.specs.Says.IsSaid.{said, cut, unsaid}
 use Rattle.rss_top.specs.declared.status.Status.{Status}
-use Rattle.rss_top.specs.declared.status.Status.TheVariants.{WriteFault, NotAStore, Damaged, NoMemory}
+use Rattle.rss_top.specs.declared.status.Status.TheVariants.{NotAStore, Damaged}
 use Rattle.rss_top.proofs.Endings.{IsCut, stop_is_cut}
 
 -- it ends a run before all was read

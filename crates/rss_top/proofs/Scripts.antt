@@ -50,6 +50,7 @@ script_unread view source opens = record {
   passes = idles view.world;
   cause = tt;
   taken = taken_none source;
+  calls = omega arith;
   up = λ ok. absurd (lacks.within (inl ok));
   ended = λ told state shown. ended_stopped NoMemory (taken_none source)
       (stopped_unread view state (IsAllOf source.bytes []) [] (story_start (scene_in view state) view.world source (opens told state shown)));
@@ -76,6 +77,7 @@ module _ {old now : View} {source_old source_now : Stream} {taken : ℕ} {front 
       passes = reading.runs.passes;
       cause = cause;
       taken = taken_halted;
+      calls = omega (arith, reading.runs.calls);
       up = λ ok. absurd (not_halt halt ok);
       ended = λ told state shown. ended_halted status halt taken_halted (so_far told state shown).story;
     }
@@ -94,7 +96,7 @@ module _ {old now : View} {source_old source_now : Stream} {taken : ℕ} {front 
       long = given_most size;
       gives = given_then;
       later = omega (arith, reading.later, later);
-      runs = bytes_then reading.given piece (Ok 0) reading.runs (record { passes = runs.passes; outcome = runs.outcome });
+      runs = bytes_then reading.given piece (Ok 0) reading.runs (record { passes = runs.passes; calls = runs.calls; outcome = runs.outcome });
     }
 
     pub script_stopped : {new : View} {next : List ℕ} {count : ℕ} {T : Type 0} {status : Status} → length piece ≡ count → taken + count ≤ script_limit → RunsBytes {T = T} now new front piece next (Err status) → RunsScript old new source_old source_new status
@@ -106,6 +108,7 @@ module _ {old now : View} {source_old source_now : Stream} {taken : ℕ} {front 
           passes = all.passes;
           cause = script_end old.world new.world source_old source_new status all.outcome.0;
           taken = taken_cut (reading.given ++ piece) given_then long cut;
+          calls = omega (arith, all.calls);
           up = λ ok. absurd (cut.within (inl ok));
           ended = λ told state shown. ended_stopped status (taken_cut (reading.given ++ piece) given_then long cut)
               (over_all (stop.outcome.1 (reading.runs.passes.told told) (beginning (scene_in old state) old.world source_old) reading.given (so_far told state shown)));
@@ -140,6 +143,7 @@ module _ {old now : View} {source_old source_now : Stream} {taken : ℕ} {front 
       passes = passes_then reading.runs.passes runs.passes;
       cause = tt;
       taken = taken_all;
+      calls = omega (arith, reading.runs.calls, runs.calls);
       up = λ ok. runs.outcome.0;
       ended = λ told state shown. ended_whole taken_all (runs.outcome.1 (reading.runs.passes.told told) _ reading.given (so_far told state shown));
     }
@@ -152,6 +156,7 @@ module _ {old now : View} {source_old source_now : Stream} {taken : ℕ} {front 
           passes = passes_then reading.runs.passes stop.passes;
           cause = script_end old.world new.world source_old source_new status cause;
           taken = taken_cut reading.given gives_all (omega (arith, reading.long, short)) cut;
+          calls = omega (arith, reading.runs.calls, stop.calls);
           up = λ ok. absurd (cut.within (inl ok));
           ended = λ told state shown. ended_stopped status (taken_cut reading.given gives_all (omega (arith, reading.long, short)) cut)
               (at_end (stop.outcome.1 (reading.runs.passes.told told) (beginning (scene_in old state) old.world source_old) reading.given (so_far told state shown)));
@@ -163,4 +168,4 @@ module _ {old now : View} {source_old source_now : Stream} {taken : ℕ} {front 
 
 -- what the variables stand for behind a script is not looked at
 pub script_seen : {old : View} {names : List Variable} (engine : EngineView) (sink : Stream) {source_old source_new : Stream} {status : Status} → RunsScript old (seen_with names engine sink) source_old source_new status → RunsScript old (seen engine sink) source_old source_new status
-script_seen engine sink runs = record { passes = runs.passes; cause = runs.cause; taken = runs.taken; up = runs.up; ended = runs.ended }
+script_seen engine sink runs = record { passes = runs.passes; cause = runs.cause; taken = runs.taken; calls = runs.calls; up = runs.up; ended = runs.ended }

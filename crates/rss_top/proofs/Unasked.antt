@@ -13,7 +13,7 @@ use Rattle.rss_model.specs.Plays.LineStep.{blank, words}
 use Rattle.rss_model.specs.Machine.{State}
 use Rattle.rss_model.specs.Calls.{EngineView, OpensShown}
 use Rattle.rss_base.specs.Streams.{Stream}
-use Rattle.rss_top.specs.Lines.{View, world, seen_with, scene_in, PassesOn, LineStopped, IsLineEnd, RunsLine}
+use Rattle.rss_top.specs.Lines.{View, world, seen_with, PassesOn, LineStopped, IsLineEnd, RunsLine}
 use Rattle.rss_top.specs.Says.{IsWritten, Writes}
 use Rattle.rss_top.specs.declared.status.Status.{Status}
 use Rattle.rss_top.specs.declared.status.Status.TheVariants.{NoMemory}
@@ -21,12 +21,13 @@ use Rattle.rss_top.proofs.Ways.{idles, passed_on, by_cut, written_some}
 
 -- memory ran out before it was read
 pub line_unread : {T : Type 0} (view : View) (line : List ℕ) → RunsLine {T = T} view view line (Err NoMemory)
-line_unread view line = record { passes = idles view.world; outcome = (tt, λ told state shown. record { moments = started _ _; same = refl }) }
+line_unread view line = record { passes = idles view.world; calls = omega arith; outcome = (tt, λ told state shown. record { moments = started _ _; same = refl }) }
 
 module _ (names : List Variable) (engine : EngineView) (up : engine.is_up) (opens : engine.is_up → IsTold engine.disk → OpensShown engine) where
   pub line_blank : {T : Type 0} {sink : Stream} {line : List ℕ} (done : T) → IsBlank line → RunsLine (seen_with names engine sink) (seen_with names engine sink) line (Ok done)
   line_blank {sink = sink} done is = record {
     passes = idles (world engine sink);
+    calls = omega arith;
     outcome = (up, λ told state shown. record { made = nothing; next = state; shows = shown; done = record { step = blank is; moments = started _ _ }; opens = opens up told state shown; takes = takes_none _ });
   }
 
@@ -37,6 +38,7 @@ module _ (names : List Variable) (engine : EngineView) (up : engine.is_up) (open
     pub line_words : {S T : Type 0} {said : S} (done : T) → Writes (answer_line (Err NoWords)) before after (Ok said) → RunsLine (seen_with names engine before) (seen_with names engine after) line (Ok done)
     line_words done wrote = record {
       passes = writes_on wrote;
+      calls = omega arith;
       outcome = (
         up,
         λ told state shown. record {
@@ -66,7 +68,7 @@ module _ (names : List Variable) (engine : EngineView) (up : engine.is_up) (open
         )) wrote
 
     pub line_cut : {S T : Type 0} {status : Status} (result : Result T Status) → IsErrAnd result (λ why. why ≡ status) → Writes {T = S} (answer_line (Err NoWords)) before after (Err status) → RunsLine (seen_with names engine before) (seen_with names engine after) line result
-    line_cut {S = S} {status = status} result same wrote = passed_on {S = S} result same (record { passes = writes_on wrote; outcome = cut_in S status wrote.outcome })
+    line_cut {S = S} {status = status} result same wrote = passed_on {S = S} result same (record { passes = writes_on wrote; calls = omega arith; outcome = cut_in S status wrote.outcome })
 
 -- memory ran out before the call, and the variables stand for what they stood for
 pub line_unplaced : {T : Type 0} {names same : List Variable} (engine : EngineView) (sink : Stream) (line : List ℕ) → names ≡ same → RunsLine {T = T} (seen_with names engine sink) (seen_with same engine sink) line (Err NoMemory)

@@ -31,7 +31,7 @@ pub end_since : {old mid : World} (new : World) (status : Status) → PassesOn o
 end_since new DeviceFault passes cause = rises_since passes.device cause
 end_since new WriteFault passes cause = rises_since passes.sink cause
 end_since new NoMemory passes cause = tt
-end_since new (Damaged place) passes cause = λ told. cause (passes.told told)
+end_since new (Damaged place) passes cause = tt
 end_since new Done passes cause = cause
 end_since new Words passes cause = cause
 end_since new ReadFault passes cause = cause
@@ -72,14 +72,14 @@ pub written_some : {T : Type 0} (line : List ℕ) (before after : Stream) (resul
 written_some line before after (Ok done) takes = record { said = line; takes = takes }
 written_some {T = T} line before after (Err status) cut = by_cut T line before after (λ s. TakesSome before.bytes after.bytes) status (λ front rises. record { said = front.front; takes = front.takes }) cut
 
-module _ {old new : View} {on : Type 0} {stopped : Status → Type 0} where
+module _ {most : ℕ} {old new : View} {on : Type 0} {stopped : Status → Type 0} where
   -- the error that `?` passes on
-  pub passed_on : {S T : Type 0} {status : Status} (result : Result T Status) → IsErrAnd result (λ why. why ≡ status) → Runs {T = S} old new on stopped (Err status) → Runs old new on stopped result
+  pub passed_on : {S T : Type 0} {status : Status} (result : Result T Status) → IsErrAnd result (λ why. why ≡ status) → Runs {T = S} most old new on stopped (Err status) → Runs most old new on stopped result
   passed_on {S = S} {T = T} {status = status} result is runs =
       let why = err_from_is_err_and result is in
-      subst (λ (r : Result T Status). Runs old new on stopped r) (sym (why.1 ∙ ap Err why.2)) (record { passes = runs.passes; outcome = runs.outcome })
+      subst (λ (r : Result T Status). Runs most old new on stopped r) (sym (why.1 ∙ ap Err why.2)) (record { passes = runs.passes; calls = runs.calls; outcome = runs.outcome })
 
   -- other words for the same runs
-  pub runs_as : {T : Type 0} {on_too : Type 0} {stopped_too : Status → Type 0} (result : Result T Status) → (on → on_too) → ((status : Status) → stopped status → stopped_too status) → Runs old new on stopped result → Runs old new on_too stopped_too result
-  runs_as (Ok done) ok err runs = record { passes = runs.passes; outcome = (runs.outcome.0, λ told. ok (runs.outcome.1 told)) }
-  runs_as (Err status) ok err runs = record { passes = runs.passes; outcome = (runs.outcome.0, λ told. err status (runs.outcome.1 told)) }
+  pub runs_as : {T : Type 0} {on_too : Type 0} {stopped_too : Status → Type 0} (result : Result T Status) → (on → on_too) → ((status : Status) → stopped status → stopped_too status) → Runs most old new on stopped result → Runs most old new on_too stopped_too result
+  runs_as (Ok done) ok err runs = record { passes = runs.passes; calls = runs.calls; outcome = (runs.outcome.0, λ told. ok (runs.outcome.1 told)) }
+  runs_as (Err status) ok err runs = record { passes = runs.passes; calls = runs.calls; outcome = (runs.outcome.0, λ told. err status (runs.outcome.1 told)) }

@@ -1,5 +1,5 @@
 -- What the functions that run lines say, each of what it runs.
-use Rattle.std.specs.Prelude.{◌≡◌, ℕ, ◌+◌, ◌≤◌, List, [], ◌++◌, take, Option, Result, Ok, Err, ⊤}
+use Rattle.std.specs.Prelude.{◌≡◌, ℕ, ◌+◌, ◌≤◌, List, [], ◌++◌, length, take, Option, Result, Ok, Err, ⊤}
 use Rattle.rss_base.specs.DiskRule.{Disk, IsTold, Passes, Continues}
 use Rattle.rss_base.specs.Devices.{DeviceView}
 use Rattle.rss_base.specs.Faults.{Rises}
@@ -30,12 +30,13 @@ on device sink = world_of device.disk device.writes device.faults sink
 abbrev pub world : EngineView → Stream → World
 world engine sink = world_of engine.disk engine.writes engine.faults sink
 
--- an engine and a sink, and what the variables of a script stand for
+-- an engine with how many calls it was asked for, a sink, and what the variables of a script stand for
 pub record View : Type 1 where
   pub world : World
   pub shows : States
   pub names : List Variable
   pub is_up : Type 0
+  pub calls : ℕ
 
 abbrev pub seen_with : List Variable → EngineView → Stream → View
 seen_with names engine sink = record {
@@ -43,6 +44,7 @@ seen_with names engine sink = record {
   shows = engine.shows;
   names = names;
   is_up = engine.is_up;
+  calls = engine.calls;
 }
 
 -- where a script begins: no variable stands for anything
@@ -123,25 +125,27 @@ LineStopped old new state line status = ⊥
 
 -- ---- how a function that runs lines ends
 
--- The cause of a status with which a line ends the run: it has no other, and over a device that
--- tells its contents no line finds damage.
+-- The cause of a status with which a line ends the run: it has no other. That damage is found from no
+-- state that is shown, is said by how the run has stopped.
 abbrev pub IsLineEnd : World → World → Status → Type 0
 IsLineEnd old new DeviceFault = Rises old.faults new.faults
 IsLineEnd old new WriteFault = Rises old.sink.faults new.sink.faults
 IsLineEnd old new NoMemory = ⊤
-IsLineEnd old new (Damaged place) = IsTold old.disk → ⊥
+IsLineEnd old new (Damaged place) = ⊤
 IsLineEnd old new status = ⊥
 
--- by its result: the engine is still up, and so it goes on; or the run has stopped with a status
+-- By its result: the engine is still up, and so it goes on; or the run has stopped with a status.
 abbrev pub RunsTo : {T : Type 0} → View → View → Type 0 → (Status → Type 0) → Result T Status
     → Type 0
 RunsTo old new on stopped (Ok done) = new.is_up × (IsTold old.world.disk → on)
 RunsTo old new on stopped (Err status) =
     IsLineEnd old.world new.world status × (IsTold old.world.disk → stopped status)
 
-pub record Runs {T : Type 0} (old new : View) (on : Type 0) (stopped : Status → Type 0)
+-- The engine is asked for no more calls than this.
+pub record Runs {T : Type 0} (most : ℕ) (old new : View) (on : Type 0) (stopped : Status → Type 0)
     (result : Result T Status) : Type 0 where
   pub passes : PassesOn old.world new.world
+  pub calls : new.calls ≤ old.calls + most
   pub outcome : RunsTo old new on stopped result
 
 -- whatever state is shown
@@ -155,7 +159,7 @@ FromLines view variable call P = (line : List ℕ) → Spells view.names line va
 -- the line of a call, and its reply
 abbrev pub RunsCall : {T : Type 0} → View → View → Option Name → Call → Result T Status → Type 0
 RunsCall old new variable call result =
-    Runs old new
+    Runs 1 old new
     (FromEach old (λ state. FromLines old variable call (LineRan old new state)))
     (λ status. FromEach old (λ state.
     FromLines old variable call (λ line. LineStopped old new state line status)))
@@ -163,7 +167,7 @@ RunsCall old new variable call result =
 
 abbrev pub RunsLine : {T : Type 0} → View → View → List ℕ → Result T Status → Type 0
 RunsLine old new line result =
-    Runs old new
+    Runs 1 old new
     (FromEach old (λ state. LineRan old new state line))
     (λ status. FromEach old (λ state. LineStopped old new state line status))
     result
@@ -183,11 +187,11 @@ pub record Kept (begin : Beginning) (now : View) (given front : List ℕ) : Type
   pub story : Story begin now.world (scene_in now state) given left
 
 -- Whatever was run so far, with this front kept: these bytes are run too, and then the next front
--- is kept; or the run has stopped within them.
+-- is kept; or the run has stopped within them. Each call has a byte of them, the end of its line.
 abbrev pub RunsBytes : {T : Type 0} → View → View → List ℕ → List ℕ → List ℕ → Result T Status
     → Type 0
 RunsBytes old new front bytes next result =
-    Runs old new
+    Runs (length bytes) old new
     ((begin : Beginning) (given : List ℕ)
     → Kept begin old given front → Kept begin new (given ++ bytes) next)
     (λ status. (begin : Beginning) (given : List ℕ)
@@ -197,7 +201,7 @@ RunsBytes old new front bytes next result =
 -- the last line, which has no end
 abbrev pub RunsLast : {T : Type 0} → View → View → List ℕ → Result T Status → Type 0
 RunsLast old new front result =
-    Runs old new
+    Runs 1 old new
     ((begin : Beginning) (given : List ℕ)
     → Kept begin old given front → Whole begin new.world given)
     (λ status. (begin : Beginning) (given : List ℕ)
@@ -222,12 +226,13 @@ beginning scene now source = record {
 }
 
 -- A script was run over an engine, from whatever state is shown. The engine is up behind one that
--- was run to its end.
+-- was run to its end, and each call has a byte of it, but for one that the last line may ask for.
 pub record RunsScript (old new : View) (source_old source_new : Stream) (status : Status)
     : Type 0 where
   pub passes : PassesOn old.world new.world
   pub cause : IsScriptEnd old.world new.world source_old source_new status
   pub taken : IsTaken status source_old.bytes source_new.bytes
+  pub calls : new.calls ≤ old.calls + (length taken.given + 1)
   pub up : status ≡ Done → new.is_up
   pub ended : IsTold old.world.disk → FromEach old (λ state.
       Ended status (beginning (scene_in old state) old.world source_old) new.world source_new.bytes)

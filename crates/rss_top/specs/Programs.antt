@@ -3,13 +3,14 @@ use Rattle.std.specs.Prelude.{◌≡◌, ◌⊎◌, ℕ, ◌<◌, List, [], leng
 use Rattle.rss_base.specs.DiskRule.{Pages, Told, IsTold, Leaves, Passes}
 use Rattle.rss_base.specs.Faults.{Rises}
 use Rattle.rss_base.specs.declared.place.Place.{Place}
-use Rattle.rss_base.specs.declared.place.Place.TheVariants.{Room}
+use Rattle.rss_base.specs.declared.place.Place.TheVariants.{Room, Log as LogPlace}
 use Rattle.rss_model.specs.Tables.{Tables}
-use Rattle.rss_model.specs.Machine.{StoreSize, State}
+use Rattle.rss_model.specs.Machine.{StoreSize, State, IsAtRest}
 use Rattle.rss_model.specs.Plays.{plain}
 use Rattle.rss_model.specs.ReplyText.{not_a_store_line, damaged_line}
-use Rattle.rss_model.specs.Store.{OpensTo, OpensIn, IsBrokenAt, IsOverfull, IsNoStore}
+use Rattle.rss_model.specs.Store.{OpensTo, IsBrokenAt, IsOverfull, IsNoStore}
 use Rattle.rss_store.specs.Formatted.{AreSizes}
+use Rattle.rss_store.specs.Opening.{IsSpent, HasNamed}
 use Rattle.rss_words.specs.Words.{AreRun, AreFormat, AreGenerate, IsCommand}
 use Rattle.rss_base.specs.Streams.{Stream}
 use Rattle.rss_top.specs.Run.{World, IsTaken, IsRun, script_limit}
@@ -20,7 +21,7 @@ use Rattle.rss_top.specs.Generated.{IsGenerated}
 use Rattle.rss_top.specs.declared.status.Status.{Status}
 use Rattle.rss_top.specs.declared.status.Status.TheVariants.{Ok, Words, DeviceFault, NotAStore, Damaged, NoMemory, WrongSize}
 
--- ---- a device that holds no store
+-- ---- a device that is refused
 
 -- the script isn't read, nothing is written to the device, and a stop leaves what it could before
 pub record IsLeftAlone (old new : World) (source_old source_new : Stream) : Type 0 where
@@ -48,13 +49,6 @@ pub record IsRefused (refused status : Status) (old new : World) (source_old sou
   pub alone : IsLeftAlone old new source_old source_new
   pub refusal : IsRefusal refused status old new
 
--- the device was refused at some place, or the run failed before it could be
-pub record IsTurnedAway (status : Status) (old new : World) (source_old source_new : Stream)
-    : Type 0 where
-  pub place : Place
-  pub refused : IsRefused (NotAStore place) status old new source_old source_new
-      ⊎ IsRefused (Damaged place) status old new source_old source_new
-
 -- ---- a script, run over a device
 
 -- One run, from a state of the machine that begins so.
@@ -64,18 +58,36 @@ pub record IsRunFrom (Begins : State → Type 0) (status : Status) (old new : Wo
   pub begins : Begins first
   pub run : IsRun status (plain first) old new left_old left_new
 
--- The pages are no store, and it is their map that leaves no room where they are damaged there.
-pub record IsDamagedAt (place : Place) (pages : Pages) : Type 0 where
-  pub none : IsNoStore pages
+-- The opening called these pages damaged at this place: they are no store, or the positions of their
+-- log are used up, and it is their map that leaves no room where that is told. The script isn't read.
+-- The device is left alone, but where no store is refused at a position of the log; and then too each
+-- stop leaves all that the selected root names.
+pub record IsTurnedAway (place : Place) (pages : Pages) (old new : World)
+    (source_old source_new : Stream) : Type 0 where
+  pub why : IsNoStore pages ⊎ IsSpent pages place
   pub over : place ≡ Room → IsOverfull pages
+  pub unread : source_new ≡ source_old
+  pub alone : ((position : ℕ) → place ≡ LogPlace position → ⊥)
+      → IsLeftAlone old new source_old source_new
+  pub spent : IsSpent pages place → IsLeftAlone old new source_old source_new
+  pub keeps : (position : ℕ) → place ≡ LogPlace position
+      → Passes old.disk new.disk (λ image. Leaves old.disk image ⊎ HasNamed pages image)
+
+-- A line found the damage: the pages are no store, though their layout is sound.
+pub record IsFoundDamaged (pages : Pages) : Type 0 where
+  pub none : IsNoStore pages
+  pub unbroken : (place : Place) → IsBrokenAt place pages → ⊥
+  pub not_overfull : IsOverfull pages → ⊥
 
 -- The cause of a status. A layout is refused by the place at which it is out of form, and only
--- pages that are no store are called damaged.
+-- pages that are no store, or whose log's positions are used up, are called damaged.
 abbrev pub IsRunEnd : World → World → Stream → Stream → Status → Type 0
 IsRunEnd old new source_old source_new (NotAStore place) =
     Told old.disk (IsBrokenAt place)
     × IsRefused (NotAStore place) (NotAStore place) old new source_old source_new
-IsRunEnd old new source_old source_new (Damaged place) = Told old.disk (IsDamagedAt place)
+IsRunEnd old new source_old source_new (Damaged place) =
+    Told old.disk (λ pages.
+    IsTurnedAway place pages old new source_old source_new ⊎ IsFoundDamaged pages)
 IsRunEnd old new source_old source_new status =
     IsScriptEnd old new source_old source_new status
 
@@ -87,14 +99,15 @@ pub record IsFaultless (old new : World) (source_old source_new : Stream) : Type
 
 pub record IsScriptRun (status : Status) (old new : World) (source_old source_new : Stream)
     : Type 0 where
-  -- Over a store of these tables: a run of the machine from these tables with nothing open, and with
-  -- the store's overflow pages.
+  -- Over a store of these tables: a run of the machine from these tables with nothing open.
   pub run : (size : StoreSize) (tables : Tables)
       → Told old.disk (λ pages. OpensTo pages size tables
-      → IsRunFrom (OpensIn pages size tables) status old new source_old.bytes source_new.bytes)
-  -- Where nothing fails, the script is run to its end, or memory ran out.
+      → IsRunFrom (IsAtRest size tables) status old new source_old.bytes source_new.bytes)
+  -- Where nothing fails and the positions of the store's log are not used up, the script is run to
+  -- its end, or memory ran out.
   pub complete : (size : StoreSize) (tables : Tables)
       → Told old.disk (λ pages. OpensTo pages size tables
+      → ((place : Place) → IsSpent pages place → ⊥)
       → (script : List ℕ) → source_old.bytes ≡ Some script → length script < script_limit
       → IsFaultless old new source_old source_new
       → (status ≡ Ok) ⊎ (status ≡ NoMemory))
@@ -104,9 +117,6 @@ pub record IsScriptRun (status : Status) (old new : World) (source_old source_ne
   -- A map of more pages than half the slots.
   pub overfull : Told old.disk (λ pages. IsOverfull pages
       → IsRefused (Damaged Room) status old new source_old source_new)
-  -- Pages that are no store.
-  pub no_store : Told old.disk (λ pages. IsNoStore pages
-      → IsTurnedAway status old new source_old source_new)
   pub cause : IsRunEnd old new source_old source_new status
   -- Whatever the device tells.
   pub taken : IsTaken status source_old.bytes source_new.bytes

@@ -1,13 +1,17 @@
 -- One run over a script, tied to what a stop at each moment of it leaves.
-use Rattle.std.specs.Prelude.{◌≡◌, ◌⊎◌, ℕ, ◌^◌, ◌<◌, ◌≤◌, List, [], ◌∷◌, ◌++◌, length, Option, Some, All}
-use Rattle.rss_base.specs.DiskRule.{Disk, Pages, Leaves, Passes}
+use Rattle.std.specs.Prelude.{◌≡◌, ◌⊎◌, ℕ, ◌^◌, ◌<◌, ◌≤◌, List, [], ◌∷◌, ◌++◌, length, Option, All}
+use Rattle.rss_base.specs.DiskRule.{Disk, Pages, Told, Leaves, Passes}
 use Rattle.rss_base.specs.Streams.{Stream, Gives, IsAllOf, Takes}
+use Rattle.rss_base.specs.declared.place.Place.{Place}
+use Rattle.rss_model.specs.ReplyText.{damaged_line}
 use Rattle.rss_model.specs.Runs.{Run}
 use Rattle.rss_model.specs.Script.{joined, IsUnbroken, Splits, AreLines}
 use Rattle.rss_model.specs.Plays.{Scene, Made, nothing, both_made, LineStep, Play}
-use Rattle.rss_model.specs.Store.{OpensTo, OpensToEither, HoldsState}
+use Rattle.rss_model.specs.Store.{OpensTo, OpensIn, OpensToEither, HoldsState}
+use Rattle.rss_store.specs.Opening.{IsSpent}
+use Rattle.rss_top.specs.Says.{Says}
 use Rattle.rss_top.specs.declared.status.Status.{Status}
-use Rattle.rss_top.specs.declared.status.Status.TheVariants.{Ok, ReadFault, TooLong, WriteFault, DeviceFault, NoMemory}
+use Rattle.rss_top.specs.declared.status.Status.TheVariants.{Ok, ReadFault, TooLong, WriteFault, DeviceFault, Damaged, NoMemory}
 
 -- ---- what a run sees
 
@@ -39,9 +43,15 @@ pub record Beginning : Type 0 where
 abbrev pub OpensAt : Scene → Pages → Type 0
 OpensAt scene pages = OpensTo pages scene.state.size scene.state.base
 
--- and have the overflow pages that its state counts, behind a checkpoint
+-- and have the overflow pages that its state counts, where it is as the last checkpoint left it
 abbrev pub HoldsAt : Scene → Pages → Type 0
 HoldsAt scene pages = HoldsState pages scene.state
+
+-- They open to a scene's committed tables, and its state is that in which they are opened: at rest,
+-- with their overflow pages, and with the positions of their log.
+pub record BeginsAt (scene : Scene) (pages : Pages) : Type 0 where
+  pub opens : OpensAt scene pages
+  pub begins : OpensIn pages scene.state.size scene.state.base scene.state
 
 -- they open to the committed tables of one of two scenes
 abbrev pub OpensAtEither : Scene → Scene → Pages → Type 0
@@ -60,8 +70,8 @@ pub record Window (disk : Disk) (from until : ℕ) (P : Pages → Type 0) : Type
   pub each : (t : ℕ) (image : Pages) → from < t → t ≤ until → disk.images t image → P image
 
 -- One line of a run. At its moments the pages open to the committed tables before or after it. At its
--- end they open to those after it alone; and where no change was made since the last checkpoint, the
--- state counts their overflow pages.
+-- end they open to those after it alone; and where no change was made since the last checkpoint, and
+-- none undone, the state counts their overflow pages.
 pub record LineTurn (disk : Disk) (from : Point) (line : List ℕ) (made : Made) (until : Point)
     : Type 0 where
   pub step : LineStep from.scene line made until.scene
@@ -194,7 +204,7 @@ pub record IsTaken (status : Status) (left_old left_new : Option (List ℕ)) : T
   pub too_long : status ≡ TooLong → length given ≡ script_limit
   pub all : status ≡ Ok → IsAllOf left_old given
 
--- How a run ended: the bytes given, and what was run and written.
+-- How a run ended: the bytes given, and what was run and written. None ends by damage.
 pub record Ended (status : Status) (begin : Beginning) (now : World) (left : Option (List ℕ))
     : Type 0 where
   pub taken : IsTaken status begin.left left
@@ -202,6 +212,7 @@ pub record Ended (status : Status) (begin : Beginning) (now : World) (left : Opt
   pub halted : IsHalt status → Halted begin now taken.given
   pub stopped : IsStop status
       → Stopped status begin now taken.given (IsAllOf begin.left taken.given)
+  pub undamaged : (place : Place) → status ≡ Damaged place → ⊥
 
 -- the opening ended the run
 abbrev pub IsFailedOpening : Status → Type 0
@@ -219,8 +230,18 @@ pub data IsRun (status : Status) (first : Scene) (old new : World)
   unopened : IsFailedOpening status → Passes old.disk new.disk (MayLeave old.disk first)
       → left_new ≡ left_old → new.sink.bytes ≡ old.sink.bytes
       → IsRun status first old new left_old left_new
-  -- the store was open from this moment on, and the script was run
-  opened : (at : ℕ) → Window new.disk old.disk.moment at (MayLeave old.disk first)
+  -- the positions of its log are used up, and it was refused: nothing of the script was read, and
+  -- nothing was written to the device
+  refused : {place : Place} → Told old.disk (λ pages. IsSpent pages place)
+      → Says (Damaged place) (damaged_line place) status old.sink new.sink
+      → Passes old.disk new.disk (Leaves old.disk) → new.writes ≡ old.writes
+      → left_new ≡ left_old
+      → IsRun status first old new left_old left_new
+  -- The store was open from this moment on, in the first scene's state, and the script was run. The
+  -- positions of its log are not used up.
+  opened : (at : ℕ) → Told old.disk (λ pages. (place : Place) → IsSpent pages place → ⊥)
+      → Window new.disk old.disk.moment at (MayLeave old.disk first)
+      → ImagesAt at new.disk (BeginsAt first)
       → Ended status
       (record {
         point = record { scene = first; moment = at };

@@ -1,6 +1,7 @@
 // A piece of a script.
-ghost use Rattle.std.specs.Prelude.{◌≡◌, ◌<◌, ◌≤◌, [], ◌∷◌, ◌++◌, slice_index, length, take};
+ghost use Rattle.std.specs.Prelude.{◌≡◌, ◌+◌, ◌<◌, ◌≤◌, [], ◌∷◌, ◌++◌, slice_index, length, take};
 ghost use Rattle.std.specs.Prelude.{IfSome, IfNone, OnOk};
+ghost use Rattle.rss_model.specs.Calls.{calls_most};
 ghost use Rattle.rss_model.specs.Script.{IsUnbroken};
 ghost use Rattle.rss_top.specs.Run.{line_end};
 ghost use Rattle.rss_top.specs.Lines.{seen_with, kept_limit, RunsBytes};
@@ -48,6 +49,7 @@ fn end_line<E: Engine, K: Sink>(
     sink: &mut K,
 ) -> Result<(), Status>
     requires up { (E.view engine.old).is_up }
+    requires few { (E.view engine.old).calls < calls_most }
     requires unbroken { IsUnbroken bytes.now }
     ensures { RunsBytes
         (seen_with names.old.variables (E.view engine.old) (K.view sink.old))
@@ -76,7 +78,8 @@ pub fn feed<E: Engine, K: Sink>(
     reply: &mut Vec<u8>,
     sink: &mut K,
 ) -> Result<(), Status>
-    requires { (E.view engine.old).is_up }
+    requires up { (E.view engine.old).is_up }
+    requires few { (E.view engine.old).calls + length piece.now ≤ calls_most }
     ensures { RunsBytes
         (seen_with names.old.variables (E.view engine.old) (K.view sink.old))
         (seen_with names.new.variables (E.view engine.new) (K.view sink.new))

@@ -1,6 +1,7 @@
 // One line of a script.
-ghost use Rattle.std.specs.Prelude.{◌≡◌, ◌≤◌, true, [], vec_capacity, IsSome, OnOk};
+ghost use Rattle.std.specs.Prelude.{◌≡◌, ◌<◌, ◌≤◌, true, [], vec_capacity, IsSome, OnOk};
 ghost use Rattle.rss_model.specs.Callers.{is_built};
+ghost use Rattle.rss_model.specs.Calls.{calls_most};
 ghost use Rattle.rss_model.specs.Defining.{DefinesNames, LocksGranule};
 ghost use Rattle.rss_model.specs.Plays.{bound};
 ghost use Rattle.rss_model.specs.Script.{line_limit};
@@ -16,6 +17,7 @@ use std::alloc::{AllocError, Global};
 /// Makes a call. Its answer is a reply or a refusal.
 fn ask<E: Engine>(engine: &mut E, call: &Call) -> Result<Result<Reply, Refusal>, Status>
     requires up { (E.view engine.old).is_up }
+    requires few { (E.view engine.old).calls < calls_most }
     requires names { DefinesNames call.now }
     requires granule { LocksGranule call.now }
     requires built { is_built call.now ≡ true }
@@ -65,6 +67,7 @@ fn make_call<E: Engine, K: Sink>(
     sink: &mut K,
 ) -> Result<(), Status>
     requires up { (E.view engine.old).is_up }
+    requires few { (E.view engine.old).calls < calls_most }
     requires names { DefinesNames call.now }
     requires granule { LocksGranule call.now }
     requires built { is_built call.now ≡ true }
@@ -93,7 +96,8 @@ pub fn line<E: Engine, K: Sink>(
     reply: &mut Vec<u8>,
     sink: &mut K,
 ) -> Result<(), Status>
-    requires { (E.view engine.old).is_up }
+    requires up { (E.view engine.old).is_up }
+    requires few { (E.view engine.old).calls < calls_most }
     ensures { RunsLine
         (seen_with names.old.variables (E.view engine.old) (K.view sink.old))
         (seen_with names.new.variables (E.view engine.new) (K.view sink.new))

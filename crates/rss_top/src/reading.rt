@@ -1,6 +1,8 @@
 // A script, read and run.
-ghost use Rattle.std.specs.Prelude.{◌≡◌, ◌≤◌, length, vec_len, IfOk};
+ghost use Rattle.std.specs.Prelude.{◌≡◌, ◌+◌, ◌<◌, ◌≤◌, length, vec_len, IfOk};
 ghost use Rattle.rss_base.specs.Streams.{ReadsBytes};
+ghost use Rattle.rss_model.specs.Calls.{calls_most};
+ghost use Rattle.rss_top.specs.Run.{script_limit};
 ghost use Rattle.rss_top.specs.Lines.{seen, seen_with, RunsLast, RunsScript};
 
 use crate::Status;
@@ -44,7 +46,8 @@ fn finish<E: Engine, K: Sink>(
     reply: &mut Vec<u8>,
     sink: &mut K,
 ) -> Result<(), Status>
-    requires { (E.view engine.old).is_up }
+    requires up { (E.view engine.old).is_up }
+    requires few { (E.view engine.old).calls < calls_most }
     ensures { RunsLast
         (seen_with names.old.variables (E.view engine.old) (K.view sink.old))
         (seen_with names.new.variables (E.view engine.new) (K.view sink.new))
@@ -64,7 +67,8 @@ pub fn run_lines<O: Source, K: Sink, E: Engine>(
     source: &mut O,
     sink: &mut K,
 ) -> Status
-    requires { (E.view engine.old).is_up }
+    requires up { (E.view engine.old).is_up }
+    requires few { (E.view engine.old).calls + script_limit ≤ calls_most }
     ensures { RunsScript
         (seen (E.view engine.old) (K.view sink.old))
         (seen (E.view engine.new) (K.view sink.new))

@@ -1,4 +1,7 @@
 // A script, run over the store of a device.
+ghost use Rattle.std.specs.Prelude.{◌+◌, ◌≤◌};
+ghost use Rattle.rss_model.specs.Calls.{calls_most};
+ghost use Rattle.rss_top.specs.Run.{script_limit};
 ghost use Rattle.rss_top.specs.Lines.{seen, on, RunsScript};
 ghost use Rattle.rss_top.specs.Says.{TellsDamage};
 ghost use Rattle.rss_top.specs.Programs.{IsScriptRun};
@@ -18,7 +21,8 @@ fn run_store<O: Source, K: Sink, E: Engine>(
     source: &mut O,
     sink: &mut K,
 ) -> Status
-    requires { (E.view store.old).is_up }
+    requires up { (E.view store.old).is_up }
+    requires few { (E.view store.old).calls + script_limit ≤ calls_most }
     ensures runs { RunsScript
         (seen (E.view store.old) (K.view sink.old))
         (seen (E.view store.new) (K.view sink.new))

@@ -19,7 +19,7 @@ pub enum Status {
     DeviceFault,
     /// The device holds no store: its layout is out of form.
     NotAStore(Place),
-    /// The device holds no store, though its layout is sound.
+    /// The device holds no store, though its layout is sound; or the positions of its log are used up.
     Damaged(Place),
     /// Memory ran out.
     NoMemory,

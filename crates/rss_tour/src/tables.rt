@@ -1,9 +1,9 @@
 // The tables that a store opens to.
 use crate::pages::SLOTS;
-use anyhow::{Result, bail};
+use anyhow::{Result, bail, ensure};
 use rss_base::{Call, CallError, Kind, Name, Page, Refusal, Reply, Tid, Tuple, Value};
 use rss_device::MemDevice;
-use rss_model::Engine;
+use rss_model::{CALLS_MOST, Engine};
 use rss_rsi::{MOST_FRAMES, open};
 use std::alloc::Global;
 
@@ -25,6 +25,7 @@ fn int_of(tuple: &Tuple) -> Result<i64> {
 
 /// The tuple with an identifier, or none where there is no such tuple or no such relation.
 fn fetch<E: Engine>(engine: &mut E, tid: Tid) -> Result<Option<i64>> {
+    ensure!(engine.calls() < CALLS_MOST, "too many calls");
     match engine.call(&Call::Fetch(1, RELATION, tid)) {
         Ok(Reply::Tuple(tuple)) => Ok(Some(int_of(&tuple)?)),
         Err(CallError::Refused(Refusal::NoTuple(_, _) | Refusal::NoSuch(Kind::Relation))) => {
@@ -37,6 +38,7 @@ fn fetch<E: Engine>(engine: &mut E, tid: Tid) -> Result<Option<i64>> {
 /// All tuples, in the order of their identifiers. A store has no more pages than half its slots, and
 /// a new one gets the least number.
 fn fetch_all<E: Engine>(engine: &mut E, alloc: Global) -> Result<Vec<i64>> {
+    ensure!(engine.calls() < CALLS_MOST, "too many calls");
     if let Err(error) = engine.call(&Call::Begin(1)) {
         bail!("a begin was answered {error:?}");
     }

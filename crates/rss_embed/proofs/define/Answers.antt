@@ -7,5 +7,5 @@ use Rattle.rss_embed.proofs.define.Goals as goal
 a_name : (letter : ℕ) → 97 ≤ letter → letter ≤ 122 → IsName (record { bytes = letter ∷ replicate 15 0 })
 a_name letter low high = record { first = letter; rest = []; bytes = refl; letter = (low, high); each = search rules; few = omega arith }
 
-pub call-requires : goal.call-requires
-call-requires g c = record { names = a_name 115 (omega arith) (omega arith); granule = tt; built = refl }
+pub ask-requires : goal.ask-requires
+ask-requires g c = record { names = a_name 115 (omega arith) (omega arith); granule = tt; built = refl }

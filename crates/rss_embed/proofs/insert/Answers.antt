@@ -5,6 +5,6 @@ use Rattle.rss_base.specs.declared.value.Value.TheVariants.{Int}
 use Rattle.rss_embed.proofs.insert.Goals as goal
 
 pub returns-in-Tid : goal.returns-in-Tid
-returns-in-Tid g c = λ up told state shown.
+returns-in-Tid g c =
     let tuple = c.in_ok-tuple.ensures ∙ ap (λ z. Int z ∷ []) (to_z-of_z w64 c.args.value c.ranges.value) in
-    rw tuple at (rw c.in-Tid.is at ((c.in_ok-other.ensures.done.outcome up).answered told state shown))
+    rw tuple at (rw c.in-Tid.is at c.in_ok-other.ensures)

@@ -1,4 +1,5 @@
 use Rattle.rss_model.proofs.BothRooms.{changes_keep_rooms, checkpoints_keep_rooms, checkpoints_pass_at_rest, restores_keep_rooms, aborts_keep_rooms, ends_keep_rooms, definitions_keep_rooms}
+use Rattle.rss_model.proofs.StepRooms.{steps_keep_rooms}
 use Rattle.rss_model.proofs.laws.rooms_are_kept.Goals as goal
 
 pub returns-clause-changes : goal.returns-clause-changes
@@ -21,3 +22,6 @@ returns-clause-ends g = ends_keep_rooms
 
 pub returns-clause-definitions : goal.returns-clause-definitions
 returns-clause-definitions g = definitions_keep_rooms
+
+pub returns-clause-steps : goal.returns-clause-steps
+returns-clause-steps g = steps_keep_rooms

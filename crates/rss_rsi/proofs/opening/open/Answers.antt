@@ -1,19 +1,20 @@
-use Rattle.std.proofs.Common.{Err, ap}
-use Rattle.std.proofs.lemmas.Result.{IfOk-weaker, IfErr-weaker}
-use Rattle.rss_buffer.specs.Devices.{buffer_view}
+use Rattle.std.proofs.Common.{◌≡◌, sym, ap, subst}
+use Rattle.std.specs.Prelude.{false}
+use Rattle.rss_buffer.specs.Devices.{device_of, buffer_view}
 use Rattle.rss_buffer.specs.Views.{pages_view}
-use Rattle.rss_rsi.proofs.Unopened.{opens_before, notes_before, handed_back, handed_before}
+use Rattle.rss_session.specs.Parts.{view as session_view}
+use Rattle.rss_store.specs.Parts.{view as store_view}
+use Rattle.rss_rsi.specs.Opening.{OpensOver}
+use Rattle.rss_rsi.specs.Views.{engine_view}
+use Rattle.rss_rsi.proofs.Opened.{opened_ready, opens_over}
 use Rattle.rss_rsi.proofs.opening.open.Goals as goal
 
-pub returns-in-Ok-clause-opened : goal.returns-in-Ok-clause-opened
-returns-in-Ok-clause-opened g c = IfOk-weaker c.store_of.result _ _ (λ store is. opens_before c.read_layout.ensures.did.reads is) c.store_of.ensures.opened
+pub new-requires-2 : goal.new-requires-2
+new-requires-2 g c = record {
+  ready = opened_ready c.in_ok-store.ensures.opened (ap (store_view (λ b. pages_view (buffer_view b))) c.new.ensures.store) c.new.ensures.ready c.new.ensures.open;
+}
 
-pub returns-in-Ok-clause-noted : goal.returns-in-Ok-clause-noted
-returns-in-Ok-clause-noted g c = IfOk-weaker c.store_of.result _ _ (λ store is. notes_before (pages_view (buffer_view store.tuples.pages)) c.read_layout.ensures.did.reads is) c.store_of.ensures.noted
-
-pub returns-in-Ok-clause-refused : goal.returns-in-Ok-clause-refused
-returns-in-Ok-clause-refused g c = IfErr-weaker c.store_of.result _ _ (λ e is. handed_before c.read_layout.ensures.did.reads is) c.store_of.ensures.refused
-
-pub returns-in-Err-clause-refused : goal.returns-in-Err-clause-refused
-returns-in-Err-clause-refused g c =
-    handed_back c.in-Err.ensures.refused (λ is. c.in-Err.ensures.did.failed (ap Err is)) c.in-Err.ensures.did.reads
+pub returns-clause-opened : goal.returns-clause-opened
+returns-clause-opened g c =
+    subst (λ (s : _). OpensOver (g.D.Device.view c.args.device) (g.D.Device.view (device_of s.store.tuples.pages)) (engine_view (session_view (λ b. pages_view (buffer_view b)) s) c.new-2.result.calls (c.new-2.result.down ≡ false))) (sym c.new-2.ensures.session)
+    (opens_over _ c.in_ok-store.ensures.opened (ap (store_view (λ b. pages_view (buffer_view b))) c.new.ensures.store) c.new.ensures.shows c.new-2.ensures.calls c.new-2.ensures.up)

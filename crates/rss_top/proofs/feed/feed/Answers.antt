@@ -12,7 +12,7 @@ pub end_line-requires-clause-unbroken : goal.end_line-requires-clause-unbroken
 end_line-requires-clause-unbroken g c = line_unbroken c.args.piece.now c.loop-at.done c.in-Some.at c.in-Some.ensures.line
 
 pub loop-at-init : goal.loop-at-init
-loop-at-init g c = record { within = omega arith; up = c.requires; runs = bytes_none _ _ 0 c.requires }
+loop-at-init g c = record { within = omega arith; up = c.requires.up; runs = bytes_none _ _ 0 c.requires.up }
 
 pub returns-in_err-end_line : goal.returns-in_err-end_line
 returns-in_err-end_line g c =
@@ -34,7 +34,7 @@ loop-at-preserved g c =
       within = omega (arith, line_within piece done at c.loop-at.invariant.within c.in-Some.ensures.within);
       up = c.in_ok-end_line.ensures.outcome.0;
       runs = bytes_as (line_ended piece done at c.in-Some.ensures.within c.in-Some.ensures.end) (Ok 0)
-          (bytes_then (take done piece) (line_part piece done at ++ 10 ∷ []) (Ok 0) c.loop-at.invariant.runs (record { passes = c.in_ok-end_line.ensures.passes; outcome = c.in_ok-end_line.ensures.outcome }));
+          (bytes_then (take done piece) (line_part piece done at ++ 10 ∷ []) (Ok 0) c.loop-at.invariant.runs (record { passes = c.in_ok-end_line.ensures.passes; calls = c.in_ok-end_line.ensures.calls; outcome = c.in_ok-end_line.ensures.outcome }));
     }
 
 pub returns-in_default-keep : goal.returns-in_default-keep

@@ -9,14 +9,14 @@ pub returns-then-is_err : goal.returns-then-is_err
 returns-then-is_err g c = line_unread _ _
 
 pub returns-in-Ok-Blank : goal.returns-in-Ok-Blank
-returns-in-Ok-Blank g c = line_blank c.args.names.now.variables (g.E.Engine.view c.args.engine.now) c.requires (g.met.E.Engine.opens c.args.engine.now) _ (c.read_line.ensures.blank (c.in-Ok-Blank.is ∙ ap Ok c.in-Ok-Blank.field-0-is))
+returns-in-Ok-Blank g c = line_blank c.args.names.now.variables (g.E.Engine.view c.args.engine.now) c.requires.up (g.met.E.Engine.opens c.args.engine.now) _ (c.read_line.ensures.blank (c.in-Ok-Blank.is ∙ ap Ok c.in-Ok-Blank.field-0-is))
 
 pub returns-in_ok-write_answer-in-Err-Words : goal.returns-in_ok-write_answer-in-Err-Words
-returns-in_ok-write_answer-in-Err-Words g c = line_words c.args.names.now.variables (g.E.Engine.view c.args.engine.now) c.requires (g.met.E.Engine.opens c.args.engine.now) _ _ (c.read_line.ensures.words (c.in-Err-Words.is ∙ ap Err c.in-Err-Words.field-0-is)) _ c.in_ok-write_answer-in-Err-Words.ensures
+returns-in_ok-write_answer-in-Err-Words g c = line_words c.args.names.now.variables (g.E.Engine.view c.args.engine.now) c.requires.up (g.met.E.Engine.opens c.args.engine.now) _ _ (c.read_line.ensures.words (c.in-Err-Words.is ∙ ap Err c.in-Err-Words.field-0-is)) _ c.in_ok-write_answer-in-Err-Words.ensures
 
 pub returns-in_err-write_answer-in-Err-Words : goal.returns-in_err-write_answer-in-Err-Words
 returns-in_err-write_answer-in-Err-Words g c =
-    line_cut c.args.names.now.variables (g.E.Engine.view c.args.engine.now) c.requires (g.met.E.Engine.opens c.args.engine.now) _ _ (c.read_line.ensures.words (c.in-Err-Words.is ∙ ap Err c.in-Err-Words.field-0-is))
+    line_cut c.args.names.now.variables (g.E.Engine.view c.args.engine.now) c.requires.up (g.met.E.Engine.opens c.args.engine.now) _ _ (c.read_line.ensures.words (c.in-Err-Words.is ∙ ap Err c.in-Err-Words.field-0-is))
     _ c.from_residual-in_err-write_answer-in-Err-Words.ensures.1 c.in_err-write_answer-in-Err-Words.ensures
 
 pub returns-in-Err-NoMemory : goal.returns-in-Err-NoMemory

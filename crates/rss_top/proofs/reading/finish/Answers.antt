@@ -8,7 +8,7 @@ use Rattle.rss_top.proofs.reading.finish.Goals as goal
 pub returns-then-is_empty : goal.returns-then-is_empty
 returns-then-is_empty g c =
     let empty = empty_is c.args.front.now (grind (arith, nat_tests)) in
-    record { passes = idles _; outcome = (c.requires, λ told begin given kept. kept_ended kept empty) }
+    record { passes = idles _; calls = omega arith; outcome = (c.requires.up, λ told begin given kept. kept_ended kept empty) }
 
 pub returns-in_err-line : goal.returns-in_err-line
 returns-in_err-line g c =

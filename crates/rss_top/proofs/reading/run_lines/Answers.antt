@@ -17,27 +17,27 @@ read_back : (xs ys : List ℕ) (n : ℕ) → length xs ≡ n → take n (xs ++ y
 read_back xs ys n size = ap (λ (k : ℕ). take k (xs ++ ys)) (sym size) ∙ take-append_seam xs ys
 
 pub returns-in_default : goal.returns-in_default
-returns-in_default g c = script_unread (seen (g.E.Engine.view c.args.engine.now) (g.K.Sink.view c.args.sink.now)) _ (g.met.E.Engine.opens c.args.engine.now c.requires)
+returns-in_default g c = script_unread (seen (g.E.Engine.view c.args.engine.now) (g.K.Sink.view c.args.sink.now)) _ (g.met.E.Engine.opens c.args.engine.now c.requires.up)
 
 pub loop-taken-init : goal.loop-taken-init
 loop-taken-init g c = record {
   within = omega arith;
   room = c.in-Ok.ensures;
-  up = c.requires;
+  up = c.requires.up;
   reading = subst (λ (names : List Variable). Reading (seen (g.E.Engine.view c.args.engine.now) (g.K.Sink.view c.args.sink.now)) (seen_with names (g.E.Engine.view c.args.engine.now) (g.K.Sink.view c.args.sink.now)) (g.O.Source.view c.args.source.now) (g.O.Source.view c.args.source.now) 0 c.new-front.result.items)
-      (sym c.new-names.ensures) (reads_none _ _ _ c.requires c.new-front.ensures.items);
+      (sym c.new-names.ensures) (reads_none _ _ _ c.requires.up c.new-front.ensures.items);
 }
 
 pub returns-in_default-read_piece : goal.returns-in_default-read_piece
 returns-in_default-read_piece g c =
     let reading = c.loop-taken.invariant.reading in
-    script_seen (g.E.Engine.view c.loop-taken.engine) (g.K.Sink.view c.loop-taken.sink) (script_halted (g.met.E.Engine.opens c.args.engine.now c.requires) reading (g.O.Source.view c.read_piece.new.source) ReadFault (inl refl) c.in_default-read_piece.ensures.failed c.loop-taken.invariant.within
+    script_seen (g.E.Engine.view c.loop-taken.engine) (g.K.Sink.view c.loop-taken.sink) (script_halted (g.met.E.Engine.opens c.args.engine.now c.requires.up) reading (g.O.Source.view c.read_piece.new.source) ReadFault (inl refl) c.in_default-read_piece.ensures.failed c.loop-taken.invariant.within
     (λ through. c.loop-taken-test.true) (λ long. absurd (cc)) (rises_since reading.later (c.in_default-read_piece.ensures.cause.failed refl)))
 
 pub returns-in-Err : goal.returns-in-Err
 returns-in-Err g c =
     let most : c.min-most.result ≡ min 65536 (1073741824 - c.loop-taken.taken) = c.min-most.ensures in
-    script_seen (g.E.Engine.view c.finish.new.engine) (g.K.Sink.view c.finish.new.sink) (script_cut (g.met.E.Engine.opens c.args.engine.now c.requires) c.loop-taken.invariant.reading
+    script_seen (g.E.Engine.view c.finish.new.engine) (g.K.Sink.view c.finish.new.sink) (script_cut (g.met.E.Engine.opens c.args.engine.now c.requires.up) c.loop-taken.invariant.reading
     (g.O.Source.view c.read_piece.new.source)
     (subst (λ (k : ℕ). Gives (g.O.Source.view c.loop-taken.source).bytes (take k c.read_piece.new.piece) (g.O.Source.view c.read_piece.new.source).bytes) c.if-count-eq0.true c.in-Ok-read_piece.ensures.gives)
     (c.in-Ok-read_piece.ensures.end (ap Ok c.if-count-eq0.true) (omega (arith, most, c.loop-taken-test.true))) c.loop-taken-test.true
@@ -46,7 +46,7 @@ returns-in-Err g c =
 pub returns-then-count-eq0 : goal.returns-then-count-eq0
 returns-then-count-eq0 g c =
     let most : c.min-most.result ≡ min 65536 (1073741824 - c.loop-taken.taken) = c.min-most.ensures in
-    script_seen (g.E.Engine.view c.finish.new.engine) (g.K.Sink.view c.finish.new.sink) (script_whole (g.met.E.Engine.opens c.args.engine.now c.requires) c.loop-taken.invariant.reading
+    script_seen (g.E.Engine.view c.finish.new.engine) (g.K.Sink.view c.finish.new.sink) (script_whole (g.met.E.Engine.opens c.args.engine.now c.requires.up) c.loop-taken.invariant.reading
     (g.O.Source.view c.read_piece.new.source)
     (subst (λ (k : ℕ). Gives (g.O.Source.view c.loop-taken.source).bytes (take k c.read_piece.new.piece) (g.O.Source.view c.read_piece.new.source).bytes) c.if-count-eq0.true c.in-Ok-read_piece.ensures.gives)
     (c.in-Ok-read_piece.ensures.end (ap Ok c.if-count-eq0.true) (omega (arith, most, c.loop-taken-test.true))) c.loop-taken-test.true
@@ -60,7 +60,7 @@ returns-in-Err-feed g c =
     let count : c.in-Ok-read_piece.count ≤ c.min-most.result = c.in-Ok-read_piece.ensures.within in
     let room : c.loop-taken.piece.len ≡ 65536 = c.loop-taken.invariant.room in
     let long = length-take-le c.in-Ok-read_piece.count c.read_piece.new.piece (omega (arith, most, size, room, count)) in
-    script_seen (g.E.Engine.view c.feed.new.engine) (g.K.Sink.view c.feed.new.sink) (script_stopped (g.met.E.Engine.opens c.args.engine.now c.requires) c.loop-taken.invariant.reading
+    script_seen (g.E.Engine.view c.feed.new.engine) (g.K.Sink.view c.feed.new.sink) (script_stopped (g.met.E.Engine.opens c.args.engine.now c.requires.up) c.loop-taken.invariant.reading
     (g.O.Source.view c.read_piece.new.source)
     (take c.in-Ok-read_piece.count c.read_piece.new.piece) c.in-Ok-read_piece.ensures.gives long (omega (arith, most, count, c.loop-taken-test.true))
     (bytes_as (ap (λ (l : List ℕ). take c.in-Ok-read_piece.count l) same) (Err _) c.in-Err-feed.ensures))
@@ -77,7 +77,7 @@ loop-taken-preserved g c =
       within = omega (arith, most, count, c.loop-taken-test.true);
       room = search rules;
       up = c.in_default-feed.ensures.outcome.0;
-      reading = reads_piece (g.met.E.Engine.opens c.args.engine.now c.requires) c.loop-taken.invariant.reading
+      reading = reads_piece (g.met.E.Engine.opens c.args.engine.now c.requires.up) c.loop-taken.invariant.reading
           (g.O.Source.view c.read_piece.new.source)
           (take c.in-Ok-read_piece.count c.read_piece.new.piece) c.in-Ok-read_piece.ensures.gives long c.in-Ok-read_piece.ensures.cause.later
           (bytes_as (ap (λ (l : List ℕ). take c.in-Ok-read_piece.count l) same) (Ok _) c.in_default-feed.ensures);
@@ -86,5 +86,5 @@ loop-taken-preserved g c =
 pub returns : goal.returns
 returns g c =
     let reading = c.loop-taken.invariant.reading in
-    script_seen (g.E.Engine.view c.loop-taken.engine) (g.K.Sink.view c.loop-taken.sink) (script_halted (g.met.E.Engine.opens c.args.engine.now c.requires) reading (g.O.Source.view c.loop-taken.source) TooLong (inr refl) (gives_none _) c.loop-taken.invariant.within
+    script_seen (g.E.Engine.view c.loop-taken.engine) (g.K.Sink.view c.loop-taken.sink) (script_halted (g.met.E.Engine.opens c.args.engine.now c.requires.up) reading (g.O.Source.view c.loop-taken.source) TooLong (inr refl) (gives_none _) c.loop-taken.invariant.within
     (λ through. absurd (not_through through)) (λ long. omega (arith, c.loop-taken-test.false, c.loop-taken.invariant.within)) tt)

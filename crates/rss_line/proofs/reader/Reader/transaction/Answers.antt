@@ -1,9 +1,6 @@
-use Rattle.rss_line.proofs.Combining.{word_missing, word_found}
+use Rattle.rss_line.proofs.Combining.{word_found}
 use Rattle.rss_line.proofs.Plain.{transaction_plain}
 use Rattle.rss_line.proofs.reader.Reader.transaction.Goals as goal
 
-pub returns-in_err-word-clause-reads : goal.returns-in_err-word-clause-reads
-returns-in_err-word-clause-reads c = word_missing transaction_plain c.from_residual.result c.in_err-word.ensures.reads c.from_residual.ensures.1
-
 pub returns-clause-reads : goal.returns-clause-reads
-returns-clause-reads c = word_found transaction_plain c.read_transaction.result c.ok_or.ensures.value c.in_ok-word.ensures.reads c.read_transaction.ensures
+returns-clause-reads c = word_found transaction_plain c.read_transaction.result c.ok_or.ensures.value c.bytes.ensures c.read_transaction.ensures

@@ -1,190 +1,59 @@
-use Rattle.std.proofs.Common.{rules, ◌≡◌, ◌∙◌, ℕ, List, refl, sym, ap, subst, arith}
-use Rattle.std.proofs.lemmas.Bool.{true≢false}
-use Rattle.std.specs.Prelude.{Option, Some, None, Err, is_some, IsSome}
-use Rattle.std.proofs.Math.Logic.{∥∥₁_elim}
-use Rattle.std.proofs.lemmas.Option.{none-some, same_Some}
-use Rattle.std.proofs.lemmas.Result.{err_from_is_err_and}
+use Rattle.std.proofs.Common.{◌∙◌, sym, ap, arith}
+use Rattle.std.specs.Prelude.{is_some}
 use Rattle.rss_base.specs.Listings.{relation_at}
 use Rattle.rss_base.specs.declared.call.Call.TheVariants.{Delete}
-use Rattle.rss_base.specs.declared.name.Name.{Name}
-use Rattle.rss_base.specs.declared.relation.RelationEntry.{RelationEntry}
-use Rattle.rss_model.proofs.Endings.{comes_to}
-use Rattle.rss_model.proofs.Totals.{stops as stops_by}
-use Rattle.rss_rsi.specs.Sessions.{Counts}
-use Rattle.rss_rsi.specs.declared.session.Session.{Session}
-use Rattle.rss_rsi.proofs.Engines.{goes, fixes_still}
-use Rattle.rss_rsi.proofs.Following.{quiet_in, live_passes, delete_misses, deletes_step}
-use Rattle.rss_rsi.proofs.Joining.{looks_as, goes_looked, goes_after, joined, look_failed}
-use Rattle.rss_rsi.proofs.Answering.{damaged_so, refused_test, refused_so, refused_later, found_down}
-use Rattle.rss_access.proofs.Numbered.{entry_at, name_of}
-use Rattle.rss_rsi.proofs.Readied.{stays_counted, ready_changed, changed_counted}
-use Rattle.rss_access.proofs.Spelling.{some_live, segment_safe}
-use Rattle.rss_rsi.proofs.Spelling.{HasFound, found_values, found_none, can_change}
-use Rattle.rss_rsi.proofs.Tested.{delete_unfit, delete_full}
-use Rattle.rss_rsi.proofs.Changing.{answers_change, shows_change, fails_change}
+use Rattle.rss_catalog.specs.Catalogs.{CatalogView}
+use Rattle.rss_access.proofs.Numbered.{entry_at}
+use Rattle.rss_session.specs.Parts.{view as session_view}
+use Rattle.rss_rsi.proofs.Changes.{ends_short, ends_made}
+use Rattle.rss_rsi.proofs.Looks.{ends_so, asked_looked}
+use Rattle.rss_rsi.proofs.TupleTests.{delete_unfit}
+use Rattle.rss_rsi.proofs.Deletes.{delete_looks, delete_ends}
+use Rattle.rss_rsi.proofs.Ways.{asked, refused_test}
 use Rattle.rss_rsi.proofs.engine.Rss.delete.Goals as goal
-
-pub returns-in_err-test_up-clause-did : goal.returns-in_err-test_up-clause-did
-returns-in_err-test_up-clause-did g c =
-    let down = c.in_err-test_up.ensures.down in
-    found_down _ c.from_residual.ensures.1 down.0 (λ up. true≢false (sym down.1 ∙ up))
 
 pub returns-in_err-number-clause-did : goal.returns-in_err-number-clause-did
 returns-in_err-number-clause-did g c =
+    let counted = c.in_ok-ask.ensures in
     let tests = c.in_err-number.ensures.tests in
-    refused_test _ c.from_residual-in_err-number.ensures.1 c.in_ok-test_up.ensures.up tests.1 (λ state shown. delete_unfit state c.args.transaction c.args.relation.now c.args.tid (tests.0 state shown.counts))
+    asked (ap (session_view g.S.Pages.view) counted.session)
+    (refused_test c.from_residual-in_err-number.result c.from_residual-in_err-number.ensures.1 counted.was_up counted.up (omega (arith, counted.counted)) tests.1
+    (λ told state shows. delete_unfit state c.args.transaction c.args.relation.now c.args.tid (tests.0 told state shows)))
 
-pub relation-requires : goal.relation-requires
-relation-requires g c =
-    let store = c.args.self.now in
-    let has = entry_at store.session.catalog.listing c.args.relation.now c.in_ok-number.number c.in_ok-number.ensures.known in
-    ap is_some has.at
+pub returns-in_err-values-clause-did : goal.returns-in_err-values-clause-did
+returns-in_err-values-clause-did g c =
+    let counted = c.in_ok-ask.ensures in
+    ends_so c.from_residual-in_err-values.result c.from_residual-in_err-values.ensures.1 (ap (session_view g.S.Pages.view) counted.session) (counted.up ∙ sym counted.was_up)
+    (c.in_err-values.ensures.fails c.args.self.now.calls (Delete c.args.transaction c.args.relation.now c.args.tid) (omega (arith, counted.counted))
+    (delete_looks c.args.transaction c.args.relation.now c.args.tid c.in_ok-number.ensures.tests))
 
-pub returns-in_err-look-clause-did : goal.returns-in_err-look-clause-did
-returns-in_err-look-clause-did g c =
-    let call = Delete c.args.transaction c.args.relation.now c.args.tid in
-    let looks = c.in_err-look.ensures.looks in
-    let why = err_from_is_err_and c.from_residual-in_err-look.result c.from_residual-in_err-look.ensures.1 in
-    look_failed _ _ (why.1 ∙ ap Err why.2) c.in_ok-test_up.ensures.up looks.on (goes_looked call looks.on tt (λ pages. tt)) looks.ends
-    (λ told state shown. stops_by shown.kept call refl tt (looks.on.moments told state shown))
+pub relation-entry-requires : goal.relation-entry-requires
+relation-entry-requires g c =
+    ap (λ (catalog : CatalogView). is_some (relation_at catalog.listing c.in_ok-number.number)) c.in_ok-values.ensures.finds.looks.catalog
+    ∙ ap is_some (entry_at c.ask.new.self.session.store.catalog.listing c.args.relation.now c.in_ok-number.number c.in_ok-number.ensures.known).at
 
-pub returns-then-not-branch-clause-did : goal.returns-then-not-branch-clause-did
-returns-then-not-branch-clause-did g c =
-    let call = Delete c.args.transaction c.args.relation.now c.args.tid in
-    let store = c.args.self.now in
-    let mid = c.look.new.self in
-    let look = c.in_ok-look.ensures in
-    let looks = look.looks in
+pub change-requires-clause-asked : goal.change-requires-clause-asked
+change-requires-clause-asked g c =
+    let counted = c.in_ok-ask.ensures in
+    let found = c.in_ok-values.ensures in
+    asked_looked counted.ready found.finds.looks (found.calls ∙ counted.counted)
+
+pub returns-in_err-change-clause-did : goal.returns-in_err-change-clause-did
+returns-in_err-change-clause-did g c =
+    let counted = c.in_ok-ask.ensures in
     let admitted = c.in_ok-number.ensures in
-    let number = c.in_ok-number.number in
-    let entry = c.relation.result.now in
-    let at : relation_at mid.session.catalog.listing number ≡ Some entry = ap (λ (s : Session). relation_at s.catalog.listing number) look.session ∙ c.relation.ensures.is in
-    let named = name_of store.session.catalog.listing c.args.relation.now number entry admitted.known c.relation.ensures.is in
-    refused_so _ c.no_tuple.ensures.is c.in_ok-test_up.ensures.up looks.ends looks.on (goes_looked call looks.on tt (λ pages. tt)) c.no_tuple.ensures.short (λ told state shown.
-    let finds = rw c.if-not-branch.true at (look.finds (looks.on.told told)) in
-    let none = found_none (looks.on.shows told state shown) number entry at c.args.tid c.look.new.into finds in
-    delete_misses state (quiet_in shown) c.args.transaction c.args.relation.now c.args.tid (admitted.tests state shown.counts) (subst (λ (name : Name). HasFound state name c.args.tid None) named none))
-
-pub returns-in_err-test_room-clause-did : goal.returns-in_err-test_room-clause-did
-returns-in_err-test_room-clause-did g c =
-    let call = Delete c.args.transaction c.args.relation.now c.args.tid in
-    let store = c.args.self.now in
-    let mid = c.look.new.self in
-    let look = c.in_ok-look.ensures in
-    let looks = look.looks in
-    let admitted = c.in_ok-number.ensures in
-    let number = c.in_ok-number.number in
-    let entry = c.relation.result.now in
-    let at : relation_at mid.session.catalog.listing number ≡ Some entry = ap (λ (s : Session). relation_at s.catalog.listing number) look.session ∙ c.relation.ensures.is in
-    let named = name_of store.session.catalog.listing c.args.relation.now number entry admitted.known c.relation.ensures.is in
-    let tests = c.in_err-test_room.ensures.tests in
-    refused_later _ c.from_residual-in_err-test_room.ensures.1 c.in_ok-test_up.ensures.up looks.ends looks.on (goes_looked call looks.on tt (λ pages. tt)) tests.1 (λ told state shown.
-    let finds = rw c.if-not-branch.false at (look.finds (looks.on.told told)) in
-    let has = found_values (looks.on.shows told state shown) number entry at c.args.tid c.look.new.into finds in
-    let live = live_passes state c.args.relation.now c.args.tid has.values (subst (λ (name : Name). HasFound state name c.args.tid (Some has.values)) named has.holds) in
-    delete_full state c.args.transaction c.args.relation.now (quiet_in shown) (admitted.tests state shown.counts) c.args.tid live
-    (tests.0 state (subst (λ (s : Session). Counts s state) (sym look.session) shown.counts)))
-
-pub delete-requires : goal.delete-requires
-delete-requires g c =
-    let mid = c.look.new.self in
-    let look = c.in_ok-look.ensures in
-    record {
-      may = can_change (mid.ready look.looks.ends) (g.met.S.Pages.are_counted mid.tuples.pages) mid.size c.in_ok-test_room.ensures.room;
-      segment = segment_safe c.relation.result.now c.relation.ensures.safe;
-      live = λ told.
-          let finds = rw c.if-not-branch.false at (look.finds told) in
-          subst (λ (o : Option (List ℕ)). IsSome o) (sym (finds.some refl).1) refl;
-    }
-
-pub returns-in_err-test_counted-clause-did : goal.returns-in_err-test_counted-clause-did
-returns-in_err-test_counted-clause-did g c =
-    let call = Delete c.args.transaction c.args.relation.now c.args.tid in
-    let store = c.args.self.now in
-    let mid = c.look.new.self in
-    let look = c.in_ok-look.ensures in
-    let looks = look.looks in
-    let admitted = c.in_ok-number.ensures in
-    let number = c.in_ok-number.number in
-    let entry = c.relation.result.now in
-    let at : relation_at mid.session.catalog.listing number ≡ Some entry = ap (λ (s : Session). relation_at s.catalog.listing number) look.session ∙ c.relation.ensures.is in
-    let named = name_of store.session.catalog.listing c.args.relation.now number entry admitted.known c.relation.ensures.is in
-    let one : c.relation-2.result.now ≡ entry = same_Some _ _ (sym c.relation-2.ensures.is ∙ at) in
-    let lacks = c.in_err-test_counted.ensures.damaged in
-    damaged_so _ c.from_residual-in_err-test_counted.ensures.1 lacks.0 c.in_ok-test_up.ensures.up (goes_looked call (looks_as looks.on) tt (λ pages. tt)) (record {
-      sound = λ told. ∥∥₁_elim (mid.shown looks.ends (looks.on.told told)) (λ x y. absurd x) (λ shown_in.
-          let finds = rw c.if-not-branch.false at (look.finds (looks.on.told told)) in
-          let has = found_values shown_in.shows number entry at c.args.tid c.look.new.into finds in
-          absurd (omega (arith, some_live shown_in.shows.spells number entry at c.args.tid (ap is_some has.holds), lacks.1, ap (λ (r : RelationEntry). r.live) one)));
-      down = λ up. absurd (cc);
-    })
-
-pub deleted-requires : goal.deleted-requires
-deleted-requires g c =
-    let counted = c.relation-2 in
-    record {
-      «open» = λ none. none-some _ (sym none ∙ ap (λ (s : Session). s.transaction) c.in_ok-look.ensures.session ∙ c.in_ok-number.ensures.«open»);
-      listed = ap is_some counted.ensures.is;
-      some = λ entry at. omega (arith, c.in_ok-test_counted.ensures.some, ap (λ (r : RelationEntry). r.live) (same_Some _ _ (sym counted.ensures.is ∙ at)));
-      room = c.in_ok-test_room.ensures.room;
-    }
-
-pub returns-in_err-delete-clause-did : goal.returns-in_err-delete-clause-did
-returns-in_err-delete-clause-did g c =
-    let call = Delete c.args.transaction c.args.relation.now c.args.tid in
-    let mid = c.look.new.self in
-    let looks = c.in_ok-look.ensures.looks in
-    let ready = mid.ready looks.ends in
-    let did = c.in_err-delete.ensures.did in
-    let cost = goes {call = call} ready.settled_now did.step refl tt (λ pages. tt) in
-    joined _ looks.on (λ answer. tt) c.in_ok-test_up.ensures.up looks.ends (goes_after call refl (λ slots pages since. refl) looks.on cost)
-    (fails_change ready _ c.from_residual-in_err-delete.ensures.1 looks.ends (λ up. absurd (cc)) refl tt did cost)
-
-pub invariant_of-self-2 : goal.invariant_of-self-2
-invariant_of-self-2 g c =
-    let store = c.args.self.now in
-    let mid = c.look.new.self in
-    let look = c.in_ok-look.ensures in
-    let looks = look.looks in
-    let admitted = c.in_ok-number.ensures in
-    let number = c.in_ok-number.number in
-    let entry = c.relation.result.now in
-    let at : relation_at mid.session.catalog.listing number ≡ Some entry = ap (λ (s : Session). relation_at s.catalog.listing number) look.session ∙ c.relation.ensures.is in
-    let named = name_of store.session.catalog.listing c.args.relation.now number entry admitted.known c.relation.ensures.is in
-    let ready = mid.ready looks.ends in
-    let put = c.in_ok-delete.ensures in
-    let counted = c.deleted.ensures in
-    let counts = counted.counts entry at in
-    record {
-      ready = λ up. ready_changed ready put.did.step put.changes counted.once (stays_counted ready at counts);
-      size = counted.once.slots ∙ mid.size;
-      shown = λ up. shows_change ready put.did.step (mid.shown looks.ends) (λ told state shown.
-          let finds = rw c.if-not-branch.false at (look.finds told) in
-          let has = found_values shown number entry at c.args.tid c.look.new.into finds in
-          deletes_step shown ready (fixes_still ready told shown put.did.step) at c.args.transaction c.args.tid told put.did.step counted.once c.args.relation.now named has.values
-          (admitted.tests state (subst (λ (s : Session). Counts s state) look.session shown.counts)) (c.in_ok-test_room.ensures.tests state shown.counts) (subst (λ (name : Name). HasFound state name c.args.tid (Some has.values)) named has.holds) put.changes counts);
-    }
+    let found = c.in_ok-values.ensures in
+    asked (ap (session_view g.S.Pages.view) counted.session)
+    (ends_short found.finds.looks
+    (delete_ends c.args.transaction c.args.relation.now c.args.tid admitted.tests found.finds admitted.known c.relation-entry.ensures.is (omega arith) (omega arith) c.as_slice.ensures c.values_of.ensures.spelled c.values_of.ensures.short)
+    c.from_residual-in_err-change.result c.from_residual-in_err-change.ensures.1 counted.was_up (omega (arith, counted.counted, found.calls, c.change.ensures.calls)) c.in_err-change.ensures.did)
 
 pub returns-clause-did : goal.returns-clause-did
 returns-clause-did g c =
-    let call = Delete c.args.transaction c.args.relation.now c.args.tid in
-    let store = c.args.self.now in
-    let mid = c.look.new.self in
-    let look = c.in_ok-look.ensures in
-    let looks = look.looks in
+    let counted = c.in_ok-ask.ensures in
     let admitted = c.in_ok-number.ensures in
-    let number = c.in_ok-number.number in
-    let entry = c.relation.result.now in
-    let at : relation_at mid.session.catalog.listing number ≡ Some entry = ap (λ (s : Session). relation_at s.catalog.listing number) look.session ∙ c.relation.ensures.is in
-    let named = name_of store.session.catalog.listing c.args.relation.now number entry admitted.known c.relation.ensures.is in
-    let ready = mid.ready looks.ends in
-    let put = c.in_ok-delete.ensures in
-    let counted = c.deleted.ensures in
-    let counts = counted.counts entry at in
-    let cost = goes {call = call} ready.settled_now put.did.step counted.once.slots tt (λ pages. tt) in
-    joined _ looks.on (λ answer. tt) c.in_ok-test_up.ensures.up looks.ends (goes_after call refl (λ slots pages since. refl) looks.on cost) (comes_to looks.ends cost (answers_change ready put.did.step counted.once (λ told state shown.
-    let finds = rw c.if-not-branch.false at (look.finds told) in
-    let has = found_values shown number entry at c.args.tid c.look.new.into finds in
-    deletes_step shown ready (fixes_still ready told shown put.did.step) at c.args.transaction c.args.tid told put.did.step counted.once c.args.relation.now named has.values
-    (admitted.tests state (subst (λ (s : Session). Counts s state) look.session shown.counts)) (c.in_ok-test_room.ensures.tests state shown.counts) (subst (λ (name : Name). HasFound state name c.args.tid (Some has.values)) named has.holds) put.changes counts)
-    (λ told. tt) refl (search rules) refl (changed_counted put.changes counts) refl))
+    let found = c.in_ok-values.ensures in
+    asked (ap (session_view g.S.Pages.view) counted.session)
+    (ends_made found.finds.looks
+    (delete_ends c.args.transaction c.args.relation.now c.args.tid admitted.tests found.finds admitted.known c.relation-entry.ensures.is (omega arith) (omega arith) c.as_slice.ensures c.values_of.ensures.spelled c.values_of.ensures.short)
+    counted.was_up (omega (arith, counted.counted, found.calls, c.change.ensures.calls)) (λ told. tt) c.in_ok-change.ensures.did)

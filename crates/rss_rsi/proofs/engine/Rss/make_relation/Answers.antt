@@ -1,30 +1,22 @@
-use Rattle.rss_rsi.proofs.Answering.{found_down}
-use Rattle.std.proofs.Common.{List, subst, sym, ◌∙◌}
-use Rattle.std.proofs.lemmas.Bool.{true≢false}
+use Rattle.std.proofs.Common.{List, subst}
 use Rattle.rss_base.specs.declared.call.Call.TheVariants.{MakeRelation}
 use Rattle.rss_base.specs.declared.field.FieldDef.{FieldDef}
-use Rattle.rss_rsi.specs.Sessions.{Defining}
-use Rattle.rss_rsi.proofs.Redefining.{as_up, is_defining}
+use Rattle.rss_session.specs.Definitions.{Defining}
+use Rattle.rss_rsi.proofs.Defining.{asks_for, is_defining, as_up}
 use Rattle.rss_rsi.proofs.engine.Rss.make_relation.Goals as goal
-
-pub returns-in_err-test_up-clause-did : goal.returns-in_err-test_up-clause-did
-returns-in_err-test_up-clause-did g c =
-    let down = c.in_err-test_up.ensures.down in
-    found_down _ c.from_residual.ensures.1 down.0 (λ up. true≢false (sym down.1 ∙ up))
 
 pub redefine-requires-clause-some : goal.redefine-requires-clause-some
 redefine-requires-clause-some g c =
     let store = c.args.self.now in
-    let made = subst (λ (fields : List FieldDef). Defining store.session c.make_relation-made.new.self (MakeRelation c.args.name.now c.args.segment.now fields) c.make_relation-made.result) c.in-Ok.ensures c.make_relation-made.ensures in
-    record {
-      before = store.session;
-      call = MakeRelation c.args.name.now c.args.segment.now c.args.fields.now;
-      is = is_defining store.session (MakeRelation c.args.name.now c.args.segment.now c.args.fields.now) (c.requires.name, c.requires.fields) made (store.ready c.in_ok-test_up.ensures.up) store.size (store.shown c.in_ok-test_up.ensures.up);
-    }
+    let ask = c.in_ok-ask.ensures in
+    let to = asks_for g.S.Pages.view (MakeRelation c.args.name.now c.args.segment.now c.args.fields.now) store.session store.calls in
+    let made = subst (λ (fields : List FieldDef). Defining g.S.Pages.view c.ask.new.self.session c.make_relation-made.new.self (MakeRelation c.args.name.now c.args.segment.now fields) c.make_relation-made.result) c.in-Ok.ensures c.make_relation-made.ensures in
+    (to, is_defining g.S.Pages.view to ask.session made (c.requires.name, c.requires.fields) (store.ready ask.was_up) c.requires.few ask.counted)
 
 pub returns-clause-did : goal.returns-clause-did
+unfolding redefine-requires-clause-some
 returns-clause-did g c =
     let store = c.args.self.now in
-    let call = MakeRelation c.args.name.now c.args.segment.now c.args.fields.now in
-    let made = subst (λ (fields : List FieldDef). Defining store.session c.make_relation-made.new.self (MakeRelation c.args.name.now c.args.segment.now fields) c.make_relation-made.result) c.in-Ok.ensures c.make_relation-made.ensures in
-    as_up store.down c.in_ok-test_up.ensures.up (c.redefine.ensures store.session call (is_defining store.session call (c.requires.name, c.requires.fields) made (store.ready c.in_ok-test_up.ensures.up) store.size (store.shown c.in_ok-test_up.ensures.up)))
+    let ask = c.in_ok-ask.ensures in
+    let asked = redefine-requires-clause-some g c.before in
+    as_up g.S.Pages.view asked.0 store.down ask.was_up (c.redefine.ensures.did asked.0 asked.1)

@@ -7,11 +7,29 @@ returns-in-Begin-clause-done g c = rw c.in-Begin.is c.begin.ensures.did
 pub returns-in-Begin-clause-untouched : goal.returns-in-Begin-clause-untouched
 returns-in-Begin-clause-untouched g c = λ is. c.begin.ensures.untouched (λ up. never_down c.begin.ensures.did up is)
 
+pub returns-in-Save-clause-done : goal.returns-in-Save-clause-done
+returns-in-Save-clause-done g c = rw c.in-Save.is c.save.ensures.did
+
+pub returns-in-Save-clause-untouched : goal.returns-in-Save-clause-untouched
+returns-in-Save-clause-untouched g c = λ is. c.save.ensures.untouched (λ up. never_down c.save.ensures.did up is)
+
+pub returns-in-Restore-clause-done : goal.returns-in-Restore-clause-done
+returns-in-Restore-clause-done g c = rw c.in-Restore.is c.restore.ensures.did
+
+pub returns-in-Restore-clause-untouched : goal.returns-in-Restore-clause-untouched
+returns-in-Restore-clause-untouched g c = λ is. c.restore.ensures.untouched (λ up. never_down c.restore.ensures.did up is)
+
 pub returns-in-End-clause-done : goal.returns-in-End-clause-done
 returns-in-End-clause-done g c = rw c.in-End.is c.end.ensures.did
 
 pub returns-in-End-clause-untouched : goal.returns-in-End-clause-untouched
 returns-in-End-clause-untouched g c = λ is. c.end.ensures.untouched (λ up. never_down c.end.ensures.did up is)
+
+pub returns-in-Abort-clause-done : goal.returns-in-Abort-clause-done
+returns-in-Abort-clause-done g c = rw c.in-Abort.is c.abort.ensures.did
+
+pub returns-in-Abort-clause-untouched : goal.returns-in-Abort-clause-untouched
+returns-in-Abort-clause-untouched g c = λ is. c.abort.ensures.untouched (λ up. never_down c.abort.ensures.did up is)
 
 pub returns-in-Insert-clause-done : goal.returns-in-Insert-clause-done
 returns-in-Insert-clause-done g c = rw c.in-Insert.is c.insert.ensures.did
@@ -36,6 +54,12 @@ returns-in-Delete-clause-done g c = rw c.in-Delete.is c.delete.ensures.did
 
 pub returns-in-Delete-clause-untouched : goal.returns-in-Delete-clause-untouched
 returns-in-Delete-clause-untouched g c = λ is. c.delete.ensures.untouched (λ up. never_down c.delete.ensures.did up is)
+
+pub returns-in-Checkpoint-clause-done : goal.returns-in-Checkpoint-clause-done
+returns-in-Checkpoint-clause-done g c = rw c.in-Checkpoint.is c.checkpoint.ensures.did
+
+pub returns-in-Checkpoint-clause-untouched : goal.returns-in-Checkpoint-clause-untouched
+returns-in-Checkpoint-clause-untouched g c = λ is. c.checkpoint.ensures.untouched (λ up. never_down c.checkpoint.ensures.did up is)
 
 pub returns-in-MakeSegment-clause-done : goal.returns-in-MakeSegment-clause-done
 returns-in-MakeSegment-clause-done g c = rw c.in-MakeSegment.is c.make_segment.ensures.did

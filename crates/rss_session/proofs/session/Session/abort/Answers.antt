@@ -13,6 +13,8 @@ use Rattle.rss_session.specs.Shown.{Shows}
 use Rattle.rss_session.proofs.Aborted.{abort_room, ready_aborted, aborts_some, aborts_none}
 use Rattle.rss_session.proofs.Ended.{ready_left}
 use Rattle.rss_session.proofs.Restored.{still_open, undone_own, none_own}
+use Rattle.rss_session.proofs.Passing.{goes_still}
+use Rattle.rss_session.proofs.SavePoints.{gone_saves}
 use Rattle.rss_session.proofs.session.Session.abort.Goals as goal
 
 -- a position was found, or none
@@ -53,7 +55,7 @@ returns-then-is_some-clause-shows g c = λ on state kept shows.
     let has = marked old c.args.transaction state c.requires.open shows in
     let own = undone_own old mid c.args.transaction 0 c.in_ok-first.first state (transaction_in old.opened c.args.transaction).saves has shows c.in_ok-first.ensures.takes some.0 some.1 in
     aborts_some old mid new c.args.transaction c.in_ok-first.first state kept shows (c.in_ok-first.ensures.back on state (transaction_in old.opened c.args.transaction).saves kept has shows)
-    c.gone.ensures refl refl c.abort.ensures.catalog (omega (arith, own)) (c.abort.ensures.cuts (c.in_ok-first.ensures.goes.told on))
+    c.gone.ensures refl refl c.abort.ensures.catalog (omega (arith, own)) (c.abort.ensures.cuts (c.in_ok-first.ensures.goes.told.0 on))
 
 pub returns-else-is_some-clause-ready : goal.returns-else-is_some-clause-ready
 returns-else-is_some-clause-ready g c =
@@ -72,3 +74,9 @@ returns-else-is_some-clause-shows g c = λ on state kept shows.
     let takes = c.in_ok-first.ensures.takes in
     let few = none_own mid c.args.transaction 0 c.in_ok-first.first state back (found_none c.in_ok-first.first (sym c.is_some.ensures ∙ c.if-is_some.false)) in
     aborts_none old mid new c.args.transaction c.in_ok-first.first state kept shows back c.gone.ensures refl refl refl (omega (arith, few)) refl takes.root takes.backing
+
+pub returns-then-is_some-clause-goes : goal.returns-then-is_some-clause-goes
+returns-then-is_some-clause-goes g c = goes_still _ c.in_ok-first.ensures.goes (λ i. g.S.Pages.view (c.abort.ensures.pages i)) c.abort.ensures.root (gone_saves _ c.args.transaction c.gone.ensures.transactions)
+
+pub returns-else-is_some-clause-goes : goal.returns-else-is_some-clause-goes
+returns-else-is_some-clause-goes g c = goes_still _ c.in_ok-first.ensures.goes refl refl (gone_saves _ c.args.transaction c.gone.ensures.transactions)

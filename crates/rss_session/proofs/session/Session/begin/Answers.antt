@@ -1,9 +1,11 @@
+use Rattle.std.proofs.Common.{arith}
 use Rattle.std.proofs.lemmas.Result.{on_ok_weaker, on_err_weaker}
 use Rattle.rss_trans.specs.Tables.{told}
 use Rattle.rss_trans.specs.Transactions.{nothing}
 use Rattle.rss_trans.proofs.Told.{begin_tells}
 use Rattle.rss_session.specs.Parts.{view}
 use Rattle.rss_session.proofs.Shown.{either, done_nothing, shows_opened, shows_still, ready_with, ready_still}
+use Rattle.rss_session.proofs.SavePoints.{same_saves, keeps_saves}
 use Rattle.rss_session.proofs.session.Session.begin.Goals as goal
 
 pub returns-clause-ready : goal.returns-clause-ready
@@ -26,3 +28,9 @@ returns-clause-begins g c =
 pub returns-clause-same : goal.returns-clause-same
 returns-clause-same g c =
     on_err_weaker c.begin.result (shows_still {view = view g.S.Pages.view c.args.self.now} (told c.begin.new.self)) c.begin.ensures.err
+
+pub returns-clause-saves : goal.returns-clause-saves
+returns-clause-saves g c =
+    either c.begin.result c.begin.ensures.ok c.begin.ensures.err
+    (λ begins. keeps_saves _ c.args.transaction nothing begins.transactions (omega arith))
+    (λ same. same_saves _ same.transactions)

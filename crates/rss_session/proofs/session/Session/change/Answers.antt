@@ -1,8 +1,9 @@
-use Rattle.std.proofs.Common.{refl, sym}
+use Rattle.std.proofs.Common.{refl, sym, arith}
 use Rattle.rss_model.proofs.Sparing.{takes_two}
 use Rattle.rss_record.proofs.Parsing.{some_bytes}
 use Rattle.rss_base.specs.declared.log_record.LogRecord.TheVariants as records
 use Rattle.rss_store.proofs.Altered.{fault_passed}
+use Rattle.rss_session.proofs.SavePoints.{keeps_saves}
 use Rattle.rss_session.proofs.Noted.{weighed_goes}
 use Rattle.rss_session.proofs.Changed.{ready_noted, makes_noted}
 use Rattle.rss_session.proofs.Passing.{keeps_altered, goes_altered, fault_same}
@@ -12,13 +13,14 @@ pub returns-in_err-position-clause-moments : goal.returns-in_err-position-clause
 returns-in_err-position-clause-moments g c = λ told state kept shows. keeps_altered c.requires.ready.store c.in_err-position.ensures.did told state shows.store
 
 pub returns-in_err-position-clause-goes : goal.returns-in_err-position-clause-goes
-returns-in_err-position-clause-goes g c = goes_altered c.from_residual.result c.requires.ready.store (fault_same refl c.from_residual.ensures.1) (fault_same refl c.from_residual.ensures.1) c.in_err-position.ensures.did
+returns-in_err-position-clause-goes g c = goes_altered c.from_residual.result c.requires.ready.store (fault_same refl c.from_residual.ensures.1) (fault_same refl c.from_residual.ensures.1) c.in_err-position.ensures.did (λ t. omega arith)
 
 pub returns-clause-moments : goal.returns-clause-moments
 returns-clause-moments g c = λ told state kept shows. keeps_altered c.requires.ready.store c.in_ok-position.ensures.did told state shows.store
 
 pub returns-clause-goes : goal.returns-clause-goes
 returns-clause-goes g c = goes_altered _ c.requires.ready.store (λ is. absurd (cc)) (λ is. absurd (cc)) c.in_ok-position.ensures.did
+    (keeps_saves _ c.args.transaction _ c.note.ensures.transactions (omega arith))
 
 pub returns-in_err-position-clause-sound : goal.returns-in_err-position-clause-sound
 returns-in_err-position-clause-sound g c = λ place is told state change by kept shows may. c.in_err-position.ensures.sound place (fault_passed c.from_residual.ensures.1 is) told state change by shows.store may

@@ -1,7 +1,7 @@
 use Rattle.std.proofs.Common.{refl}
-use Rattle.std.proofs.lemmas.Result.{on_ok_weaker}
+use Rattle.std.proofs.lemmas.Result.{on_ok_weaker, IfOk-weaker}
 use Rattle.rss_session.specs.Parts.{view}
-use Rattle.rss_session.proofs.Looked.{ready_looked, shows_looked, keeps_looked, place_found}
+use Rattle.rss_session.proofs.Looked.{ready_looked, shows_looked, keeps_looked, place_found, has_no_place}
 use Rattle.rss_session.proofs.Passing.{goes_called}
 use Rattle.rss_session.proofs.session.Session.choose.Goals as goal
 
@@ -25,4 +25,7 @@ returns-clause-looks g c =
     }
 
 pub returns-clause-finds : goal.returns-clause-finds
-returns-clause-finds g c = place_found (view g.S.Pages.view c.args.self.now) c.args.segment c.args.length c.choose.result c.choose.ensures.free c.choose.ensures.chosen
+returns-clause-finds g c = place_found (view g.S.Pages.view c.args.self.now) c.args.segment c.args.length c.choose.result c.requires.ready c.choose.ensures.named c.choose.ensures.free c.choose.ensures.chosen
+
+pub returns-clause-none : goal.returns-clause-none
+returns-clause-none g c = IfOk-weaker c.choose.result _ _ (λ found none is. has_no_place c.requires.ready (none is)) c.choose.ensures.none

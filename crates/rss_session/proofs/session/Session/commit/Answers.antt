@@ -9,6 +9,8 @@ use Rattle.rss_session.specs.Parts.{view}
 use Rattle.rss_session.specs.Sessions.{SessionView}
 use Rattle.rss_session.proofs.Fewer.{some_newer, none_newer}
 use Rattle.rss_session.proofs.Ended.{end_room, ready_ended, ready_left, may_commit, own_some, shows_ended, shows_left}
+use Rattle.rss_session.proofs.Passing.{goes_committed, goes_opened}
+use Rattle.rss_session.proofs.SavePoints.{gone_saves}
 use Rattle.rss_session.proofs.session.Session.commit.Goals as goal
 
 -- it has no changes
@@ -21,6 +23,9 @@ returns-then-not-changed-clause-ready g c = ready_left (view g.S.Pages.view c.ar
 pub returns-then-not-changed-clause-shows : goal.returns-then-not-changed-clause-shows
 returns-then-not-changed-clause-shows g c = λ on state kept fit shows.
     shows_left (view g.S.Pages.view c.args.self.now) _ c.args.transaction c.gone.ensures refl refl refl state kept shows (none_is (told c.args.self.now.open) c.args.transaction c.newest.ensures c.if-not-changed.ensures) refl
+
+pub returns-then-not-changed-clause-goes : goal.returns-then-not-changed-clause-goes
+returns-then-not-changed-clause-goes g c = goes_opened _ (gone_saves _ c.args.transaction c.gone.ensures.transactions)
 
 -- it has changes
 some_are : {found : Option ℕ} (open_now : OpenView) (t : ℕ) → found ≡ newest_after (transaction_in open_now t) 0 → true ≡ is_some found → 1 ≤ length (transaction_in open_now t).changes
@@ -57,6 +62,9 @@ returns-clause-moments g c = λ on state kept fit shows.
     let new : SessionView = record { store = store_view g.S.Pages.view c.commit.new.self; opened = told c.gone.new.self; heap = old.heap; surviving = old.surviving } in
     let own = own_some old new c.args.transaction c.gone.ensures refl refl c.commit.ensures.catalog state kept shows (some_are (told c.args.self.now.open) c.args.transaction c.newest.ensures c.if-not-changed.ensures) in
     c.commit.ensures.moments on state shows.store (may_commit c.args.transaction state own kept shows.counted.rooms fit)
+
+pub returns-clause-goes : goal.returns-clause-goes
+returns-clause-goes g c = goes_committed c.commit.ensures.did c.commit.ensures.size (gone_saves _ c.args.transaction c.gone.ensures.transactions)
 
 pub returns-clause-still : goal.returns-clause-still
 returns-clause-still g c = λ none.

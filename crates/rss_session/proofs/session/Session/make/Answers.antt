@@ -5,6 +5,7 @@ use Rattle.rss_base.proofs.Moments.{then}
 use Rattle.rss_model.specs.Rules.{saved_now}
 use Rattle.rss_model.proofs.OpenKeeping.{keeps_meter}
 use Rattle.rss_session.proofs.Made.{weighed_again, may_then, makes_then}
+use Rattle.rss_session.proofs.Passing.{goes_then}
 use Rattle.rss_session.proofs.session.Session.make.Goals as goal
 
 pub change-requires-2-clause-place : goal.change-requires-2-clause-place
@@ -25,7 +26,7 @@ returns-clause-makes g c =
     let mid = checkpoint.shows told state kept shows in
     let may_mid = may_then checkpoint.anew c.requires.ready checkpoint.ready weighed_so goes state change by shows may mid in
     makes_then checkpoint.anew c.requires.ready checkpoint.ready weighed_so goes state change by shows may mid
-    (makes (checkpoint.goes.told told) (record state { meter = saved_now state }) change by (keeps_meter kept (saved_now state)) mid may_mid)) c.change-2.ensures.makes
+    (makes (checkpoint.goes.told.0 told) (record state { meter = saved_now state }) change by (keeps_meter kept (saved_now state)) mid may_mid)) c.change-2.ensures.makes
 
 pub returns-clause-sound : goal.returns-clause-sound
 returns-clause-sound g c = λ place is told state change by kept shows may.
@@ -34,11 +35,14 @@ returns-clause-sound g c = λ place is told state change by kept shows may.
     let weighed_so = c.requires.weighed ∙ ap (λ (b : Bool). Ok b) saves in
     let goes = weighed_again checkpoint.anew checkpoint.goes.slots c.args.transaction _ weighed_so in
     let mid = checkpoint.shows told state kept shows in
-    c.change-2.ensures.sound place is (checkpoint.goes.told told) (record state { meter = saved_now state }) change by (keeps_meter kept (saved_now state)) mid
+    c.change-2.ensures.sound place is (checkpoint.goes.told.0 told) (record state { meter = saved_now state }) change by (keeps_meter kept (saved_now state)) mid
     (may_then checkpoint.anew c.requires.ready checkpoint.ready weighed_so goes state change by shows may mid)
 
 pub returns-clause-moments : goal.returns-clause-moments
 returns-clause-moments g c = λ told state kept shows.
     let checkpoint = c.in_ok-checkpoint.ensures in
     then (checkpoint.moments told state kept shows)
-    (c.change-2.ensures.moments (checkpoint.goes.told told) (record state { meter = saved_now state }) (keeps_meter kept (saved_now state)) (checkpoint.shows told state kept shows)) (λ image holds. holds)
+    (c.change-2.ensures.moments (checkpoint.goes.told.0 told) (record state { meter = saved_now state }) (keeps_meter kept (saved_now state)) (checkpoint.shows told state kept shows)) (λ image holds. holds)
+
+pub returns-clause-goes : goal.returns-clause-goes
+returns-clause-goes g c = goes_then c.in_ok-checkpoint.ensures.goes c.change-2.ensures.goes

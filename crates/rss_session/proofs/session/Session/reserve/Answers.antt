@@ -1,6 +1,7 @@
 use Rattle.rss_session.specs.Parts.{view}
 use Rattle.rss_trans.specs.Tables.{told}
 use Rattle.rss_session.proofs.Shown.{shows_still, weighed_still}
+use Rattle.rss_session.proofs.SavePoints.{same_saves}
 use Rattle.rss_session.proofs.session.Session.reserve.Goals as goal
 
 pub returns-clause-shows : goal.returns-clause-shows
@@ -8,3 +9,6 @@ returns-clause-shows g c = shows_still {view = view g.S.Pages.view c.args.self.n
 
 pub returns-clause-weighs : goal.returns-clause-weighs
 returns-clause-weighs g c = weighed_still (view g.S.Pages.view c.args.self.now) (told c.reserve.new.self) c.reserve.ensures.same c.args.transaction
+
+pub returns-clause-saves : goal.returns-clause-saves
+returns-clause-saves g c = same_saves _ c.reserve.ensures.same.transactions

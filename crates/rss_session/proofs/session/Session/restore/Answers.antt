@@ -6,6 +6,8 @@ use Rattle.rss_store.specs.Parts.{view as store_view}
 use Rattle.rss_session.specs.Parts.{view}
 use Rattle.rss_session.specs.Sessions.{SessionView}
 use Rattle.rss_session.proofs.Restored.{still_open, save_there, restore_room, ready_restored, ready_unchanged, restores_some, restores_none, undone_own, none_own}
+use Rattle.rss_session.proofs.Passing.{goes_still}
+use Rattle.rss_session.proofs.SavePoints.{cut_saves}
 use Rattle.rss_session.proofs.session.Session.restore.Goals as goal
 
 pub cut-requires-clause-open : goal.cut-requires-clause-open
@@ -33,7 +35,7 @@ returns-in-Some-clause-shows g c = λ on state marks kept has shows.
     let new : SessionView = record { store = store_view g.S.Pages.view c.cut-in-Some.new.self; opened = told c.cut.new.self; heap = mid.heap; surviving = mid.surviving } in
     let back = c.in_ok-first.ensures.back on state marks kept has shows in
     restores_some old mid new c.args.transaction c.args.save c.in_ok-first.first state marks kept has shows back c.cut.ensures refl refl c.cut-in-Some.ensures.catalog
-    c.in-Some.first c.in-Some.is (undone_own old mid c.args.transaction c.args.save c.in_ok-first.first state marks has shows c.in_ok-first.ensures.takes c.in-Some.first c.in-Some.is) (c.cut-in-Some.ensures.cuts (c.in_ok-first.ensures.goes.told on))
+    c.in-Some.first c.in-Some.is (undone_own old mid c.args.transaction c.args.save c.in_ok-first.first state marks has shows c.in_ok-first.ensures.takes c.in-Some.first c.in-Some.is) (c.cut-in-Some.ensures.cuts (c.in_ok-first.ensures.goes.told.0 on))
 
 pub returns-in_default-clause-ready : goal.returns-in_default-clause-ready
 returns-in_default-clause-ready g c =
@@ -51,3 +53,11 @@ returns-in_default-clause-shows g c = λ on state marks kept has shows.
     let takes = c.in_ok-first.ensures.takes in
     restores_none old mid new c.args.transaction c.args.save c.in_ok-first.first state marks kept has shows back c.cut.ensures refl refl refl
     (none_own mid c.args.transaction (left_at marks c.args.save) c.in_ok-first.first state back c.in_default.is) refl takes.root takes.backing
+
+pub returns-in-Some-clause-goes : goal.returns-in-Some-clause-goes
+returns-in-Some-clause-goes g c =
+    goes_still _ c.in_ok-first.ensures.goes (λ i. g.S.Pages.view (c.cut-in-Some.ensures.pages i)) c.cut-in-Some.ensures.root
+    (cut_saves _ c.args.transaction c.args.save c.cut.ensures.transactions)
+
+pub returns-in_default-clause-goes : goal.returns-in_default-clause-goes
+returns-in_default-clause-goes g c = goes_still _ c.in_ok-first.ensures.goes refl refl (cut_saves _ c.args.transaction c.args.save c.cut.ensures.transactions)

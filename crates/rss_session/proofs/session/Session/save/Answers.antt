@@ -9,6 +9,7 @@ use Rattle.rss_trans.proofs.Told.{save_tells}
 use Rattle.rss_trans.proofs.Asked.{saves_told}
 use Rattle.rss_session.specs.Parts.{view}
 use Rattle.rss_session.proofs.Shown.{either, if_ok_with, shows_opened, shows_still, ready_with, ready_still}
+use Rattle.rss_session.proofs.SavePoints.{same_saves, put_saves, one_more}
 use Rattle.rss_session.proofs.session.Session.save.Goals as goal
 
 pub returns-clause-ready : goal.returns-clause-ready
@@ -35,3 +36,10 @@ returns-clause-saves g c =
 pub returns-clause-same : goal.returns-clause-same
 returns-clause-same g c =
     on_err_weaker c.save.result (shows_still {view = view g.S.Pages.view c.args.self.now} (told c.save.new.self)) c.save.ensures.err
+
+pub returns-clause-more : goal.returns-clause-more
+returns-clause-more g c =
+    let old = told c.args.self.now.open in
+    either c.save.result c.save.ensures.ok c.save.ensures.err
+    (λ steps. put_saves _ c.args.transaction 1 _ steps.transactions (one_more (transaction_in old c.args.transaction)))
+    (λ same t. omega (arith, same_saves _ same.transactions t))

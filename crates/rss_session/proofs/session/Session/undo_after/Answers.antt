@@ -7,6 +7,7 @@ use Rattle.rss_session.specs.Parts.{view}
 use Rattle.rss_session.proofs.Backwards.{begins_back, there, turns_back, none_shown, takes_back, goes_back, keeps_left, goes_left}
 use Rattle.rss_session.proofs.Fewer.{put_open}
 use Rattle.rss_session.proofs.Passing.{fault_same}
+use Rattle.rss_session.proofs.SavePoints.{keeps_saves}
 use Rattle.rss_session.proofs.Undone.{taken_shorter}
 use Rattle.rss_session.proofs.session.Session.undo_after.Goals as goal
 
@@ -38,6 +39,7 @@ returns-in_err-undo_newest-clause-goes g c =
     goes_left (view g.S.Pages.view c.args.self.now) (view g.S.Pages.view c.undo_newest.new.self) c.from_residual.result c.requires.ready (leaves_then way.leaves did.step.passes.leaves)
     (omega (arith, way.later, did.step.passes.later)) (did.root ∙ way.root) (did.step.passes.backing ∙ way.backing)
     (λ is. rises_since way.later (did.failed (fault_same refl c.from_residual.ensures.1 is))) (λ is. did.memory (fault_same refl c.from_residual.ensures.1 is))
+    (λ t. omega (arith, keeps_saves _ c.args.transaction _ way.opened.transactions (omega arith) t, c.in_err-undo_newest.ensures.saves t))
 
 pub loop-position-smaller : goal.loop-position-smaller
 loop-position-smaller g c = taken_shorter (told c.loop-position.self.open) (told c.undo_newest.new.self.open) c.args.transaction c.args.save c.in-Some.position
@@ -61,3 +63,9 @@ returns-clause-back g c = λ on state marks kept has shows.
 
 pub returns-clause-moments : goal.returns-clause-moments
 returns-clause-moments g c = keeps_left (view g.S.Pages.view c.args.self.now) (view g.S.Pages.view c.loop-position.self) c.requires.ready c.loop-position.invariant.leaves
+
+pub returns-clause-goes : goal.returns-clause-goes
+returns-clause-goes g c =
+    let way = c.loop-position.invariant in
+    goes_left (view g.S.Pages.view c.args.self.now) (view g.S.Pages.view c.loop-position.self) _ c.requires.ready way.leaves way.later way.root way.backing
+    (λ is. absurd (cc (is))) (λ is. absurd (cc (is))) (keeps_saves _ c.args.transaction _ way.opened.transactions (omega arith))

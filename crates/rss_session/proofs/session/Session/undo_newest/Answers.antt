@@ -6,6 +6,7 @@ use Rattle.rss_session.specs.Parts.{view}
 use Rattle.rss_session.specs.Sessions.{SessionView}
 use Rattle.rss_session.proofs.Fewer.{placed_at}
 use Rattle.rss_session.proofs.Undone.{can_alter, ready_undone, back_one}
+use Rattle.rss_session.proofs.SavePoints.{keeps_saves}
 use Rattle.rss_session.proofs.session.Session.undo_newest.Goals as goal
 
 pub undo-requires-clause-may : goal.undo-requires-clause-may
@@ -30,3 +31,6 @@ returns-clause-back g c = λ on state n count own shows.
     let old = view g.S.Pages.view c.args.self.now in
     let new : SessionView = record { store = store_view g.S.Pages.view c.undo.new.self; opened = told c.take_newest.new.self; heap = old.heap; surviving = old.surviving } in
     back_one old new c.args.transaction c.args.position c.requires.ready c.requires.open c.requires.newest c.take_newest.ensures refl refl state n count c.in_ok-undo.ensures.did.definitions (c.in_ok-undo.ensures.takes on) own shows
+
+pub returns-clause-saves : goal.returns-clause-saves
+returns-clause-saves g c = keeps_saves _ c.args.transaction _ c.take_newest.ensures.transactions (omega arith)

@@ -1,10 +1,12 @@
 use Rattle.std.proofs.Common.{◌≡◌, inl, inr, false, ◌∙◌, ap, arith}
 use Rattle.std.specs.Prelude.{Err}
 use Rattle.rss_base.specs.declared.refusal.Refusal.TheVariants.{Full, LogFull}
+use Rattle.rss_model.proofs.Lengths.{full_line}
 use Rattle.rss_trans.specs.declared.sums.Sums.{Sums}
 use Rattle.rss_session.specs.Parts.{view}
 use Rattle.rss_session.specs.Weighing.{goes_on, saved_room_with}
 use Rattle.rss_session.proofs.Outcomes.{goes_on_so, stays_off, is_full, log_is_full, saves_first}
+use Rattle.rss_session.proofs.Lines.{log_full_line}
 use Rattle.rss_session.proofs.Weighed.{rules_so}
 use Rattle.rss_session.proofs.session.Session.weigh.Goals.{else-room-from-via-then-room-from+else-needed-log_free, else-room-from-via-else-room-from}
 use Rattle.rss_session.proofs.session.Session.weigh.Goals as goal
@@ -32,6 +34,9 @@ pub returns-then-room-from-2-clause-rules : goal.returns-then-room-from-2-clause
 returns-then-room-from-2-clause-rules g c =
     rules_so (view g.S.Pages.view c.args.self.now) c.args.transaction c.args.size _ c.requires.ready (g.met.S.Pages.holds c.args.self.now.store.tuples.pages) (returns-then-room-from-2-clause-weighed g c)
 
+pub returns-then-room-from-2-clause-short : goal.returns-then-room-from-2-clause-short
+returns-then-room-from-2-clause-short g c = full_line c.slots-slots.result c.room_of-room-2.result (omega arith) (omega arith)
+
 pub returns-then-needed-free-clause-weighed : goal.returns-then-needed-free-clause-weighed
 returns-then-needed-free-clause-weighed g c =
     let now = view g.S.Pages.view c.args.self.now in
@@ -47,6 +52,9 @@ returns-then-needed-free-clause-weighed g c =
 pub returns-then-needed-free-clause-rules : goal.returns-then-needed-free-clause-rules
 returns-then-needed-free-clause-rules g c =
     rules_so (view g.S.Pages.view c.args.self.now) c.args.transaction c.args.size _ c.requires.ready (g.met.S.Pages.holds c.args.self.now.store.tuples.pages) (returns-then-needed-free-clause-weighed g c)
+
+pub returns-then-needed-free-clause-short : goal.returns-then-needed-free-clause-short
+returns-then-needed-free-clause-short g c = log_full_line c.saved_free-free.result c.needed_with-needed.result (omega arith) (omega arith)
 
 pub returns-clause-weighed : goal.returns-clause-weighed
 returns-clause-weighed g c =

@@ -6,7 +6,7 @@ use Rattle.rss_store.proofs.store.DurableStore.bring_to_rest.Goals as goal
 pub returns-in-Some-true-clause-did : goal.returns-in-Some-true-clause-did
 returns-in-Some-true-clause-did g c =
     begins_rested c.requires.ready c.requires.saved (g.met.S.Pages.holds c.args.self.now.tuples.pages) (g.met.S.Pages.stays c.args.self.now.tuples.pages c.requires.ready.settled_now)
-    (c.in-Some-true.ensures.some.0 (is_true c.in-Some-true.field-0-test))
+    c.requires.half (c.in-Some-true.ensures.some.0 (is_true c.in-Some-true.field-0-test))
 
 pub returns-in-Some-false-clause-rested : goal.returns-in-Some-false-clause-rested
 returns-in-Some-false-clause-rested g c = λ stored read rested. absurd (not_true (c.in-Some-false.ensures.some.1 (read_rests read rested)) c.in-Some-false.field-0-test)

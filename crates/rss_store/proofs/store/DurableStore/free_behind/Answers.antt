@@ -1,8 +1,7 @@
-use Rattle.std.proofs.Common.{◌≡◌, ℕ, ◌+◌, ◌*◌, ◌∙◌, List, length, sym, ap, arith}
+use Rattle.std.proofs.Common.{◌≡◌, ℕ, ◌+◌, ◌*◌, ◌∙◌, List, length, ap, arith}
 use Rattle.rss_base.specs.LogRecords.{record_size}
 use Rattle.rss_base.specs.declared.log_record.LogRecord.TheVariants as records
 use Rattle.rss_record.proofs.Marks.{length-marks_bytes}
-use Rattle.rss_model.specs.Meter.{free_between}
 use Rattle.rss_store.specs.Commits.{least_mark}
 use Rattle.rss_store.proofs.Checkpointed.{mark_least}
 use Rattle.rss_store.proofs.store.DurableStore.free_behind.Goals as goal

@@ -1,10 +1,8 @@
-use Rattle.std.proofs.Common.{◌≡◌, ◌+◌, ◌∙◌, sym, ap, arith}
+use Rattle.std.proofs.Common.{◌≡◌, ◌∙◌, sym, ap, arith}
 use Rattle.rss_base.specs.PageMap.{page_count}
 use Rattle.rss_base.specs.Paged.{mapped_pages}
-use Rattle.rss_base.specs.Sizes.{system_pages}
 use Rattle.rss_shadow.specs.Maps.{Maps}
 use Rattle.rss_model.proofs.StorePages.{pages_are}
-use Rattle.rss_access.specs.Written.{heap_now}
 use Rattle.rss_store.proofs.Read.{current_counted}
 use Rattle.rss_store.proofs.store.DurableStore.heap.Goals as goal
 

@@ -1,16 +1,7 @@
-use Rattle.std.proofs.Common.{sym, arith}
 use Rattle.rss_base.specs.declared.place.Place.TheVariants.{Log as LogPlace}
 use Rattle.rss_store.specs.Parts.{view}
-use Rattle.rss_store.proofs.Begun.{mid_ready, went_nowhere, went_back, begins_damaged, begins_unrestarted, finds_used_up, finds_no_room, begins_saved, is_true, not_true, at_end}
+use Rattle.rss_store.proofs.Begun.{mid_ready, went_back, begins_damaged, begins_unrestarted, finds_no_room, begins_saved, is_true, not_true}
 use Rattle.rss_store.proofs.store.DurableStore.recover.Goals as goal
-
--- ---- the positions are used up
-
-pub returns-then-end-ge-POSITION_MOST : goal.returns-then-end-ge-POSITION_MOST
-returns-then-end-ge-POSITION_MOST g c =
-    let old = view g.S.Pages.view c.args.self.now in
-    at_end old (sym c.end-end.ensures.end)
-    (begins_damaged (LogPlace old.log.end) (went_nowhere old) (λ told. finds_used_up c.requires.ready c.requires.busy (omega (arith, c.if-end-ge-POSITION_MOST.true, c.end-end.ensures.end))))
 
 -- ---- restart fails
 
@@ -34,4 +25,4 @@ returns g c =
     begins_saved c.requires.ready c.in_ok-restart.ensures.did (mid_ready c.requires.ready c.in_ok-restart.ensures.did c.in_ok-restart.ensures.heaps) (g.met.S.Pages.holds c.restart.new.tuples.pages)
     (c.has_room.ensures.0 (is_true c.if-not-has_room.false)) c.in_ok-restart.ensures.recovers c.new.result c.new.ensures (view g.S.Pages.view c.checkpoint.new.self) c.checkpoint.result
     (λ told image left settled. g.met.S.Pages.stays c.checkpoint.new.self.tuples.pages settled told image left)
-    c.checkpoint.ensures.ready c.checkpoint.ensures.saved c.checkpoint.ensures.shows c.checkpoint.ensures.moments c.checkpoint.ensures.did
+    c.checkpoint.ensures.ready c.checkpoint.ensures.saved c.checkpoint.ensures.shows c.checkpoint.ensures.moments c.checkpoint.ensures.saves c.checkpoint.ensures.did

@@ -1,0 +1,176 @@
+// A log that goes round its pages, and one that is full.
+use crate::harness::{Row, WHOLE, assert_script, empty_store, store_after};
+use crate::lines::write_lines;
+use rss_asserts::{assert_same, assert_same_slices};
+use rss_device::MemDevice;
+use rss_images::{UNSYNCED, image_at};
+use rss_scripts::{run_script, without_moments};
+use std::alloc::Global;
+use std::fmt::Write;
+use std::test::Fail;
+
+/// A relation of a number and a long text, with one tuple.
+const DEFINITIONS: &[u8] = b"\
+segment s
+relation t s n:int x:text255
+begin 1
+insert 1 t 0 \"\"
+end 1
+checkpoint
+";
+
+/// How many transactions there are. Each has 552 bytes in the log, which goes round 8 pages of 4,000.
+const TRANSACTIONS: u32 = 130;
+
+/// How many slots their store has: room for 60 changes and more behind a checkpoint.
+const SLOTS: u32 = 512;
+
+/// Writes a text of so many letters, in quotes.
+fn write_text(line: &mut String, length: u32) -> Result<(), Fail> {
+    line.push_str(" \"")?;
+    for _ in 0..length {
+        line.push('x')?;
+    }
+    line.push_str("\"\n")?;
+    Ok(())
+}
+
+/// How long the text of the tuple is behind the transaction of this number: none is there before the
+/// first.
+fn length_behind(number: u32) -> u32 {
+    if number == 0 { 0 } else { 255 }
+}
+
+/// The script of all transactions. That of each number makes the tuple one of this number.
+fn transactions(alloc: Global) -> Result<String, Fail> {
+    let mut script = String::new(alloc);
+    for number in 1..TRANSACTIONS + 1 {
+        write!(script, "begin 1\nupdate 1 t 0.0 {number}")?;
+        write_text(&mut script, 255)?;
+        write_lines(&mut script, "end 1\n")?;
+    }
+    Ok(script)
+}
+
+/// What a fetch gets behind the transaction of this number.
+fn fetched(alloc: Global, number: u32) -> Result<String, Fail> {
+    let mut replies = String::new(alloc);
+    write!(replies, "ok\nok {number}")?;
+    write_text(&mut replies, length_behind(number))?;
+    Ok(replies)
+}
+
+/// Of so many transactions that were committed, a stop at a moment leaves all; or one more. Answers how
+/// many it leaves.
+fn assert_stop(
+    alloc: Global,
+    device: &MemDevice,
+    moment: usize,
+    committed: u32,
+) -> Result<u32, Fail> {
+    let left = image_at(alloc, device, moment, UNSYNCED[moment % UNSYNCED.len()])?;
+    let script = b"begin 1\nfetch 1 t 0.0\n";
+    let (_, replies, _) = run_script(alloc, MemDevice::new(alloc, left)?, script, WHOLE)?;
+    if replies.as_slice() == fetched(alloc, committed)?.as_bytes() {
+        return Ok(committed);
+    }
+    let next = committed.saturating_add(1);
+    assert_same_slices(
+        replies.as_slice(),
+        fetched(alloc, next)?.as_bytes(),
+        ("moment", moment),
+    )?;
+    Ok(next)
+}
+
+/// Stops the run of all transactions at each moment, with one of what the stop may leave. Answers how
+/// many transactions the last stop leaves.
+fn assert_stops(alloc: Global, device: &MemDevice) -> Result<u32, Fail> {
+    let mut committed = 0;
+    for moment in 0..=device.moment() {
+        committed = assert_stop(alloc, device, moment, committed)?;
+    }
+    Ok(committed)
+}
+
+/// A store of so many slots with the tuple.
+fn store(alloc: Global, slots: u32) -> Result<MemDevice, Fail> {
+    let (_, _, device) = run_script(alloc, empty_store(alloc, slots)?, DEFINITIONS, WHOLE)?;
+    Ok(without_moments(alloc, &device)?)
+}
+
+#[test]
+fn a_log_that_goes_round_keeps_what_was_committed(rt: HostRuntime) -> Result<(), Fail> {
+    let alloc = rt.alloc();
+    let script = transactions(alloc)?;
+    let (_, replies, device) = run_script(alloc, store(alloc, SLOTS)?, script.as_bytes(), WHOLE)?;
+    assert_same(&replies.len(), &(9 * TRANSACTIONS as usize), "the replies")?;
+    let committed = assert_stops(alloc, &device)?;
+    assert_same(&committed, &TRANSACTIONS, "the transactions")
+}
+
+/// How many inserts of a long text one transaction may make. Each has a record of 278 bytes, and is owed
+/// 13 more; 391 are owed to the transaction's end and to a checkpoint. The log has room for 35,963 bytes.
+const INSERTS: u32 = 122;
+
+/// How many of these tuples a page has. The first page has the one that was there too.
+const PAGE_TUPLES: u32 = 11;
+
+/// What the next insert gets, what checkpoints get, each of which has a record of 14 bytes, and what the
+/// one gets that would leave less than is owed.
+const FULL: &str = "\
+refused 16 log full 2033 2268
+ok
+ok
+ok
+ok
+ok
+refused 16 log full 1963 1977
+";
+
+/// The ways in which the transaction can still go back or end.
+const ENDS: [&str; 3] = ["restore 1 0\n", "abort 1\n", "end 1\n"];
+
+/// A script that fills the log and then goes this way, and its replies.
+fn filling(alloc: Global, end: &str) -> Result<(String, String), Fail> {
+    let mut script = String::new(alloc);
+    let mut replies = String::new(alloc);
+    write_lines(&mut script, "begin 1\n")?;
+    write_lines(&mut replies, "ok\n")?;
+    for number in 0..INSERTS + 1 {
+        write!(script, "insert 1 t {number}")?;
+        write_text(&mut script, 255)?;
+    }
+    for number in 0..INSERTS {
+        write_place(&mut replies, number)?;
+    }
+    for _ in 0..6 {
+        write_lines(&mut script, "checkpoint\n")?;
+    }
+    write_lines(&mut replies, FULL)?;
+    write_lines(&mut script, end)?;
+    write_lines(&mut script, "checkpoint\n")?;
+    write_lines(&mut replies, "ok\nok\n")?;
+    Ok((script, replies))
+}
+
+/// Writes what the insert of this number gets.
+fn write_place(replies: &mut String, number: u32) -> Result<(), Fail> {
+    let slot = number % PAGE_TUPLES + u32::from(number < PAGE_TUPLES);
+    writeln!(replies, "ok {}.{slot}", number / PAGE_TUPLES)?;
+    Ok(())
+}
+
+#[test]
+fn a_transaction_that_fills_the_log_can_still_end(rt: HostRuntime) -> Result<(), Fail> {
+    let alloc = rt.alloc();
+    for end in &ENDS {
+        let (script, replies) = filling(alloc, end)?;
+        let row = Row {
+            script: script.as_bytes(),
+            replies: replies.as_bytes(),
+        };
+        assert_script(alloc, store(alloc, 4096)?, &row, WHOLE, end.as_bytes())?;
+    }
+    Ok(())
+}

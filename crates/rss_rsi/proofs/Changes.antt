@@ -1,0 +1,229 @@
+-- A change of a tuple: what comes of it, and how a call ends of which it is the last step.
+use Rattle.std.proofs.Common.{◌≡◌, inl, ℕ, ◌+◌, ◌≤◌, Bool, true, Option, Some, None, arith, refl, sym, ◌∙◌, ap, subst}
+use Rattle.std.specs.Prelude.{Result, Ok, Err, IsErrAnd, ⊤}
+use Rattle.std.proofs.lemmas.Result.{err_from_is_err_and}
+use Rattle.rss_base.specs.DiskRule.{IsTold, Passes}
+use Rattle.rss_base.specs.Answers.{page_error}
+use Rattle.rss_base.specs.LogRecords.{record_size}
+use Rattle.rss_base.specs.declared.answer.CallError.{CallError}
+use Rattle.rss_base.specs.declared.answer.CallError.TheVariants.{Refused, Damaged, Device, NoMemory, Down}
+use Rattle.rss_base.specs.declared.answer.Reply.{Reply}
+use Rattle.rss_base.specs.declared.call.Call.{Call}
+use Rattle.rss_base.specs.declared.change.Change as told
+use Rattle.rss_base.specs.declared.fault.PageFault.{PageFault}
+use Rattle.rss_base.specs.declared.fault.PageFault.TheVariants.{Device as PageDevice, Damaged as PageDamaged, NoMemory as PageNoMemory}
+use Rattle.rss_base.specs.declared.log_record.LogRecord.TheVariants as records
+use Rattle.rss_base.specs.declared.place.Place.{Place}
+use Rattle.rss_base.specs.declared.refusal.Refusal.{Refusal}
+use Rattle.rss_base.proofs.Moments.{started, then, widened, rises_since}
+use Rattle.rss_model.specs.Callers.{is_built}
+use Rattle.rss_model.specs.Calls.{GoesOn, GetsPlace, IsOutcome, IsCallOf}
+use Rattle.rss_model.specs.Changes.{Change}
+use Rattle.rss_model.specs.Costs.{RisesAtMost, most_asks, most_writes}
+use Rattle.rss_model.specs.Defining.{DefinesNames}
+use Rattle.rss_model.specs.LogLaws.{IsToldBy}
+use Rattle.rss_model.specs.Locks.{Locks}
+use Rattle.rss_model.specs.Machine.{State}
+use Rattle.rss_model.specs.Meter.{change_size}
+use Rattle.rss_model.specs.ReplyText.{IsShort}
+use Rattle.rss_model.specs.Ruled.{ruled}
+use Rattle.rss_model.specs.Rules.{Verdict, GoesOn as GoesOnAsIs, SavesFirst, NoRoom, NoLogRoom, ruling, refusal_by, if_no_room}
+use Rattle.rss_model.specs.Steps.{IsOver, Step, refusal}
+use Rattle.rss_model.proofs.Endings.{refused_by, comes_to}
+use Rattle.rss_model.proofs.LogCounting.{change_told_size}
+use Rattle.rss_model.proofs.Totals.{stops}
+use Rattle.rss_store.specs.Changing.{MayMake}
+use Rattle.rss_store.specs.Shown.{HoldsTables}
+use Rattle.rss_store.specs.Stores.{StoreView}
+use Rattle.rss_catalog.specs.Catalogs.{CatalogView}
+use Rattle.rss_session.specs.Calls.{KeepsTables, Makes, MayNotMake, NoMoreSaves}
+use Rattle.rss_session.specs.Calls.{GoesOn as SessionGoesOn}
+use Rattle.rss_session.specs.Looks.{LooksOn}
+use Rattle.rss_session.specs.Sessions.{SessionView}
+use Rattle.rss_session.specs.Weighing.{outcome, RulesSo}
+use Rattle.rss_session.proofs.Passing.{goes_then, goes_still, goes_opened}
+use Rattle.rss_rsi.specs.Changing.{RulesSay, StillShows, ChangeEnds, IsChangeOf}
+use Rattle.rss_rsi.specs.Views.{IsIn, engine_view}
+use Rattle.rss_rsi.proofs.Ways.{shows_locked, in_left, goes, LeadsAll, answers}
+
+-- ---- what was weighed
+
+-- why a change is refused, by what was weighed
+abbrev pub refused_in : Result Bool Refusal → Option Refusal
+refused_in (Ok saves_first) = None
+refused_in (Err why) = Some why
+
+refused_so : (verdict : Verdict) → refusal_by verdict ≡ refused_in (outcome verdict)
+refused_so GoesOnAsIs = refl
+refused_so SavesFirst = refl
+refused_so (NoRoom slots needed) = refl
+refused_so (NoLogRoom free needed) = refl
+
+pub rules_say : {view : SessionView} {t : ℕ} {told_change : told.Change} {result : Result Bool Refusal} → RulesSo view t (record_size (records.Change t told_change)) result → RulesSay view t told_change (refused_in result)
+rules_say {view = view} {t = t} {told_change = told_change} {result = result} rules told state change by is_told shows =
+    let size : change_size change ≡ record_size (records.Change t told_change) =
+    sym (change_told_size view.store.catalog.listing change.by told_change change is_told.tells is_told.means) ∙ ap (λ (u : ℕ). record_size (records.Change u told_change)) by in
+    refused_so (ruling state change) ∙ ap refused_in (rules told state change by size shows)
+
+-- ---- what comes of a change
+
+-- nothing was done
+goes_nothing : (session : SessionView) → SessionGoesOn {T = ⊤} session session (Ok tt)
+goes_nothing session = goes_opened {opened = session.opened} tt (λ t. omega arith)
+
+-- whatever came of it
+goes_anyhow : {T : Type 0} {old new : SessionView} {made : Result T PageFault} → SessionGoesOn old new made → SessionGoesOn {T = ⊤} old new (Ok tt)
+goes_anyhow on = goes_still tt on refl refl (λ t. omega arith)
+
+pub change_refused : {T : Type 0} {session : SessionView} {up : Type 0} {t : ℕ} {told_change : told.Change} {why : Refusal} (result : Result T CallError) → IsErrAnd result (λ e. e ≡ Refused why) → up
+    → RulesSo session t (record_size (records.Change t told_change)) (Err why) → IsShort (Err why) → IsChangeOf session session up t told_change result
+change_refused {session = session} {up = up} {t = t} {told_change = told_change} result is is_up rules short =
+    let so = err_from_is_err_and result is in
+    subst (IsChangeOf session session up t told_change) (sym (so.1 ∙ ap Err so.2)) (record {
+      ends = (is_up, record { refuses = rules_say rules; short = short; still = λ state shows. shows });
+      moments = λ told state kept shows. started _ _;
+      goes = goes_nothing session;
+    })
+
+-- behind memory that was taken, by which nothing of the store has changed
+module _ {old mid new : SessionView} (same : mid.store ≡ old.store) (still : StillShows old mid) (saves : NoMoreSaves old mid) {T : Type 0} {made : Result T PageFault} (on : SessionGoesOn mid new made) where
+  told_mid : IsTold old.store.pages.disk → IsTold mid.store.pages.disk
+  told_mid told = subst (λ (s : StoreView). IsTold s.pages.disk) (sym same) told
+
+  may_mid : {state : State} {told_change : told.Change} {change : Change} → MayMake old.store state told_change change → MayMake mid.store state told_change change
+  may_mid {state = state} {told_change = told_change} {change = change} may = subst (λ (s : StoreView). MayMake s state told_change change) (sym same) may
+
+  keeps_mid : KeepsTables mid new → KeepsTables old new
+  keeps_mid keeps told state kept shows =
+      subst (λ (s : StoreView). Passes s.pages.disk new.store.pages.disk (HoldsTables state.size state.base)) same (keeps (told_mid told) state kept (still state shows))
+
+  goes_mid : SessionGoesOn old new made
+  goes_mid = goes_then (goes_still {U = ⊤} tt (goes_nothing old) (ap (λ (s : StoreView). s.pages) same) (ap (λ (s : StoreView). s.root) same) saves) on
+
+  pub change_made : {U : Type 0} {up : Type 0} {t : ℕ} {told_change : told.Change} {saves_first : Bool} (done : U) → up → RulesSo old t (record_size (records.Change t told_change)) (Ok saves_first)
+      → (IsTold mid.store.pages.disk → Makes mid new t told_change) → KeepsTables mid new → IsChangeOf old new up t told_change (Ok done)
+  change_made done is_up rules makes keeps = record {
+    ends = (
+      is_up,
+      record {
+        passes = rules_say rules;
+        makes = λ told state change by kept shows may. makes (told_mid told) state change by kept (still state shows) (may_mid may);
+      },
+    );
+    moments = keeps_mid keeps;
+    goes = goes_anyhow goes_mid;
+  }
+
+  pub change_failed : {U : Type 0} {up : Type 0} {t : ℕ} {told_change : told.Change} {saves_first : Bool} {fault : PageFault} (result : Result U CallError) → IsErrAnd result (λ e. e ≡ page_error fault) → made ≡ Err fault → (up → ⊥)
+      → RulesSo old t (record_size (records.Change t told_change)) (Ok saves_first)
+      → ((place : Place) → made ≡ Err (PageDamaged place) → IsTold mid.store.pages.disk → MayNotMake mid t told_change) → KeepsTables mid new → IsChangeOf old new up t told_change result
+  change_failed {U = U} {up = up} {t = t} {told_change = told_change} {fault = fault} result is was down rules sound keeps =
+      let so = err_from_is_err_and result is in
+      subst (IsChangeOf old new up t told_change) (sym (so.1 ∙ ap Err so.2)) (record { ends = by fault was; moments = keeps_mid keeps; goes = goes_anyhow goes_mid })
+    where
+      by : (fault : PageFault) → made ≡ Err fault → ChangeEnds {T = U} old new up t told_change (Err (page_error fault))
+      by PageDevice was = (down, goes_mid.failed was)
+      by (PageDamaged place) was = (
+        down,
+        record {
+          passes = rules_say rules;
+          sound = λ told state change by kept shows may. sound place was (told_mid told) state change by kept (still state shows) (may_mid may);
+        },
+      )
+      by PageNoMemory was = absurd (goes_mid.memory was)
+
+-- ---- calls
+
+-- In a state a change is the last step of a call, which gets this reply: the record tells it, the rules alone refuse it, and where they let it through it may be made, and leads to the state after the call.
+pub record IsLast (session : SessionView) (t : ℕ) (told_change : told.Change) (call : Call) (reply : Reply) (state : State) : Type 0 where
+  pub change : Change
+  pub by : change.by ≡ t
+  pub is_told : IsToldBy session.store.catalog.listing told_change change
+  pub refuses : refusal state call ≡ if_no_room state change
+  pub may : if_no_room state change ≡ None → MayMake session.store state told_change change
+  pub locks : Locks
+  pub steps : if_no_room state change ≡ None → (over : ℕ) → IsOver state change over → Step state call (Ok reply) (record (ruled change over state) { locks = locks })
+
+-- What is known of a call that looks first, and then makes a change: of no such call it is said what it may cost.
+pub record EndsByChange (session : SessionView) (t : ℕ) (told_change : told.Change) (call : Call) (reply : Reply) : Type 0 where
+  pub last : IsTold session.store.pages.disk → (state : State) → IsIn session state → IsLast session t told_change call reply state
+  pub short : IsShort (Ok reply)
+  pub built : is_built call ≡ true
+  pub names : DefinesNames call
+  pub asks : most_asks call ≡ None
+  pub writes : most_writes call ≡ None
+
+module _ {first mid : SessionView} {t : ℕ} {told_change : told.Change} {call : Call} {reply : Reply} {T : Type 0} {looked : Result T PageFault} (looks : LooksOn first mid looked) (by_change : EndsByChange first t told_change call reply) where
+  -- what the record tells hangs on the listing alone
+  is_told_looked : {change : Change} → IsToldBy first.store.catalog.listing told_change change → IsToldBy mid.store.catalog.listing told_change change
+  is_told_looked {change = change} is_told = subst (λ (c : CatalogView). IsToldBy c.listing told_change change) (sym looks.catalog) is_told
+
+  may_looked : {state : State} {change : Change} → MayMake first.store state told_change change → MayMake mid.store state told_change change
+  may_looked may = record { told = is_told_looked may.told; finds = may.finds; alone = may.alone; mixed = may.mixed }
+
+  -- what the rules say of the last step
+  said : {why : Option Refusal} {state : State} → RulesSay mid t told_change why → (told : IsTold first.store.pages.disk) (is_in : IsIn first state) → if_no_room state (by_change.last told state is_in).change ≡ why
+  said {state = state} say told is_in =
+      let last = by_change.last told state is_in in
+      say (looks.goes.told.0 told) state last.change last.by (is_told_looked last.is_told) (looks.shows told state is_in.shows)
+
+  module _ {new : SessionView} {U : Type 0} {up_now : Type 0} {made : Result U CallError} (change : IsChangeOf mid new up_now t told_change made) where
+    goes_all : {n m : ℕ} {up : Type 0} → m ≤ n + 1 → GoesOn (engine_view first n up) (engine_view new m up_now) call
+    goes_all calls = goes (Ok tt) (goes_then looks.goes change.goes) calls
+        (subst (λ (most : Option ℕ). RisesAtMost most first.store.pages.asks new.store.pages.asks) (sym by_change.asks) tt)
+        (subst (λ (most : Option ℕ). RisesAtMost most first.store.pages.writes new.store.pages.writes) (sym by_change.writes) tt)
+
+    keeps_all : KeepsTables first new
+    keeps_all told state kept shows =
+        then (looks.moments told state kept shows) (change.moments (looks.goes.told.0 told) state kept (looks.shows told state shows)) (λ image holds. holds)
+
+  -- the same states are shown where nothing was changed
+  in_still : {new : SessionView} {state : State} → StillShows mid new → IsTold first.store.pages.disk → IsIn first state → IsIn new state
+  in_still {state = state} still told is_in = record { shows = still state (looks.shows told state is_in.shows); kept = is_in.kept }
+
+  module _ {new : SessionView} {U : Type 0} {up_now : Type 0} where
+    -- the step was made
+    leads_made : {done : U} → IsChangeOf mid new up_now t told_change (Ok done) → LeadsAll first new call (Ok reply)
+    leads_made change told state is_in =
+        let last = by_change.last told state is_in in
+        let made = change.ends.1 in
+        let passes = said made.passes told is_in in
+        let one = made.makes (looks.goes.told.0 told) state last.change last.by is_in.kept (looks.shows told state is_in.shows) (may_looked (last.may passes)) in
+        record {
+          next = record (ruled last.change one.over state) { locks = last.locks };
+          step = last.steps passes one.over one.allowed;
+          shows = shows_locked last.locks one.shows;
+          moments = widened (keeps_all change told state is_in.kept is_in.shows) (λ image opens. inl opens);
+        }
+
+    pub ends_made : {n m : ℕ} {up : Type 0} {done : U} → up → m ≤ n + 1 → (IsTold first.store.pages.disk → GetsPlace (engine_view first n up) call (Ok reply)) → IsChangeOf mid new up_now t told_change (Ok done)
+        → IsCallOf (engine_view first n up) (engine_view new m up_now) call (Ok reply)
+    ends_made was_up calls placed change = comes_to was_up (goes_all change calls) (answers change.ends.0 by_change.short placed (leads_made change))
+
+    pub ends_short : {n m : ℕ} {up : Type 0} {why : CallError} (result : Result Reply CallError) → IsErrAnd result (λ e. e ≡ why) → up → m ≤ n + 1 → IsChangeOf {T = U} mid new up_now t told_change (Err why)
+        → IsCallOf (engine_view first n up) (engine_view new m up_now) call result
+    ends_short {n = n} {m = m} {up = up} {why = why} result is was_up calls change =
+        let so = err_from_is_err_and result is in
+        subst (IsCallOf (engine_view first n up) (engine_view new m up_now) call) (sym (so.1 ∙ ap Err so.2)) (comes_to was_up (goes_all change calls) (by why change))
+      where
+        by : (why : CallError) → IsChangeOf {T = U} mid new up_now t told_change (Err why) → IsOutcome (engine_view first n up) (engine_view new m up_now) call (Err why)
+        by (Refused why) change = refused_by change.ends.0 change.ends.1.short (λ told state is_in.
+            let refused = (by_change.last told state is_in).refuses ∙ said change.ends.1.refuses told is_in in
+            (refused, in_left call (in_still change.ends.1.still told is_in) refused, keeps_all change told state is_in.kept is_in.shows))
+        by Device change = record {
+          stopped = λ told state is_in. stops is_in.kept call by_change.built by_change.names (keeps_all change told state is_in.kept is_in.shows);
+          down = change.ends.0;
+          cause = rises_since looks.goes.later change.ends.1;
+        }
+        by (Damaged place) change = record {
+          sound = λ told state is_in.
+              let last = by_change.last told state is_in in
+              change.ends.1.sound (looks.goes.told.0 told) state last.change last.by is_in.kept (looks.shows told state is_in.shows) (may_looked (last.may (said change.ends.1.passes told is_in)));
+          down = change.ends.0;
+        }
+        by NoMemory change = record {
+          unmade = λ told state is_in. keeps_all change told state is_in.kept is_in.shows;
+          up = change.ends.0;
+          same = λ told state is_in. in_still change.ends.1 told is_in;
+        }
+        by Down change = absurd change.ends

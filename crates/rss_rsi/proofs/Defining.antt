@@ -1,0 +1,216 @@
+-- The ways in which a call that defines ends.
+use Rattle.std.proofs.Common.{◌≡◌, ℕ, ◌+◌, ◌<◌, Bool, false, refl, sym, ◌∙◌, ap, subst, arith}
+use Rattle.std.specs.Prelude.{Some, None, Result, Ok, Err, IsErrAnd}
+use Rattle.std.specs.FinMap.{empty}
+use Rattle.rss_base.specs.Answers.{page_error}
+use Rattle.rss_base.specs.DiskRule.{IsTold, Passes}
+use Rattle.rss_base.specs.Listings.{Listing}
+use Rattle.rss_base.specs.Sizes.{largest_checkpoint}
+use Rattle.rss_base.specs.Steps.{PagesView}
+use Rattle.rss_base.specs.declared.answer.CallError.{CallError}
+use Rattle.rss_base.specs.declared.answer.CallError.TheVariants.{Refused}
+use Rattle.rss_base.specs.declared.answer.Reply.{Reply}
+use Rattle.rss_base.specs.declared.answer.Reply.TheVariants.{Ok as Done}
+use Rattle.rss_base.specs.declared.call.Call.{Call}
+use Rattle.rss_base.specs.declared.fault.PageFault.{PageFault}
+use Rattle.rss_base.specs.declared.fault.PageFault.TheVariants.{Damaged as PageDamaged}
+use Rattle.rss_base.specs.declared.place.Place.{Place}
+use Rattle.rss_base.specs.declared.refusal.Refusal.{Refusal}
+use Rattle.rss_model.specs.Calls.{EngineView, GoesOn, IsCallOf, calls_most}
+use Rattle.rss_model.specs.Costs.{RisesAtMost, most_asks, most_writes}
+use Rattle.rss_model.specs.Defining.{defined, with_definitions, DefinesNames}
+use Rattle.rss_model.specs.Machine.{State}
+use Rattle.rss_model.specs.Steps.{Step, refusal, redefined}
+use Rattle.rss_model.specs.Steps.StepBy.{defines}
+use Rattle.rss_model.specs.Store.{OpensToEither}
+use Rattle.rss_model.specs.Tables.{Definitions}
+use Rattle.rss_model.specs.Turns.{IsStopped}
+use Rattle.rss_model.proofs.Endings.{comes_to, IsDefined, defined_by}
+use Rattle.rss_model.proofs.StepKeeping.{steps_keep}
+use Rattle.rss_catalog.specs.Catalogs.{CatalogView}
+use Rattle.rss_session.specs.Admissions.{Says}
+use Rattle.rss_session.specs.Calls.{with_catalog, IsRedefined, RedefinesTables, Appends}
+use Rattle.rss_session.specs.Calls.{GoesOn as SessionGoesOn}
+use Rattle.rss_session.specs.Definitions.{Relists, Redefines, Defining}
+use Rattle.rss_session.specs.Definitions.Relists.{segment, relation, drop_segment, drop_relation}
+use Rattle.rss_session.specs.Parts.{view as session_view}
+use Rattle.rss_session.specs.Sessions.{SessionView, IsEarly}
+use Rattle.rss_session.specs.Sessions.{IsReady as IsSessionReady}
+use Rattle.rss_session.specs.Shown.{Shows}
+use Rattle.rss_session.specs.declared.session.Session.{Session}
+use Rattle.rss_session.proofs.Relisting.{but_catalog, ready_redefined, closed_redefined, early_redefined, is_redefined, defines_some}
+use Rattle.rss_rsi.specs.Definitions.{Definition, IsDefining, view_of}
+use Rattle.rss_rsi.specs.Views.{IsIn, engine_view, IsReady}
+use Rattle.rss_rsi.proofs.Ways.{goes, failed_within, refused_test, ready_counted, ready_then}
+
+-- a call that defines asks for no page
+no_asks : {old new : Listing} {call : Call} (before now : ℕ) → now ≡ before → Relists old call new → RisesAtMost (most_asks call) before now
+no_asks before now same (segment name number fresh least) = omega (arith, same)
+no_asks before now same (relation name in_segment fields at number within fresh least) = omega (arith, same)
+no_asks before now same (drop_segment name number at none) = omega (arith, same)
+no_asks before now same (drop_relation number entry at unused) = omega (arith, same)
+
+-- and of its writes no bound is claimed
+any_writes : {old new : Listing} {call : Call} (before now : ℕ) → Relists old call new → RisesAtMost (most_writes call) before now
+any_writes before now (segment name number fresh least) = tt
+any_writes before now (relation name in_segment fields at number within fresh least) = tt
+any_writes before now (drop_segment name number at none) = tt
+any_writes before now (drop_relation number entry at unused) = tt
+
+-- what goes on doesn't hang on the catalog
+but_listed : {T : Type 0} {before new : SessionView} {result : Result T PageFault} (catalog : CatalogView) → SessionGoesOn (with_catalog catalog before) new result → SessionGoesOn before new result
+but_listed catalog on = record {
+  told = on.told;
+  history = on.history;
+  later = on.later;
+  failed = on.failed;
+  memory = on.memory;
+  slots = on.slots;
+  log_pages = on.log_pages;
+  frames = on.frames;
+  saves = on.saves;
+}
+
+-- what was made is a definition, where it is no refusal
+pub made_ok : (made : Result (Unit {0}) Refusal) → ((why : Refusal) → made ≡ Err why → ⊥) → made ≡ Ok tt
+made_ok (Ok done) not = refl
+made_ok (Err why) not = absurd (not why refl)
+
+module _ {S : Type 0} (pages_view : S → PagesView) {to : Definition S} {now : Session S} {calls : ℕ} {made : Result (Unit {0}) Refusal} (is : IsDefining pages_view to now calls made) where
+  abbrev before : SessionView
+  before = session_view pages_view to.session
+
+  abbrev between : SessionView
+  between = session_view pages_view now
+
+  -- ---- it was refused
+
+  module _ (why : Refusal) (so : made ≡ Err why) where
+    refuses : Defining pages_view to.session now to.call (Err why)
+    refuses = subst (Defining pages_view to.session now to.call) so is.defining
+
+    same : between ≡ before
+    same = ap (session_view pages_view) refuses.same
+
+    pub refused_define : {up : Type 0} → up → IsCallOf (view_of pages_view to) (engine_view between calls up) to.call (Err (Refused why))
+    refused_define {up = up} is_up = subst (λ (v : SessionView). IsCallOf (view_of pages_view to) (engine_view v calls up) to.call (Err (Refused why))) (sym same)
+        (refused_test (Err (Refused why)) refl refl is_up (omega (arith, is.counted)) refuses.tests.1 refuses.tests.0)
+
+    pub refused_ready : IsReady between calls
+    refused_ready = subst (λ (v : SessionView). IsReady v calls) (sym same) (ready_counted (omega (arith, is.counted)) is.ready)
+
+  -- ---- it is listed
+
+  module _ (so : made ≡ Ok tt) where
+    listed : Defining pages_view to.session now to.call (Ok tt)
+    listed = subst (Defining pages_view to.session now to.call) so is.defining
+
+    redefines : Redefines to.call to.session now
+    redefines = listed.redefines
+
+    passed : Says before (λ state. refusal state to.call) None
+    passed = listed.tests
+
+    pub listed_ready : IsSessionReady between
+    listed_ready = ready_redefined pages_view redefines is.ready.session
+
+    pub listed_closed : between.opened.transactions ≡ empty
+    listed_closed = closed_redefined pages_view redefines
+
+    pub listed_early : IsEarly between largest_checkpoint
+    listed_early = early_redefined pages_view redefines largest_checkpoint (omega (arith, is.ready.paced, is.few))
+
+    pages_same : between.store.pages ≡ before.store.pages
+    pages_same = ap (λ tuples. pages_view tuples.pages) redefines.rest.tuples
+
+    told_then : IsTold before.store.pages.disk → IsTold between.store.pages.disk
+    told_then told = subst (λ (p : PagesView). IsTold p.disk) (sym pages_same) told
+
+    -- in each state there are definitions to which the call leads
+    leads : IsTold before.store.pages.disk → (state : State) → IsIn before state → (definitions : Definitions) × (defined to.call state.base.definitions ≡ Some definitions)
+    leads told state is_in = defines_some pages_view redefines is.ready.session is_in.kept is_in.shows (passed told state is_in.shows) is.names
+
+    -- ---- and committed
+
+    module _ {new : SessionView} {result : Result (Unit {0}) PageFault} (on : SessionGoesOn between new result) (moments : RedefinesTables between new) (asks : new.store.pages.asks ≡ between.store.pages.asks) where
+      on_before : SessionGoesOn before new result
+      on_before = but_listed now.store.catalog (subst (λ (v : SessionView). SessionGoesOn v new result) (sym (but_catalog pages_view redefines)) on)
+
+      pub goes_redefining : {up_now : Type 0} → GoesOn (view_of pages_view to) (engine_view new calls up_now) to.call
+      goes_redefining = goes result on_before (omega (arith, is.counted))
+          (no_asks before.store.pages.asks new.store.pages.asks (asks ∙ ap (λ (p : PagesView). p.asks) pages_same) redefines.relists)
+          (any_writes before.store.pages.writes new.store.pages.writes redefines.relists)
+
+      module _ (told : IsTold before.store.pages.disk) (state : State) (is_in : IsIn before state) where
+        abbrev definitions : Definitions
+        definitions = (leads told state is_in).0
+
+        so_defined : defined to.call state.base.definitions ≡ Some definitions
+        so_defined = (leads told state is_in).1
+
+        not_refused : refusal state to.call ≡ None
+        not_refused = passed told state is_in.shows
+
+        redefining : IsRedefined between to.session.store.catalog state definitions
+        redefining = is_redefined pages_view redefines is.ready.session is_in.kept is_in.shows not_refused is.names definitions so_defined
+
+        step : Step state to.call (Ok Done) (redefined definitions state)
+        step = defines to.call definitions not_refused is.names so_defined
+
+        either : Passes before.store.pages.disk new.store.pages.disk (OpensToEither state.size state.base (with_definitions definitions state.base))
+        either = subst (λ (p : PagesView). Passes p.disk new.store.pages.disk (OpensToEither state.size state.base (with_definitions definitions state.base))) pages_same
+            (moments (told_then told) to.session.store.catalog state definitions redefining)
+
+        may_stop : IsStopped before.store.pages.disk new.store.pages.disk state to.call
+        may_stop = record { answer = Ok Done; next = redefined definitions state; answered = record { step = step; moments = either } }
+
+        is_defined : {up : Type 0} → (IsTold between.store.pages.disk → (catalog : CatalogView) (state : State) (definitions : Definitions) → IsRedefined between catalog state definitions → Shows new (redefined definitions state))
+            → IsDefined (view_of pages_view to) (engine_view new calls up) state to.call
+        is_defined shows = record {
+          definitions = definitions;
+          passed = not_refused;
+          so = so_defined;
+          shows = record {
+            shows = shows (told_then told) to.session.store.catalog state definitions redefining;
+            kept = steps_keep state (redefined definitions state) to.call (Ok Done) step is_in.kept;
+          };
+          moments = either;
+        }
+
+      pub redefined_done : {up : Type 0} → up → (IsTold between.store.pages.disk → (catalog : CatalogView) (state : State) (definitions : Definitions) → IsRedefined between catalog state definitions → Shows new (redefined definitions state))
+          → IsCallOf (view_of pages_view to) (engine_view new calls up) to.call (Ok Done)
+      redefined_done is_up shows = comes_to refl goes_redefining (defined_by is.names is_up (λ told state is_in. is_defined told state is_in shows))
+
+      pub redefined_ready : IsSessionReady new → Appends largest_checkpoint between new → IsReady new calls
+      redefined_ready ready appends = ready_then is.ready is.counted (omega arith) ready
+          (subst (λ (v : SessionView). Appends largest_checkpoint v new) (sym (but_catalog pages_view redefines)) appends)
+          (λ t. omega (arith, on_before.saves t))
+
+    -- the device failed, or shows damage, which none does that tells its contents
+    pub redefining_fails : {new : SessionView} {fault : PageFault} {up_now : Type 0} (answer : Result Reply CallError) → IsErrAnd answer (λ why. why ≡ page_error fault) → (up_now → ⊥)
+        → SessionGoesOn {T = Unit {0}} between new (Err fault) → RedefinesTables between new → new.store.pages.asks ≡ between.store.pages.asks
+        → ((place : Place) → ◌≡◌ {A = Result (Unit {0}) PageFault} (Err fault) (Err (PageDamaged place)) → IsTold between.store.pages.disk → ⊥) → IsCallOf (view_of pages_view to) (engine_view new calls up_now) to.call answer
+    redefining_fails answer answered down on moments asks sound =
+        failed_within answer answered refl down (on_before on moments asks) (goes_redefining on moments asks) (λ place same told state is_in. sound place same (told_then told)) (may_stop on moments asks)
+
+-- ---- calls that define
+
+module _ {S : Type 0} (pages_view : S → PagesView) where
+  -- what came to an engine of this session
+  abbrev pub asks_for : Call → Session S → ℕ → Definition S
+  asks_for call session calls = record { call = call; session = session; calls = calls }
+
+  -- the session that counted the call was told to define
+  pub is_defining : (to : Definition S) {asked now : Session S} {calls : ℕ} {made : Result (Unit {0}) Refusal} → asked ≡ to.session → Defining pages_view asked now to.call made → DefinesNames to.call → IsReady (session_view pages_view to.session) to.calls → to.calls < calls_most → calls ≡ to.calls + 1
+      → IsDefining pages_view to now calls made
+  is_defining to {now = now} {made = made} same defining names ready few counted = record {
+    names = names;
+    defining = subst (λ (s : Session S). Defining pages_view s now to.call made) same defining;
+    ready = ready;
+    few = few;
+    counted = counted;
+  }
+
+  -- an engine that is known to have been up
+  pub as_up : (to : Definition S) {new : EngineView} {result : Result Reply CallError} (down : Bool) → down ≡ false → IsCallOf (view_of pages_view to) new to.call result → IsCallOf (engine_view (session_view pages_view to.session) to.calls (down ≡ false)) new to.call result
+  as_up to {new = new} {result = result} down up is = subst (λ (d : Bool). IsCallOf (engine_view (session_view pages_view to.session) to.calls (d ≡ false)) new to.call result) (sym up) is

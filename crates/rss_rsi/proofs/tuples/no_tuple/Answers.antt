@@ -1,6 +1,0 @@
-use Rattle.std.proofs.Common.{rules, arith}
-use Rattle.rss_rsi.proofs.Answering.{no_tuple_short}
-use Rattle.rss_rsi.proofs.tuples.no_tuple.Goals as goal
-
-pub returns-clause-short : goal.returns-clause-short
-returns-clause-short c = no_tuple_short c.args.relation.now c.args.tid (search rules) (omega arith) (omega arith)

@@ -1,0 +1,71 @@
+// What is counted of a store.
+ghost use Rattle.std.specs.Prelude.{◌≡◌, ◌-◌, ◌^◌, min};
+ghost use Rattle.rss_base.specs.Paged.{mapped_pages};
+ghost use Rattle.rss_access.specs.Written.{heap_now};
+ghost use Rattle.rss_log.specs.Logs.{free_of};
+ghost use Rattle.rss_model.specs.Machine.{State};
+ghost use Rattle.rss_model.specs.Meter.{room_number, log_room};
+ghost use Rattle.rss_session.specs.Weighing.{room_of};
+
+use crate::Rss;
+use rss_base::SYSTEM_PAGES;
+use rss_buffer::Saving;
+
+impl<S: Saving> Rss<S> {
+    ghost use Rattle.rss_rsi.specs.Parts.{pages_below, session_of, view};
+
+    /// How many slots the device has for pages.
+    pub fn slots(&self) -> u32
+        ensures { result ≡ (view self.now).slots }
+    {
+        self.session.store.slots()
+    }
+
+    /// How many pages are mapped: those of the system space, and the home and overflow pages.
+    pub fn mapped(&self) -> u32
+        ensures { result ≡ mapped_pages (S.view (pages_below self.now)).slots
+            (S.view (pages_below self.now)).mapped }
+    {
+        self.session.mapped()
+    }
+
+    /// How many home and overflow pages there are, of a store that isn't down.
+    pub fn heap(&self) -> u32
+        ensures { (view self.now).is_up → result ≡ heap_now (S.view (pages_below self.now)) }
+    {
+        self.mapped().saturating_sub(SYSTEM_PAGES)
+    }
+
+    /// How many slots may be needed, by the rule of room: a change is refused where one more might
+    /// need more than there are.
+    pub fn room(&self) -> u64
+        ensures room { result ≡ min (room_of (session_of self.now).heap
+            (session_of self.now).surviving (session_of self.now).opened.since) (2 ^ 64 - 1) }
+        ensures states { (state : State) → (view self.now).shows state
+            → result ≡ room_number state.base.definitions state.meter }
+    {
+        self.session.room()
+    }
+
+    /// How many bytes the log has room for. That is what a state counts, where the store isn't down.
+    pub fn log_free(&self) -> u64
+        ensures free { result ≡ free_of (session_of self.now).store.log }
+        ensures states { (view self.now).is_up → (state : State) → (view self.now).shows state
+            → result ≡ log_room state.size.log_pages state.meter }
+    {
+        self.session.store.log_free()
+    }
+
+    /// The pages, as the last call left them.
+    pub fn into_pages(self) -> S
+        ensures { result ≡ pages_below self }
+    {
+        let Rss {
+            session,
+            calls: _,
+            down: _,
+            alloc: _,
+        } = self;
+        session.into_pages()
+    }
+}

@@ -1,0 +1,39 @@
+// The call that takes a tuple away.
+ghost use Rattle.std.specs.Prelude.{◌≡◌, ◌<◌};
+ghost use Rattle.rss_base.specs.declared.call.Call.TheVariants.{Delete};
+ghost use Rattle.rss_model.specs.Calls.{calls_most};
+
+use crate::Rss;
+use crate::values::values_of;
+use rss_base::{CallError, Change, Name, Reply, Tid};
+use rss_buffer::Saving;
+
+impl<S: Saving> Rss<S> {
+    ghost use Rattle.rss_model.specs.Calls.{IsCallOf};
+    ghost use Rattle.rss_rsi.specs.Parts.{view};
+
+    /// Takes a tuple away.
+    pub fn delete(
+        &mut self,
+        transaction: u32,
+        relation: &Name,
+        tid: Tid,
+    ) -> Result<Reply, CallError>
+        requires few { (view self.old).calls < calls_most }
+        ensures did { IsCallOf (view self.old) (view self.new)
+            (Delete transaction relation.now tid) result }
+        ensures untouched { ((view self.old).is_up → ⊥) → self.new ≡ self.old }
+    {
+        self.ask()?;
+        let number = self.session.admit(transaction, relation)?;
+        let values = self.find(number, relation, tid)?;
+        let entry = self.session.store.catalog.relation(number);
+        let change = Change::Delete {
+            relation: number,
+            tid,
+            values: values_of(entry.fields.as_slice(), &values),
+        };
+        self.change(transaction, change)?;
+        Ok(Reply::Ok)
+    }
+}

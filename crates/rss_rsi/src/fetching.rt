@@ -1,0 +1,25 @@
+// The call that gives a tuple.
+ghost use Rattle.std.specs.Prelude.{◌≡◌, ◌<◌};
+ghost use Rattle.rss_base.specs.declared.call.Call.TheVariants.{Fetch};
+ghost use Rattle.rss_model.specs.Calls.{calls_most};
+
+use crate::Rss;
+use rss_base::{CallError, Name, Reply, Tid};
+use rss_buffer::Saving;
+
+impl<S: Saving> Rss<S> {
+    ghost use Rattle.rss_model.specs.Calls.{IsCallOf};
+    ghost use Rattle.rss_rsi.specs.Parts.{view};
+
+    /// Gives a tuple.
+    pub fn fetch(&mut self, transaction: u32, relation: &Name, tid: Tid) -> Result<Reply, CallError>
+        requires few { (view self.old).calls < calls_most }
+        ensures did { IsCallOf (view self.old) (view self.new)
+            (Fetch transaction relation.now tid) result }
+        ensures untouched { ((view self.old).is_up → ⊥) → self.new ≡ self.old }
+    {
+        self.ask()?;
+        let number = self.session.admit(transaction, relation)?;
+        Ok(Reply::Tuple(self.find(number, relation, tid)?))
+    }
+}

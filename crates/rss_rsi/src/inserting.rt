@@ -1,0 +1,49 @@
+// The call that puts a tuple.
+ghost use Rattle.std.specs.Prelude.{◌≡◌, ◌<◌};
+ghost use Rattle.rss_base.specs.declared.call.Call.TheVariants.{Insert};
+ghost use Rattle.rss_model.specs.Calls.{calls_most};
+
+use crate::Rss;
+use crate::values::values_of;
+use rss_base::{CallError, Change, LimitKind, Name, Refusal, Reply, Tuple};
+use rss_buffer::Saving;
+
+impl<S: Saving> Rss<S> {
+    ghost use Rattle.rss_model.specs.Calls.{IsCallOf};
+    ghost use Rattle.rss_rsi.specs.Parts.{view};
+
+    /// Puts a tuple, and answers its identifier.
+    pub fn insert(
+        &mut self,
+        transaction: u32,
+        relation: &Name,
+        tuple: &Tuple,
+    ) -> Result<Reply, CallError>
+        requires few { (view self.old).calls < calls_most }
+        ensures did { IsCallOf (view self.old) (view self.new)
+            (Insert transaction relation.now tuple.now) result }
+        ensures untouched { ((view self.old).is_up → ⊥) → self.new ≡ self.old }
+    {
+        self.ask()?;
+        let number = self.session.admit_tuple(transaction, relation, tuple)?;
+        self.session.test_limit(number)?;
+        let entry = self.session.store.catalog.relation(number);
+        let segment = entry.segment;
+        let values = values_of(entry.fields.as_slice(), tuple);
+        // The number of the relation stands before the values.
+        let length = values.as_slice().len() as u16 + 1;
+        self.down = true;
+        let found = self.session.choose(segment, length)?;
+        self.down = false;
+        let Some(tid) = found else {
+            return Err(CallError::Refused(Refusal::Limit(LimitKind::Identifiers)));
+        };
+        let change = Change::Insert {
+            relation: number,
+            tid,
+            values,
+        };
+        self.change(transaction, change)?;
+        Ok(Reply::Tid(tid))
+    }
+}
