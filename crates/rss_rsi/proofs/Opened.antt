@@ -71,6 +71,7 @@ opened_there {session = session} is shows none_asked is_up = record {
   unbroken = is.unbroken;
   not_overfull = is.not_overfull;
   not_spent = is.not_spent;
+  tables = is.tables;
 }
 
 pub opens_over : {old : DeviceView} {store : StoreView} {session : SessionView} {calls : ℕ} {up : Type 0} (size : ℕ) → OpensStore old store → session.store ≡ store → ShowsRest store session → calls ≡ 0 → up → OpensOver old (record (device_below session.store.pages) { size = size }) (engine_view session calls up)

@@ -6,7 +6,7 @@ use Rattle.rss_base.specs.declared.place.Place.{Place}
 use Rattle.rss_model.specs.Calls.{EngineView}
 use Rattle.rss_model.specs.Machine.{State, IsAtRest}
 use Rattle.rss_model.specs.Store.{Stored, IsStore, IsBrokenAt, IsOverfull, size_of}
-use Rattle.rss_store.specs.Opening.{OpensAt, IsSpent, PassesOpening}
+use Rattle.rss_store.specs.Opening.{HasTables, OpensAt, IsSpent, PassesOpening}
 
 -- The engine is in a state at rest with the tables to which this store opens, and what a stop leaves is opened in that state.
 pub record BeginsIn (stored : Stored) (new : EngineView) : Type 0 where
@@ -16,7 +16,7 @@ pub record BeginsIn (stored : Stored) (new : EngineView) : Type 0 where
   pub opens : (image : Pages) → Leaves new.disk image
       → OpensAt image (size_of stored.root) stored.tables state
 
--- The engine over a device that was opened. The device's pages are out of form nowhere, the positions of their log aren't used up, and where they are a store, that is where it begins.
+-- The engine over a device that was opened. The device's pages are out of form nowhere, and spell tables; the positions of their log aren't used up; and where they are a store, that is where it begins.
 pub record IsOpened (old : DeviceView) (new : EngineView) : Type 0 where
   pub begins : Told old.disk (λ pages. (stored : Stored) → IsStore pages stored
       → BeginsIn stored new)
@@ -25,6 +25,7 @@ pub record IsOpened (old : DeviceView) (new : EngineView) : Type 0 where
   pub unbroken : (place : Place) → Told old.disk (λ pages. IsBrokenAt place pages → ⊥)
   pub not_overfull : Told old.disk (λ pages. IsOverfull pages → ⊥)
   pub not_spent : Told old.disk (λ pages. (place : Place) → IsSpent pages place → ⊥)
+  pub tables : Told old.disk HasTables
 
 -- It stands on the device as the opening left it.
 pub record OpensOver (old below : DeviceView) (new : EngineView) : Type 0 where

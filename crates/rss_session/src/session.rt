@@ -5,8 +5,8 @@ use rss_trans::Open;
 
 /// A store with the transactions that are open in it, and what the rules on room and on the log read.
 ///
-/// A call that fails leaves the session as it may not be called again: a stop then leaves what it
-/// left before the call, or what the call was to bring there.
+/// A call that meets a fault leaves the session as it may not be called again: a stop then leaves
+/// what it left before the call, or what the call was to bring there.
 pub struct Session<S: Saving> {
     pub store: DurableStore<S>,
     pub(crate) open: Open,

@@ -28,8 +28,8 @@ use Rattle.rss_model.proofs.ListedOnce.{listing_once}
 use Rattle.rss_model.proofs.Stores.{one_root, one_map}
 use Rattle.rss_access.specs.Written.{IsSystemOrHeap}
 use Rattle.rss_store.specs.Stores.{StoreView, IsReady, IsSaved}
-use Rattle.rss_store.specs.Looks.{IsPlainPage, HoldsNone, FindsTables}
-use Rattle.rss_store.specs.Opening.{IsLayout, HasLayout, IsLogRead, HasLogBytes, IsReadFrom, IsNoStore, IsFreeSlot, ReadsFrom}
+use Rattle.rss_store.specs.Looks.{IsPlainPage, HoldsTables as PagesHoldTables, HoldsNone, FindsTables}
+use Rattle.rss_store.specs.Opening.{IsLayout, HasLayout, IsLogRead, HasLogBytes, IsReadFrom, IsNoStore, IsFreeSlot, HasTables, ReadsFrom}
 use Rattle.rss_store.proofs.Places.{held_slots, store_fixed}
 
 -- ---- pages that differ in free slots alone
@@ -203,6 +203,18 @@ module _ {root : Root} {number frames writes : ℕ} {owners : List (Option PageK
             fixes = λ image fixed. store_fixed is (subst (λ (f : Fixed). HasFixed f image) (fixed_now told) fixed);
           })
 
+      -- they spell tables
+      spelled : (told : IsTold old.disk) → HasTables told.pages
+      spelled told = record {
+        number = number;
+        root = root;
+        owners = owners;
+        listing = catalog.listing;
+        there = holds told.pages told.is;
+        spelled = subst (λ (n : ℕ). PagesHoldTables (held_at (slots_at root.slots root.log_pages) told.pages owners) n catalog.listing) size_is
+            (subst (λ (h : Held). PagesHoldTables h old.slots catalog.listing) (sym (slots_hold told)) (finds.holds told));
+      }
+
       -- the device below is the one that was read
       pub reads_from : (size : ℕ) → ReadsFrom (record { disk = old.disk; size = size; writes = old.writes; faults = old.faults }) read_view
       reads_from size = record {
@@ -219,5 +231,6 @@ module _ {root : Root} {number frames writes : ℕ} {owners : List (Option PageK
           there = holds pages told;
           same = fixed_same (subst (λ (f : Fixed). HasFixed f image) (fixed_now (record { pages = pages; is = told })) fixed);
         };
+        tables = λ pages told. spelled (record { pages = pages; is = told });
         read = λ pages told stored store. read_from (record { pages = pages; is = told }) stored store;
       }

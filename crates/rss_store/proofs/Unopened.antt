@@ -194,6 +194,7 @@ handed_back refused cause reads = record {
   broken = λ place pages told broken. reads;
   overfull = λ pages told over. reads;
   spent = λ pages told place is. reads;
+  tables = λ pages told none. reads;
   keeps = λ position is pages told. widened (reads.moments (record { pages = pages; is = told })) (λ image left. inl left);
 }
 
@@ -207,6 +208,7 @@ handed_before {old = old} {mid = mid} reads is = record {
   broken = λ place pages told broken. reads_then reads (is.broken place pages (reads.contents ∙ told) broken);
   overfull = λ pages told over. reads_then reads (is.overfull pages (reads.contents ∙ told) over);
   spent = λ pages told place spent. reads_then reads (is.spent pages (reads.contents ∙ told) place spent);
+  tables = λ pages told none. reads_then reads (is.tables pages (reads.contents ∙ told) none);
   keeps = λ position at pages told.
       let read = reads.moments (record { pages = pages; is = told }) in
       then (widened read (λ image left. inl left)) (is.keeps position at pages (reads.contents ∙ told)) (λ image. ⊎_elim (λ left. inl (⊎_elim (λ was. was) (λ was. was) (now read image left))) (λ has. inr has));
@@ -223,6 +225,7 @@ opens_before reads is = record {
   unbroken = λ place pages told. is.unbroken place pages (reads.contents ∙ told);
   not_overfull = λ pages told. is.not_overfull pages (reads.contents ∙ told);
   not_spent = λ pages told. is.not_spent pages (reads.contents ∙ told);
+  tables = λ pages told. is.tables pages (reads.contents ∙ told);
 }
 
 -- whatever the size
@@ -248,6 +251,7 @@ handed_sized size is = record {
   broken = λ place pages told broken. sized_reads size (is.broken place pages told broken);
   overfull = λ pages told over. sized_reads size (is.overfull pages told over);
   spent = λ pages told place spent. sized_reads size (is.spent pages told place spent);
+  tables = λ pages told none. sized_reads size (is.tables pages told none);
   keeps = is.keeps;
 }
 
@@ -295,6 +299,7 @@ opens_store read begins rested = record {
   unbroken = λ place pages told. layout_unbroken (read.layout pages told) place;
   not_overfull = λ pages told. layout_room (read.layout pages told) read.half;
   not_spent = λ pages told. layout_unspent (read.layout pages told) read.early;
+  tables = read.tables;
 }
 
 -- it is refused
@@ -328,6 +333,7 @@ module _ {T : Type 0} {old : DeviceView} {mid new : StoreView} (fault : PageFaul
     broken = λ place pages told broken. absurd (layout_unbroken (read.layout pages told) place broken);
     overfull = λ pages told over. absurd (layout_room (read.layout pages told) read.half over);
     spent = λ pages told place is. absurd (layout_unspent (read.layout pages told) read.early place is);
+    tables = λ pages told none. absurd (none (read.tables pages told));
     keeps = λ position is pages told.
         let told_is : IsTold old.disk = record { pages = pages; is = told } in
         then (widened (read.reads.moments told_is) (λ image left. inl left)) (damage (LogPlace position) (fault_damaged fault (LogPlace position) is) told_is).keeps (λ image has. inr (read.named pages told image has));

@@ -16,6 +16,8 @@ use Rattle.rss_base.specs.Layout.{map_at, log_at, slots_at, IsWellFormed, HasRoo
 use Rattle.rss_base.specs.LogPages.{kept_from}
 use Rattle.rss_base.specs.LogRecords.{record_size, BeginsWith}
 use Rattle.rss_base.specs.PageMap.{owner_of, page_count, IsTable, IsMap}
+use Rattle.rss_base.specs.Listings.{Listing}
+use Rattle.rss_base.specs.StoredPages.{held_at}
 use Rattle.rss_base.specs.Paged.{HasFixed, mapped_pages}
 use Rattle.rss_base.specs.Steps.{PagesView, device_below}
 use Rattle.rss_log.specs.Logs.{LogView, bytes_from}
@@ -29,6 +31,7 @@ use Rattle.rss_access.specs.Written.{AreWritten}
 use Rattle.rss_restart.specs.Opened.{IsOpened}
 use Rattle.rss_restart.specs.Surveys.{IsLogPlace}
 use Rattle.rss_store.specs.Stores.{StoreView, IsLogBehind, IsReady, IsSaved}
+use Rattle.rss_store.specs.Looks.{HoldsTables as PagesHoldTables}
 use Rattle.rss_store.specs.Shown.{HoldsTables, Shows}
 
 -- ---- the layout
@@ -51,6 +54,16 @@ pub record IsLayout (root : Root) (number : ℕ) (owners : List (Option PageKey)
 pub record HasLayout (pages : Pages) (root : Root) (number : ℕ) (owners : List (Option PageKey)) : Type 0 where
   pub root_there : HasRoot pages number root
   pub map : IsMap root.slots pages (map_at root.slots root.area) owners
+
+-- The pages that the selected root's map names spell tables, which fit.
+pub record HasTables (pages : Pages) : Type 0 where
+  pub number : ℕ
+  pub root : Root
+  pub owners : List (Option PageKey)
+  pub listing : Listing
+  pub there : HasLayout pages root number owners
+  pub spelled : PagesHoldTables (held_at (slots_at root.slots root.log_pages) pages owners)
+      root.slots listing
 
 -- The log in memory is that of the root, up to the root's end.
 pub record IsLogRead (root : Root) (log : LogView) : Type 0 where
@@ -203,7 +216,7 @@ IsEarlyRefusal (Damaged (LogPlace position)) = ⊥
 IsEarlyRefusal (Damaged place) = ⊤
 IsEarlyRefusal fault = ⊥
 
--- It is handed back. One that tells its contents comes back as it was if it is refused, but that a failure of it was counted; refused at a place of its log, it may have been written in free slots. One whose layout is out of form, whose map has too many pages, or whose log's positions are used up, is only read, whatever came of it.
+-- It is handed back. One that tells its contents comes back as it was if it is refused, but that a failure of it was counted; refused at a place of its log, it may have been written in free slots. One whose layout is out of form, whose map has too many pages, whose log's positions are used up, or whose pages spell no tables, is only read, whatever came of it.
 pub record IsHandedBack (old back : DeviceView) (fault : OpenFault) : Type 0 where
   pub refused : IsUnopened old fault
   pub cause : fault ≡ DeviceFailed → Rises old.faults back.faults
@@ -214,6 +227,7 @@ pub record IsHandedBack (old back : DeviceView) (fault : OpenFault) : Type 0 whe
       → OnlyReads old back)
   pub overfull : Told old.disk (λ pages. IsOverfull pages → OnlyReads old back)
   pub spent : Told old.disk (λ pages. (place : Place) → IsSpent pages place → OnlyReads old back)
+  pub tables : Told old.disk (λ pages. (HasTables pages → ⊥) → OnlyReads old back)
   pub keeps : (position : ℕ) → fault ≡ Damaged (LogPlace position) → Told old.disk (λ pages.
       Passes old.disk back.disk (λ image. Leaves old.disk image ⊎ HasNamed pages image))
 
@@ -230,10 +244,11 @@ pub record ReadsFrom (old : DeviceView) (new : StoreView) : Type 0 where
       HasLayout pages new.root new.number new.pages.backing.shadow)
   pub named : Told old.disk (λ pages. (image : Pages) → HasFixed new.pages.fixed image
       → HasNamed pages image)
+  pub tables : Told old.disk HasTables
   pub read : Told old.disk (λ pages. (stored : Stored) → IsStore pages stored
       → IsReadFrom stored new)
 
--- The store is open. The device's pages are out of form nowhere, and where they are a store, that is where it begins.
+-- The store is open. The device's pages are out of form nowhere, and spell tables; and where they are a store, that is where it begins.
 pub record OpensStore (old : DeviceView) (new : StoreView) : Type 0 where
   pub ready : IsReady new
   pub saved : IsSaved new
@@ -245,6 +260,7 @@ pub record OpensStore (old : DeviceView) (new : StoreView) : Type 0 where
   pub unbroken : (place : Place) → Told old.disk (λ pages. IsBrokenAt place pages → ⊥)
   pub not_overfull : Told old.disk (λ pages. IsOverfull pages → ⊥)
   pub not_spent : Told old.disk (λ pages. (place : Place) → IsSpent pages place → ⊥)
+  pub tables : Told old.disk HasTables
 
 -- So many of the pages may be in memory at once, or as many as there are slots where these are fewer.
 abbrev pub HasFrames : ℕ → PagesView → Type 0

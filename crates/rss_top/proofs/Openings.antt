@@ -14,7 +14,7 @@ use Rattle.rss_model.specs.Machine.{StoreSize, State, IsAtRest}
 use Rattle.rss_model.specs.ReplyText.{not_a_store_line, damaged_line}
 use Rattle.rss_model.specs.Store.{Stored, IsStore, OpensTo, OpensIn, IsBrokenAt, IsOverfull, IsNoStore, overflow_pages, size_of}
 use Rattle.rss_model.specs.Plays.{plain}
-use Rattle.rss_store.specs.Opening.{IsSpent, MayLeave as StoreLeaves, PassesOpening, IsEarlyRefusal, IsHandedBack}
+use Rattle.rss_store.specs.Opening.{HasTables, IsSpent, MayLeave as StoreLeaves, PassesOpening, IsEarlyRefusal, IsHandedBack}
 use Rattle.rss_rsi.specs.Opening.{BeginsIn, IsOpened}
 use Rattle.rss_model.proofs.Stores.{store_unbroken}
 use Rattle.rss_base.specs.Streams.{Stream}
@@ -94,6 +94,7 @@ module _ {device below : DeviceView} {engine : EngineView} {sink : Stream} {ende
         let idle = found.rest.idle in
         opened below.disk.moment opening.not_spent
         (opening_window (widened (passes.moments pages told stored store) (leaves_at device.disk stored found.state idle.same_size idle.committed)) (ran.passes.history (still_told known)))
+        (λ read is other is_store rested. opening_window ((passes.rested read is other is_store rested).moments known) (ran.passes.history (still_told known)))
         begins_at end_at
 
   -- damage is found in no store
@@ -126,6 +127,7 @@ module _ {device below : DeviceView} {engine : EngineView} {sink : Stream} {ende
         completes faultless status (not_too_long script source short end) end.undamaged ran.cause;
     broken = λ place pages told broken. absurd (opening.unbroken place pages told broken);
     overfull = λ pages told over. absurd (opening.not_overfull pages told over);
+    no_tables = λ pages told none. absurd (none (opening.tables pages told));
     cause = run_end status none_damaged ran.cause;
     taken = ran.taken;
     tells = tells;
@@ -213,6 +215,9 @@ module _ {device back : DeviceView} {fault : OpenFault} (handed : IsHandedBack d
     overfull_alone : Told device.disk (λ pages. IsOverfull pages → IsLeftAlone before after source source)
     overfull_alone pages told over = left_alone (handed.overfull pages told over)
 
+    tables_alone : Told device.disk (λ pages. (HasTables pages → ⊥) → IsLeftAlone before after source source)
+    tables_alone pages told none = left_alone (handed.tables pages told none)
+
     -- the opening failed
     unopened_from : {status : Status} {pages : Pages} {size : StoreSize} {tables : Tables} → device.disk.contents ≡ Some pages → OpensTo pages size tables → IsFailedOpening status → sink_new.bytes ≡ sink_old.bytes → IsRunFrom (IsAtRest size tables) status before after source.bytes source.bytes
     unopened_from told opens failed silent = record {
@@ -229,6 +234,7 @@ module _ {device back : DeviceView} {fault : OpenFault} (handed : IsHandedBack d
           complete = λ size tables pages told opens unspent script given short faultless. absurd (faultless.device (handed.cause is));
           broken = λ place pages told broken. record { alone = broken_alone place pages told broken; refusal = fails refl silent };
           overfull = λ pages told over. record { alone = overfull_alone pages told over; refusal = fails refl silent };
+          no_tables = λ pages told none. record { place = Room; refused = inl (record { alone = tables_alone pages told none; refusal = fails refl silent }) };
           cause = handed.cause is;
           taken = taken_none source.bytes (stop_is_cut (inr (inl refl)));
           tells = record { last = λ place is. absurd (cc) };
@@ -242,6 +248,7 @@ module _ {device back : DeviceView} {fault : OpenFault} (handed : IsHandedBack d
           complete = λ size tables pages told opens unspent script given short faultless. inr refl;
           broken = λ place pages told broken. record { alone = broken_alone place pages told broken; refusal = silent (NotAStore place) };
           overfull = λ pages told over. record { alone = overfull_alone pages told over; refusal = silent (Damaged Room) };
+          no_tables = λ pages told none. record { place = Room; refused = inl (record { alone = tables_alone pages told none; refusal = silent (NotAStore Room) }) };
           cause = tt;
           taken = taken_none source.bytes (stop_is_cut (inr (inr refl)));
           tells = record { last = λ place is. absurd (cc) };
@@ -268,6 +275,7 @@ module _ {device back : DeviceView} {fault : OpenFault} (handed : IsHandedBack d
         complete = λ size tables pages told opens. absurd (store_unbroken opens place (broken_there pages told));
         broken = λ other pages told there. subst (λ (p : Place). IsRefused (NotAStore p) status before after source source) (named_place is ((handed.refused.refused pages told).names other there)) no_layout;
         overfull = λ pages told over. absurd (no_room is ((handed.refused.refused pages told).overfull over));
+        no_tables = λ pages told none. record { place = place; refused = inl no_layout };
         cause = cause_of;
         taken = taken_none source.bytes (said_is_cut (layout_is_cut place) line);
         tells = tells_no_damage line;
@@ -309,6 +317,7 @@ module _ {device back : DeviceView} {fault : OpenFault} (handed : IsHandedBack d
         complete = λ size tables pages told opens unspent. absurd (unspent place (store_spent is told opens.store));
         broken = λ other pages told there. absurd (no_place is ((handed.refused.refused pages told).names other there));
         overfull = λ pages told over. subst (λ (p : Place). IsRefused (Damaged p) status before after source source) (named_room is ((handed.refused.refused pages told).overfull over)) (record { alone = overfull_alone pages told over; refusal = says line });
+        no_tables = λ pages told none. record { place = place; refused = inr (record { alone = tables_alone pages told none; refusal = says line }) };
         cause = why_damaged;
         taken = taken_none source.bytes (said_is_cut (damaged_is_cut place) line);
         tells = tells_damage (some_none _) line;

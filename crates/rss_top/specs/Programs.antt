@@ -10,7 +10,7 @@ use Rattle.rss_model.specs.Plays.{plain}
 use Rattle.rss_model.specs.ReplyText.{not_a_store_line, damaged_line}
 use Rattle.rss_model.specs.Store.{OpensTo, IsBrokenAt, IsOverfull, IsNoStore}
 use Rattle.rss_store.specs.Formatted.{AreSizes}
-use Rattle.rss_store.specs.Opening.{IsSpent, HasNamed}
+use Rattle.rss_store.specs.Opening.{HasTables, IsSpent, HasNamed}
 use Rattle.rss_words.specs.Words.{AreRun, AreFormat, AreGenerate, IsCommand}
 use Rattle.rss_base.specs.Streams.{Stream}
 use Rattle.rss_top.specs.Run.{World, IsTaken, IsRun, script_limit}
@@ -48,6 +48,13 @@ pub record IsRefused (refused status : Status) (old new : World) (source_old sou
     : Type 0 where
   pub alone : IsLeftAlone old new source_old source_new
   pub refusal : IsRefusal refused status old new
+
+-- the device was refused at some place, or the run failed before it could be
+pub record IsRefusedSomewhere (status : Status) (old new : World) (source_old source_new : Stream)
+    : Type 0 where
+  pub place : Place
+  pub refused : IsRefused (NotAStore place) status old new source_old source_new
+      ⊎ IsRefused (Damaged place) status old new source_old source_new
 
 -- ---- a script, run over a device
 
@@ -117,6 +124,9 @@ pub record IsScriptRun (status : Status) (old new : World) (source_old source_ne
   -- A map of more pages than half the slots.
   pub overfull : Told old.disk (λ pages. IsOverfull pages
       → IsRefused (Damaged Room) status old new source_old source_new)
+  -- Pages that spell no tables.
+  pub no_tables : Told old.disk (λ pages. (HasTables pages → ⊥)
+      → IsRefusedSomewhere status old new source_old source_new)
   pub cause : IsRunEnd old new source_old source_new status
   -- Whatever the device tells.
   pub taken : IsTaken status source_old.bytes source_new.bytes

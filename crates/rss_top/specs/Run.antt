@@ -7,7 +7,8 @@ use Rattle.rss_model.specs.ReplyText.{damaged_line}
 use Rattle.rss_model.specs.Runs.{Run}
 use Rattle.rss_model.specs.Script.{joined, IsUnbroken, Splits, AreLines}
 use Rattle.rss_model.specs.Plays.{Scene, Made, nothing, both_made, LineStep, Play}
-use Rattle.rss_model.specs.Store.{OpensTo, OpensIn, OpensToEither, HoldsState}
+use Rattle.rss_model.specs.LogLaws.{IsRested}
+use Rattle.rss_model.specs.Store.{Stored, IsStore, OpensTo, OpensIn, OpensToEither, HoldsState}
 use Rattle.rss_store.specs.Opening.{IsSpent}
 use Rattle.rss_top.specs.Says.{Says}
 use Rattle.rss_top.specs.declared.status.Status.{Status}
@@ -238,9 +239,11 @@ pub data IsRun (status : Status) (first : Scene) (old new : World)
       → left_new ≡ left_old
       → IsRun status first old new left_old left_new
   -- The store was open from this moment on, in the first scene's state, and the script was run. The
-  -- positions of its log are not used up.
+  -- positions of its log are not used up. One that was at rest was only read by then.
   opened : (at : ℕ) → Told old.disk (λ pages. (place : Place) → IsSpent pages place → ⊥)
       → Window new.disk old.disk.moment at (MayLeave old.disk first)
+      → Told old.disk (λ pages. (stored : Stored) → IsStore pages stored → IsRested stored
+      → Window new.disk old.disk.moment at (Leaves old.disk))
       → ImagesAt at new.disk (BeginsAt first)
       → Ended status
       (record {
