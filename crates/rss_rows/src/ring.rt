@@ -1,5 +1,5 @@
 // A log that goes round its pages, and one that is full.
-use crate::harness::{Row, WHOLE, assert_script, empty_store, store_after};
+use crate::harness::{Row, SMALL, WHOLE, assert_script, empty_store, store_after};
 use crate::lines::write_lines;
 use rss_asserts::{assert_same, assert_same_slices};
 use rss_device::MemDevice;
@@ -97,6 +97,28 @@ fn assert_stops(alloc: Global, device: &MemDevice) -> Result<u32, Fail> {
 fn store(alloc: Global, slots: u32) -> Result<MemDevice, Fail> {
     let (_, _, device) = run_script(alloc, empty_store(alloc, slots)?, DEFINITIONS, WHOLE)?;
     Ok(without_moments(alloc, &device)?)
+}
+
+/// How many times a tuple is put, changed and taken away, each by a transaction of its own.
+const TURNS: u32 = 1000;
+
+/// The script of these transactions.
+fn turns(alloc: Global) -> Result<String, Fail> {
+    let mut script = String::new(alloc);
+    for number in 0..TURNS {
+        writeln!(script, "begin 1\n$t = insert 1 t {number} \"\"\nend 1")?;
+        writeln!(script, "begin 1\nupdate 1 t $t {number} \"x\"\nend 1")?;
+        write_lines(&mut script, "begin 1\ndelete 1 t $t\nend 1\n")?;
+    }
+    Ok(script)
+}
+
+#[test]
+fn no_transaction_of_one_change_lacks_room(rt: HostRuntime) -> Result<(), Fail> {
+    let alloc = rt.alloc();
+    let script = turns(alloc)?;
+    store_after(alloc, store(alloc, SMALL)?, script.as_bytes())?;
+    Ok(())
 }
 
 #[test]
