@@ -151,7 +151,7 @@ module _ {cost : ℕ} {old new : AccessView} {told_change : told.Change} (is : I
 
 -- ---- pages that were looked at first
 
-module _ {asks writes : ℕ} {old mid : PagesView} (looked : PagesStep no_page asks writes old mid) where
+module _ {asks outs : ℕ} {old mid : PagesView} (looked : PagesStep no_page asks outs old mid) where
   pub body_looked : IsTold old.disk → (segment : ℕ) (tid : Tid) → body_at mid segment tid ≡ body_at old segment tid
   body_looked told segment tid = ap (λ (h : Held). bodies_of h segment tid) (all_held looked told)
 
@@ -175,7 +175,7 @@ module _ {asks writes : ℕ} {old mid : PagesView} (looked : PagesStep no_page a
 -- ---- room
 
 -- one page more is mapped at most, and so one fewer is spare
-pub takes_two : {touched : Keys} {asks writes segment : ℕ} {tid : Tid} {body : Option (List ℕ)} {old new : PagesView} → PagesStep touched asks writes old new → ChangesTuple segment tid body old new → AreCounted old → AreCounted new → Takes 2 old new
+pub takes_two : {touched : Keys} {asks outs segment : ℕ} {tid : Tid} {body : Option (List ℕ)} {old new : PagesView} → PagesStep touched asks outs old new → ChangesTuple segment tid body old new → AreCounted old → AreCounted new → Takes 2 old new
 takes_two {old = old} {new = new} step changes before now =
     let few = mapped_changed changes old.slots in
     let at = ap (λ (n : ℕ). mapped_pages n new.mapped) step.passes.slots in

@@ -57,12 +57,12 @@ pub record IsChange (old new : PagesView) (listing : Listing) (number : ℕ) (re
   pub absent : was ≡ None → body_at old relation.segment tid ≡ None
 
 -- of an insert, whose step is that of `insert`
-pub inserted_by : {asks writes : ℕ} {old new : PagesView} {listing : Listing} {number : ℕ} {relation : RelationEntry} {tid : Tid} {values : List Value} → relation_at listing number ≡ Some relation → IsTold old.disk → PagesStep (pages_of relation.segment) asks writes old new → All IsStorable values
+pub inserted_by : {asks outs : ℕ} {old new : PagesView} {listing : Listing} {number : ℕ} {relation : RelationEntry} {tid : Tid} {values : List Value} → relation_at listing number ≡ Some relation → IsTold old.disk → PagesStep (pages_of relation.segment) asks outs old new → All IsStorable values
     → Inserts relation.segment (body_of number values) old new tid → IsChange old new listing number relation tid None (Some values)
 inserted_by at told step storable inserts = record { at = at; told = told; slots = step.passes.slots; held_off = step.held_off told; changes = inserts.changes; storable = storable; absent = λ none. inserts.absent told }
 
 -- of an update or a delete
-pub changed_by : {asks writes : ℕ} {old new : PagesView} {listing : Listing} {number : ℕ} {relation : RelationEntry} {tid : Tid} {was : List Value} {next : Option (List Value)} → relation_at listing number ≡ Some relation → IsTold old.disk → PagesStep (pages_of relation.segment) asks writes old new → IfSome next (All IsStorable)
+pub changed_by : {asks outs : ℕ} {old new : PagesView} {listing : Listing} {number : ℕ} {relation : RelationEntry} {tid : Tid} {was : List Value} {next : Option (List Value)} → relation_at listing number ≡ Some relation → IsTold old.disk → PagesStep (pages_of relation.segment) asks outs old new → IfSome next (All IsStorable)
     → ChangesTuple relation.segment tid (option_map (body_of number) next) old new → IsChange old new listing number relation tid (Some was) next
 changed_by at told step storable changes = record { at = at; told = told; slots = step.passes.slots; held_off = step.held_off told; changes = changes; storable = storable; absent = λ none. absurd (cc) }
 
@@ -203,11 +203,11 @@ written_same old new {segment = segment} held_off same written page low not =
 
 -- ---- which pages there are
 
-pub system_still : {asks writes segment : ℕ} {old new : PagesView} → PagesStep (pages_of segment) asks writes old new → HasSystemPages old.mapped → HasSystemPages new.mapped
+pub system_still : {asks outs segment : ℕ} {old new : PagesView} → PagesStep (pages_of segment) asks outs old new → HasSystemPages old.mapped → HasSystemPages new.mapped
 system_still {segment = segment} step system page low = step.mapped_off (page_key 0 System page) (system_off segment page) ∙ system page low
 
 -- each page is still one of the system space, or a home or overflow page
-pub only_still : {asks writes segment : ℕ} {old new : PagesView} → PagesStep (pages_of segment) asks writes old new → ((key : PageKey) → old.mapped key ≡ true → IsSystemOrHeap key) → (key : PageKey) → new.mapped key ≡ true → IsSystemOrHeap key
+pub only_still : {asks outs segment : ℕ} {old new : PagesView} → PagesStep (pages_of segment) asks outs old new → ((key : PageKey) → old.mapped key ≡ true → IsSystemOrHeap key) → (key : PageKey) → new.mapped key ≡ true → IsSystemOrHeap key
 only_still {segment = segment} step only key is = elim (heap_or_not segment key) [
   | inl heap ↦ inr heap.1
   | inr off ↦ only key (sym (step.mapped_off key off) ∙ is)

@@ -85,7 +85,7 @@ pending_is {catalog = catalog} written = ap (is_pending catalog) written.is ∙ 
 pub not_pending : {catalog : CatalogView} (page : ℕ) → (IsPending catalog page → ⊥) → pending_pages catalog (page_key 0 System page) → ⊥
 not_pending {catalog = catalog} page not written = not (subst (IsPending catalog) (sym (ap (λ (k : PageKey). k.number) written.is)) written.pending)
 
-module _ {old new : PagesView} {catalog : CatalogView} {asks writes : ℕ} (step : PagesStep (pending_pages catalog) asks writes old new) where
+module _ {old new : PagesView} {catalog : CatalogView} {asks outs : ℕ} (step : PagesStep (pending_pages catalog) asks outs old new) where
   pub held_off_system : IsTold old.disk → SameOffSystem old.held new.held
   held_off_system told key off = step.held_off told key (pending_system key off)
 

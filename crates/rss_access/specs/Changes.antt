@@ -218,7 +218,7 @@ pages_of_relation (Some relation) = pages_of relation.segment
 abbrev pub pages_told : Listing → told.Change → Keys
 pages_told listing change = pages_of_relation (relation_at listing (number_told change))
 
--- how many pages are asked for at most, and how many writes are made
+-- how many pages are asked for at most, and how many may leave memory
 abbrev pub alter_cost : ℕ → ℕ
 alter_cost slots = 3 * slots + 9
 

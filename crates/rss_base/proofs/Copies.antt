@@ -1,5 +1,5 @@
 -- Bytes that are copied into a page.
-use Rattle.std.proofs.Common.{◌≡◌, ℕ, ◌+◌, ◌-◌, ◌≤◌, List, ◌++◌, length, take, drop, Some, None, sym, ◌∙◌, ap, arith}
+use Rattle.std.proofs.Common.{◌≡◌, ℕ, ◌+◌, ◌≤◌, List, ◌++◌, length, take, drop, Some, None, sym, ◌∙◌, ap, arith}
 use Rattle.std.specs.List.{slice_range}
 use borrow.Rule.Slice.PartMut.{put_mid}
 use Rattle.std.proofs.lemmas.List.{drop-drop, length-take, length-drop}
@@ -30,7 +30,7 @@ copies_page {to = to} {from_at = from_at} {to_at = to_at} {count = count} {old =
 }
 
 -- bytes are copied, after calls that touch no page
-pub copies_after : {from to : PageKey} {from_at to_at count asks writes : ℕ} {old mid new : PagesView} → PagesStep no_page asks writes old mid → CopiesBytes from from_at to to_at count mid new → CopiesBytes from from_at to to_at count old new
+pub copies_after : {from to : PageKey} {from_at to_at count asks outs : ℕ} {old mid new : PagesView} → PagesStep no_page asks outs old mid → CopiesBytes from from_at to to_at count mid new → CopiesBytes from from_at to to_at count old new
 copies_after {from = from} {to = to} {from_at = from_at} {to_at = to_at} {count = count} step copies = record {
   mapped = copies.mapped ∙ all_mapped step;
   held = λ told source page is_source is_page.

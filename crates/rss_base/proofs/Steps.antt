@@ -16,7 +16,7 @@ use Rattle.rss_base.proofs.Keys.{is_same-itself, is_same-other}
 
 -- ---- what is passed on
 
-passes_nothing : (view : PagesView) {asks writes : ℕ} → PassesOn asks writes view view
+passes_nothing : (view : PagesView) {asks outs : ℕ} → PassesOn asks outs view view
 passes_nothing view = record {
   slots = refl;
   backing = refl;
@@ -28,7 +28,7 @@ passes_nothing view = record {
   writes_high = omega arith;
 }
 
-passes_then : {asks asks_then writes writes_then : ℕ} {old mid new : PagesView} → PassesOn asks writes old mid → PassesOn asks_then writes_then mid new → PassesOn (asks + asks_then) (writes + writes_then) old new
+passes_then : {asks asks_then outs outs_then : ℕ} {old mid new : PagesView} → PassesOn asks outs old mid → PassesOn asks_then outs_then mid new → PassesOn (asks + asks_then) (outs + outs_then) old new
 passes_then one two = record {
   slots = two.slots ∙ one.slots;
   backing = two.backing ∙ one.backing;
@@ -40,8 +40,8 @@ passes_then one two = record {
   writes_high = omega (arith, one.writes_high, two.writes_high);
 }
 
-passes_within : {asks writes asks_now writes_now : ℕ} {old new : PagesView} → asks ≤ asks_now → writes ≤ writes_now → PassesOn asks writes old new → PassesOn asks_now writes_now old new
-passes_within few_asks few_writes passes = record {
+passes_within : {asks outs asks_now outs_now : ℕ} {old new : PagesView} → asks ≤ asks_now → outs ≤ outs_now → PassesOn asks outs old new → PassesOn asks_now outs_now old new
+passes_within few_asks few_outs passes = record {
   slots = passes.slots;
   backing = passes.backing;
   leaves = passes.leaves;
@@ -49,13 +49,13 @@ passes_within few_asks few_writes passes = record {
   asks_low = passes.asks_low;
   asks_high = omega (arith, few_asks, passes.asks_high);
   writes_low = passes.writes_low;
-  writes_high = omega (arith, few_writes, passes.writes_high);
+  writes_high = omega (arith, few_outs, passes.writes_high);
 }
 
 -- ---- steps
 
 -- nothing is done
-pub rests : {touched : Keys} {asks writes : ℕ} (view : PagesView) → PagesStep touched asks writes view view
+pub rests : {touched : Keys} {asks outs : ℕ} (view : PagesView) → PagesStep touched asks outs view view
 rests view = record {
   passes = passes_nothing view;
   changed_off = λ key is. inl is;
@@ -65,7 +65,7 @@ rests view = record {
 }
 
 -- one step after another
-pub then : {touched : Keys} {asks asks_then writes writes_then : ℕ} {old mid new : PagesView} → PagesStep touched asks writes old mid → PagesStep touched asks_then writes_then mid new → PagesStep touched (asks + asks_then) (writes + writes_then) old new
+pub then : {touched : Keys} {asks asks_then outs outs_then : ℕ} {old mid new : PagesView} → PagesStep touched asks outs old mid → PagesStep touched asks_then outs_then mid new → PagesStep touched (asks + asks_then) (outs + outs_then) old new
 then one two = record {
   passes = passes_then one.passes two.passes;
   changed_off = λ key is. ⊎_elim (one.changed_off key) (λ there. inr there) (two.changed_off key is);
@@ -75,24 +75,24 @@ then one two = record {
 }
 
 -- more pages may be touched, and more asked for and written
-pub within : {touched more : Keys} {asks writes asks_now writes_now : ℕ} {old new : PagesView} → ((key : PageKey) → touched key → more key) → asks ≤ asks_now → writes ≤ writes_now → PagesStep touched asks writes old new → PagesStep more asks_now writes_now old new
-within is few_asks few_writes step = record {
-  passes = passes_within few_asks few_writes step.passes;
+pub within : {touched more : Keys} {asks outs asks_now outs_now : ℕ} {old new : PagesView} → ((key : PageKey) → touched key → more key) → asks ≤ asks_now → outs ≤ outs_now → PagesStep touched asks outs old new → PagesStep more asks_now outs_now old new
+within is few_asks few_outs step = record {
+  passes = passes_within few_asks few_outs step.passes;
   changed_off = λ key there. ⊎_elim (λ before. inl before) (λ touched. inr (is key touched)) (step.changed_off key there);
   mapped_off = λ key off. step.mapped_off key (λ there. off (is key there));
   held_off = λ told key off. step.held_off told key (λ there. off (is key there));
   notes_off = λ key off. step.notes_off key (λ there. off (is key there));
 }
 
-pub among : {touched more : Keys} {asks writes : ℕ} {old new : PagesView} → ((key : PageKey) → touched key → more key) → PagesStep touched asks writes old new → PagesStep more asks writes old new
-among {asks = asks} {writes = writes} is step = within is (omega arith) (omega arith) step
+pub among : {touched more : Keys} {asks outs : ℕ} {old new : PagesView} → ((key : PageKey) → touched key → more key) → PagesStep touched asks outs old new → PagesStep more asks outs old new
+among {asks = asks} {outs = outs} is step = within is (omega arith) (omega arith) step
 
 -- a step that touched nothing, among those that touch something
-pub untouched : {more : Keys} {asks writes : ℕ} {old new : PagesView} → PagesStep no_page asks writes old new → PagesStep more asks writes old new
+pub untouched : {more : Keys} {asks outs : ℕ} {old new : PagesView} → PagesStep no_page asks outs old new → PagesStep more asks outs old new
 untouched step = among (λ key none. absurd none) step
 
 -- a call after a step
-pub then_call : {T : Type 0} {touched : Keys} {asks asks_then writes writes_then : ℕ} {old mid new : PagesView} {result : Result T PageFault} → PagesStep touched asks writes old mid → PagesCall touched asks_then writes_then mid new result → PagesCall touched (asks + asks_then) (writes + writes_then) old new result
+pub then_call : {T : Type 0} {touched : Keys} {asks asks_then outs outs_then : ℕ} {old mid new : PagesView} {result : Result T PageFault} → PagesStep touched asks outs old mid → PagesCall touched asks_then outs_then mid new result → PagesCall touched (asks + asks_then) (outs + outs_then) old new result
 then_call step call = record {
   step = then step call.step;
   failed = λ is. let rose = call.failed is in omega (arith, rose, step.passes.later);
@@ -101,16 +101,16 @@ then_call step call = record {
 }
 
 -- a step that is done
-pub done : {T : Type 0} {touched : Keys} {asks writes : ℕ} {old new : PagesView} (value : T) → PagesStep touched asks writes old new → PagesCall touched asks writes old new (Ok value)
+pub done : {T : Type 0} {touched : Keys} {asks outs : ℕ} {old new : PagesView} (value : T) → PagesStep touched asks outs old new → PagesCall touched asks outs old new (Ok value)
 done value step = record { step = step; failed = λ is. absurd (cc); sound = λ place is. absurd (cc); memory = λ is. absurd (cc) }
 
 -- the error of a call is passed on
-pub fails : {T U : Type 0} {touched more : Keys} {asks writes asks_now writes_now : ℕ} {old new : PagesView} {fault : PageFault} (result : Result U PageFault) → IsErrAnd result (λ why. why ≡ fault) → ((key : PageKey) → touched key → more key) → asks ≤ asks_now → writes ≤ writes_now
-    → PagesCall {T = T} touched asks writes old new (Err fault) → PagesCall more asks_now writes_now old new result
-fails {U = U} {more = more} {asks_now = asks_now} {writes_now = writes_now} {old = old} {new = new} {fault = fault} result is wider few_asks few_writes call =
+pub fails : {T U : Type 0} {touched more : Keys} {asks outs asks_now outs_now : ℕ} {old new : PagesView} {fault : PageFault} (result : Result U PageFault) → IsErrAnd result (λ why. why ≡ fault) → ((key : PageKey) → touched key → more key) → asks ≤ asks_now → outs ≤ outs_now
+    → PagesCall {T = T} touched asks outs old new (Err fault) → PagesCall more asks_now outs_now old new result
+fails {U = U} {more = more} {asks_now = asks_now} {outs_now = outs_now} {old = old} {new = new} {fault = fault} result is wider few_asks few_outs call =
     let why = err_from_is_err_and result is in
-    subst (λ (r : Result U PageFault). PagesCall more asks_now writes_now old new r) (sym (why.1 ∙ ap Err why.2)) (record {
-      step = within wider few_asks few_writes call.step;
+    subst (λ (r : Result U PageFault). PagesCall more asks_now outs_now old new r) (sym (why.1 ∙ ap Err why.2)) (record {
+      step = within wider few_asks few_outs call.step;
       failed = λ is. let same : fault ≡ DeviceFailed = cc in call.failed (ap Err same);
       sound = λ place is told. let same : fault ≡ Damaged place = cc in call.sound place (ap Err same) told;
       memory = λ is. let same : fault ≡ NoMemory = cc in call.memory (ap Err same);
@@ -132,7 +132,7 @@ module _ (key : PageKey) (old new : PagesView) where
   notes_off-with note is other off = ap (λ (n : Noted). n other) is ∙ cond-false (is_same other key) note (old.notes other) (is_same-other other key off)
 
 -- one page was written, taken or given
-pub wrote : {T : Type 0} {key : PageKey} {bytes : List ℕ} {asks writes : ℕ} {old new : PagesView} (value : T) → PassesOn asks writes old new → ((other : PageKey) → new.changed other ≡ true → (old.changed other ≡ true) ⊎ (other ≡ key)) → WritesPage key bytes old new → PagesCall (only key) asks writes old new (Ok value)
+pub wrote : {T : Type 0} {key : PageKey} {bytes : List ℕ} {asks outs : ℕ} {old new : PagesView} (value : T) → PassesOn asks outs old new → ((other : PageKey) → new.changed other ≡ true → (old.changed other ≡ true) ⊎ (other ≡ key)) → WritesPage key bytes old new → PagesCall (only key) asks outs old new (Ok value)
 wrote {key = key} {bytes = bytes} {old = old} {new = new} value passes changed does = done value (record {
   passes = passes;
   changed_off = changed;
@@ -141,7 +141,7 @@ wrote {key = key} {bytes = bytes} {old = old} {new = new} value passes changed d
   notes_off = notes_off-with key old new None does.notes;
 })
 
-pub took : {T : Type 0} {key : PageKey} {asks writes : ℕ} {old new : PagesView} (value : T) → PassesOn asks writes old new → ((other : PageKey) → new.changed other ≡ true → (old.changed other ≡ true) ⊎ (other ≡ key)) → TakesPage key old new → PagesCall (only key) asks writes old new (Ok value)
+pub took : {T : Type 0} {key : PageKey} {asks outs : ℕ} {old new : PagesView} (value : T) → PassesOn asks outs old new → ((other : PageKey) → new.changed other ≡ true → (old.changed other ≡ true) ⊎ (other ≡ key)) → TakesPage key old new → PagesCall (only key) asks outs old new (Ok value)
 took {key = key} {old = old} {new = new} value passes changed does = done value (record {
   passes = passes;
   changed_off = changed;
@@ -150,7 +150,7 @@ took {key = key} {old = old} {new = new} value passes changed does = done value 
   notes_off = notes_off-with key old new None does.notes;
 })
 
-pub gave : {T : Type 0} {key : PageKey} {asks writes : ℕ} {old new : PagesView} (value : T) → PassesOn asks writes old new → ((other : PageKey) → new.changed other ≡ true → (old.changed other ≡ true) ⊎ (other ≡ key)) → GivesPage key old new → PagesCall (only key) asks writes old new (Ok value)
+pub gave : {T : Type 0} {key : PageKey} {asks outs : ℕ} {old new : PagesView} (value : T) → PassesOn asks outs old new → ((other : PageKey) → new.changed other ≡ true → (old.changed other ≡ true) ⊎ (other ≡ key)) → GivesPage key old new → PagesCall (only key) asks outs old new (Ok value)
 gave {key = key} {old = old} {new = new} value passes changed does = done value (record {
   passes = passes;
   changed_off = changed;
@@ -160,7 +160,7 @@ gave {key = key} {old = old} {new = new} value passes changed does = done value 
 })
 
 -- a number was noted on one page
-pub noted : {key : PageKey} {number asks writes : ℕ} {old new : PagesView} → PassesOn asks writes old new → NotesPage key number old new → PagesStep (only key) asks writes old new
+pub noted : {key : PageKey} {number asks outs : ℕ} {old new : PagesView} → PassesOn asks outs old new → NotesPage key number old new → PagesStep (only key) asks outs old new
 noted {key = key} {number = number} {old = old} {new = new} passes does = record {
   passes = passes;
   changed_off = λ other is. inl (sym (ap (λ (m : Mapped). m other) does.changed) ∙ is);
@@ -170,7 +170,7 @@ noted {key = key} {number = number} {old = old} {new = new} passes does = record
 }
 
 -- no page was changed
-pub kept_all : {touched : Keys} {asks writes : ℕ} {old new : PagesView} → PassesOn asks writes old new → new.changed ≡ old.changed → new.mapped ≡ old.mapped → (IsTold old.disk → new.held ≡ old.held) → new.notes ≡ old.notes → PagesStep touched asks writes old new
+pub kept_all : {touched : Keys} {asks outs : ℕ} {old new : PagesView} → PassesOn asks outs old new → new.changed ≡ old.changed → new.mapped ≡ old.mapped → (IsTold old.disk → new.held ≡ old.held) → new.notes ≡ old.notes → PagesStep touched asks outs old new
 kept_all passes changed mapped held notes = record {
   passes = passes;
   changed_off = λ key is. inl (sym (ap (λ (m : Mapped). m key) changed) ∙ is);
@@ -180,28 +180,28 @@ kept_all passes changed mapped held notes = record {
 }
 
 -- a fault below ends the call
-pub fails_by : {T U : Type 0} {touched : Keys} {asks writes : ℕ} {old new : PagesView} {fault : PageFault} (result : Result U PageFault) → IsErrAnd result (λ why. why ≡ fault) → HasPageCause {T = T} old.disk old.faults new.faults (Err fault) → PagesStep touched asks writes old new → PagesCall touched asks writes old new result
-fails_by {T = T} {U = U} {touched = touched} {asks = asks} {writes = writes} {old = old} {new = new} {fault = fault} result is cause step =
+pub fails_by : {T U : Type 0} {touched : Keys} {asks outs : ℕ} {old new : PagesView} {fault : PageFault} (result : Result U PageFault) → IsErrAnd result (λ why. why ≡ fault) → HasPageCause {T = T} old.disk old.faults new.faults (Err fault) → PagesStep touched asks outs old new → PagesCall touched asks outs old new result
+fails_by {T = T} {U = U} {touched = touched} {asks = asks} {outs = outs} {old = old} {new = new} {fault = fault} result is cause step =
     fails {T = T} result is (λ key there. there) (omega arith) (omega arith) (record { step = step; failed = cause.failed; sound = cause.sound; memory = cause.memory })
 
 -- more pages may be touched by a call, and more asked for and written
-pub widens : {T : Type 0} {touched more : Keys} {asks writes asks_now writes_now : ℕ} {old new : PagesView} {result : Result T PageFault} → ((key : PageKey) → touched key → more key) → asks ≤ asks_now → writes ≤ writes_now → PagesCall touched asks writes old new result → PagesCall more asks_now writes_now old new result
-widens is few_asks few_writes call = record { step = within is few_asks few_writes call.step; failed = call.failed; sound = call.sound; memory = call.memory }
+pub widens : {T : Type 0} {touched more : Keys} {asks outs asks_now outs_now : ℕ} {old new : PagesView} {result : Result T PageFault} → ((key : PageKey) → touched key → more key) → asks ≤ asks_now → outs ≤ outs_now → PagesCall touched asks outs old new result → PagesCall more asks_now outs_now old new result
+widens is few_asks few_outs call = record { step = within is few_asks few_outs call.step; failed = call.failed; sound = call.sound; memory = call.memory }
 
 -- where nothing was touched, all is as it was
-pub all_mapped : {asks writes : ℕ} {old new : PagesView} → PagesStep no_page asks writes old new → new.mapped ≡ old.mapped
+pub all_mapped : {asks outs : ℕ} {old new : PagesView} → PagesStep no_page asks outs old new → new.mapped ≡ old.mapped
 all_mapped step = λ i key. step.mapped_off key (λ none. none) i
 
-pub all_held : {asks writes : ℕ} {old new : PagesView} → PagesStep no_page asks writes old new → IsTold old.disk → new.held ≡ old.held
+pub all_held : {asks outs : ℕ} {old new : PagesView} → PagesStep no_page asks outs old new → IsTold old.disk → new.held ≡ old.held
 all_held step told = λ i key. step.held_off told key (λ none. none) i
 
-pub all_notes : {asks writes : ℕ} {old new : PagesView} → PagesStep no_page asks writes old new → new.notes ≡ old.notes
+pub all_notes : {asks outs : ℕ} {old new : PagesView} → PagesStep no_page asks outs old new → new.notes ≡ old.notes
 all_notes step = λ i key. step.notes_off key (λ none. none) i
 
-pub none_changed_more : {asks writes : ℕ} {old new : PagesView} → PagesStep no_page asks writes old new → AreAmong new.changed old.changed
+pub none_changed_more : {asks outs : ℕ} {old new : PagesView} → PagesStep no_page asks outs old new → AreAmong new.changed old.changed
 none_changed_more step = λ key is. ⊎_elim (λ there. there) (λ none. absurd none) (step.changed_off key is)
 
-pub cause_of : {T : Type 0} {touched : Keys} {asks writes : ℕ} {old new : PagesView} {result : Result T PageFault} → PagesCall touched asks writes old new result → HasPageCause old.disk old.faults new.faults result
+pub cause_of : {T : Type 0} {touched : Keys} {asks outs : ℕ} {old new : PagesView} {result : Result T PageFault} → PagesCall touched asks outs old new result → HasPageCause old.disk old.faults new.faults result
 cause_of call = record { later = call.step.passes.later; failed = call.failed; sound = call.sound; memory = call.memory }
 
 -- a page of a segment and a space is one of theirs
@@ -209,5 +209,5 @@ pub is_in : {segment : ℕ} {space : Space} {number : ℕ} (one : PageKey) → o
 is_in {segment = segment} {space = space} one there key is = let at = is ∙ there in at ∙ ap (page_key segment space) (sym (ap (λ (k : PageKey). k.number) at))
 
 -- a call that touched nothing, among those that touch something
-pub untouched_call : {T : Type 0} {more : Keys} {asks writes : ℕ} {old new : PagesView} {result : Result T PageFault} → PagesCall no_page asks writes old new result → PagesCall more asks writes old new result
+pub untouched_call : {T : Type 0} {more : Keys} {asks outs : ℕ} {old new : PagesView} {result : Result T PageFault} → PagesCall no_page asks outs old new result → PagesCall more asks outs old new result
 untouched_call call = record { step = untouched call.step; failed = call.failed; sound = call.sound; memory = call.memory }

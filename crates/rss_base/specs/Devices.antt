@@ -9,8 +9,8 @@ use Rattle.rss_base.specs.declared.fault.OpenFault.TheVariants.{Device as Device
 -- disk: what it tells of its pages: what a read gives, and what a stop at each moment may leave.
 -- size: how many pages there are. A device that tells nothing has as many as its last `size` or
 -- `set_size` said.
--- writes, faults: how many writes there were, each of a page or of a run of pages, and how often it
--- failed, counted up to 2 ^ 64 - 1.
+-- writes, faults: how many pages were written, each page of a run counted, and how often it failed,
+-- counted up to 2 ^ 64 - 1.
 pub record DeviceView : Type 1 where
   pub disk : Disk
   pub size : ℕ
@@ -36,7 +36,7 @@ pub record ReadsStore {T : Type 0} (old new : DeviceView) (result : Result T Ope
   pub reads : OnlyReads old new
   pub failed : IsErrOf result DeviceFailed → Rises old.faults new.faults
 
--- A call that makes so many writes at most, and only in these places, by its result.
+-- A call that writes so many pages at most, and only in these places, by its result.
 pub record WritesPages {T : Type 0} (places : Places) (count : ℕ) (old new : DeviceView) (result : Result T Failed) : Type 0 where
   pub only : WritesIn places old.disk new.disk
   pub size : new.size ≡ old.size

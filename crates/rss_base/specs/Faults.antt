@@ -5,9 +5,13 @@ use Rattle.std.specs.Prelude.{ℕ, ◌+◌, ◌-◌, ◌^◌, ◌≤◌, min, Re
 abbrev pub count_limit : ℕ
 count_limit = 2 ^ 64 - 1
 
+-- so many more, up to there
+abbrev pub counted_by : ℕ → ℕ → ℕ
+counted_by more before = min (before + more) count_limit
+
 -- one more, up to there
 abbrev pub counted : ℕ → ℕ
-counted before = min (before + 1) count_limit
+counted = counted_by 1
 
 -- a count has gone up, or it stands at its limit
 abbrev pub Rises : ℕ → ℕ → Type 0

@@ -2,7 +2,7 @@
 use Rattle.std.specs.Prelude.{◌≡◌, ℕ, ◌+◌, ◌<◌, List, length}
 use Rattle.rss_base.specs.DiskRule.{Pages, page}
 
--- how many pages one write takes at most
+-- how many pages a run has at most
 abbrev pub run_pages : ℕ
 run_pages = 16
 

@@ -1,9 +1,10 @@
 -- What there is to see of pages, and what a call on them passes on, whatever it does.
-use Rattle.std.specs.Prelude.{◌≡◌, ◌⊎◌, ℕ, ◌+◌, ◌≤◌, Bool, true, false, List, ◌++◌, length, take, drop, slice_range, Some, None, Result, Ok, Err, IsErrOf}
+use Rattle.std.specs.Prelude.{◌≡◌, ◌⊎◌, ℕ, ◌+◌, ◌*◌, ◌≤◌, Bool, true, false, List, ◌++◌, length, take, drop, slice_range, Some, None, Result, Ok, Err, IsErrOf}
 use Rattle.rss_base.specs.DiskRule.{Disk, IsTold}
 use Rattle.rss_base.specs.Devices.{DeviceView}
 use Rattle.rss_base.specs.Sizes.{zero_page}
 use Rattle.rss_base.specs.Faults.{Rises}
+use Rattle.rss_base.specs.Runs.{run_pages}
 use Rattle.rss_base.specs.PageMap.{page_count}
 use Rattle.rss_base.specs.Notes.{Noted, with_note}
 use Rattle.rss_base.specs.Paged.{Mapped, Held, Fixed, Backing, LeavesFixed, page_key, with_mapped, with_page, mapped_pages}
@@ -20,7 +21,7 @@ use Rattle.rss_base.specs.declared.key.Space.{Space}
 -- changed: which of them were changed since all of them were saved.
 -- in_memory: which of them can be lent.
 -- spare: how many more can be taken.
--- asks, writes, faults: how many reads of a page there were, and writes and faults of the device.
+-- asks, writes, faults: how many reads of a page there were, and on the device how many pages were written, and how many faults.
 -- fixed, settled: what is fixed of the device's pages, and that none of this is on its way to the disk.
 -- backing: what the pages stand on.
 pub record PagesView : Type 1 where
@@ -116,8 +117,9 @@ pub record NotesPage (key : PageKey) (number : ℕ) (old new : PagesView) : Type
 
 -- ---- what each call passes on
 
--- Whatever was done: so many pages were asked for at most, and so many writes made at most.
-pub record PassesOn (asks writes : ℕ) (old new : PagesView) : Type 0 where
+-- Whatever was done: so many pages were asked for at most, and so many may have left memory, each of
+-- which may take a run of pages along to the device.
+pub record PassesOn (asks outs : ℕ) (old new : PagesView) : Type 0 where
   pub slots : new.slots ≡ old.slots
   pub backing : new.backing ≡ old.backing
   pub leaves : LeavesFixed (old.settled ≡ true) (new.settled ≡ true) old.disk new.disk old.fixed new.fixed
@@ -125,19 +127,19 @@ pub record PassesOn (asks writes : ℕ) (old new : PagesView) : Type 0 where
   pub asks_low : old.asks ≤ new.asks
   pub asks_high : new.asks ≤ old.asks + asks
   pub writes_low : old.writes ≤ new.writes
-  pub writes_high : new.writes ≤ old.writes + writes
+  pub writes_high : new.writes ≤ old.writes + run_pages * outs
 
 -- And no pages were touched but these.
-pub record PagesStep (touched : Keys) (asks writes : ℕ) (old new : PagesView) : Type 0 where
-  pub passes : PassesOn asks writes old new
+pub record PagesStep (touched : Keys) (asks outs : ℕ) (old new : PagesView) : Type 0 where
+  pub passes : PassesOn asks outs old new
   pub changed_off : (key : PageKey) → new.changed key ≡ true → (old.changed key ≡ true) ⊎ touched key
   pub mapped_off : (key : PageKey) → (touched key → ⊥) → new.mapped key ≡ old.mapped key
   pub held_off : IsTold old.disk → (key : PageKey) → (touched key → ⊥) → new.held key ≡ old.held key
   pub notes_off : (key : PageKey) → (touched key → ⊥) → new.notes key ≡ old.notes key
 
 -- The same of a call, by its result: a device's fault has come, nothing is found damaged on a device that tells its contents, and memory never runs out.
-pub record PagesCall {T : Type 0} (touched : Keys) (asks writes : ℕ) (old new : PagesView) (result : Result T PageFault) : Type 0 where
-  pub step : PagesStep touched asks writes old new
+pub record PagesCall {T : Type 0} (touched : Keys) (asks outs : ℕ) (old new : PagesView) (result : Result T PageFault) : Type 0 where
+  pub step : PagesStep touched asks outs old new
   pub failed : IsErrOf result DeviceFailed → Rises old.faults new.faults
   pub sound : (place : Place) → result ≡ Err (Damaged place) → IsTold old.disk → ⊥
   pub memory : IsErrOf result NoMemory → ⊥

@@ -1,6 +1,6 @@
 // What a store is kept on.
 ghost use Rattle.std.specs.Prelude.{◌≡◌, ◌+◌, ◌<◌, ◌≤◌, length, Some, IfOk, OnOk, slice_set};
-ghost use Rattle.rss_base.specs.Faults.{count_limit, counted, HasCause};
+ghost use Rattle.rss_base.specs.Faults.{count_limit, counted, counted_by, HasCause};
 ghost use Rattle.rss_base.specs.DiskRule.{page, IsTold, Told, IsResized, Leaves, LeavesOnly};
 ghost use Rattle.rss_base.specs.DiskRule.{IsAt, IsWithin, GoesOn};
 ghost use Rattle.rss_base.specs.Devices.{DeviceView, OnlyReads, ReadsPages, WritesPages};
@@ -8,7 +8,7 @@ ghost use Rattle.rss_base.specs.Runs.{run_pages, HoldsRun};
 
 use crate::{Failed, Page};
 
-/// How many pages one write takes at most.
+/// How many pages a run has at most.
 pub const RUN_PAGES: usize = 16;
 
 /// Pages that are read one at a time, and written one at a time or one behind the other.
@@ -50,15 +50,16 @@ pub trait Device {
         ensures counts { (view self.new).writes ≡ counted (view self.old).writes }
         ensures did { WritesPages (IsAt at) 1 (view self.old) (view self.new) result };
 
-    /// Writes pages one behind the other, from this place on, in one write. They are sure to outlast
-    /// a stop only after the next sync.
+    /// Writes a run of pages, one behind the other, from this place on. They are sure to outlast a
+    /// stop only after the next sync.
     fn write_run(&mut self, at: u64, from: &[Page]) -> Result<(), Failed>
         requires few { length from.now ≤ run_pages }
         requires within { at + length from.now ≤ (view self.old).size }
         ensures written { OnOk result (IsTold (view self.old).disk
             → Told (view self.new).disk (HoldsRun at from.now)) }
-        ensures counts { (view self.new).writes ≡ counted (view self.old).writes }
-        ensures did { WritesPages (IsWithin at (length from.now)) 1
+        ensures counts { (view self.new).writes
+            ≡ counted_by (length from.now) (view self.old).writes }
+        ensures did { WritesPages (IsWithin at (length from.now)) (length from.now)
             (view self.old) (view self.new) result };
 
     /// Brings every page that was written to the disk.

@@ -1,5 +1,5 @@
 -- What changing one page does to a buffer: the page gets a slot or loses it, and its frame is changed with it.
-use Rattle.std.proofs.Common.{◌≡◌, ◌≢◌, ◌⊎◌, inl, inr, ℕ, ◌+◌, ◌<◌, ◌≤◌, Bool, true, false, List, length, set, Option, Some, None, refl, sym, ◌∙◌, ap, subst, arith, length-set, get_or-set_same, get_or-set_other}
+use Rattle.std.proofs.Common.{◌≡◌, ◌≢◌, ◌⊎◌, inl, inr, ℕ, ◌+◌, ◌*◌, ◌<◌, ◌≤◌, Bool, true, false, List, length, set, Option, Some, None, refl, sym, ◌∙◌, ap, subst, arith, length-set, get_or-set_same, get_or-set_other}
 use Rattle.std.specs.Prelude.{Result, is_some, is_none, option_map, unwrap_or}
 use Rattle.std.proofs.Math.Path.{fun_ext}
 use Rattle.std.proofs.lemmas.Bool.{cases_Bool, cond-true, cond-false}
@@ -9,6 +9,7 @@ use Rattle.rss_base.specs.DiskRule.{Pages, page, Told, IsTold}
 use Rattle.rss_base.specs.Layout.{slots_at}
 use Rattle.rss_base.specs.PageMap.{IsKey, IsTable, owner_of, page_count}
 use Rattle.rss_base.specs.Paged.{Mapped, Held, Fixed, LeavesFixed, is_same, with_mapped, with_page, page_key, IsLeastUnmapped}
+use Rattle.rss_base.specs.Runs.{run_pages}
 use Rattle.rss_base.specs.Sizes.{zero_page}
 use Rattle.rss_base.specs.Notes.{is_noted_space, with_note}
 use Rattle.rss_base.specs.Steps.{NoneChanged, device_below, Keys, no_page, PassesOn, PagesStep, PagesCall, WritesPage, TakesPage, GivesPage}
@@ -281,7 +282,7 @@ module _ {b : BufferView} {maps : Maps} {notes : NotesView} {frames : FrameOf} {
     fixed_same : fixed_by b.first maps.shadow b.device.disk.contents ≡ fixed_by b.first b.maps.shadow b.device.disk.contents
     fixed_same = ap (λ (shadow : Owners). fixed_by b.first shadow b.device.disk.contents) change.re.shadow
 
-    pub passes_on : {asks writes : ℕ} → b.device.writes ≤ old.device.writes + writes → PassesOn asks writes (pages_view old) (pages_view after)
+    pub passes_on : {asks outs : ℕ} → b.device.writes ≤ old.device.writes + run_pages * outs → PassesOn asks outs (pages_view old) (pages_view after)
     passes_on few = record {
       slots = change.re.long ∙ ap (λ (m : Maps). length m.current) keeps.maps;
       backing = λ i. record { log_pages = keeps.log_pages i; area = keeps.area i; shadow = (change.re.shadow ∙ ap (λ (m : Maps). m.shadow) keeps.maps) i; frames = keeps.room i };
@@ -342,7 +343,7 @@ module _ {old b : BufferView} {maps : Maps} {notes : NotesView} {frames : FrameO
 
 -- ---- a call that changed no page
 
-pub keeps_on : {old new : BufferView} {asks writes : ℕ} → KeepsPages old new → new.device.writes ≤ old.device.writes + writes → PassesOn asks writes (pages_view old) (pages_view new)
+pub keeps_on : {old new : BufferView} {asks outs : ℕ} → KeepsPages old new → new.device.writes ≤ old.device.writes + run_pages * outs → PassesOn asks outs (pages_view old) (pages_view new)
 keeps_on keeps few = record {
   slots = ap (λ (m : Maps). length m.current) keeps.maps;
   backing = λ i. record { log_pages = keeps.log_pages i; area = keeps.area i; shadow = ap (λ (m : Maps). m.shadow) keeps.maps i; frames = keeps.room i };
@@ -355,11 +356,11 @@ keeps_on keeps few = record {
 }
 
 -- no page was touched
-pub keeps_step : {old new : BufferView} {touched : Keys} {asks writes : ℕ} → KeepsPages old new → new.device.writes ≤ old.device.writes + writes → PagesStep touched asks writes (pages_view old) (pages_view new)
+pub keeps_step : {old new : BufferView} {touched : Keys} {asks outs : ℕ} → KeepsPages old new → new.device.writes ≤ old.device.writes + run_pages * outs → PagesStep touched asks outs (pages_view old) (pages_view new)
 keeps_step keeps few = kept_all (keeps_on keeps few) (ap (λ (m : Maps). changed_by m) keeps.maps) (ap (λ (m : Maps). mapped_by m.current) keeps.maps) keeps.held (ap (λ (n : NotesView). n.notes) keeps.notes)
 
 -- the same of a page that was asked for
-pub asked_step : {old new : BufferView} {asks writes : ℕ} → KeepsPages (record old { asks = asks }) new → old.asks ≤ asks → asks ≤ old.asks + 1 → new.device.writes ≤ old.device.writes + writes → PagesStep no_page 1 writes (pages_view old) (pages_view new)
+pub asked_step : {old new : BufferView} {asks outs : ℕ} → KeepsPages (record old { asks = asks }) new → old.asks ≤ asks → asks ≤ old.asks + 1 → new.device.writes ≤ old.device.writes + run_pages * outs → PagesStep no_page 1 outs (pages_view old) (pages_view new)
 asked_step keeps low high few =
     let on = keeps_on {asks = 0} keeps few in
     kept_all (record {

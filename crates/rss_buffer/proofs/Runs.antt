@@ -21,7 +21,7 @@ use Rattle.rss_buffer.specs.Buffered.{BufferView, NoneChanged, AreFrames, AreCle
 use Rattle.rss_buffer.specs.Gathered.{IsChangedAt, IsGathered, HasSlotAmong, AreSettled}
 use Rattle.rss_buffer.proofs.Loose.{IsLoose-slot}
 use Rattle.rss_buffer.proofs.Turns.{held-same, held_in-same, IsBuffer-writes, KeepsPages-writes}
-use Rattle.rss_buffer.proofs.Waits.{changed-waits, clean-waits, unchanged-clean}
+use Rattle.rss_buffer.proofs.Waits.{changed-waits, clean-waits, unchanged-clean, AreWaiting}
 
 -- ---- a frame of a page that was written to its slot
 
@@ -105,18 +105,20 @@ holds-run {count = count} run is few here told holds = λ pages told_now k less.
 
 -- ---- a buffer
 
--- the changed pages of so many slots from one on, and a device after a write in these slots alone, whether it succeeded or not
+-- the changed pages of so many slots from one on, and a device after they were written in these slots alone, whether that succeeded or not
 pub record IsRunOf (b : BufferView) (slot count : ℕ) (run : List (List ℕ)) (device : DeviceView) : Type 0 where
   pub gathered : IsGathered b.maps.current b.frames slot count run
   pub some : 0 < count
   pub only : WritesIn (IsWithin (b.first + slot) count) b.device.disk device.disk
+  pub few : device.writes ≤ b.device.writes + count
 
 pub run_of : {T : Type 0} {b : BufferView} {device : DeviceView} {owners : List (Option PageKey)} {at slot count : ℕ} (run : List (List ℕ)) {written : List (List ℕ)} {result : Result T Failed} → owners ≡ b.maps.current → IsGathered owners b.frames slot count run → 0 < count → count ≤ length run → written ≡ take count run → at ≡ b.first + slot
-    → WritesPages (IsWithin at (length written)) 1 b.device device result → IsRunOf b slot count run device
+    → WritesPages (IsWithin at (length written)) (length written) b.device device result → IsRunOf b slot count run device
 run_of {b = b} {device = device} {at = at} {slot = slot} {count = count} run same gathered some few is here did = record {
   gathered = subst (λ (o : List (Option PageKey)). IsGathered o b.frames slot count run) same gathered;
   some = some;
   only = subst (λ (n : ℕ). WritesIn (IsWithin n count) b.device.disk device.disk) here (subst (λ (n : ℕ). WritesIn (IsWithin at n) b.device.disk device.disk) (first_long run is few) did.only);
+  few = omega (arith, did.writes, first_long run is few);
 }
 
 module _ {b : BufferView} {slot count : ℕ} {run : List (List ℕ)} {device : DeviceView} (buffer : IsBuffer b) (writes : IsRunOf b slot count run device) where
@@ -149,9 +151,17 @@ module _ {b : BufferView} {slot count : ℕ} {run : List (List ℕ)} {device : D
       let no : true ≡ false = sym page_at.changed ∙ clean page_at.frame (ap b.frames (sym same) ∙ page_at.there) in
       cc
 
-  -- the first of them waited
-  pub first_waits : waiting_in b.frames first_page.key ≡ true
-  first_waits = changed-waits b.frames first_page.key first_page.frame first_page.there first_page.changed
+  -- each of them waited, and has a slot of its own
+  pub run_waits : AreWaiting (waiting_in b.frames) count
+  run_waits = record {
+    key = λ k less. (gathered k less).key;
+    apart = λ j k earlier less before same.
+        let one = gathered j earlier in
+        let other = gathered k less in
+        let slots : slot + j ≡ slot + k = buffer.laid_out.table.distinct (slot + j) (slot + k) one.key one.owned (other.owned ∙ ap Some (sym same)) in
+        omega (arith, slots, before);
+    waits = λ k less. let page_at = gathered k less in changed-waits b.frames page_at.key page_at.frame page_at.there page_at.changed;
+  }
 
   some_changed : NoneChanged b.frames → ⊥
   some_changed none = let no : true ≡ false = sym first_page.changed ∙ none first_page.key first_page.frame first_page.there in cc
@@ -219,8 +229,11 @@ module _ {b : BufferView} {slot count : ℕ} {run : List (List ℕ)} {device : D
       | inr there ↦ let no : true ≡ false = sym is ∙ ap is_changed there.1 ∙ unchanged-clean (b.frames key) in absurd (cc)
     ]
 
-    pub first_settled : waiting_in frames first_page.key ≡ false
-    first_settled = clean-waits frames first_page.key (λ frame there. settled.written (slot + 0) (omega arith, omega (arith, writes.some)) first_page.key frame first_page.owned there)
+    pub run_settled : (k : ℕ) (less : k < count) → waiting_in frames (run_waits.key k less) ≡ false
+    unfolding run_waits
+    run_settled k less =
+        let page_at = gathered k less in
+        clean-waits frames page_at.key (λ frame there. settled.written (slot + k) (omega arith, omega (arith, less)) page_at.key frame page_at.owned there)
 
     pub KeepsPages-written : b.device.writes ≤ device.writes → b.device.faults ≤ device.faults → KeepsPages b (record b { device = device; frames = frames })
     KeepsPages-written more later = KeepsPages-writes buffer loose-run (λ none. absurd (some_changed none)) waits-settled more later (held-run frames held_in-settled)

@@ -9,6 +9,7 @@ use Rattle.std.proofs.lemmas.Bool.{cases_Bool, cond-true, cond-false}
 use Rattle.std.proofs.lemmas.Option.{same_Some}
 use Rattle.rss_base.specs.Devices.{DeviceView, OnlyReads}
 use Rattle.rss_base.specs.DiskRule.{Disk, Pages, page, Told, IsTold}
+use Rattle.rss_base.specs.Runs.{run_pages}
 use Rattle.rss_base.specs.PageMap.{owner_of}
 use Rattle.rss_base.specs.Paged.{is_same, AreAmong, HasPageCause}
 use Rattle.rss_base.specs.declared.key.PageKey.{PageKey}
@@ -336,7 +337,7 @@ cause_fails {U = U} {disk = disk} {faults = faults} {faults_now = faults_now} {f
       memory = λ at. let same : fault ≡ NoMemory = cc in cause.memory (ap Err same);
     })
 
-pub MovesPages-keeps : {T : Type 0} {old new : BufferView} (value : T) → KeepsPages old new → new.device.writes ≤ old.device.writes + 1 → MovesPages old new (Ok value)
+pub MovesPages-keeps : {T : Type 0} {old new : BufferView} (value : T) → KeepsPages old new → new.device.writes ≤ old.device.writes + run_pages → MovesPages old new (Ok value)
 MovesPages-keeps value keeps few = record {
   keeps = keeps;
   few = few;

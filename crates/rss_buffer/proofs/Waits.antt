@@ -1,10 +1,8 @@
 -- Which pages wait to be written, as pages move between memory and their slots.
-use Rattle.std.proofs.Common.{◌≡◌, inl, inr, ℕ, ◌+◌, ◌≤◌, true, false, cond, List, ◌++◌, ◌∷◌, length, Option, Some, None, option_map, refl, sym, ◌∙◌, ap, subst, arith, ⊎_elim}
+use Rattle.std.proofs.Common.{◌≡◌, inl, inr, ℕ, ◌+◌, ◌<◌, ◌≤◌, true, false, cond, List, Option, Some, None, option_map, refl, sym, ◌∙◌, ap, arith, ⊎_elim}
 use Rattle.std.proofs.Math.Path.{fun_ext}
 use Rattle.std.proofs.lemmas.Bool.{cases_Bool, cond-true, cond-false}
-use Rattle.std.proofs.lemmas.List.{length-append}
-use Rattle.rss_buffer.proofs.Cuts.{Contains-cut, Contains-without}
-use Rattle.std.specs.List.{Contains}
+use Rattle.rss_buffer.proofs.Cuts.{IsLeft, AreApart, left_of}
 use Rattle.rss_base.specs.Paged.{Mapped, is_same, with_mapped, AreAmong, HasEach, WritesWaiting}
 use Rattle.rss_base.specs.declared.key.PageKey.{PageKey}
 use Rattle.rss_buffer.specs.Frames.{Frame, FrameOf, with_frame, is_changed, waiting_in, Settles}
@@ -71,24 +69,30 @@ settles-then one two = record {
       (second.0, second.1, omega (arith, first.2, second.2));
 }
 
--- pages that waited are written together
-pub settles-one : {waiting waiting_now : Mapped} {writes writes_now : ℕ} (key : PageKey) → waiting key ≡ true → waiting_now key ≡ false → AreAmong waiting_now waiting → writes_now ≤ writes + 1 → Settles waiting waiting_now writes writes_now
-settles-one {waiting_now = waiting_now} key waits settled fewer few = record {
+-- so many pages wait, no two of them the same
+pub record AreWaiting (waiting : Mapped) (count : ℕ) : Type 0 where
+  pub key : (k : ℕ) → k < count → PageKey
+  pub apart : AreApart count key
+  pub waits : (k : ℕ) (less : k < count) → waiting (key k less) ≡ true
+
+-- what is left of a list of the pages that wait
+left : {waiting : Mapped} {count : ℕ} (are : AreWaiting waiting count) (keys : List PageKey) → HasEach keys waiting → IsLeft count are.key keys
+left {count = count} are keys has = left_of count are.key keys are.apart (λ k less. has (are.key k less) (are.waits k less))
+
+-- they are written together
+pub settles-run : {waiting waiting_now : Mapped} {count writes writes_now : ℕ} (are : AreWaiting waiting count) → ((k : ℕ) (less : k < count) → waiting_now (are.key k less) ≡ false) → AreAmong waiting_now waiting → writes_now ≤ writes + count → Settles waiting waiting_now writes writes_now
+settles-run {waiting_now = waiting_now} are settled fewer few = record {
   fewer = fewer;
   each = λ keys has.
-      let cut = Contains-cut keys key (has key waits) in
-      let long : length keys ≡ length (cut.0 ++ cut.1) + 1 = omega (arith, ap (λ (k : List PageKey). length k) cut.2, length-append cut.0 (key ∷ cut.1), length-append cut.0 cut.1) in
-      let left : HasEach (cut.0 ++ cut.1) waiting_now = λ other still.
-      ⊎_elim (λ at. let no : true ≡ false = sym still ∙ ap waiting_now (sym at) ∙ settled in absurd (cc)) (λ rest. rest)
-      (Contains-without cut.0 key cut.1 other (subst (λ (k : List PageKey). Contains k other) cut.2 (has other (fewer other still)))) in
-      (cut.0 ++ cut.1, left, omega (arith, long, few));
+      let without = left are keys has in
+      let still_there : HasEach without.rest waiting_now = λ other still.
+      ⊎_elim (λ at. let no : true ≡ false = sym still ∙ ap waiting_now (sym at.2) ∙ settled at.0 at.1 in absurd (cc)) (λ rest. rest) (without.others other (has other (fewer other still))) in
+      (without.rest, still_there, omega (arith, without.shorter, few));
 }
 
--- of a list of the pages that wait one is written at most
-pub writes-one : (waiting : Mapped) (key : PageKey) (writes writes_now : ℕ) → waiting key ≡ true → writes_now ≤ writes + 1 → WritesWaiting waiting 0 writes writes_now
-writes-one waiting key writes writes_now waits few = λ keys has.
-    let there = has key waits in
-    omega (arith, few, there.1)
+-- of a list of the pages that wait they are written at most
+pub writes-run : {waiting : Mapped} {count : ℕ} (writes writes_now : ℕ) → AreWaiting waiting count → writes_now ≤ writes + count → WritesWaiting waiting 0 writes writes_now
+writes-run writes writes_now are few = λ keys has. omega (arith, few, (left are keys has).shorter)
 
 pub settles-count : {waiting waiting_now : Mapped} {writes writes_now : ℕ} → Settles waiting waiting_now writes writes_now → WritesWaiting waiting 0 writes writes_now
 settles-count settles = λ keys has.

@@ -3,6 +3,7 @@ use Rattle.std.specs.Prelude.{◌≡◌, ◌≢◌, ℕ, ◌+◌, ◌≤◌, Boo
 use Rattle.rss_base.specs.Devices.{DeviceView, OnlyReads}
 use Rattle.rss_base.specs.DiskRule.{Disk, Pages, page, Told, IsTold, Leaves, LeavesOnly, WritesIn}
 use Rattle.rss_base.specs.Faults.{counted}
+use Rattle.rss_base.specs.Runs.{run_pages}
 use Rattle.rss_base.specs.Layout.{map_at, slots_at}
 use Rattle.rss_base.specs.PageMap.{owner_of, page_count, IsTable, IsMap}
 use Rattle.rss_base.specs.Paged.{Held, AreAmong, WritesWaiting, HasFixed, LeavesFixed, HasPageCause}
@@ -155,10 +156,10 @@ pub record KeepsPages (old new : BufferView) : Type 0 where
 abbrev pub asked_for : BufferView → BufferView
 asked_for view = record view { asks = counted view.asks }
 
--- A call that makes one write at most, for room in memory.
+-- A call by which one page leaves memory at most, with a run of pages.
 pub record MovesPages {T : Type 0} (old new : BufferView) (result : Result T PageFault) : Type 0 where
   pub keeps : KeepsPages old new
-  pub few : new.device.writes ≤ old.device.writes + 1
+  pub few : new.device.writes ≤ old.device.writes + run_pages
   pub cause : HasPageCause old.device.disk old.device.faults new.device.faults result
 
 -- A call that writes pages that wait to their slots, each of them once.

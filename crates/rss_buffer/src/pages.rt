@@ -2,6 +2,7 @@
 ghost use Rattle.std.specs.Prelude.{◌≡◌, ◌≢◌, ◌⊎◌, ◌+◌, ◌<◌, ◌≤◌, length, true, None, is_some, IsSome, OnOk};
 ghost use Rattle.rss_base.specs.StoredPages.{mapped_by};
 ghost use Rattle.rss_base.specs.declared.key.PageKey.{PageKey as Key};
+ghost use Rattle.rss_base.specs.Runs.{run_pages};
 ghost use Rattle.rss_base.specs.Sizes.{page_bytes};
 ghost use Rattle.rss_base.specs.Steps.{no_page, only, PagesStep, PagesCall, CopiesBytes};
 ghost use Rattle.rss_buffer.specs.Frames.{HasRoom, IsNewest};
@@ -15,7 +16,7 @@ impl<D: Device> Buffer<D> {
     ghost use Rattle.rss_buffer.specs.Views.{pages_view};
     ghost use Rattle.rss_buffer.specs.Devices.{buffer_view};
 
-    /// Writes the page of a slot there, where it is in memory and was changed, and in the same write
+    /// Writes the page of a slot there, where it is in memory and was changed, and in the same run
     /// those of the slots behind it, up to the first that isn't so.
     pub(crate) fn write_back(&mut self, slot: u32) -> Result<(), PageFault>
         requires { slot < length self.old.shadow.current }
@@ -24,7 +25,7 @@ impl<D: Device> Buffer<D> {
         ensures same_there { (key : Key) → is_some ((buffer_view self.new).frames key)
             ≡ is_some ((buffer_view self.old).frames key) }
         ensures few { (buffer_view self.new).device.writes
-            ≤ (buffer_view self.old).device.writes + 1 }
+            ≤ (buffer_view self.old).device.writes + run_pages }
         ensures did { WritesPages (buffer_view self.old) (buffer_view self.new) result }
     {
         let owners = self.shadow.current();
@@ -66,7 +67,7 @@ impl<D: Device> Buffer<D> {
         ensures same_there { (other : Key) → is_some ((buffer_view self.new).frames other)
             ≡ is_some ((buffer_view self.old).frames other) }
         ensures few { (buffer_view self.new).device.writes
-            ≤ (buffer_view self.old).device.writes + 1 }
+            ≤ (buffer_view self.old).device.writes + run_pages }
         ensures did { WritesPages (buffer_view self.old) (buffer_view self.new) result }
     {
         if !changed {

@@ -9,7 +9,7 @@ use rss_base::{PAGE_BYTES, Page, RUN_PAGES};
 use rss_pagemap::SlotTable;
 use std::alloc::{AllocError, Global};
 
-/// Room for pages that stand one behind the other, and are written in one write.
+/// Room for pages that stand one behind the other, and are written together.
 #[derive(Drop)]
 pub(crate) struct Run {
     pub(crate) pages: Vec<Page>,

@@ -19,8 +19,8 @@ view_of device = record {
 abbrev pub held_at : MemDevice → ℕ → Held
 held_at device moment = replay (at_first device.first.items) (take moment device.events.items)
 
--- How many pages were written up to a moment, those of writes that failed among them. Each page of
--- a run counts here, and the run is one of the device's writes.
+-- How many pages were written up to a moment, each page of a run and those of writes that failed
+-- among them.
 abbrev pub writes_by : MemDevice → ℕ → ℕ
 writes_by device moment = writes_in (take moment device.events.items)
 

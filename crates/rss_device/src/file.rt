@@ -96,7 +96,7 @@ impl<S: StoreFiles> Device for FileDevice<'_, S> {
     }
 
     fn write_run(&mut self, at: u64, from: &[Page]) -> Result<(), Failed> {
-        self.writes = self.writes.saturating_add(1);
+        self.writes = self.writes.saturating_add(from.len() as u64);
         let written = match opened(self.files, self.path, &mut self.file, false) {
             Ok(file) => file.write_run(at, from),
             Err(error) => Err(error),

@@ -82,9 +82,9 @@ impl MemDevice {
         self.events.len()
     }
 
-    /// The moment right after write number `k`, counted from 0 over all writes, also those that
-    /// failed, where each page of a run counts as a write of its own. A stop before it comes at the
-    /// moment before, and one within it leaves old or other bytes in its page.
+    /// The moment right after the write of page number `k`, counted from 0 over all pages that were
+    /// written, each page of a run and those of writes that failed among them. A stop before it comes
+    /// at the moment before, and one within it leaves old or other bytes in its page.
     pub fn moment_of_write(&self, k: usize) -> Option<usize>
         ensures within { IfSome result (λ t. t ≤ (view_of self.now).disk.moment) }
         ensures before { IfSome result (λ t. writes_by self.now (t - 1) ≡ k) }
@@ -146,7 +146,7 @@ impl MemDevice {
 // A call states what it does on every device, and that it fails where its number is named.
 impl Device for MemDevice {
     ghost use Rattle.std.specs.Prelude.{◌≡◌, ◌+◌, ◌<◌, ◌≤◌, length, Some, IfOk, OnOk, slice_set};
-    ghost use Rattle.rss_base.specs.Faults.{counted, HasCause};
+    ghost use Rattle.rss_base.specs.Faults.{counted, counted_by, HasCause};
     ghost use Rattle.rss_base.specs.DiskRule.{page, IsTold, Told, IsResized, LeavesOnly};
     ghost use Rattle.rss_base.specs.DiskRule.{IsAt, IsWithin, GoesOn};
     ghost use Rattle.rss_base.specs.Devices.{OnlyReads, ReadsPages, WritesPages};
@@ -241,12 +241,13 @@ impl Device for MemDevice {
         requires within { at + length from.now ≤ (view_of self.old).size }
         ensures written { OnOk result (IsTold (view_of self.old).disk
             → Told (view_of self.new).disk (HoldsRun at from.now)) }
-        ensures counts { (view_of self.new).writes ≡ counted (view_of self.old).writes }
-        ensures did { WritesPages (IsWithin at (length from.now)) 1
+        ensures counts { (view_of self.new).writes
+            ≡ counted_by (length from.now) (view_of self.old).writes }
+        ensures did { WritesPages (IsWithin at (length from.now)) (length from.now)
             (view_of self.old) (view_of self.new) result }
         ensures numbered { IsNumbered self.old self.new result }
     {
-        self.writes = self.writes.saturating_add(1);
+        self.writes = self.writes.saturating_add(from.len() as u64);
         let fails = self.calls.next_fails();
         for (k, page) in from.iter().enumerate() {
             let place = at + k as u64;

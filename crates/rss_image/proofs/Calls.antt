@@ -23,7 +23,7 @@ use Rattle.rss_levels.specs.Entries.{IsIn}
 use Rattle.rss_levels.proofs.Pages.{same_or_not, loses_both}
 
 -- a page is found damaged, on a device that doesn't tell its contents
-pub damage : {T : Type 0} {touched : Keys} {asks writes : ℕ} {old new : PagesView} {fault : PageFault} {place : Place} → PagesStep touched asks writes old new → fault ≡ Damaged place → (IsTold old.disk → ⊥) → PagesCall {T = T} touched asks writes old new (Err fault)
+pub damage : {T : Type 0} {touched : Keys} {asks outs : ℕ} {old new : PagesView} {fault : PageFault} {place : Place} → PagesStep touched asks outs old new → fault ≡ Damaged place → (IsTold old.disk → ⊥) → PagesCall {T = T} touched asks outs old new (Err fault)
 damage {fault = fault} {place = place} step is never = record {
   step = step;
   failed = λ other. let same : fault ≡ DeviceFailed = cc in let both : Damaged place ≡ DeviceFailed = sym is ∙ same in absurd (cc);
@@ -109,7 +109,7 @@ spare_taken old new key one two slots backing allowed free taken others =
     omega (arith, more, one, counted)
 
 -- a step that touched nothing
-pub keeps_none : {asks writes : ℕ} (of : Nodes) (old new : PagesView) → PagesStep no_page asks writes old new → IsTold old.disk → cells_of of new.held ≡ cells_of of old.held
+pub keeps_none : {asks outs : ℕ} (of : Nodes) (old new : PagesView) → PagesStep no_page asks outs old new → IsTold old.disk → cells_of of new.held ≡ cells_of of old.held
 keeps_none of old new step told = ap (λ (h : Held). cells_of of h) (all_held step told)
 
 pub taken_mapped : (old new : PagesView) (key : PageKey) → TakesPage key old new → new.mapped key ≡ true
@@ -150,7 +150,7 @@ divides of level number other left right old one two new there fresh taken loses
       loses_none = loses_both [] (other ∷ []) (number ∷ []) (number ∷ []) (cells_of of old.held) (cells_of of two.held) (cells_of of new.held) (λ n is. put_right.loses_none n (loses n is)) put_left.loses_none;
     }
 
-pub spare_rests : {asks writes : ℕ} (old new : PagesView) → PagesStep no_page asks writes old new → AreCounted old → AreCounted new → new.spare ≡ old.spare
+pub spare_rests : {asks outs : ℕ} (old new : PagesView) → PagesStep no_page asks outs old new → AreCounted old → AreCounted new → new.spare ≡ old.spare
 spare_rests old new step one two = spare_kept old new one two step.passes.slots step.passes.backing (all_mapped step)
 
 pub held_is_mapped : (of : Nodes) (view : PagesView) (level number next : ℕ) (entries : List Entry) → ((key : PageKey) → is_some (view.held key) ≡ view.mapped key) → HoldsNode of view.held level number next entries → view.mapped (page_key of.segment Image number) ≡ true

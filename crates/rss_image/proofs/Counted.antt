@@ -68,7 +68,7 @@ none_is None = inl refl
 none_is (Some bytes) = inr refl
 
 -- In place of some image pages there are others: as many pages as before are spare or the image's.
-module _ (of : Nodes) (old new : PagesView) (own now : List ℕ) (told : IsTold old.disk) {asks writes : ℕ} (step : PagesStep (pages_in of.segment ImageSpace) asks writes old new)
+module _ (of : Nodes) (old new : PagesView) (own now : List ℕ) (told : IsTold old.disk) {asks outs : ℕ} (step : PagesStep (pages_in of.segment ImageSpace) asks outs old new)
     (old_holds : (key : PageKey) → is_some (old.held key) ≡ old.mapped key) (new_holds : (key : PageKey) → is_some (new.held key) ≡ new.mapped key)
     (own_held : Each (IsHeld (cells_of of old.held)) own) (now_held : Each (IsHeld (cells_of of new.held)) now) (own_pages : Each (IsOwn own (cells_of of old.held)) now) (keeps : KeepsPages of own old new) (loses : LosesNoPage of own now old new) where
   abbrev key_at : ℕ → PageKey
@@ -167,7 +167,7 @@ module _ (of : Nodes) (old new : PagesView) (own now : List ℕ) (told : IsTold 
           (in_or_not own n)) is
 
 -- the same of an image's pages
-pub counts : (image : Image) (old new : PagesView) (pairs : List (List ℕ)) (tree : ImageTree image old.held pairs) {asks writes : ℕ} → IsTold old.disk → PagesStep (pages_in image.segment ImageSpace) asks writes old new → ((key : PageKey) → is_some (old.held key) ≡ old.mapped key) → ((key : PageKey) → is_some (new.held key) ≡ new.mapped key)
+pub counts : (image : Image) (old new : PagesView) (pairs : List (List ℕ)) (tree : ImageTree image old.held pairs) {asks outs : ℕ} → IsTold old.disk → PagesStep (pages_in image.segment ImageSpace) asks outs old new → ((key : PageKey) → is_some (old.held key) ≡ old.mapped key) → ((key : PageKey) → is_some (new.held key) ≡ new.mapped key)
     → AreCounted old → AreCounted new → ((key : PageKey) → old.mapped key ≡ true → IsKey old.slots key) → ((key : PageKey) → new.mapped key ≡ true → IsKey new.slots key) → StillCounted (nodes_of image) old new (pages_of tree)
 counts image old new pairs tree told step old_holds new_holds one two old_allowed new_allowed = λ now distinct held mine keeps loses.
     let own_held = stack_held (spells (nodes_of image)) image.width (cells_of (nodes_of image) old.held) pairs (tree.top ∷ []) tree.lower tree.tree.stack in

@@ -34,7 +34,7 @@ Places = Name → List Value → List Tid → Tid → Type 0
 -- is_up: it answers calls.
 -- slots: how many slots its device has for pages.
 -- calls: how many calls it was asked for.
--- asks, writes, faults: how many pages were asked for, writes of the device made, and faults of it met.
+-- asks, writes, faults: how many pages were asked for, how many of the device written, and how many faults of it met.
 pub record EngineView : Type 1 where
   pub disk : Disk
   pub shows : States

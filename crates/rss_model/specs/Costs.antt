@@ -1,5 +1,6 @@
--- What a call may cost: how many pages it asks for, and how many writes of the device it makes.
-use Rattle.std.specs.Prelude.{ℕ, ◌+◌, ◌≤◌, Option, Some, None, IfSome}
+-- What a call may cost: how many pages it asks for, and how many it writes.
+use Rattle.std.specs.Prelude.{ℕ, ◌+◌, ◌*◌, ◌≤◌, Option, Some, None, IfSome}
+use Rattle.rss_base.specs.Runs.{run_pages}
 use Rattle.rss_base.specs.declared.call.Call.{Call}
 use Rattle.rss_base.specs.declared.call.Call.TheVariants.{Begin, Save, End, Fetch, CloseScan, Lock, MakeSegment, MakeRelation, DropSegment, DropRelation}
 
@@ -21,11 +22,11 @@ most_asks (DropSegment name) = Some 0
 most_asks (DropRelation name) = Some 0
 most_asks call = None
 
--- How many writes of the device a call makes at most. A page that is brought into memory may drive out another that was changed.
+-- How many pages of the device a call writes at most. A page that is brought into memory may drive out another that was changed, with a run of pages beside it.
 abbrev pub most_writes : Call → Option ℕ
 most_writes (Begin transaction) = Some 0
 most_writes (Save transaction) = Some 0
-most_writes (Fetch transaction relation tid) = Some 2
+most_writes (Fetch transaction relation tid) = Some (run_pages * 2)
 most_writes (CloseScan transaction scan) = Some 0
 most_writes (Lock transaction item exclusive) = Some 0
 most_writes call = None

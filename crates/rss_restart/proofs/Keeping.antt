@@ -30,7 +30,7 @@ keeps_then one still two = record {
   written = λ told places written. two.written (still told) (one.places ∙ places) (one.written told places written);
 }
 
-module _ {asks writes : ℕ} (old new : AccessView) (step : PagesStep IsHeapKey asks writes old.pages new.pages) where
+module _ {asks outs : ℕ} (old new : AccessView) (step : PagesStep IsHeapKey asks outs old.pages new.pages) where
   -- no page of the system space was touched
   system_same : IsTold old.pages.disk → (page : ℕ) → new.pages.held (page_key 0 System page) ≡ old.pages.held (page_key 0 System page)
   system_same told page = step.held_off told (page_key 0 System page) (λ heap. off_system (page_key 0 System page) heap refl)

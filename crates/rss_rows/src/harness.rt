@@ -138,7 +138,7 @@ pub(crate) fn store_with_log(alloc: Global) -> Result<Vec<Page>, Fail> {
     Ok(copy_of_pages(alloc, &device)?)
 }
 
-/// Whether there were exactly so many writes.
+/// Whether exactly so many pages were written.
 pub(crate) fn has_writes(device: &MemDevice, count: usize) -> bool {
     device.moment_of_write(count).is_none()
         && (count == 0 || device.moment_of_write(count - 1).is_some())

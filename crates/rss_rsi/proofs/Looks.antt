@@ -1,5 +1,5 @@
 -- How calls end that look for a tuple first.
-use Rattle.std.proofs.Common.{◌≡◌, ℕ, ◌+◌, ◌≤◌, List, length, true, false, refl, sym, ◌∙◌, ap, subst, arith}
+use Rattle.std.proofs.Common.{◌≡◌, ℕ, ◌+◌, ◌*◌, ◌≤◌, List, length, true, false, refl, sym, ◌∙◌, ap, subst, arith}
 use Rattle.std.specs.Prelude.{is_some, Bool, Option, Some, None, IfErr, Result, Ok, Err, IsErrAnd}
 use Rattle.std.proofs.lemmas.Option.{none-some, same_Some}
 use Rattle.std.proofs.lemmas.Result.{err_from_is_err_and}
@@ -7,6 +7,7 @@ use Rattle.rss_base.specs.Answers.{page_error}
 use Rattle.rss_base.specs.DiskRule.{IsTold}
 use Rattle.rss_base.specs.Listings.{relation_at, IsNumberOf}
 use Rattle.rss_base.specs.LogRecords.{HasSlot}
+use Rattle.rss_base.specs.Runs.{run_pages}
 use Rattle.rss_base.specs.TupleTypes.{kinds, misfit}
 use Rattle.rss_base.specs.declared.answer.CallError.{CallError}
 use Rattle.rss_base.specs.declared.answer.CallError.TheVariants.{Refused, Damaged, NoMemory}
@@ -70,16 +71,16 @@ looks_as given looks = record {
   };
 }
 
--- the two pages that a look may cost
+-- the two pages that a look may ask for, and what they may drive out
 pub record CostsTwo (old new : SessionView) : Type 0 where
   pub asks_high : new.store.pages.asks ≤ old.store.pages.asks + 2
-  pub writes_high : new.store.pages.writes ≤ old.store.pages.writes + 2
+  pub writes_high : new.store.pages.writes ≤ old.store.pages.writes + run_pages * 2
 
 module _ {T : Type 0} {old new : SessionView} {result : Result T PageFault} (looks : LooksOn old new result) (costs : CostsTwo old new) {relation : Name} {tid : Tid} {call : Call} (first : LooksFor old relation tid call) {n m : ℕ} (calls : m ≤ n + 1) where
   pub goes_looked : {up up_now : Type 0} → GoesOn (engine_view old n up) (engine_view new m up_now) call
   goes_looked = goes result looks.goes calls
       (within_most (most_asks call) 2 old.store.pages.asks new.store.pages.asks first.asks costs.asks_high)
-      (within_most (most_writes call) 2 old.store.pages.writes new.store.pages.writes first.writes costs.writes_high)
+      (within_most (most_writes call) (run_pages * 2) old.store.pages.writes new.store.pages.writes first.writes costs.writes_high)
 
   -- the tuple isn't there
   pub lacks_tuple : {up up_now : Type 0} (why : CallError) → why ≡ Refused (NoTuple relation tid) → up → up_now → IsShort (Err (NoTuple relation tid))

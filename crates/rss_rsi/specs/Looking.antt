@@ -1,7 +1,8 @@
 -- What a call finds that looks for a tuple first, and how it ends where it finds none.
-use Rattle.std.specs.Prelude.{◌≡◌, ℕ, ◌+◌, ◌≤◌, true, List, Some, None, IfSome, Result, Ok, All}
+use Rattle.std.specs.Prelude.{◌≡◌, ℕ, ◌+◌, ◌*◌, ◌≤◌, true, List, Some, None, IfSome, Result, Ok, All}
 use Rattle.rss_base.specs.DiskRule.{IsTold}
 use Rattle.rss_base.specs.LogRecords.{HasSlot}
+use Rattle.rss_base.specs.Runs.{run_pages}
 use Rattle.rss_base.specs.Listings.{relation_at}
 use Rattle.rss_base.specs.TupleTypes.{kinds, misfit, IsStorable}
 use Rattle.rss_base.specs.declared.answer.CallError.{CallError}
@@ -40,7 +41,7 @@ EndsEach Is old new result =
 
 -- ---- looks
 
--- A call that looks for this tuple before it does anything: it is refused in each state in which there is none, and may cost two pages.
+-- A call that looks for this tuple before it does anything: it is refused in each state in which there is none, and may ask for two pages, which drive out as many, each with a run of pages.
 pub record LooksFor (session : SessionView) (relation : Name) (tid : Tid) (call : Call) : Type 0 where
   pub lacks : IsTold session.store.pages.disk → (state : State) → IsIn session state
       → content (now state).contents (TupleItem relation tid) ≡ None
@@ -48,13 +49,13 @@ pub record LooksFor (session : SessionView) (relation : Name) (tid : Tid) (call 
   pub built : is_built call ≡ true
   pub names : DefinesNames call
   pub asks : IfSome (most_asks call) (λ most. 2 ≤ most)
-  pub writes : IfSome (most_writes call) (λ most. 2 ≤ most)
+  pub writes : IfSome (most_writes call) (λ most. run_pages * 2 ≤ most)
 
--- The tuple has these values in each state in which the session was. They fit the relation's fields, and the line that gives them is short. The identifier may be that of a tuple. The look cost two pages at most.
+-- The tuple has these values in each state in which the session was. They fit the relation's fields, and the line that gives them is short. The identifier may be that of a tuple. The look asked for two pages at most.
 pub record Finds (old new : SessionView) (number : ℕ) (relation : Name) (tid : Tid) (values : List Value) : Type 0 where
   pub looks : LooksOn old new (Ok values)
   pub asks_high : new.store.pages.asks ≤ old.store.pages.asks + 2
-  pub writes_high : new.store.pages.writes ≤ old.store.pages.writes + 2
+  pub writes_high : new.store.pages.writes ≤ old.store.pages.writes + run_pages * 2
   pub has : IsTold old.store.pages.disk → (state : State) → IsIn old state
       → HasValues state relation tid values
   pub fit : (entry : RelationEntry) → relation_at old.store.catalog.listing number ≡ Some entry

@@ -1,7 +1,8 @@
 // Looks at tuples.
-ghost use Rattle.std.specs.Prelude.{◌≡◌, ◌+◌, ◌≤◌, true, is_some, None, IfOk};
+ghost use Rattle.std.specs.Prelude.{◌≡◌, ◌+◌, ◌*◌, ◌≤◌, true, is_some, None, IfOk};
 ghost use Rattle.rss_base.specs.DiskRule.{IsTold};
 ghost use Rattle.rss_base.specs.Listings.{relation_at};
+ghost use Rattle.rss_base.specs.Runs.{run_pages};
 ghost use Rattle.rss_base.specs.declared.relation.RelationEntry.{RelationEntry as AnyEntry};
 ghost use Rattle.rss_session.specs.Sessions.{IsReady};
 ghost use Rattle.rss_session.specs.Looks.{LooksOn, FindsTuple, FindsPlace, HasNoPlace};
@@ -18,7 +19,7 @@ impl<S: Saving> Session<S> {
 
     /// Whether the tuple with this identifier is one of the relation of this number, which stands in
     /// this segment. If so, its body is put into `into`. It asks for two pages at most, which may drive
-    /// out as many.
+    /// out as many, each with a run of pages.
     pub fn look(
         &mut self,
         segment: u8,
@@ -31,7 +32,7 @@ impl<S: Saving> Session<S> {
         ensures costs { ((view S.view self.new).store.pages.asks
             ≤ (view S.view self.old).store.pages.asks + 2)
             × ((view S.view self.new).store.pages.writes
-            ≤ (view S.view self.old).store.pages.writes + 2) }
+            ≤ (view S.view self.old).store.pages.writes + run_pages * 2) }
         ensures finds { IfOk result (λ there. IsTold (view S.view self.old).store.pages.disk
             → FindsTuple (view S.view self.old) segment number tid there into.new) }
     {

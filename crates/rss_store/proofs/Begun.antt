@@ -242,7 +242,7 @@ heap_or_other Image = inr (λ is. elim is [ inl home ↦ absurd (cc) | inr over 
 heap_or_other System = inr (λ is. elim is [ inl home ↦ absurd (cc) | inr over ↦ absurd (cc) ])
 
 -- what is kept over changes of home and overflow pages
-module _ {asks writes : ℕ} {old new : PagesView} (step : PagesStep IsHeapKey asks writes old new) where
+module _ {asks outs : ℕ} {old new : PagesView} (step : PagesStep IsHeapKey asks outs old new) where
   system_kept : (n : ℕ) → old.mapped (page_key 0 System n) ≡ true → new.mapped (page_key 0 System n) ≡ true
   system_kept n is = step.mapped_off (page_key 0 System n) (λ heap. elim heap [ inl home ↦ absurd (cc) | inr over ↦ absurd (cc) ]) ∙ is
 

@@ -5,6 +5,7 @@ use Rattle.std.proofs.lemmas.Result.{err_from_is_err_and}
 use Rattle.rss_base.specs.DiskRule.{IsTold, Continues}
 use Rattle.rss_base.specs.Faults.{Rises}
 use Rattle.rss_base.specs.PageMap.{IsKey, page_count}
+use Rattle.rss_base.specs.Runs.{run_pages}
 use Rattle.rss_base.specs.Layout.{map_pages}
 use Rattle.rss_base.specs.Paged.{Mapped, Backing, HasEach, WritesWaiting, mapped_pages}
 use Rattle.rss_base.specs.Steps.{PagesView, PagesStep}
@@ -40,7 +41,7 @@ module _ {old mid : PagesView} {catalog : CatalogView} {count : ℕ} {before : S
   ])
 
   -- the catalog, the pages and the map
-  pub writes_all : {between : ℕ} → WritesWaiting before.waiting (map_pages mid.slots) mid.writes between → WritesWaiting (changed_with old catalog) (count + map_pages old.slots) old.writes between
+  pub writes_all : {between : ℕ} → WritesWaiting before.waiting (map_pages mid.slots) mid.writes between → WritesWaiting (changed_with old catalog) (run_pages * count + map_pages old.slots) old.writes between
   writes_all writes keys has = omega (arith, writes keys (waits keys has), step.passes.writes_high, ap map_pages step.passes.slots)
 
 -- ---- what it passes on

@@ -1,5 +1,5 @@
 -- The calls by which the disk is brought up to date: what they ask for, and what they leave.
-use Rattle.std.specs.Prelude.{◌≡◌, ◌↔◌, ℕ, ◌+◌, ◌-◌, ◌/◌, ◌<◌, ◌≤◌, ◌||◌, List, ◌++◌, fold, min, count_by, Result, Err, IsErrOf}
+use Rattle.std.specs.Prelude.{◌≡◌, ◌↔◌, ℕ, ◌+◌, ◌-◌, ◌*◌, ◌/◌, ◌<◌, ◌≤◌, ◌||◌, List, ◌++◌, fold, min, count_by, Result, Err, IsErrOf}
 use Rattle.rss_base.specs.DiskRule.{Pages, IsTold, Continues}
 use Rattle.rss_base.specs.Faults.{Rises}
 use Rattle.rss_base.specs.Sizes.{piece_bytes, largest_checkpoint, position_limit}
@@ -8,6 +8,7 @@ use Rattle.rss_base.specs.PageMap.{page_count}
 use Rattle.rss_base.specs.Paged.{Mapped, mapped_of, mapped_pages}
 use Rattle.rss_base.specs.LogRecords.{ArePlaced, IsSpellable, record_size}
 use Rattle.rss_base.specs.LogPages.{IsNewPiece}
+use Rattle.rss_base.specs.Runs.{run_pages}
 use Rattle.rss_base.specs.Steps.{PagesView}
 use Rattle.rss_base.specs.declared.fault.PageFault.{PageFault}
 use Rattle.rss_base.specs.declared.fault.PageFault.TheVariants.{Device as DeviceFailed, Damaged, NoMemory}
@@ -92,10 +93,10 @@ pub record CanCheckpoint (view : StoreView) (marks : List (ℕ × ℕ)) (stored 
 abbrev pub changed_with : PagesView → CatalogView → Mapped
 changed_with pages catalog key = pages.changed key || is_pending catalog key
 
--- How many writes it makes at most beside those of the changed pages, where its record has this size: the pages of the catalog, the map, the log's pieces, a root and the selector.
+-- How many pages it writes at most beside the changed ones, where its record has this size. Each page of the catalog that is written may drive out another one, with a run of pages beside it; then come the map, the log's pieces, a root and the selector.
 abbrev pub other_writes : StoreView → ℕ → ℕ
 other_writes view size =
-    count_by (λ b. b) view.catalog.pending + map_pages view.pages.slots
+    run_pages * count_by (λ b. b) view.catalog.pending + map_pages view.pages.slots
     + new_pieces view.root (view.log.end + size) + 2
 
 -- The log is kept from the least of the marks' positions on and has its record. Each page has one slot then.

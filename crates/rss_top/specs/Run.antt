@@ -16,7 +16,7 @@ use Rattle.rss_top.specs.declared.status.Status.TheVariants.{Ok, ReadFault, TooL
 
 -- ---- what a run sees
 
--- What a run writes to: the device, how many writes of it were made and how often it failed, and
+-- What a run writes to: the device, how many of its pages were written and how often it failed, and
 -- the sink.
 pub record World : Type 1 where
   pub disk : Disk

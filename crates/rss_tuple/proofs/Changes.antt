@@ -40,7 +40,7 @@ segment_off segment s p tid differ is = ⊎_elim (λ home. differ (ap (λ (k : P
 segment_off_too : (segment s p : ℕ) (tid : Tid) → s ≢ segment → pages_for segment tid (page_key s Overflow p) → ⊥
 segment_off_too segment s p tid differ is = ⊎_elim (λ home. differ (ap (λ (k : PageKey). k.segment) home)) (λ over. differ (ap (λ (k : PageKey). k.segment) over)) is
 
-module _ {asks writes : ℕ} {segment : ℕ} {tid : Tid} {now : Option (List ℕ)} {old new : PagesView} (step : PagesStep (pages_for segment tid) asks writes old new) (told : IsTold old.disk) (are : AreHeaps old) (changed : Changed segment tid now old new) where
+module _ {asks outs : ℕ} {segment : ℕ} {tid : Tid} {now : Option (List ℕ)} {old new : PagesView} (step : PagesStep (pages_for segment tid) asks outs old new) (told : IsTold old.disk) (are : AreHeaps old) (changed : Changed segment tid now old new) where
   homes_off : (s : ℕ) → s ≢ segment → homes new.held s ≡ homes old.held s
   homes_off s differ = λ i p q. same_at step told (page_key s Home p) q (segment_off segment s p tid differ) i
 
@@ -117,7 +117,7 @@ pub entry_free : (view : PagesView) (segment : ℕ) (tid : Tid) (count : ℕ) �
 entry_free view segment tid count may told = absent_empty (overflows view.held segment) (homes view.held segment tid.page tid.slot) (λ p s is. ((may.heaps told).linked segment).leads tid.page tid.slot p s is) (may.absent told)
 
 -- nor after a page was read
-pub free_after : {asks writes count segment : ℕ} {tid : Tid} {old new : PagesView} → PagesStep no_page asks writes old new → MayInsert (tuples_in old) segment tid count → IsTold new.disk → homes new.held segment tid.page tid.slot ≡ Empty
+pub free_after : {asks outs count segment : ℕ} {tid : Tid} {old new : PagesView} → PagesStep no_page asks outs old new → MayInsert (tuples_in old) segment tid count → IsTold new.disk → homes new.held segment tid.page tid.slot ≡ Empty
 free_after {count = count} {segment = segment} {tid = tid} {old = old} step may told =
     let before = step.passes.leaves.told.1 told in
     content_after step (page_key segment Home tid.page) tid.slot before ∙ entry_free old segment tid count may before
@@ -127,7 +127,7 @@ fits_unmapped held key slot count none few = subst (λ (page : Option (List ℕ)
 
 -- ---- after a page was read
 
-pub has_after : {asks writes segment : ℕ} {tid : Tid} {old new : PagesView} → PagesStep no_page asks writes old new → HasTuple (tuples_in old) segment tid → HasTuple (tuples_in new) segment tid
+pub has_after : {asks outs segment : ℕ} {tid : Tid} {old new : PagesView} → PagesStep no_page asks outs old new → HasTuple (tuples_in old) segment tid → HasTuple (tuples_in new) segment tid
 has_after {segment = segment} {tid = tid} step has = record {
   heaps = heaps_after step has.heaps;
   live = λ told.
@@ -151,13 +151,13 @@ spare_longer view segment tid count page slot body spare told is slotted low her
   | inr few ↦ absurd (full (fits_again page slot count body slotted low here few))
 ]
 
-pub spare_after : {touched : Keys} {asks writes : ℕ} {old new : PagesView} → PagesStep touched asks writes old new → new.mapped ≡ old.mapped → AreCounted old → AreCounted new → new.spare ≡ old.spare
+pub spare_after : {touched : Keys} {asks outs : ℕ} {old new : PagesView} → PagesStep touched asks outs old new → new.mapped ≡ old.mapped → AreCounted old → AreCounted new → new.spare ≡ old.spare
 spare_after {old = old} {new = new} step mapped before after =
     let pages : mapped_pages new.slots new.mapped ≡ mapped_pages old.slots old.mapped = (λ i. mapped_pages (step.passes.slots i) (mapped i)) in
     let shadow : page_count new.backing.shadow ≡ page_count old.backing.shadow = ap (λ (b : Backing). page_count b.shadow) step.passes.backing in
     omega (arith, before, after, pages, shadow, step.passes.slots)
 
-pub replace_after : {asks writes segment count : ℕ} {tid : Tid} {old new : PagesView} → PagesStep no_page asks writes old new → AreCounted old → AreCounted new → MayReplace (tuples_in old) segment tid count → MayReplace (tuples_in new) segment tid count
+pub replace_after : {asks outs segment count : ℕ} {tid : Tid} {old new : PagesView} → PagesStep no_page asks outs old new → AreCounted old → AreCounted new → MayReplace (tuples_in old) segment tid count → MayReplace (tuples_in new) segment tid count
 replace_after {segment = segment} {tid = tid} step before after may = record {
   may = may.may;
   there = has_after step may.there;

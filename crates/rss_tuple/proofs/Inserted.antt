@@ -51,12 +51,12 @@ moves_found {segment = segment} {body = body} {bytes = bytes} {spot = spot} {key
 -- ---- how an insert ends
 
 -- it failed
-pub insert_fails : {T : Type 0} {touched : Keys} {asks writes segment : ℕ} {body : List ℕ} {barred : List Tid} {old new : PagesView} {fault : PageFault} (result : Result (Option Tid) PageFault) → IsErrAnd result (λ why. why ≡ fault) → ((key : PageKey) → touched key → pages_of segment key) → asks ≤ 4 * old.slots + 4 → writes ≤ 4 * old.slots + 4
-    → PagesCall {T = T} touched asks writes old new (Err fault) → Inserts segment body barred (tuples_in old) (tuples_in new) result
-insert_fails {fault = fault} result is wider few_asks few_writes call = record {
+pub insert_fails : {T : Type 0} {touched : Keys} {asks outs segment : ℕ} {body : List ℕ} {barred : List Tid} {old new : PagesView} {fault : PageFault} (result : Result (Option Tid) PageFault) → IsErrAnd result (λ why. why ≡ fault) → ((key : PageKey) → touched key → pages_of segment key) → asks ≤ 4 * old.slots + 4 → outs ≤ 4 * old.slots + 4
+    → PagesCall {T = T} touched asks outs old new (Err fault) → Inserts segment body barred (tuples_in old) (tuples_in new) result
+insert_fails {fault = fault} result is wider few_asks few_outs call = record {
   inserts = none_ok fault _ result is;
   did = record {
-    below = fails result is wider few_asks few_writes call;
+    below = fails result is wider few_asks few_outs call;
     heaps = not_ok fault _ result is;
     others = not_ok fault _ result is;
   };

@@ -33,8 +33,8 @@ moved_before segment tid body old mid new mapped held moved = record {
 }
 
 -- the body stays where it stands
-pub moved_stays : {asks writes : ℕ} (segment : ℕ) (tid : Tid) (body : List ℕ) (page slot : ℕ) (key : PageKey) (old new : PagesView) → key ≡ page_key segment Overflow page → homes old.held segment tid.page tid.slot ≡ Forward page slot → (FitsHome old segment tid (length body) → ⊥) → HasRoom (contents old.held key) slot (length body)
-    → SetsEntry key slot (Here body) old new → PagesStep (only key) asks writes old new → IsTold old.disk → Moved segment tid body old new
+pub moved_stays : {asks outs : ℕ} (segment : ℕ) (tid : Tid) (body : List ℕ) (page slot : ℕ) (key : PageKey) (old new : PagesView) → key ≡ page_key segment Overflow page → homes old.held segment tid.page tid.slot ≡ Forward page slot → (FitsHome old segment tid (length body) → ⊥) → HasRoom (contents old.held key) slot (length body)
+    → SetsEntry key slot (Here body) old new → PagesStep (only key) asks outs old new → IsTold old.disk → Moved segment tid body old new
 moved_stays segment tid body page slot key old new at leads full room sets_key step_key told =
     let sets = subst (λ (k : PageKey). SetsEntry k slot (Here body) old new) at sets_key in
     let step = step_at at step_key in
@@ -58,8 +58,8 @@ moved_stays segment tid body page slot key old new at leads full room sets_key s
     }
 
 -- the body is put elsewhere, and then the overflow entry is emptied where it stood
-pub moved_away : {asks writes : ℕ} (segment : ℕ) (tid : Tid) (body : List ℕ) (page slot : ℕ) (key : PageKey) (old mid new : PagesView) → key ≡ page_key segment Overflow page → homes old.held segment tid.page tid.slot ≡ Forward page slot → HasBody (overflows old.held segment page slot) → Puts segment tid body old mid
-    → SetsEntry key slot Empty mid new → PagesStep (only key) asks writes mid new → IsTold mid.disk → Moved segment tid body old new
+pub moved_away : {asks outs : ℕ} (segment : ℕ) (tid : Tid) (body : List ℕ) (page slot : ℕ) (key : PageKey) (old mid new : PagesView) → key ≡ page_key segment Overflow page → homes old.held segment tid.page tid.slot ≡ Forward page slot → HasBody (overflows old.held segment page slot) → Puts segment tid body old mid
+    → SetsEntry key slot Empty mid new → PagesStep (only key) asks outs mid new → IsTold mid.disk → Moved segment tid body old new
 moved_away segment tid body page slot key old mid new at leads has puts sets_key step_key told =
     let sets = subst (λ (k : PageKey). SetsEntry k slot Empty mid new) at sets_key in
     let step = step_at at step_key in
@@ -102,12 +102,12 @@ still_there segment tid body page slot old mid has puts = elim (leads_there (hom
 -- ---- a call that moves a body
 
 -- it failed
-pub moves_fails : {T U : Type 0} {touched : Keys} {asks writes cost segment : ℕ} {tid : Tid} {body : List ℕ} {old new : PagesView} {fault : PageFault} (result : Result U PageFault) → IsErrAnd result (λ why. why ≡ fault) → ((one : PageKey) → touched one → pages_for segment tid one) → asks ≤ cost → writes ≤ cost
-    → PagesCall {T = T} touched asks writes old new (Err fault) → MovesBody segment tid body cost old new result
-moves_fails {segment = segment} {tid = tid} {body = body} {old = old} {new = new} {fault = fault} result is wider few_asks few_writes call = record {
+pub moves_fails : {T U : Type 0} {touched : Keys} {asks outs cost segment : ℕ} {tid : Tid} {body : List ℕ} {old new : PagesView} {fault : PageFault} (result : Result U PageFault) → IsErrAnd result (λ why. why ≡ fault) → ((one : PageKey) → touched one → pages_for segment tid one) → asks ≤ cost → outs ≤ cost
+    → PagesCall {T = T} touched asks outs old new (Err fault) → MovesBody segment tid body cost old new result
+moves_fails {segment = segment} {tid = tid} {body = body} {old = old} {new = new} {fault = fault} result is wider few_asks few_outs call = record {
   moved = not_ok fault (IsTold old.disk → Moved segment tid body old new) result is;
   takes = not_ok fault (TakesOne segment tid body old new) result is;
-  did = fails result is wider few_asks few_writes call;
+  did = fails result is wider few_asks few_outs call;
 }
 
 -- a page was read before
@@ -115,7 +115,7 @@ pub moves_after : {T : Type 0} {cost most segment : ℕ} {tid : Tid} {body : Lis
 moves_after {cost = cost} {segment = segment} {tid = tid} {body = body} {old = old} {mid = mid} {new = new} {result = result} step moves few = record {
   moved = on_ok_then result (λ moved told. moved_before segment tid body old mid new (all_mapped step) (all_held step told) (moved (step.passes.leaves.told.0 told))) moves.moved;
   takes = on_ok_then result (one_before step.passes.leaves.told.0 (all_mapped step) (all_held step)) moves.takes;
-  did = widens (λ key there. there) few few (then_call {asks_then = cost} {writes_then = cost} (untouched step) moves.did);
+  did = widens (λ key there. there) few few (then_call {asks_then = cost} {outs_then = cost} (untouched step) moves.did);
 }
 
 -- no body stood in an overflow page

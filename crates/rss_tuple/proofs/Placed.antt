@@ -44,11 +44,11 @@ home_off s p t is = home_apart s p t p is
 
 -- ---- one entry among all
 
-pub step_at : {asks writes : ℕ} {key one : PageKey} {old new : PagesView} → key ≡ one → PagesStep (only key) asks writes old new → PagesStep (only one) asks writes old new
-step_at {asks = asks} {writes = writes} {old = old} {new = new} at step = subst (λ (k : PageKey). PagesStep (only k) asks writes old new) at step
+pub step_at : {asks outs : ℕ} {key one : PageKey} {old new : PagesView} → key ≡ one → PagesStep (only key) asks outs old new → PagesStep (only one) asks outs old new
+step_at {asks = asks} {outs = outs} {old = old} {new = new} at step = subst (λ (k : PageKey). PagesStep (only k) asks outs old new) at step
 
 -- each other entry of each page stays
-pub entry_off : {asks writes : ℕ} {key : PageKey} {slot : ℕ} {content : Content} {old new : PagesView} → SetsEntry key slot content old new → PagesStep (only key) asks writes old new → IsTold old.disk → (other : PageKey) (at : ℕ) → (other ≡ key → at ≡ slot → ⊥) → content_at new.held other at ≡ content_at old.held other at
+pub entry_off : {asks outs : ℕ} {key : PageKey} {slot : ℕ} {content : Content} {old new : PagesView} → SetsEntry key slot content old new → PagesStep (only key) asks outs old new → IsTold old.disk → (other : PageKey) (at : ℕ) → (other ≡ key → at ≡ slot → ⊥) → content_at new.held other at ≡ content_at old.held other at
 entry_off {key = key} {slot = slot} {old = old} {new = new} sets step told other at off = elim (cases_Bool (is_same other key)) [
   | inl same ↦
       let is = is_same-true other key same in
@@ -57,14 +57,14 @@ entry_off {key = key} {slot = slot} {old = old} {new = new} sets step told other
 ]
 
 -- pages that weren't touched say the same
-pub same_at : {touched : Keys} {asks writes : ℕ} {old new : PagesView} → PagesStep touched asks writes old new → IsTold old.disk → (key : PageKey) (slot : ℕ) → (touched key → ⊥) → content_at new.held key slot ≡ content_at old.held key slot
+pub same_at : {touched : Keys} {asks outs : ℕ} {old new : PagesView} → PagesStep touched asks outs old new → IsTold old.disk → (key : PageKey) (slot : ℕ) → (touched key → ⊥) → content_at new.held key slot ≡ content_at old.held key slot
 same_at step told key slot off = ap (λ (page : Option (List ℕ)). held_at (contents_in page) slot) (step.held_off told key off)
 
 -- what isn't mapped holds nothing
 pub empty_there : (view : PagesView) (key : PageKey) (slot : ℕ) → is_some (view.held key) ≡ view.mapped key → view.mapped key ≡ false → content_at view.held key slot ≡ Empty
 empty_there view key slot holds unmapped = ap (λ (page : Option (List ℕ)). held_at (contents_in page) slot) (none_held (view.held key) (holds ∙ unmapped))
 
-pub read_off : {touched : Keys} {asks writes : ℕ} {old new : PagesView} {key : PageKey} {bytes : List ℕ} → PagesStep touched asks writes old new → (touched key → ⊥) → IsRead old key bytes → IsRead new key bytes
+pub read_off : {touched : Keys} {asks outs : ℕ} {old new : PagesView} {key : PageKey} {bytes : List ℕ} → PagesStep touched asks outs old new → (touched key → ⊥) → IsRead old key bytes → IsRead new key bytes
 read_off {key = key} step off read = record {
   mapped = step.mapped_off key off ∙ read.mapped;
   formed = read.formed;
@@ -90,7 +90,7 @@ taken_away segment number body key old mid new at unmapped holds took fills fill
 pub away_off : (segment p s page slot : ℕ) → ((p ≡ page) → (s ≡ slot) → ⊥) → page_key segment Overflow p ≡ page_key segment Overflow page → s ≡ slot → ⊥
 away_off segment p s page slot off same at = off (same_number segment segment Overflow Overflow p page same) at
 
-pub puts_found : {asks writes : ℕ} (segment length_there : ℕ) (body : List ℕ) (bytes : List ℕ) (spot : Spot) (key : PageKey) (old mid new : PagesView) → length_there ≡ length body → key ≡ page_key segment Overflow spot.tid.page → IsFoundSpot old mid (overflow_for segment length_there) bytes spot → KeepsEntries old mid → SetsEntry key spot.tid.slot (Here body) mid new → PagesStep (only key) asks writes mid new → IsTold old.disk → IsTold mid.disk → PutsAway segment body spot.tid old new
+pub puts_found : {asks outs : ℕ} (segment length_there : ℕ) (body : List ℕ) (bytes : List ℕ) (spot : Spot) (key : PageKey) (old mid new : PagesView) → length_there ≡ length body → key ≡ page_key segment Overflow spot.tid.page → IsFoundSpot old mid (overflow_for segment length_there) bytes spot → KeepsEntries old mid → SetsEntry key spot.tid.slot (Here body) mid new → PagesStep (only key) asks outs mid new → IsTold old.disk → IsTold mid.disk → PutsAway segment body spot.tid old new
 puts_found segment length_there body bytes spot key old mid new long at found kept sets_key step_key told told_mid =
     let one = page_key segment Overflow spot.tid.page in
     let sets = subst (λ (k : PageKey). SetsEntry k spot.tid.slot (Here body) mid new) at sets_key in
@@ -129,7 +129,7 @@ puts_taken segment length_there body to old mid new long none kept holds told ta
 home_other : (segment p s page slot : ℕ) → ((p ≡ page) → (s ≡ slot) → ⊥) → page_key segment Home p ≡ page_key segment Home page → s ≡ slot → ⊥
 home_other segment p s page slot off same at = off (same_number segment segment Home Home p page same) at
 
-pub puts_home : {asks writes : ℕ} (segment : ℕ) (tid : Tid) (body : List ℕ) (key : PageKey) (old new : PagesView) → key ≡ page_key segment Home tid.page → FitsHome old segment tid (length body) → SetsEntry key tid.slot (Here body) old new → PagesStep (only key) asks writes old new → IsTold old.disk → Puts segment tid body old new
+pub puts_home : {asks outs : ℕ} (segment : ℕ) (tid : Tid) (body : List ℕ) (key : PageKey) (old new : PagesView) → key ≡ page_key segment Home tid.page → FitsHome old segment tid (length body) → SetsEntry key tid.slot (Here body) old new → PagesStep (only key) asks outs old new → IsTold old.disk → Puts segment tid body old new
 puts_home segment tid body key old new at fits sets_key step_key told =
     let sets = subst (λ (k : PageKey). SetsEntry k tid.slot (Here body) old new) at sets_key in
     let step = step_at at step_key in
@@ -148,8 +148,8 @@ forward_page a b c d is = cc
 pub forward_slot : (a b c d : ℕ) → Forward a b ≡ Forward c d → b ≡ d
 forward_slot a b c d is = cc
 
-pub puts_forward : {asks writes asks_then writes_then : ℕ} (segment : ℕ) (tid : Tid) (body : List ℕ) (to : Tid) (key : PageKey) (old mid new : PagesView) → key ≡ page_key segment Home tid.page → (FitsHome old segment tid (length body) → ⊥) → NeverFitsAway old segment tid (length body) → PutsAway segment body to old mid → PagesStep (pages_in segment Overflow) asks writes old mid
-    → SetsEntry key tid.slot (Forward to.page to.slot) mid new → PagesStep (only key) asks_then writes_then mid new → IsTold old.disk → IsTold mid.disk → Puts segment tid body old new
+pub puts_forward : {asks outs asks_then outs_then : ℕ} (segment : ℕ) (tid : Tid) (body : List ℕ) (to : Tid) (key : PageKey) (old mid new : PagesView) → key ≡ page_key segment Home tid.page → (FitsHome old segment tid (length body) → ⊥) → NeverFitsAway old segment tid (length body) → PutsAway segment body to old mid → PagesStep (pages_in segment Overflow) asks outs old mid
+    → SetsEntry key tid.slot (Forward to.page to.slot) mid new → PagesStep (only key) asks_then outs_then mid new → IsTold old.disk → IsTold mid.disk → Puts segment tid body old new
 puts_forward segment tid body to key old mid new at full away puts first sets_key step_key told told_mid =
     let sets = subst (λ (k : PageKey). SetsEntry k tid.slot (Forward to.page to.slot) mid new) at sets_key in
     let step = step_at at step_key in
@@ -231,7 +231,7 @@ changed_puts segment tid body old new never puts = record {
 }
 
 -- a home entry is emptied that held the body
-pub changed_here : {asks writes : ℕ} (segment : ℕ) (tid : Tid) (key : PageKey) (old new : PagesView) → key ≡ page_key segment Home tid.page → ((p s : ℕ) → homes old.held segment tid.page tid.slot ≡ Forward p s → ⊥) → SetsEntry key tid.slot Empty old new → PagesStep (only key) asks writes old new → IsTold old.disk → Changed segment tid None old new
+pub changed_here : {asks outs : ℕ} (segment : ℕ) (tid : Tid) (key : PageKey) (old new : PagesView) → key ≡ page_key segment Home tid.page → ((p s : ℕ) → homes old.held segment tid.page tid.slot ≡ Forward p s → ⊥) → SetsEntry key tid.slot Empty old new → PagesStep (only key) asks outs old new → IsTold old.disk → Changed segment tid None old new
 changed_here segment tid key old new at never sets_key step_key told =
     let sets = subst (λ (k : PageKey). SetsEntry k tid.slot Empty old new) at sets_key in
     let step = step_at at step_key in
@@ -248,8 +248,8 @@ changed_here segment tid key old new at never sets_key step_key told =
     }
 
 -- a home entry is emptied, and then the overflow entry to which it led
-pub changed_away : {asks writes asks_then writes_then : ℕ} (segment : ℕ) (tid : Tid) (page slot : ℕ) (key away : PageKey) (old mid new : PagesView) → key ≡ page_key segment Home tid.page → away ≡ page_key segment Overflow page → homes old.held segment tid.page tid.slot ≡ Forward page slot
-    → SetsEntry key tid.slot Empty old mid → PagesStep (only key) asks writes old mid → SetsEntry away slot Empty mid new → PagesStep (only away) asks_then writes_then mid new → IsTold old.disk → IsTold mid.disk → Changed segment tid None old new
+pub changed_away : {asks outs asks_then outs_then : ℕ} (segment : ℕ) (tid : Tid) (page slot : ℕ) (key away : PageKey) (old mid new : PagesView) → key ≡ page_key segment Home tid.page → away ≡ page_key segment Overflow page → homes old.held segment tid.page tid.slot ≡ Forward page slot
+    → SetsEntry key tid.slot Empty old mid → PagesStep (only key) asks outs old mid → SetsEntry away slot Empty mid new → PagesStep (only away) asks_then outs_then mid new → IsTold old.disk → IsTold mid.disk → Changed segment tid None old new
 changed_away segment tid page slot key away old mid new at away_at leads sets_key step_key sets_away step_away told told_mid =
     let one = subst (λ (k : PageKey). SetsEntry k tid.slot Empty old mid) at sets_key in
     let step = step_at at step_key in
@@ -274,7 +274,7 @@ changed_away segment tid page slot key away old mid new at away_at leads sets_ke
 
 -- ---- a page that was read
 
-pub read_at : {asks writes : ℕ} {old new : PagesView} {key : PageKey} {bytes : List ℕ} → PagesStep no_page asks writes old new → IsRead new key bytes → IsTold old.disk → (slot : ℕ) → content_at old.held key slot ≡ held_at (entries bytes) slot
+pub read_at : {asks outs : ℕ} {old new : PagesView} {key : PageKey} {bytes : List ℕ} → PagesStep no_page asks outs old new → IsRead new key bytes → IsTold old.disk → (slot : ℕ) → content_at old.held key slot ≡ held_at (entries bytes) slot
 read_at {key = key} step read told slot = sym (same_at step told key slot (λ none. none)) ∙ ap (λ (page : Option (List ℕ)). held_at (contents_in page) slot) (read.held (step.passes.leaves.told.0 told))
 
 pub changed_before : (segment : ℕ) (tid : Tid) (now : Option (List ℕ)) (old mid new : PagesView) → mid.held ≡ old.held → Changed segment tid now mid new → Changed segment tid now old new
@@ -320,5 +320,5 @@ pub room_back : (view : PagesView) (key : PageKey) (page : List ℕ) (slot count
 room_back view key page slot count read told room = subst (λ (p : Option (List ℕ)). HasRoom (contents_in p) slot count) (sym (read.held told)) room
 
 -- the body of a tuple whose home page was read
-pub body_read : {asks writes : ℕ} {old new : PagesView} {segment : ℕ} (tid : Tid) {bytes body : List ℕ} → PagesStep no_page asks writes old new → IsRead new (page_key segment Home tid.page) bytes → held_at (entries bytes) tid.slot ≡ Here body → IsTold old.disk → body_by (overflows old.held segment) (homes old.held segment tid.page tid.slot) ≡ Some body
+pub body_read : {asks outs : ℕ} {old new : PagesView} {segment : ℕ} (tid : Tid) {bytes body : List ℕ} → PagesStep no_page asks outs old new → IsRead new (page_key segment Home tid.page) bytes → held_at (entries bytes) tid.slot ≡ Here body → IsTold old.disk → body_by (overflows old.held segment) (homes old.held segment tid.page tid.slot) ≡ Some body
 body_read {old = old} {segment = segment} tid step read is told = ap (body_by (overflows old.held segment)) (read_at step read told tid.slot ∙ is)

@@ -52,7 +52,7 @@ linked_same old new held linked = λ segment. subst (λ (h : Held). AreLinked (h
 pub heaps_same : (old new : PagesView) → new.held ≡ old.held → new.notes ≡ old.notes → AreHeaps old → AreHeaps new
 heaps_same old new held notes are = record { formed = formed_same old new held notes are.formed; linked = linked_same old.held new.held held are.linked }
 
-module _ {asks writes : ℕ} {old new : PagesView} (step : PagesStep no_page asks writes old new) where
+module _ {asks outs : ℕ} {old new : PagesView} (step : PagesStep no_page asks outs old new) where
   pub formed_after : (IsTold old.disk → AreFormed old) → IsTold new.disk → AreFormed new
   formed_after formed told = let before = step.passes.leaves.told.1 told in formed_same old new (all_held step before) (all_notes step) (formed before)
 
@@ -63,7 +63,7 @@ module _ {asks writes : ℕ} {old new : PagesView} (step : PagesStep no_page ask
   content_after key slot told = ap (λ (h : Held). content_at h key slot) (all_held step told)
 
 -- a call that touched nothing
-pub kept_after : {asks writes : ℕ} {old new : PagesView} → PagesStep no_page asks writes old new → (IsTold old.disk → AreFormed old) → KeepsEntries old new
+pub kept_after : {asks outs : ℕ} {old new : PagesView} → PagesStep no_page asks outs old new → (IsTold old.disk → AreFormed old) → KeepsEntries old new
 kept_after step formed = record {
   mapped = all_mapped step;
   held = λ told. all_held step told;
@@ -79,7 +79,7 @@ looked {old = old} {new = new} {result = result} are call = record {
 }
 
 -- a page that isn't what it should be
-pub found_damaged : {T : Type 0} {touched : Keys} {asks writes : ℕ} {old new : PagesView} {place : Place} (fault : PageFault) → fault ≡ Damaged place → PagesStep touched asks writes old new → (IsTold old.disk → ⊥) → PagesCall {T = T} touched asks writes old new (Err fault)
+pub found_damaged : {T : Type 0} {touched : Keys} {asks outs : ℕ} {old new : PagesView} {place : Place} (fault : PageFault) → fault ≡ Damaged place → PagesStep touched asks outs old new → (IsTold old.disk → ⊥) → PagesCall {T = T} touched asks outs old new (Err fault)
 found_damaged {place = place} fault is step never = record {
   step = step;
   failed = λ failed. let same : Damaged place ≡ DeviceFailed = cc in absurd (cc);
@@ -88,7 +88,7 @@ found_damaged {place = place} fault is step never = record {
 }
 
 -- a test of what was brought into memory, whose one error is damage
-pub tested : {T : Type 0} {touched : Keys} {asks writes : ℕ} {old new : PagesView} (place : Place) (result : Result T PageFault) → IfErr result (λ fault. fault ≡ Damaged place) → OnErr result (IsTold old.disk → ⊥) → PagesStep touched asks writes old new → PagesCall touched asks writes old new result
+pub tested : {T : Type 0} {touched : Keys} {asks outs : ℕ} {old new : PagesView} (place : Place) (result : Result T PageFault) → IfErr result (λ fault. fault ≡ Damaged place) → OnErr result (IsTold old.disk → ⊥) → PagesStep touched asks outs old new → PagesCall touched asks outs old new result
 tested place (Ok value) names never step = done value step
 tested place (Err fault) names never step = found_damaged fault names step never
 

@@ -26,7 +26,7 @@ use Rattle.rss_tuple.proofs.Seen.{not_ok, on_ok_then, content_after, found_damag
 
 -- ---- all pages, where one was changed
 
-pub formed_but : {asks writes : ℕ} (key : PageKey) (old new : PagesView) → PagesStep (only key) asks writes old new → IsTold old.disk → AreFormed old → ((bytes : List ℕ) → new.held key ≡ Some bytes → IsHeap key bytes (new.notes key)) → AreFormed new
+pub formed_but : {asks outs : ℕ} (key : PageKey) (old new : PagesView) → PagesStep (only key) asks outs old new → IsTold old.disk → AreFormed old → ((bytes : List ℕ) → new.held key ≡ Some bytes → IsHeap key bytes (new.notes key)) → AreFormed new
 formed_but key old new step told formed here = λ other bytes heap is. elim (cases_Bool (is_same other key)) [
   | inl same ↦
       let at : key ≡ other = sym (is_same-true other key same) in
@@ -61,7 +61,7 @@ module _ (key : PageKey) (slot : ℕ) (content : Content) (bytes now : List ℕ)
   content_old : old.held key ≡ Some bytes → (other : ℕ) → content_at old.held key other ≡ held_at (entries bytes) other
   content_old is other = ap (λ (page : Option (List ℕ)). held_at (contents_in page) other) is
 
-  pub sets_written : {asks writes : ℕ} → IsRead old key bytes → slot < 128 → Sets bytes now slot content → (IsVacant (entries now) → ⊥) → ((body : List ℕ) → content ≡ Here body → length body ≤ 2400) → WritesPage key now old new → PagesStep (only key) asks writes old new → AreFormed old → IsTold old.disk → SetsEntry key slot content old new
+  pub sets_written : {asks outs : ℕ} → IsRead old key bytes → slot < 128 → Sets bytes now slot content → (IsVacant (entries now) → ⊥) → ((body : List ℕ) → content ≡ Here body → length body ≤ 2400) → WritesPage key now old new → PagesStep (only key) asks outs old new → AreFormed old → IsTold old.disk → SetsEntry key slot content old new
   sets_written read low sets some few wrote step formed told =
       let there = read.held told in
       let here = written_here key old new wrote told in
@@ -80,7 +80,7 @@ module _ (key : PageKey) (slot : ℕ) (content : Content) (bytes now : List ℕ)
       }
 
   -- a page is given whose other entries were empty
-  pub sets_given : {asks writes : ℕ} → IsRead old key bytes → slot < 128 → Sets bytes now slot Empty → IsVacant (entries now) → GivesPage key old new → PagesStep (only key) asks writes old new → AreFormed old → IsTold old.disk → SetsEntry key slot Empty old new
+  pub sets_given : {asks outs : ℕ} → IsRead old key bytes → slot < 128 → Sets bytes now slot Empty → IsVacant (entries now) → GivesPage key old new → PagesStep (only key) asks outs old new → AreFormed old → IsTold old.disk → SetsEntry key slot Empty old new
   sets_given read low sets vacant gave step formed told =
       let gone : new.held key ≡ None = ap (λ (h : Held). h key) (gave.held told) ∙ cond-true (is_same key key) None (old.held key) (is_same-itself key) in
       let none = λ (other : ℕ). ap (λ (page : Option (List ℕ)). held_at (contents_in page) other) gone in
@@ -103,7 +103,7 @@ blank_room page slot count is low few =
     omega (arith, sums, blank_bytes page is)
 
 -- a page is taken and filled
-pub sets_taken : {asks writes : ℕ} (key : PageKey) (slot : ℕ) (body : List ℕ) (old mid new : PagesView) → old.held key ≡ None → FillsPage key slot body mid new → IsTold mid.disk → PagesStep (only key) asks writes old new → AreFormed old → IsTold old.disk → SetsEntry key slot (Here body) old new
+pub sets_taken : {asks outs : ℕ} (key : PageKey) (slot : ℕ) (body : List ℕ) (old mid new : PagesView) → old.held key ≡ None → FillsPage key slot body mid new → IsTold mid.disk → PagesStep (only key) asks outs old new → AreFormed old → IsTold old.disk → SetsEntry key slot (Here body) old new
 sets_taken key slot body old mid new none fills mid_told step formed told =
     let there = written_here key mid new fills.written mid_told in
     let now = λ (other : ℕ). ap (λ (page : Option (List ℕ)). held_at (contents_in page) other) there in
@@ -135,7 +135,7 @@ read_copied {key = key} {bytes = bytes} heap formed copied told = record {
 }
 
 -- where it is found to be ill-formed, the device tells nothing
-pub ill_formed : {asks writes : ℕ} {old mid : PagesView} (key : PageKey) (bytes : List ℕ) (fault : PageFault) → PagesStep no_page asks writes old mid → IsHeapKey key → (IsTold old.disk → AreFormed old) → (IsTold mid.disk → mid.held key ≡ Some bytes) → (IsWellFormed key bytes → ⊥) → fault ≡ Damaged (PagePlace key) → PagesCall {T = Unit {0}} no_page asks writes old mid (Err fault)
+pub ill_formed : {asks outs : ℕ} {old mid : PagesView} (key : PageKey) (bytes : List ℕ) (fault : PageFault) → PagesStep no_page asks outs old mid → IsHeapKey key → (IsTold old.disk → AreFormed old) → (IsTold mid.disk → mid.held key ≡ Some bytes) → (IsWellFormed key bytes → ⊥) → fault ≡ Damaged (PagePlace key) → PagesCall {T = Unit {0}} no_page asks outs old mid (Err fault)
 ill_formed key bytes fault step heap formed held ill is = found_damaged fault is step (λ told. ill (formed told key bytes heap (ap (λ (h : Held). h key) (sym (all_held step told)) ∙ held (step.passes.leaves.told.0 told))).formed)
 
 -- ---- a page that isn't what it should be
@@ -154,11 +154,11 @@ holds_at {bytes = bytes} at header is some = record {
 -- ---- a call that edits
 
 -- it failed
-pub edits_fails : {T U : Type 0} {touched : Keys} {asks writes cost : ℕ} {key : PageKey} {slot : ℕ} {content : Content} {old new : PagesView} {fault : PageFault} (result : Result U PageFault) → IsErrAnd result (λ why. why ≡ fault) → ((one : PageKey) → touched one → only key one) → asks ≤ cost → writes ≤ cost
-    → PagesCall {T = T} touched asks writes old new (Err fault) → Edits key slot content cost old new result
-edits_fails {key = key} {slot = slot} {content = content} {old = old} {new = new} {fault = fault} result is wider few_asks few_writes call = record {
+pub edits_fails : {T U : Type 0} {touched : Keys} {asks outs cost : ℕ} {key : PageKey} {slot : ℕ} {content : Content} {old new : PagesView} {fault : PageFault} (result : Result U PageFault) → IsErrAnd result (λ why. why ≡ fault) → ((one : PageKey) → touched one → only key one) → asks ≤ cost → outs ≤ cost
+    → PagesCall {T = T} touched asks outs old new (Err fault) → Edits key slot content cost old new result
+edits_fails {key = key} {slot = slot} {content = content} {old = old} {new = new} {fault = fault} result is wider few_asks few_outs call = record {
   sets = not_ok fault (IsTold old.disk → SetsEntry key slot content old new) result is;
-  did = fails result is wider few_asks few_writes call;
+  did = fails result is wider few_asks few_outs call;
 }
 
 -- a page was read before

@@ -171,7 +171,7 @@ pub search_ends : (start now : PagesView) (wanted : Wanted) (from : ℕ) → Sea
 search_ends start now wanted from so = within (λ key there. there) so.within_slots so.within_slots so.step
 
 pub search_fails : {T U : Type 0} {fault : PageFault} (start now new : PagesView) (wanted : Wanted) (from number : ℕ) (result : Result U PageFault) → IsErrAnd result (λ why. why ≡ fault) → Searched start now wanted from → from ≤ number → number < start.slots → PagesCall {T = T} (only (key_of wanted number)) 1 1 now new (Err fault) → PagesCall (pages_in wanted.segment wanted.space) start.slots start.slots start new result
-search_fails start now new wanted from number result is so later low call = fails result is (λ key there. there) (omega arith) (omega arith) (then_call {asks_then = 1} {writes_then = 1} so.step (widens (is_in (key_of wanted number) refl) (omega arith) (omega arith) call))
+search_fails start now new wanted from number result is so later low call = fails result is (λ key there. there) (omega arith) (omega arith) (then_call {asks_then = 1} {outs_then = 1} so.step (widens (is_in (key_of wanted number) refl) (omega arith) (omega arith) call))
 
 pub searched_none : (start : PagesView) (wanted : Wanted) → (IsTold start.disk → AreFormed start) → Searched start start wanted 0
 searched_none start wanted formed = record {

@@ -19,7 +19,7 @@ not_same other key differ is = let same : is_same other key ≡ true = ap (λ (k
 -- ---- only one page was touched
 
 -- it was mapped, or may be taken
-pub takes_step : {keys : Keys} {asks writes : ℕ} {key : PageKey} {old new : PagesView} → PagesStep (only key) asks writes old new → (old.mapped key ≡ true) ⊎ keys key → TakesOnly keys old new
+pub takes_step : {keys : Keys} {asks outs : ℕ} {key : PageKey} {old new : PagesView} → PagesStep (only key) asks outs old new → (old.mapped key ≡ true) ⊎ keys key → TakesOnly keys old new
 takes_step {keys = keys} {key = key} {old = old} step this = record {
   each = λ other is. elim (cases_Bool (is_same other key)) [
     | inl same ↦ subst (λ (k : PageKey). (old.mapped k ≡ true) ⊎ keys k) (sym (is_same-true other key same)) this
@@ -53,7 +53,7 @@ takes_none {segment = segment} {tid = tid} none = record {
 }
 
 -- the home page
-pub takes_home : {asks writes segment : ℕ} {tid : Tid} {body : List ℕ} {key : PageKey} {old new : PagesView} → key ≡ page_key segment Home tid.page → (IsTold old.disk → old.held key ≡ None) → PagesStep (only key) asks writes old new → TakesOne segment tid body old new
+pub takes_home : {asks outs segment : ℕ} {tid : Tid} {body : List ℕ} {key : PageKey} {old new : PagesView} → key ≡ page_key segment Home tid.page → (IsTold old.disk → old.held key ≡ None) → PagesStep (only key) asks outs old new → TakesOne segment tid body old new
 takes_home {key = key} at none step = record {
   page = key;
   one = takes_step step (inr (λ i. key));

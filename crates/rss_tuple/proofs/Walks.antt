@@ -130,7 +130,7 @@ module _ (start now : PagesView) (segment : ℕ) (after : Option Tid) (from : Ti
     walk_fails new result is in_slots call = fails result is (λ key there. there) (omega (arith, so.below, first.later)) (omega (arith, so.below, first.later)) (then_call so.step call)
 
 -- what a page holds now is what it held when the search began
-pub contents_before : {asks writes : ℕ} {start now : PagesView} {key one : PageKey} → PagesStep no_page asks writes start now → key ≡ one → IsTold start.disk → contents now.held key ≡ contents start.held one
+pub contents_before : {asks outs : ℕ} {start now : PagesView} {key one : PageKey} → PagesStep no_page asks outs start now → key ≡ one → IsTold start.disk → contents now.held key ≡ contents start.held one
 contents_before {start = start} {now = now} {key = key} {one = one} step at told = ap (λ (k : PageKey). contents now.held k) at ∙ ap (λ (h : Held). contents h one) (all_held step told)
 
 -- the page that is looked at has a number below the slots

@@ -56,7 +56,7 @@ pub record SetsEntry (key : PageKey) (slot : ℕ) (content : Content) (old new :
   pub others : (other : ℕ) → (other ≡ slot → ⊥) → content_at new.held key other ≡ content_at old.held key other
   pub formed : AreFormed new
 
--- so does a call, where it succeeds, at a cost of so many asks and writes
+-- so does a call, where it succeeds; so many pages it asks for at most, and as many may leave memory
 pub record Edits {T : Type 0} (key : PageKey) (slot : ℕ) (content : Content) (cost : ℕ) (old new : PagesView) (result : Result T PageFault) : Type 0 where
   pub sets : OnOk result (IsTold old.disk → SetsEntry key slot content old new)
   pub did : PagesCall (only key) cost cost old new result

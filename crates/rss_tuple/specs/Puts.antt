@@ -60,7 +60,7 @@ pub record Moved (segment : ℕ) (tid : Tid) (body : List ℕ) (old new : PagesV
   pub changed : Changed segment tid (Some body) old new
   pub placed : IsPlaced old segment tid body (homes new.held segment tid.page tid.slot)
 
--- so does a call, where it succeeds, at a cost of so many asks and writes
+-- so does a call, where it succeeds; so many pages it asks for at most, and as many may leave memory
 pub record MovesBody {T : Type 0} (segment : ℕ) (tid : Tid) (body : List ℕ) (cost : ℕ) (old new : PagesView) (result : Result T PageFault) : Type 0 where
   pub moved : OnOk result (IsTold old.disk → Moved segment tid body old new)
   pub takes : OnOk result (TakesOne segment tid body old new)

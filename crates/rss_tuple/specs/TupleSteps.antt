@@ -35,7 +35,7 @@ pages_for segment tid key = (key ≡ page_key segment Home tid.page) ⊎ pages_i
 
 -- ---- what each call passes on
 
--- A call touched no pages but these, and asked for and wrote so many at most. Where it succeeded, the pages are still those of a tuple store, and no tuples were touched but these.
+-- A call touched no pages but these; so many it asked for at most, and as many may have left memory. Where it succeeded, the pages are still those of a tuple store, and no tuples were touched but these.
 pub record TuplesCall {T : Type 0} (touched : Keys) (tuples : Tuples) (cost : ℕ) (old new : TuplesView) (result : Result T PageFault) : Type 0 where
   pub below : PagesCall touched cost cost old.pages new.pages result
   pub heaps : OnOk result (IsTold old.pages.disk → AreHeaps new.pages)

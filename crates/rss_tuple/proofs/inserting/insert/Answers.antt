@@ -42,7 +42,7 @@ put_here-requires-clause-room g c =
 
 pub returns-in_err-put_here : goal.returns-in_err-put_here
 returns-in_err-put_here g c =
-    insert_fails _ c.from_residual-in_err-put_here.ensures.1 (in_home c.args.segment) (omega arith) (omega arith) (then_call {asks_then = 1} {writes_then = 1} c.find_page.ensures.did.step (widens (is_in c.home-key.result c.home-key.ensures) (omega arith) (omega arith) c.in_err-put_here.ensures.did))
+    insert_fails _ c.from_residual-in_err-put_here.ensures.1 (in_home c.args.segment) (omega arith) (omega arith) (then_call {asks_then = 1} {outs_then = 1} c.find_page.ensures.did.step (widens (is_in c.home-key.result c.home-key.ensures) (omega arith) (omega arith) c.in_err-put_here.ensures.did))
 
 pub returns-in-Some : goal.returns-in-Some
 returns-in-Some g c =
@@ -107,7 +107,7 @@ returns-in_err-insert_at g c =
     let step = step_both g (goal.at.returns-in_err-insert_at g c).After-choose in
     let most = (g.P.Pages.view c.choose.new.pages).slots + 4 in
     insert_fails _ c.from_residual-in_err-insert_at.ensures.1 (λ key is. is) (omega (arith, step.passes.slots)) (omega (arith, step.passes.slots))
-    (then_call {asks_then = most} {writes_then = most} (among (in_home c.args.segment) step) (widens (heap_key c.args.segment c.in-Some-2.tid) (omega arith) (omega arith) c.in_err-insert_at.ensures.did))
+    (then_call {asks_then = most} {outs_then = most} (among (in_home c.args.segment) step) (widens (heap_key c.args.segment c.in-Some-2.tid) (omega arith) (omega arith) c.in_err-insert_at.ensures.did))
 
 pub returns : goal.returns
 returns g c =

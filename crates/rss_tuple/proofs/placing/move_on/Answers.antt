@@ -111,7 +111,7 @@ returns-in_err-place-in-None g c =
     let slots = c.in_ok-there.ensures.did.step.passes.slots in
     let most = (g.P.Pages.view c.args.pages.now).slots + 3 in
     let fewer : (g.P.Pages.view c.stays.new.pages).slots + 3 ≤ most = omega (arith, slots) in
-    moves_fails _ c.from_residual-in_err-place-in-None.ensures.1 (λ key there. there) (omega arith) (omega arith) (then_call {asks_then = most} {writes_then = most} (untouched c.in_ok-there.ensures.did.step) (widens (λ key there. there) fewer fewer c.in_err-place-in-None.ensures.did))
+    moves_fails _ c.from_residual-in_err-place-in-None.ensures.1 (λ key there. there) (omega arith) (omega arith) (then_call {asks_then = most} {outs_then = most} (untouched c.in_ok-there.ensures.did.step) (widens (λ key there. there) fewer fewer c.in_err-place-in-None.ensures.did))
 
 -- the body that is left stands where it stood
 left : (g : _) (c : In_ok-place-in-None g) → IsTold (g.P.Pages.view c.place.new.pages).disk → HasBody (overflows (g.P.Pages.view c.place.new.pages).held c.args.segment c.args.to c.args.to_slot)
@@ -159,5 +159,5 @@ returns-in_ok-place-in-None g c =
           (puts_before c.args.segment c.args.tid c.args.body.now _ _ _ (all_mapped step) (all_held step told) (placed.puts mid)) (sets next) c.clear.ensures.edits.did.step next)
           c.clear.ensures.edits.sets;
       takes = on_ok_then c.clear.result (λ there. one_before step.passes.leaves.told.0 (all_mapped step) (all_held step) (one_more placed.takes (takes_step c.clear.ensures.edits.did.step (inl there)))) c.clear.ensures.there;
-      did = widens (λ key there. there) (omega arith) (omega arith) (then_call {asks_then = 2} {writes_then = 2} (then {asks_then = most} {writes_then = most} (untouched step) (within (λ key there. there) fewer fewer placed.did.step)) (widens (over c.args.segment c.args.to c.args.tid c.overflow-key.result c.overflow-key.ensures) (omega arith) (omega arith) c.clear.ensures.edits.did));
+      did = widens (λ key there. there) (omega arith) (omega arith) (then_call {asks_then = 2} {outs_then = 2} (then {asks_then = most} {outs_then = most} (untouched step) (within (λ key there. there) fewer fewer placed.did.step)) (widens (over c.args.segment c.args.to c.args.tid c.overflow-key.result c.overflow-key.ensures) (omega arith) (omega arith) c.clear.ensures.edits.did));
     }

@@ -64,4 +64,4 @@ returns-clause-takes g c =
     (takes_step (step_at c.home-key.ensures c.put_forward.ensures.did.step) (inl read.mapped)))
 
 pub returns-clause-did : goal.returns-clause-did
-returns-clause-did g c = widens (λ key is. is) (omega arith) (omega arith) (then_call {asks_then = 1} {writes_then = 1} (among (λ key is. inr is) c.in_ok-to.ensures.did.step) (widens (λ key is. inl (is ∙ c.home-key.ensures)) (omega arith) (omega arith) c.put_forward.ensures.did))
+returns-clause-did g c = widens (λ key is. is) (omega arith) (omega arith) (then_call {asks_then = 1} {outs_then = 1} (among (λ key is. inr is) c.in_ok-to.ensures.did.step) (widens (λ key is. inl (is ∙ c.home-key.ensures)) (omega arith) (omega arith) c.put_forward.ensures.did))

@@ -30,7 +30,7 @@ put_on_new-requires-clause-formed g c = λ told. c.find_page.ensures.kept.formed
 
 pub returns-in_err-put_here-in-Some-clause-did : goal.returns-in_err-put_here-in-Some-clause-did
 returns-in_err-put_here-in-Some-clause-did g c =
-    fails _ c.from_residual-in_err-put_here-in-Some.ensures.1 (λ key there. there) (omega arith) (omega arith) (then_call {asks_then = 1} {writes_then = 1} c.find_page.ensures.did.step (widens (is_in c.overflow-key.result c.overflow-key.ensures) (omega arith) (omega arith) c.in_err-put_here-in-Some.ensures.did))
+    fails _ c.from_residual-in_err-put_here-in-Some.ensures.1 (λ key there. there) (omega arith) (omega arith) (then_call {asks_then = 1} {outs_then = 1} c.find_page.ensures.did.step (widens (is_in c.overflow-key.result c.overflow-key.ensures) (omega arith) (omega arith) c.in_err-put_here-in-Some.ensures.did))
 
 pub returns-in_ok-put_here-in-Some-clause-puts : goal.returns-in_ok-put_here-in-Some-clause-puts
 returns-in_ok-put_here-in-Some-clause-puts g c = λ told.

@@ -9,7 +9,7 @@ use Rattle.rss_tuple.proofs.placing.put_on_new.Goals as goal
 pub returns-in_err-fill-clause-did : goal.returns-in_err-fill-clause-did
 returns-in_err-fill-clause-did g c =
     let key = page_key c.args.segment Overflow c.in_ok-number.number in
-    fails _ c.from_residual-in_err-fill.ensures.1 (λ key there. there) (omega arith) (omega arith) (then_call {asks_then = 0} {writes_then = 1} (among (is_in key refl) c.in_ok-number.ensures.did.step) (widens (is_in c.overflow.result c.overflow.ensures) (omega arith) (omega arith) c.in_err-fill.ensures.did))
+    fails _ c.from_residual-in_err-fill.ensures.1 (λ key there. there) (omega arith) (omega arith) (then_call {asks_then = 0} {outs_then = 1} (among (is_in key refl) c.in_ok-number.ensures.did.step) (widens (is_in c.overflow.result c.overflow.ensures) (omega arith) (omega arith) c.in_err-fill.ensures.did))
 
 pub returns-clause-takes : goal.returns-clause-takes
 returns-clause-takes g c = λ told.

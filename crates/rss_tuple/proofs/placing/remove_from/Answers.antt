@@ -28,7 +28,7 @@ read_home g c told = read_copied (inl (λ i. Home)) (λ told. (c.requires.there.
 
 -- what its entry holds
 home_entry : (g : _) (c : After-home-key g) → IsTold (g.P.Pages.view c.args.pages.now).disk → homes (g.P.Pages.view c.args.pages.now).held c.args.segment c.args.tid.page c.args.tid.slot ≡ held_at (entries c.args.page.now) c.args.tid.slot
-home_entry g c told = read_at {asks = 0} {writes = 0} (rests (g.P.Pages.view c.args.pages.now)) (read_home g c told) told c.args.tid.slot
+home_entry g c told = read_at {asks = 0} {outs = 0} (rests (g.P.Pages.view c.args.pages.now)) (read_home g c told) told c.args.tid.slot
 
 may_change : (g : _) (c : In_ok-entry_in g) → MayChange (g.P.Pages.view c.args.pages.now) c.home-key.result c.args.tid.slot c.args.page.now
 may_change g c = record {
@@ -42,7 +42,7 @@ may_change g c = record {
 
 pub returns-in_err-entry_in-clause-did : goal.returns-in_err-entry_in-clause-did
 returns-in_err-entry_in-clause-did g c =
-    fails {asks = 0} {writes = 0} _ c.from_residual.ensures.1 (λ key none. absurd none) (omega arith) (omega arith) (ill_formed _ _ _ (rests (g.P.Pages.view c.args.pages.now)) (inl (ap (λ (k : PageKey). k.space) c.home-key.ensures)) (λ told. (c.requires.there.heaps told).formed) (copied_key (sym c.home-key.ensures) c.requires.copied).held c.in_err-entry_in.ensures.ill c.in_err-entry_in.ensures.damaged)
+    fails {asks = 0} {outs = 0} _ c.from_residual.ensures.1 (λ key none. absurd none) (omega arith) (omega arith) (ill_formed _ _ _ (rests (g.P.Pages.view c.args.pages.now)) (inl (ap (λ (k : PageKey). k.space) c.home-key.ensures)) (λ told. (c.requires.there.heaps told).formed) (copied_key (sym c.home-key.ensures) c.requires.copied).held c.in_err-entry_in.ensures.ill c.in_err-entry_in.ensures.damaged)
 
 pub returns-in_err-entry_in-clause-ill : goal.returns-in_err-entry_in-clause-ill
 returns-in_err-entry_in-clause-ill g c = λ ill. damage_told _ c.from_residual.ensures.1 c.in_err-entry_in.ensures.damaged c.home-key.ensures
@@ -142,4 +142,4 @@ returns-in_ok-clear_in-in-Forward-clause-ill g c = λ ill. absurd (ill (stands g
 
 pub returns-in_ok-clear_in-in-Forward-clause-did : goal.returns-in_ok-clear_in-in-Forward-clause-did
 returns-in_ok-clear_in-in-Forward-clause-did g c =
-    then_call {asks_then = 2} {writes_then = 2} (among (λ key is. inl (is ∙ c.home-key.ensures)) c.in_ok-clear_in-in-Forward.ensures.did.step) (widens (over c.args.segment c.in-Forward.to c.args.tid c.overflow.result c.overflow.ensures) (omega arith) (omega arith) c.clear.ensures.edits.did)
+    then_call {asks_then = 2} {outs_then = 2} (among (λ key is. inl (is ∙ c.home-key.ensures)) c.in_ok-clear_in-in-Forward.ensures.did.step) (widens (over c.args.segment c.in-Forward.to c.args.tid c.overflow.result c.overflow.ensures) (omega arith) (omega arith) c.clear.ensures.edits.did)

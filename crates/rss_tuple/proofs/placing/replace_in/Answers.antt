@@ -18,7 +18,7 @@ use Rattle.rss_tuple.proofs.placing.replace_in.Goals as goal
 use Rattle.rss_tuple.proofs.placing.replace_in.Goals.{After-home-key, In_ok-found}
 
 pub returns-in_err-entry_in-clause-moves : goal.returns-in_err-entry_in-clause-moves
-returns-in_err-entry_in-clause-moves g c = moves_fails {asks = 0} {writes = 0} _ c.from_residual.ensures.1 (λ key none. absurd none) (omega arith) (omega arith) (ill_formed _ _ _ (rests (g.P.Pages.view c.args.pages.now)) (inl (ap (λ (k : PageKey). k.space) c.home-key.ensures)) (λ told. (c.requires.may.there.heaps told).formed) (copied_key (sym c.home-key.ensures) c.requires.copied).held c.in_err-entry_in.ensures.ill c.in_err-entry_in.ensures.damaged)
+returns-in_err-entry_in-clause-moves g c = moves_fails {asks = 0} {outs = 0} _ c.from_residual.ensures.1 (λ key none. absurd none) (omega arith) (omega arith) (ill_formed _ _ _ (rests (g.P.Pages.view c.args.pages.now)) (inl (ap (λ (k : PageKey). k.space) c.home-key.ensures)) (λ told. (c.requires.may.there.heaps told).formed) (copied_key (sym c.home-key.ensures) c.requires.copied).held c.in_err-entry_in.ensures.ill c.in_err-entry_in.ensures.damaged)
 
 pub returns-in_err-entry_in-clause-ill : goal.returns-in_err-entry_in-clause-ill
 returns-in_err-entry_in-clause-ill g c = λ ill. damage_told _ c.from_residual.ensures.1 c.in_err-entry_in.ensures.damaged c.home-key.ensures
@@ -56,7 +56,7 @@ returns-in-Some-clause-ill g c = λ ill. absurd (ill (holds_at c.home-key.ensure
 -- ---- where the page is walked over
 
 pub returns-in_err-found-clause-moves : goal.returns-in_err-found-clause-moves
-returns-in_err-found-clause-moves g c = moves_fails {asks = 0} {writes = 0} _ c.from_residual-in_err-found.ensures.1 (λ key none. absurd none) (omega arith) (omega arith) (ill_formed _ _ _ (rests (g.P.Pages.view c.args.pages.now)) (inl (ap (λ (k : PageKey). k.space) c.home-key.ensures)) (λ told. (c.requires.may.there.heaps told).formed) (copied_key (sym c.home-key.ensures) c.requires.copied).held c.in_err-found.ensures.ill c.in_err-found.ensures.damaged)
+returns-in_err-found-clause-moves g c = moves_fails {asks = 0} {outs = 0} _ c.from_residual-in_err-found.ensures.1 (λ key none. absurd none) (omega arith) (omega arith) (ill_formed _ _ _ (rests (g.P.Pages.view c.args.pages.now)) (inl (ap (λ (k : PageKey). k.space) c.home-key.ensures)) (λ told. (c.requires.may.there.heaps told).formed) (copied_key (sym c.home-key.ensures) c.requires.copied).held c.in_err-found.ensures.ill c.in_err-found.ensures.damaged)
 
 pub returns-in_err-found-clause-ill : goal.returns-in_err-found-clause-ill
 returns-in_err-found-clause-ill g c = λ ill. damage_told _ c.from_residual-in_err-found.ensures.1 c.in_err-found.ensures.damaged c.home-key.ensures
@@ -72,7 +72,7 @@ returns-in-Empty-clause-moves g c =
       moved = search rules;
       takes = search rules;
       did = found_damaged c.damaged.result c.damaged.ensures (rests view) (λ told.
-          entry_there view c.args.segment c.args.tid c.requires.may.there told (read_at {asks = 0} {writes = 0} (rests view) (read_whole g (goal.at.returns-in-Empty-clause-moves g c).In_ok-found) told c.args.tid.slot ∙ c.in-Empty.ensures.holds));
+          entry_there view c.args.segment c.args.tid c.requires.may.there told (read_at {asks = 0} {outs = 0} (rests view) (read_whole g (goal.at.returns-in-Empty-clause-moves g c).In_ok-found) told c.args.tid.slot ∙ c.in-Empty.ensures.holds));
     }
 
 pub returns-in-Empty-clause-ill : goal.returns-in-Empty-clause-ill
@@ -92,7 +92,7 @@ place-requires-clause-away g c = λ told full.
     let read = read_whole g (goal.at.place-requires-clause-away g c).In_ok-found in
     let here = c.in-Here.ensures.holds in
     let spare : 0 < view.spare = spare_longer view c.args.segment c.args.tid (length c.args.body.now) c.args.page.now c.args.tid.slot _ c.requires.may.room told
-    (body_read {asks = 0} {writes = 0} c.args.tid (rests view) read here told) read.formed.slotted c.requires.low here (λ room. full (room_back view _ c.args.page.now c.args.tid.slot (length c.args.body.now) read told room)) in
+    (body_read {asks = 0} {outs = 0} c.args.tid (rests view) read here told) read.formed.slotted c.requires.low here (λ room. full (room_back view _ c.args.page.now c.args.tid.slot (length c.args.body.now) read told room)) in
     record {
       never = λ p s fits. stands_here c.args.tid read here told p s fits.leads;
       room = spare;

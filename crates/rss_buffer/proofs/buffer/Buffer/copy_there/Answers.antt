@@ -47,4 +47,4 @@ returns-clause-did g c =
     let re = Reslots-moves self.shadow c.first_write.new.self c.args.to c.first_write.result self.holds.laid_out.table self.holds.laid_out.room c.first_write.ensures.moves in
     let is = mapped_there {b = buffer_view self} self.holds c.args.to c.requires.to in
     let change = changes_page (buffer_view self) _ self.holds re c.copy.ensures.copied.now c.forget.ensures (λ space. self.holds.noted.mapped c.args.to space ∙ is) in
-    rw c.copy.ensures.room ((wrote {T = ℕ} {asks = 0} {writes = 0} 0 (passes_on change rests (omega arith)) (changed-off change rests) (writes_page rests change is)).step)
+    rw c.copy.ensures.room ((wrote {T = ℕ} {asks = 0} {outs = 0} 0 (passes_on change rests (omega arith)) (changed-off change rests) (writes_page rests change is)).step)

@@ -1,7 +1,7 @@
 use Rattle.std.proofs.Common.{rules, ℕ, ◌+◌, ◌≤◌, length, refl, ap, arith}
-use Rattle.rss_buffer.proofs.Runs.{run_of, holds-run, loose-run, first_waits, first_settled, waits-settled, IsBuffer-failed, KeepsPages-failed, IsBuffer-written, KeepsPages-written}
+use Rattle.rss_buffer.proofs.Runs.{run_of, holds-run, loose-run, run_waits, run_settled, waits-settled, IsBuffer-failed, KeepsPages-failed, IsBuffer-written, KeepsPages-written}
 use Rattle.rss_buffer.proofs.Turns.{WritesPages-none}
-use Rattle.rss_buffer.proofs.Waits.{settles-one, writes-one}
+use Rattle.rss_buffer.proofs.Waits.{settles-run, writes-run}
 use Rattle.rss_buffer.specs.Devices.{buffer_view}
 use Rattle.rss_buffer.specs.Frames.{frame_in}
 use Rattle.rss_buffer.specs.Gathered.{AreSettled}
@@ -36,7 +36,7 @@ returns-in_err-write_run-clause-did g c =
       keeps = KeepsPages-failed self.holds writes (omega (arith, g.met.D.Device.limited self.device, c.write_run.ensures.counts)) did.cause.later;
       loose = loose-run self.holds writes;
       settles = search rules;
-      few = writes-one _ _ _ _ (first_waits self.holds writes) did.writes;
+      few = writes-run _ _ (run_waits self.holds writes) writes.few;
       fault = search rules;
       cause = search rules;
     }
@@ -66,12 +66,12 @@ returns-clause-did g c =
     let did = c.write_run.ensures.did in
     let writes = run_of {b = buffer_view self} run c.current-owners.ensures.current c.gather-count.ensures.gathered (omega (arith, c.if-count-eq0.false)) few c.first.ensures place did in
     let settled : AreSettled self.shadow.current c.args.slot c.gather-count.result (frame_in self.frames.cache) (frame_in c.settle.new.self.cache) = rw (← c.current-owners.ensures.current) c.settle.ensures.settled in
-    let waits = first_waits self.holds writes in
+    let waits = run_waits self.holds writes in
     record {
       keeps = rw c.settle.ensures.room (KeepsPages-written self.holds writes settled (omega (arith, g.met.D.Device.limited self.device, c.write_run.ensures.counts)) did.cause.later);
       loose = loose-run self.holds writes;
-      settles = settles-one _ waits (first_settled self.holds writes settled) (waits-settled self.holds writes settled) did.writes;
-      few = writes-one _ _ _ _ waits did.writes;
+      settles = settles-run waits (run_settled self.holds writes settled) (waits-settled self.holds writes settled) writes.few;
+      few = writes-run _ _ waits writes.few;
       fault = tt;
       cause = search rules;
     }

@@ -1,7 +1,6 @@
-use Rattle.std.proofs.Common.{◌∙◌, is_some, ap, arith}
-use Rattle.rss_base.specs.Paged.{Mapped}
+use Rattle.std.proofs.Common.{arith}
 use Rattle.rss_base.proofs.Copies.{copies_after}
-use Rattle.rss_base.proofs.Steps.{then, then_call, untouched, within, done, fails, all_mapped}
+use Rattle.rss_base.proofs.Steps.{then, then_call, untouched, within, done, fails}
 use Rattle.rss_buffer.proofs.Lookups.{newest_there}
 use Rattle.rss_buffer.proofs.pages.BufferPages.copy.Goals as goal
 

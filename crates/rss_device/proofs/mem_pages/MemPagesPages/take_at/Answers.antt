@@ -1,4 +1,4 @@
-use Rattle.std.proofs.Common.{rules, refl, arith, inl}
+use Rattle.std.proofs.Common.{rules, arith, inl}
 use Rattle.rss_base.proofs.Calls.{leaves_rests}
 use Rattle.rss_base.proofs.Steps.{took}
 use Rattle.rss_device.proofs.Places.{follows, same_backing}

@@ -1,4 +1,4 @@
-use Rattle.std.proofs.Common.{rules, refl, arith, inl, ◌∙◌, None}
+use Rattle.std.proofs.Common.{rules, arith, inl, ◌∙◌, None}
 use Rattle.rss_device.proofs.Places.{changes_own, stored_put, follows, stays_mapped, placed_after, same_backing}
 use Rattle.rss_base.proofs.Calls.{leaves_rests}
 use Rattle.rss_base.proofs.Steps.{wrote}
