@@ -1,6 +1,7 @@
 pub mod Numbered
 pub mod Plain
 pub mod Listed
+pub mod NamesIn
 pub mod Pieces
 pub mod Spelled
 pub mod Read

@@ -9,6 +9,7 @@ use Rattle.rss_base.specs.Listings.{Listing, ListingFits, HoldsListing, catalog_
 use Rattle.rss_base.specs.declared.relation.RelationEntry.{RelationEntry}
 use Rattle.rss_base.specs.declared.refusal.Kind.{Kind}
 use Rattle.rss_base.specs.declared.refusal.Kind.TheVariants.{Segment, Relation, Image, Link, Field, Scan}
+use Rattle.rss_base.specs.declared.name.Name.{Name}
 use Rattle.rss_base.specs.declared.place.Place.{Place}
 use Rattle.rss_base.specs.declared.place.Place.TheVariants.{Catalog as CatalogPlace}
 use Rattle.rss_base.specs.declared.key.PageKey.{PageKey}
@@ -89,6 +90,14 @@ pub record HasRelationIn (listing : Listing) (segment : ℕ) : Type 0 where
   pub relation : RelationEntry
   pub at : relation_at listing number ≡ Some relation
   pub within : relation.segment ≡ segment
+
+-- a relation of this segment has this name
+pub record IsNamedIn (listing : Listing) (segment : ℕ) (name : Name) : Type 0 where
+  pub number : ℕ
+  pub relation : RelationEntry
+  pub at : relation_at listing number ≡ Some relation
+  pub within : relation.segment ≡ segment
+  pub named : relation.name ≡ name
 
 -- a relation that a listing may have, as far as its numbers go
 pub record IsSafe (relation : RelationEntry) : Type 0 where

@@ -1,5 +1,5 @@
 // The catalog, and the calls on it.
-ghost use Rattle.std.specs.Prelude.{◌≡◌, ◌⊎◌, ◌↔◌, ℕ, ◌≤◌, ◌<◌, true, None, length, replicate, is_some, count_by, Some, Err, IsTrue, IfOk, IfSome, IfNone, OnOk, OnErr};
+ghost use Rattle.std.specs.Prelude.{◌≡◌, ◌⊎◌, ◌↔◌, ℕ, ◌≤◌, ◌<◌, true, None, length, replicate, is_some, count_by, Some, Err, IsTrue, IfOk, IfSome, IfNone, OnOk, OnErr, Contains};
 ghost use Rattle.rss_base.specs.DiskRule.{IsTold};
 ghost use Rattle.rss_base.specs.Looking.{ChecksPages};
 ghost use Rattle.rss_base.specs.Names.{IsName};
@@ -9,11 +9,12 @@ ghost use Rattle.rss_base.specs.Listings.{Listing, numbered, names_of, segment_a
 ghost use Rattle.rss_base.specs.Listings.{IsLeastUnused, AreAllUsed, EntryFits, ListingFits, HoldsListing};
 ghost use Rattle.rss_base.specs.Listings.{no_listing, with_segment, with_relation, with_count, catalog_page};
 ghost use Rattle.rss_base.specs.declared.fault.PageFault.TheVariants.{Damaged as PageDamaged};
+ghost use Rattle.rss_base.specs.declared.name.Name.{Name as AnyName};
 ghost use Rattle.rss_base.specs.declared.place.Place.{Place as AnyPlace};
 ghost use Rattle.rss_base.specs.declared.relation.RelationEntry.{RelationEntry as Entry};
 ghost use Rattle.rss_base.specs.declared.refusal.Kind.TheVariants.{Segment, Relation};
 ghost use Rattle.rss_catalog.specs.Catalogs.{none_pending, pending_pages, page_of, Loads, IsCatalogPlace};
-ghost use Rattle.rss_catalog.specs.Catalogs.{StoresListing, HasSystemPages, Lists, without, HasRelationIn, IsSafe};
+ghost use Rattle.rss_catalog.specs.Catalogs.{StoresListing, HasSystemPages, Lists, without, HasRelationIn, IsNamedIn, IsSafe};
 
 use crate::checking::flaw;
 use crate::encoding::{RELATIONS_OF_PAGE, relations_page, segments_page};
@@ -211,6 +212,22 @@ impl Catalog {
         false
     }
 
+    /// The names of the relations of a segment, by their numbers.
+    pub fn relations_in(&self, alloc: Global, segment: u8) -> Result<Vec<Name>, AllocError>
+        ensures { IfOk result (λ names. (name : AnyName)
+            → Contains names.items name ↔ IsNamedIn self.now.listing segment name) }
+    {
+        let mut names = Vec::new(alloc);
+        for relation in &self.relations {
+            if let Some(relation) = relation
+                && relation.segment == segment
+            {
+                names.push(relation.name)?;
+            }
+        }
+        Ok(names)
+    }
+
     /// Defines a segment by the least number that is not in use, and answers this.
     pub fn add_segment(&mut self, name: Name) -> u8
         requires name { IsName name }
@@ -302,7 +319,7 @@ impl Catalog {
     }
 
     /// The name of a number of a kind, if it is in use.
-    fn name_at(&self, kind: Kind, number: u8) -> Option<Name>
+    pub fn name_at(&self, kind: Kind, number: u8) -> Option<Name>
         ensures { result ≡ numbered (names_of kind self.now.listing) number }
     {
         match kind {

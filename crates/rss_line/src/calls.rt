@@ -25,6 +25,7 @@ pub(crate) fn is_built(call: &Call) -> bool
             | Call::Fetch(..)
             | Call::Update(..)
             | Call::Delete(..)
+            | Call::Lock(..)
             | Call::Checkpoint
             | Call::MakeSegment(_)
             | Call::MakeRelation(..)

@@ -1,10 +1,10 @@
 -- How many tuples a relation has, where one is put.
 use Rattle.std.proofs.Common.{◌≡◌, inl, inr, ℕ, ◌+◌, ◌-◌, ◌≤◌, Bool, true, false, cond, refl, sym, ◌∙◌, ap, arith}
 use Rattle.std.specs.Prelude.{Option, Some, None, is_some}
-use Rattle.std.specs.Ordering.{eq_by_cmp, nat_cmp}
-use Rattle.std.specs.Cmp.{Equal-is, nat_cmp_total}
+use Rattle.std.specs.Ordering.{eq_by_cmp}
+use Rattle.std.specs.Cmp.{Equal-is}
 use Rattle.std.specs.FinMap as map
-use Rattle.std.specs.FinMap.{FinMap, get-empty, get-remove, get-retain_keys, len-empty, len-insert, len-remove, same_map, empty_of_len, nat_cmp-IsAntisymmetric}
+use Rattle.std.specs.FinMap.{get-empty, get-retain_keys, len-empty, len-insert, len-remove, same_map, empty_of_len}
 use Rattle.std.proofs.lemmas.Bool.{cases_Bool, cases_lt, true≢false, cond-true, cond-false}
 use Rattle.rss_base.specs.declared.name.Name.{Name}
 use Rattle.rss_base.specs.declared.tid.Tid.{Tid}
@@ -112,16 +112,4 @@ count_of_none contents relation none = ap map.len (same_map item_total item_apar
           let same : relation ≡ name = name_apart relation name ((Equal-is (name_cmp relation name)).0 on) in
           cond-true _ (content contents (Tuple name tid)) None on ∙ ap (λ (n : Name). content contents (Tuple n tid)) (sym same) ∙ none tid
       | inr not_on ↦ off (Tuple name tid) not_on
-    ]
-
--- ---- maps of one entry at most
-
-pub the_only : {X : Type 0} (m : FinMap nat_cmp X) (a b : ℕ) → map.len m ≤ 1 → is_some (map.get m a) ≡ true → is_some (map.get m b) ≡ true → b ≡ a
-the_only {X = X} m a b few has other =
-    let shorter : map.len (map.remove m a) ≡ map.len m - 1 = len-remove nat_cmp_total m a ∙ cond-true _ _ _ has in
-    let none : map.remove m a ≡ map.empty = empty_of_len (map.remove m a) (omega (arith, shorter, few)) in
-    let gone : map.get (map.remove m a) b ≡ None = ap (λ (n : FinMap nat_cmp X). map.get n b) none ∙ get-empty nat_cmp b in
-    elim (cases_Bool (eq_by_cmp nat_cmp b a)) [
-      | inl same ↦ nat_cmp-IsAntisymmetric b a ((Equal-is (nat_cmp b a)).0 same)
-      | inr apart ↦ absurd (true≢false (sym other ∙ ap is_some (sym (get-remove nat_cmp_total m a b ∙ cond-false _ None (map.get m b) apart) ∙ gone)))
     ]

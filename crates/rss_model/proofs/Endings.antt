@@ -55,9 +55,9 @@ idles view call = costs_nothing call refl refl (omega arith) refl (λ told. told
 -- ---- refusals
 
 -- no tuple is placed by it
-pub refused_places : (view : EngineView) (call : Call) (why : Refusal) → GetsPlace view call (Err why)
-refused_places view (Insert t relation values) why = tt
-refused_places view call why = tt
+pub refused_places : (view : EngineView) (state : State) (call : Call) (why : Refusal) → GetsPlace view state call (Err why)
+refused_places view state (Insert t relation values) why = tt
+refused_places view state call why = tt
 
 -- By a refusal, which leaves the engine as it was but for its pages in memory.
 pub refused_by : {old new : EngineView} {call : Call} {why : Refusal} → new.is_up → IsShort (Err why)
@@ -66,7 +66,7 @@ refused_by {old = old} {call = call} {why = why} up short stays = record {
   answered = λ told state shown.
       let so = stays told state shown in
       record { next = left_by state call why; shows = so.1; answered = record { step = refuses call why so.0; moments = widened so.2 (λ image opens. inl opens) } };
-  placed = λ told. refused_places old call why;
+  placed = λ told state shown. refused_places old state call why;
   up = up;
   short = short;
 }
@@ -82,9 +82,9 @@ pub record IsDefined (old new : EngineView) (state : State) (call : Call) : Type
   pub moments : Passes old.disk new.disk (OpensToEither state.size state.base (with_definitions definitions state.base))
 
 -- no tuple is placed where nothing is given
-pub done_places : (view : EngineView) (call : Call) → GetsPlace view call (Ok Done)
-done_places view (Insert t relation values) = tt
-done_places view call = tt
+pub done_places : (view : EngineView) (state : State) (call : Call) → GetsPlace view state call (Ok Done)
+done_places view state (Insert t relation values) = tt
+done_places view state call = tt
 
 -- By a definition.
 pub defined_by : {old new : EngineView} {call : Call} → DefinesNames call → new.is_up → (IsTold old.disk → (state : State) → old.shows state → IsDefined old new state call) → IsAnswer old new call (Ok Done)
@@ -92,7 +92,7 @@ defined_by {old = old} {call = call} names up made = record {
   answered = λ told state shown.
       let so = made told state shown in
       record { next = redefined so.definitions state; shows = so.shows; answered = record { step = defines call so.definitions so.passed names so.so; moments = so.moments } };
-  placed = λ told. done_places old call;
+  placed = λ told state shown. done_places old state call;
   up = up;
   short = omega arith;
 }

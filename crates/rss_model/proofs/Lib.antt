@@ -35,9 +35,7 @@ pub mod Relisted
 pub mod ListedOnce
 pub mod Props
 pub mod MapSums
-pub mod LocksAlone
 pub mod Tests
-pub mod Keeping
 pub mod Totals
 pub mod Mixing
 pub mod Locking

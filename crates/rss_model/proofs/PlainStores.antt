@@ -108,7 +108,7 @@ no_image_of {definitions = definitions} are relation = ap (list_any (is_image_of
 pub no_link_of : {definitions : Definitions} → ArePlain definitions → (relation : Name) → nat_le 1 (parts_of definitions relation) ≡ false
 no_link_of {definitions = definitions} are relation = ap (λ (links : List LinkDef). nat_le 1 (count_by (has_part relation) links)) (no_values definitions.links are.no_links)
 
-no_entries : {X : Type 0} (m : FinMap name_cmp X) → m ≡ map.empty → map.entries m ≡ []
+pub no_entries : {X : Type 0} (m : FinMap name_cmp X) → m ≡ map.empty → map.entries m ≡ []
 no_entries {X = X} m none = nothing (map.entries m) (sym (len-entries m) ∙ (ap map.len none ∙ len-empty name_cmp X))
 
 -- no key is another tuple's, and no tuple is connected

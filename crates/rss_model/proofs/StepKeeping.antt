@@ -19,6 +19,7 @@ use Rattle.rss_model.specs.Scans.{Scan, Scans}
 use Rattle.rss_model.specs.Machine.{StoreSize, State, with_changes, now}
 use Rattle.rss_model.specs.Needs.{needs}
 use Rattle.rss_model.specs.Callers.{caller}
+use Rattle.rss_model.specs.Restart.{OnlyBy}
 use Rattle.rss_model.specs.Rules.{saved_now}
 use Rattle.rss_model.specs.Defining.{defined, with_definitions, DefinesNames}
 use Rattle.rss_model.specs.Steps.{is_open, refusal, locked_by, keeps_locks, redefined}
@@ -232,3 +233,14 @@ in_of (y ∷ xs) x (suc k) lt is = inr (in_of xs x k (omega (arith, lt)) is)
 
 pub owners_are_alone : OwnersAreAlone
 owners_are_alone state kept one other first second same = lone_kept kept one other (in_of state.changes one first.0 first.1 first.2) (in_of state.changes other second.0 second.1 second.2) same
+
+-- of an item that was changed last no other transaction has a change
+pub only_its_own : {state : State} → Kept state → (change : Change) (older : List Change) → state.changes ≡ change ∷ older → OnlyBy change.by change.item older
+only_its_own kept change older is = by older (λ other there. there)
+  where
+    by : (rest : List Change) → ((other : Change) → In other rest → In other older) → OnlyBy change.by change.item rest
+    by [] within = tt
+    by (other ∷ rest) within = (
+      lone_kept kept other change (subst (In other) (sym is) (inr (within other (inl refl)))) (subst (In change) (sym is) (inl refl)),
+      by rest (λ o there. within o (inr there)),
+    )

@@ -9,12 +9,12 @@ use Rattle.rss_base.specs.declared.value.Value.{Value}
 use Rattle.rss_base.specs.declared.item.Item.{Item}
 use Rattle.rss_base.specs.declared.item.Item.TheVariants.{Tuple}
 use Rattle.rss_base.specs.declared.call.Call.{Call}
-use Rattle.rss_base.specs.declared.call.Call.TheVariants.{Begin, Save, Restore, End, Abort, Insert, Fetch, Update, Delete, Checkpoint, MakeSegment, MakeRelation, DropSegment, DropRelation}
+use Rattle.rss_base.specs.declared.call.Call.TheVariants.{Begin, Save, Restore, End, Abort, Insert, Fetch, Update, Delete, Lock, Checkpoint, MakeSegment, MakeRelation, DropSegment, DropRelation}
 use Rattle.rss_base.specs.declared.answer.Reply.TheVariants.{Ok as Done, Tid as Identifier, Number, Tuple as TupleReply}
 use Rattle.rss_base.specs.declared.refusal.Refusal.{Refusal}
 use Rattle.rss_base.proofs.Moments.{widened}
 use Rattle.rss_model.specs.Tables.{Definitions, Tables, content}
-use Rattle.rss_model.specs.Defining.{DefinesNames, defined, with_definitions}
+use Rattle.rss_model.specs.Defining.{DefinesNames, LocksGranule, defined, with_definitions}
 use Rattle.rss_model.specs.Commits.{MayCommit}
 use Rattle.rss_model.specs.Changes.{Change, own, undo}
 use Rattle.rss_model.specs.Callers.{is_built}
@@ -25,7 +25,7 @@ use Rattle.rss_model.specs.Meter.{MayLead}
 use Rattle.rss_model.specs.Steps.{Answer, Step, tests, refusal, is_open, HasValues, MayUndo, undone_to, left_at, left_by, locked, holding, begun, with_save, restored, gone, changed, insertion, replacement, deletion, ended, redefined}
 use Rattle.rss_model.specs.Steps.MayUndo.{none, more}
 use Rattle.rss_model.specs.Rules.{saved_now}
-use Rattle.rss_model.specs.Steps.StepBy.{refuses, begins, saves, restores, aborts, checkpoints, inserts, fetches, updates, deletes, ends, defines}
+use Rattle.rss_model.specs.Steps.StepBy.{refuses, begins, saves, restores, aborts, checkpoints, inserts, fetches, updates, deletes, locks, ends, defines}
 use Rattle.rss_model.specs.Store.{OpensToEither}
 use Rattle.rss_model.specs.Turns.{IsStopped, IsUnmade}
 use Rattle.rss_model.proofs.Testing.{all_none, holds}
@@ -74,13 +74,13 @@ has_definition state call definitions names is so = record {
 }
 
 module _ {state : State} (kept : Kept state) where
-  passes : (call : Call) → is_built call ≡ true → DefinesNames call → refusal state call ≡ None → HasStep state call
-  passes (Begin t) built names is = record { answer = Ok Done; next = begun t state; step = begins t is; same_base = λ not. refl }
-  passes (Save t) built names is =
+  passes : (call : Call) → is_built call ≡ true → DefinesNames call → LocksGranule call → refusal state call ≡ None → HasStep state call
+  passes (Begin t) built names granule is = record { answer = Ok Done; next = begun t state; step = begins t is; same_base = λ not. refl }
+  passes (Save t) built names granule is =
       let passed = all_none (tests state (Save t)) is in
       let marks = the_marks state t (holds (is_open state t) _ (passed 0 None (omega arith))) in
       record { answer = Ok (Number (length marks.0 + 1)); next = with_save t marks.0 state; step = saves t marks.0 is marks.1; same_base = λ not. refl }
-  passes (Restore t save) built names is =
+  passes (Restore t save) built names granule is =
       let passed = all_none (tests state (Restore t save)) is in
       let marks = the_marks state t (holds (is_open state t) _ (passed 0 None (omega arith))) in
       let over = state.meter.over in
@@ -90,13 +90,13 @@ module _ {state : State} (kept : Kept state) where
         step = restores t save marks.0 over is marks.1 (as_many_undone (undone_to state t (left_at marks.0 save)) over);
         same_base = λ not. refl;
       }
-  passes (Abort t) built names is =
+  passes (Abort t) built names granule is =
       let over = state.meter.over in
       record { answer = Ok Done; next = gone t over state; step = aborts t over is (as_many_undone (own t state.changes) over); same_base = λ not. refl }
-  passes Checkpoint built names is =
+  passes Checkpoint built names granule is =
       record { answer = Ok Done; next = record state { meter = saved_now state }; step = checkpoints is; same_base = λ not. refl }
-  passes (End t) built names is = record { answer = Ok Done; next = ended t state; step = ends t is; same_base = λ not. absurd (not (tt {0})) }
-  passes (Insert t relation values) built names is =
+  passes (End t) built names granule is = record { answer = Ok Done; next = ended t state; step = ends t is; same_base = λ not. absurd (not (tt {0})) }
+  passes (Insert t relation values) built names granule is =
       let passed = all_none (tests state (Insert t relation values)) is in
       let has : is_open state t ≡ true = holds (is_open state t) _ (passed 0 None (omega arith)) in
       let some = free_there state t relation (holds _ _ (passed 1 None (omega arith))) (holds _ _ (passed 4 None (omega arith))) in
@@ -106,11 +106,11 @@ module _ {state : State} (kept : Kept state) where
         step = inserts t relation values some.0 state.meter.over is some.1 (as_many state.meter.over);
         same_base = λ not. refl;
       }
-  passes (Fetch t relation tid) built names is =
+  passes (Fetch t relation tid) built names granule is =
       let passed = all_none (tests state (Fetch t relation tid)) is in
       let values = the_values kept relation tid (holds _ _ (passed 3 None (omega arith))) in
       record { answer = Ok (TupleReply values.0); next = locked (Fetch t relation tid) state; step = fetches t relation tid values.0 is values.1; same_base = λ not. refl }
-  passes (Update t relation tid values) built names is =
+  passes (Update t relation tid values) built names granule is =
       let passed = all_none (tests state (Update t relation tid values)) is in
       let was = the_values kept relation tid (holds _ _ (passed 4 None (omega arith))) in
       record {
@@ -119,7 +119,7 @@ module _ {state : State} (kept : Kept state) where
         step = updates t relation tid was.0 values state.meter.over is was.1 (as_many state.meter.over);
         same_base = λ not. refl;
       }
-  passes (Delete t relation tid) built names is =
+  passes (Delete t relation tid) built names granule is =
       let passed = all_none (tests state (Delete t relation tid)) is in
       let was = the_values kept relation tid (holds _ _ (passed 3 None (omega arith))) in
       record {
@@ -128,23 +128,25 @@ module _ {state : State} (kept : Kept state) where
         step = deletes t relation tid was.0 state.meter.over is was.1 (as_many state.meter.over);
         same_base = λ not. refl;
       }
-  passes (MakeSegment name) built names is = has_definition state (MakeSegment name) _ names is refl
-  passes (MakeRelation name segment fields) built names is = has_definition state (MakeRelation name segment fields) _ names is refl
-  passes (DropSegment name) built names is = has_definition state (DropSegment name) _ names is refl
-  passes (DropRelation name) built names is = has_definition state (DropRelation name) _ names is refl
-  passes call built names is = absurd (cc)
+  passes (Lock t item exclusive) built names granule is =
+      record { answer = Ok Done; next = locked (Lock t item exclusive) state; step = locks t item exclusive is granule; same_base = λ not. refl }
+  passes (MakeSegment name) built names granule is = has_definition state (MakeSegment name) _ names is refl
+  passes (MakeRelation name segment fields) built names granule is = has_definition state (MakeRelation name segment fields) _ names is refl
+  passes (DropSegment name) built names granule is = has_definition state (DropSegment name) _ names is refl
+  passes (DropRelation name) built names granule is = has_definition state (DropRelation name) _ names is refl
+  passes call built names granule is = absurd (cc)
 
-  pub each_answers : (call : Call) → is_built call ≡ true → DefinesNames call → HasStep state call
-  each_answers call built names = by (refusal state call) refl
+  pub each_answers : (call : Call) → is_built call ≡ true → DefinesNames call → LocksGranule call → HasStep state call
+  each_answers call built names granule = by (refusal state call) refl
     where
       by : (why : Option Refusal) → refusal state call ≡ why → HasStep state call
-      by None is = passes call built names is
+      by None is = passes call built names granule is
       by (Some why) is = record { answer = Err why; next = left_by state call why; step = refuses call why is; same_base = λ not. left_base state call why }
 
   -- A call is stopped within a step where a stop leaves the committed tables, or at the end of a transaction also those with what it changed.
-  pub stops : {earlier later : Disk} (call : Call) → is_built call ≡ true → DefinesNames call → IsUnmade earlier later state → IsStopped earlier later state call
-  stops call built names unmade =
-      let some = each_answers call built names in
+  pub stops : {earlier later : Disk} (call : Call) → is_built call ≡ true → DefinesNames call → LocksGranule call → IsUnmade earlier later state → IsStopped earlier later state call
+  stops call built names granule unmade =
+      let some = each_answers call built names granule in
       record { answer = some.answer; next = some.next; answered = record { step = some.step; moments = widened unmade (λ image opens. inl opens) } }
 
 pub end_stops : {earlier later : Disk} (state : State) (t : ℕ) → refusal state (End t) ≡ None → Passes earlier later (OpensToEither state.size state.base (with_changes state.base (own t state.changes))) → IsStopped earlier later state (End t)

@@ -65,6 +65,7 @@ is_built (Insert t relation values) = true
 is_built (Fetch t relation tid) = true
 is_built (Update t relation tid values) = true
 is_built (Delete t relation tid) = true
+is_built (Lock t item exclusive) = true
 is_built Checkpoint = true
 is_built (MakeSegment name) = true
 is_built (MakeRelation name segment fields) = true

@@ -1,10 +1,12 @@
 -- A call on an engine, whichever call it is: what it leaves, by its result.
-use Rattle.std.specs.Prelude.{◌≡◌, ℕ, ◌+◌, ◌-◌, ◌^◌, ◌≤◌, List, [], Result, Ok, Err, IsErrOf}
+use Rattle.std.specs.Prelude.{◌≡◌, ◌↔◌, ℕ, ◌+◌, ◌-◌, ◌^◌, ◌≤◌, true, List, Contains, Result, Ok, Err, IsErrOf}
+use Rattle.std.specs.List.{list_any}
 use Rattle.rss_base.specs.DiskRule.{Disk, Pages, IsTold, Leaves, Continues}
 use Rattle.rss_base.specs.Faults.{Rises}
 use Rattle.rss_base.specs.declared.name.Name.{Name}
 use Rattle.rss_base.specs.declared.tid.Tid.{Tid}
 use Rattle.rss_base.specs.declared.value.Value.{Value}
+use Rattle.rss_base.specs.declared.item.Item.TheVariants.{Tuple}
 use Rattle.rss_base.specs.declared.call.Call.{Call}
 use Rattle.rss_base.specs.declared.call.Call.TheVariants.{Insert}
 use Rattle.rss_base.specs.declared.answer.Reply.{Reply}
@@ -12,11 +14,12 @@ use Rattle.rss_base.specs.declared.answer.Reply.TheVariants.{Tid as Identifier}
 use Rattle.rss_base.specs.declared.answer.CallError.{CallError}
 use Rattle.rss_base.specs.declared.answer.CallError.TheVariants.{Refused, Damaged, Device, NoMemory, Down}
 use Rattle.rss_model.specs.Machine.{State}
-use Rattle.rss_model.specs.Steps.{Answer}
+use Rattle.rss_model.specs.Locks.{is_held_by_another}
+use Rattle.rss_model.specs.Steps.{Answer, relations_beside}
 use Rattle.rss_model.specs.Store.{HoldsState}
 use Rattle.rss_model.specs.Turns.{IsAnswered, IsStopped, IsUnmade}
 use Rattle.rss_model.specs.ReplyText.{IsShort}
-use Rattle.rss_model.specs.Costs.{RisesAtMost, most_asks, most_writes}
+use Rattle.rss_model.specs.Costs.{RisesAtMost, most_asks, most_writes, may_lack_memory}
 
 -- states of the machine
 abbrev pub States : Type 1
@@ -69,17 +72,24 @@ pub record LeadsTo (shown : States) (earlier later : Disk) (old : State) (call :
   pub shows : shown next
   pub answered : IsAnswered earlier later old call answer next
 
--- A new tuple has an identifier that the placing rule allows. None is barred as yet.
-abbrev pub GetsPlace : EngineView → Call → Answer → Type 0
-GetsPlace view (Insert transaction relation values) (Ok (Identifier tid)) =
-    view.places relation values [] tid
-GetsPlace view call answer = Unit {0}
+-- These are the identifiers that others hold locks on in the segment of a relation.
+abbrev pub AreBarred : State → ℕ → Name → List Tid → Type 0
+AreBarred state t relation barred =
+    (tid : Tid) → Contains barred tid
+    ↔ (list_any (λ other. is_held_by_another state.locks t (Tuple other tid))
+    (relations_beside state relation) ≡ true)
+
+-- A new tuple has an identifier that the placing rule allows, where those are barred that others hold.
+abbrev pub GetsPlace : EngineView → State → Call → Answer → Type 0
+GetsPlace view state (Insert t relation values) (Ok (Identifier tid)) =
+    (barred : List Tid) → AreBarred state t relation barred → view.places relation values barred tid
+GetsPlace view state call answer = Unit {0}
 
 -- By a reply or a refusal: it is a step of the machine, its line is short, and a new tuple stands where the pages of before have a place for it.
 pub record IsAnswer (old new : EngineView) (call : Call) (answer : Answer) : Type 0 where
   pub answered : IsTold old.disk → (state : State) → old.shows state
       → LeadsTo new.shows old.disk new.disk state call answer
-  pub placed : IsTold old.disk → GetsPlace old call answer
+  pub placed : IsTold old.disk → (state : State) → old.shows state → GetsPlace old state call answer
   pub up : new.is_up
   pub short : IsShort answer
 
@@ -96,7 +106,8 @@ pub record IsDamaged (old new : EngineView) : Type 0 where
   pub down : new.is_up → ⊥
 
 -- By want of memory, which a call finds before it changes anything: the engine is up and in the same states, and no page changed. A stop leaves the committed tables.
-pub record IsUnanswered (old new : EngineView) : Type 0 where
+pub record IsUnanswered (old new : EngineView) (call : Call) : Type 0 where
+  pub may : may_lack_memory call ≡ true
   pub unmade : IsTold old.disk → (state : State) → old.shows state
       → IsUnmade old.disk new.disk state
   pub up : new.is_up
@@ -108,7 +119,7 @@ IsOutcome old new call (Ok reply) = IsAnswer old new call (Ok reply)
 IsOutcome old new call (Err (Refused why)) = IsAnswer old new call (Err why)
 IsOutcome old new call (Err Device) = IsFault old new call
 IsOutcome old new call (Err (Damaged place)) = IsDamaged old new
-IsOutcome old new call (Err NoMemory) = IsUnanswered old new
+IsOutcome old new call (Err NoMemory) = IsUnanswered old new call
 IsOutcome old new call (Err Down) = ⊥
 
 -- A call, by its result. An engine that is down answers nothing more.

@@ -1,8 +1,8 @@
--- What a call may cost: how many pages it asks for, and how many it writes.
-use Rattle.std.specs.Prelude.{ℕ, ◌+◌, ◌*◌, ◌≤◌, Option, Some, None, IfSome}
+-- What a call may cost: how many pages it asks for, how many it writes, and whether it may lack memory.
+use Rattle.std.specs.Prelude.{ℕ, ◌+◌, ◌*◌, ◌≤◌, Bool, true, false, Option, Some, None, IfSome}
 use Rattle.rss_base.specs.Runs.{run_pages}
 use Rattle.rss_base.specs.declared.call.Call.{Call}
-use Rattle.rss_base.specs.declared.call.Call.TheVariants.{Begin, Save, End, Fetch, CloseScan, Lock, MakeSegment, MakeRelation, DropSegment, DropRelation}
+use Rattle.rss_base.specs.declared.call.Call.TheVariants.{Begin, Save, Restore, End, Abort, Fetch, CloseScan, Lock, Checkpoint, MakeSegment, MakeRelation, DropSegment, DropRelation, DropImage, DropLink}
 
 -- a count has risen by no more than this, where a bound is claimed
 abbrev pub RisesAtMost : Option ℕ → ℕ → ℕ → Type 0
@@ -30,3 +30,17 @@ most_writes (Fetch transaction relation tid) = Some (run_pages * 2)
 most_writes (CloseScan transaction scan) = Some 0
 most_writes (Lock transaction item exclusive) = Some 0
 most_writes call = None
+
+-- Whether a call may be answered that memory ran out. What undoes, commits, saves or drops takes none.
+abbrev pub may_lack_memory : Call → Bool
+may_lack_memory (Restore transaction save) = false
+may_lack_memory (End transaction) = false
+may_lack_memory (Abort transaction) = false
+may_lack_memory (CloseScan transaction scan) = false
+may_lack_memory Checkpoint = false
+may_lack_memory (MakeSegment name) = false
+may_lack_memory (DropSegment name) = false
+may_lack_memory (DropRelation name) = false
+may_lack_memory (DropImage name) = false
+may_lack_memory (DropLink name) = false
+may_lack_memory call = true

@@ -38,9 +38,9 @@ use Rattle.rss_model.specs.Defining.{refused_unless, refused_if, fields_now, is_
 abbrev pub Answer : Type 0
 Answer = Result Reply Refusal
 
--- at most so many transactions are open, as yet
+-- at most so many transactions are open
 abbrev pub transaction_limit : ℕ
-transaction_limit = 1
+transaction_limit = 32
 
 abbrev pub misfit_of : Option (List FieldKind) → List Value → Option Refusal
 misfit_of None values = None

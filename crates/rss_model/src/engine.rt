@@ -12,8 +12,7 @@ pub const CALLS_MOST: u32 = u32::MAX - 1;
 
 /// A store that is open: a relation machine over a device.
 pub trait Engine {
-    /// What there is to see of it. It is up where no call has met a fault, and none ran out of
-    /// memory while it changed pages.
+    /// What there is to see of it. It is up until a call meets a fault of the device, or damage.
     ghost view: { Self → EngineView };
 
     /// Makes a call. Over a device that tells its contents it is a step of the machine, and each

@@ -20,9 +20,15 @@ mod generating;
 #[cfg(test)]
 mod harness;
 #[cfg(test)]
+mod holders;
+#[cfg(test)]
 mod lines;
 #[cfg(test)]
+mod locking;
+#[cfg(test)]
 mod many;
+#[cfg(test)]
+mod mixtures;
 #[cfg(test)]
 mod recovering;
 #[cfg(test)]

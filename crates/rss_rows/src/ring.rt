@@ -1,4 +1,6 @@
 // A log that goes round its pages, and one that is full.
+ghost use Rattle.std.specs.Prelude.{◌<◌};
+
 use crate::harness::{Row, SMALL, WHOLE, assert_script, empty_store, store_after};
 use crate::lines::write_lines;
 use rss_asserts::{assert_same, assert_same_slices};
@@ -135,7 +137,7 @@ fn a_log_that_goes_round_keeps_what_was_committed(rt: HostRuntime) -> Result<(),
 /// 13 more; 391 are owed to the transaction's end and to a checkpoint. The log has room for 35,963 bytes.
 const INSERTS: u32 = 122;
 
-/// How many of these tuples a page has. The first page has the one that was there too.
+/// How many of these tuples a page has.
 const PAGE_TUPLES: u32 = 11;
 
 /// What the next insert gets, what checkpoints get, each of which has a record of 14 bytes, and what the
@@ -164,7 +166,7 @@ fn filling(alloc: Global, end: &str) -> Result<(String, String), Fail> {
         write_text(&mut script, 255)?;
     }
     for number in 0..INSERTS {
-        write_place(&mut replies, number)?;
+        write_place(&mut replies, number, PAGE_TUPLES)?;
     }
     for _ in 0..6 {
         write_lines(&mut script, "checkpoint\n")?;
@@ -176,11 +178,72 @@ fn filling(alloc: Global, end: &str) -> Result<(String, String), Fail> {
     Ok((script, replies))
 }
 
-/// Writes what the insert of this number gets.
-fn write_place(replies: &mut String, number: u32) -> Result<(), Fail> {
-    let slot = number % PAGE_TUPLES + u32::from(number < PAGE_TUPLES);
-    writeln!(replies, "ok {}.{slot}", number / PAGE_TUPLES)?;
+/// Writes what the insert of this number gets, where a page has so many of these tuples. The first page
+/// has the one that was there too.
+fn write_place(replies: &mut String, number: u32, page_tuples: u32) -> Result<(), Fail>
+    requires { 0 < page_tuples }
+{
+    let slot = number % page_tuples + u32::from(number < page_tuples);
+    writeln!(replies, "ok {}.{slot}", number / page_tuples)?;
     Ok(())
+}
+
+/// A transaction that stays open. Its insert is the eldest record that the log keeps.
+const OPENED: &str = "\
+segment s
+relation r s t:text255
+begin 1
+insert 1 r \"x\"
+";
+
+/// How many transactions then end. Each has 220 bytes in the log.
+const ENDED: u32 = 161;
+
+/// How many of their tuples a page has.
+const ENDED_TUPLES: u32 = 15;
+
+/// What the next insert needs beside it: a record of 215 bytes, 18 for each of the two transactions, and
+/// 386 for a checkpoint.
+const NO_MORE: &str = "\
+ok
+refused 16 log full 543 637
+ok
+ok 10.11
+";
+
+/// Writes an insert of 200 letters by transaction 2.
+fn write_letters(script: &mut String) -> Result<(), Fail> {
+    write_lines(script, "insert 2 r")?;
+    write_text(script, 200)
+}
+
+/// A script in which one transaction stays open until the others have filled the log.
+fn one_open(alloc: Global) -> Result<String, Fail> {
+    let mut script = String::new(alloc);
+    write_lines(&mut script, OPENED)?;
+    for _ in 0..ENDED {
+        write_lines(&mut script, "begin 2\n")?;
+        write_letters(&mut script)?;
+        write_lines(&mut script, "end 2\n")?;
+    }
+    write_lines(&mut script, "begin 2\n")?;
+    write_letters(&mut script)?;
+    write_lines(&mut script, "end 1\n")?;
+    write_letters(&mut script)?;
+    Ok(script)
+}
+
+/// Its replies.
+fn one_open_replies(alloc: Global) -> Result<String, Fail> {
+    let mut replies = String::new(alloc);
+    write_lines(&mut replies, "ok\nok\nok\nok 0.0\n")?;
+    for number in 0..ENDED {
+        write_lines(&mut replies, "ok\n")?;
+        write_place(&mut replies, number, ENDED_TUPLES)?;
+        write_lines(&mut replies, "ok\n")?;
+    }
+    write_lines(&mut replies, NO_MORE)?;
+    Ok(replies)
 }
 
 #[test]
@@ -194,5 +257,18 @@ fn a_transaction_that_fills_the_log_can_still_end(rt: HostRuntime) -> Result<(),
         };
         assert_script(alloc, store(alloc, 4096)?, &row, WHOLE, end.as_bytes())?;
     }
+    Ok(())
+}
+
+#[test]
+fn a_transaction_that_stays_open_keeps_the_log_full(rt: HostRuntime) -> Result<(), Fail> {
+    let script = one_open(rt.alloc())?;
+    let replies = one_open_replies(rt.alloc())?;
+    let row = Row {
+        script: script.as_bytes(),
+        replies: replies.as_bytes(),
+    };
+    let device = empty_store(rt.alloc(), 4096)?;
+    assert_script(rt.alloc(), device, &row, WHOLE, "one stays open")?;
     Ok(())
 }

@@ -1,10 +1,12 @@
 -- A change of a tuple: what comes of it, and how a call ends of which it is the last step.
-use Rattle.std.proofs.Common.{◌≡◌, inl, ℕ, ◌+◌, ◌≤◌, Bool, true, Option, Some, None, arith, refl, sym, ◌∙◌, ap, subst}
+use Rattle.std.proofs.Common.{◌≡◌, inl, ℕ, ◌+◌, ◌≤◌, Bool, false, Option, Some, None, arith, refl, sym, ◌∙◌, ap, subst}
 use Rattle.std.specs.Prelude.{Result, Ok, Err, IsErrAnd, ⊤}
+use Rattle.std.proofs.lemmas.Option.{same_Some}
 use Rattle.std.proofs.lemmas.Result.{err_from_is_err_and}
 use Rattle.rss_base.specs.DiskRule.{IsTold, Passes}
 use Rattle.rss_base.specs.Answers.{page_error}
 use Rattle.rss_base.specs.LogRecords.{record_size}
+use Rattle.rss_base.specs.Steps.{PagesView}
 use Rattle.rss_base.specs.declared.answer.CallError.{CallError}
 use Rattle.rss_base.specs.declared.answer.CallError.TheVariants.{Refused, Damaged, Device, NoMemory, Down}
 use Rattle.rss_base.specs.declared.answer.Reply.{Reply}
@@ -16,11 +18,9 @@ use Rattle.rss_base.specs.declared.log_record.LogRecord.TheVariants as records
 use Rattle.rss_base.specs.declared.place.Place.{Place}
 use Rattle.rss_base.specs.declared.refusal.Refusal.{Refusal}
 use Rattle.rss_base.proofs.Moments.{started, then, widened, rises_since}
-use Rattle.rss_model.specs.Callers.{is_built}
 use Rattle.rss_model.specs.Calls.{GoesOn, GetsPlace, IsOutcome, IsCallOf}
 use Rattle.rss_model.specs.Changes.{Change}
-use Rattle.rss_model.specs.Costs.{RisesAtMost, most_asks, most_writes}
-use Rattle.rss_model.specs.Defining.{DefinesNames}
+use Rattle.rss_model.specs.Costs.{RisesAtMost}
 use Rattle.rss_model.specs.LogLaws.{IsToldBy}
 use Rattle.rss_model.specs.Locks.{Locks}
 use Rattle.rss_model.specs.Machine.{State}
@@ -28,7 +28,7 @@ use Rattle.rss_model.specs.Meter.{change_size}
 use Rattle.rss_model.specs.ReplyText.{IsShort}
 use Rattle.rss_model.specs.Ruled.{ruled}
 use Rattle.rss_model.specs.Rules.{Verdict, GoesOn as GoesOnAsIs, SavesFirst, NoRoom, NoLogRoom, ruling, refusal_by, if_no_room}
-use Rattle.rss_model.specs.Steps.{IsOver, Step, refusal}
+use Rattle.rss_model.specs.Steps.{IsOver, Step, keeps_locks, refusal}
 use Rattle.rss_model.proofs.Endings.{refused_by, comes_to}
 use Rattle.rss_model.proofs.LogCounting.{change_told_size}
 use Rattle.rss_model.proofs.Totals.{stops}
@@ -39,12 +39,15 @@ use Rattle.rss_catalog.specs.Catalogs.{CatalogView}
 use Rattle.rss_session.specs.Calls.{KeepsTables, Makes, MayNotMake, NoMoreSaves}
 use Rattle.rss_session.specs.Calls.{GoesOn as SessionGoesOn}
 use Rattle.rss_session.specs.Looks.{LooksOn}
+use Rattle.rss_session.specs.Parts.{view as session_view}
 use Rattle.rss_session.specs.Sessions.{SessionView}
+use Rattle.rss_session.specs.declared.session.Session.{Session}
 use Rattle.rss_session.specs.Weighing.{outcome, RulesSo}
 use Rattle.rss_session.proofs.Passing.{goes_then, goes_still, goes_opened}
 use Rattle.rss_rsi.specs.Changing.{RulesSay, StillShows, ChangeEnds, IsChangeOf}
-use Rattle.rss_rsi.specs.Views.{IsIn, engine_view}
-use Rattle.rss_rsi.proofs.Ways.{shows_locked, in_left, goes, LeadsAll, answers}
+use Rattle.rss_rsi.specs.Placing.{MayCost}
+use Rattle.rss_rsi.specs.Views.{RssParts, IsIn, engine_view}
+use Rattle.rss_rsi.proofs.Ways.{shows_locked, in_left, left_same, goes, LeadsAll, answers}
 
 -- ---- what was weighed
 
@@ -132,86 +135,103 @@ module _ {old mid new : SessionView} (same : mid.store ≡ old.store) (still : S
       )
       by PageNoMemory was = absurd (goes_mid.memory was)
 
+-- and the session with which it was made is there still
+pub still_made : {S T : Type 0} (pages_view : S → PagesView) {old : SessionView} {made now : Session S} {down down_now : Bool} {t : ℕ} {told_change : told.Change} {result : Result T CallError} → now ≡ made → down_now ≡ down
+    → IsChangeOf old (session_view pages_view made) (down ≡ false) t told_change result → IsChangeOf old (session_view pages_view now) (down_now ≡ false) t told_change result
+still_made pages_view {old = old} {made = made} {now = now} {down = down} {t = t} {told_change = told_change} {result = result} same same_down change =
+    subst (λ (d : Bool). IsChangeOf old (session_view pages_view now) (d ≡ false) t told_change result) (sym same_down)
+    (subst (λ (session : Session _). IsChangeOf old (session_view pages_view session) (down ≡ false) t told_change result) (sym same) change)
+
 -- ---- calls
 
--- In a state a change is the last step of a call, which gets this reply: the record tells it, the rules alone refuse it, and where they let it through it may be made, and leads to the state after the call.
-pub record IsLast (session : SessionView) (t : ℕ) (told_change : told.Change) (call : Call) (reply : Reply) (state : State) : Type 0 where
+-- the rules refuse for want of room alone, and keep no locks
+keeps_none : (verdict : Verdict) {why : Refusal} → refusal_by verdict ≡ Some why → keeps_locks why ≡ false
+keeps_none GoesOnAsIs is = absurd (cc (is))
+keeps_none SavesFirst is = absurd (cc (is))
+keeps_none (NoRoom slots needed) is = ap keeps_locks (sym (same_Some _ _ is))
+keeps_none (NoLogRoom free needed) is = ap keeps_locks (sym (same_Some _ _ is))
+
+-- In a state a change is the last step of a call, which gets this reply: the record tells it, the rules alone refuse it, and where they let it through it may be made, and leads to the state after the call, with these locks.
+pub record IsLast (session : SessionView) (after : Locks) (t : ℕ) (told_change : told.Change) (call : Call) (reply : Reply) (state : State) : Type 0 where
   pub change : Change
   pub by : change.by ≡ t
   pub is_told : IsToldBy session.store.catalog.listing told_change change
   pub refuses : refusal state call ≡ if_no_room state change
   pub may : if_no_room state change ≡ None → MayMake session.store state told_change change
-  pub locks : Locks
-  pub steps : if_no_room state change ≡ None → (over : ℕ) → IsOver state change over → Step state call (Ok reply) (record (ruled change over state) { locks = locks })
+  pub steps : if_no_room state change ≡ None → (over : ℕ) → IsOver state change over → Step state call (Ok reply) (record (ruled change over state) { locks = after })
 
 -- What is known of a call that looks first, and then makes a change: of no such call it is said what it may cost.
-pub record EndsByChange (session : SessionView) (t : ℕ) (told_change : told.Change) (call : Call) (reply : Reply) : Type 0 where
-  pub last : IsTold session.store.pages.disk → (state : State) → IsIn session state → IsLast session t told_change call reply state
+pub record EndsByChange (parts : RssParts) (after : Locks) (t : ℕ) (told_change : told.Change) (call : Call) (reply : Reply) : Type 0 where
+  pub last : IsTold parts.session.store.pages.disk → (state : State) → IsIn parts state → IsLast parts.session after t told_change call reply state
   pub short : IsShort (Ok reply)
-  pub built : is_built call ≡ true
-  pub names : DefinesNames call
-  pub asks : most_asks call ≡ None
-  pub writes : most_writes call ≡ None
+  pub may : MayCost call
 
-module _ {first mid : SessionView} {t : ℕ} {told_change : told.Change} {call : Call} {reply : Reply} {T : Type 0} {looked : Result T PageFault} (looks : LooksOn first mid looked) (by_change : EndsByChange first t told_change call reply) where
+module _ {first : RssParts} {mid : SessionView} {after : Locks} {t : ℕ} {told_change : told.Change} {call : Call} {reply : Reply} {T : Type 0} {looked : Result T PageFault} (looks : LooksOn first.session mid looked) (by_change : EndsByChange first after t told_change call reply) where
   -- what the record tells hangs on the listing alone
-  is_told_looked : {change : Change} → IsToldBy first.store.catalog.listing told_change change → IsToldBy mid.store.catalog.listing told_change change
+  is_told_looked : {change : Change} → IsToldBy first.session.store.catalog.listing told_change change → IsToldBy mid.store.catalog.listing told_change change
   is_told_looked {change = change} is_told = subst (λ (c : CatalogView). IsToldBy c.listing told_change change) (sym looks.catalog) is_told
 
-  may_looked : {state : State} {change : Change} → MayMake first.store state told_change change → MayMake mid.store state told_change change
+  may_looked : {state : State} {change : Change} → MayMake first.session.store state told_change change → MayMake mid.store state told_change change
   may_looked may = record { told = is_told_looked may.told; finds = may.finds; alone = may.alone; mixed = may.mixed }
 
   -- what the rules say of the last step
-  said : {why : Option Refusal} {state : State} → RulesSay mid t told_change why → (told : IsTold first.store.pages.disk) (is_in : IsIn first state) → if_no_room state (by_change.last told state is_in).change ≡ why
+  said : {why : Option Refusal} {state : State} → RulesSay mid t told_change why → (told : IsTold first.session.store.pages.disk) (is_in : IsIn first state) → if_no_room state (by_change.last told state is_in).change ≡ why
   said {state = state} say told is_in =
       let last = by_change.last told state is_in in
       say (looks.goes.told.0 told) state last.change last.by (is_told_looked last.is_told) (looks.shows told state is_in.shows)
 
-  module _ {new : SessionView} {U : Type 0} {up_now : Type 0} {made : Result U CallError} (change : IsChangeOf mid new up_now t told_change made) where
+  module _ (new : RssParts) {U : Type 0} {up_now : Type 0} {made : Result U CallError} (change : IsChangeOf mid new.session up_now t told_change made) where
     goes_all : {n m : ℕ} {up : Type 0} → m ≤ n + 1 → GoesOn (engine_view first n up) (engine_view new m up_now) call
     goes_all calls = goes (Ok tt) (goes_then looks.goes change.goes) calls
-        (subst (λ (most : Option ℕ). RisesAtMost most first.store.pages.asks new.store.pages.asks) (sym by_change.asks) tt)
-        (subst (λ (most : Option ℕ). RisesAtMost most first.store.pages.writes new.store.pages.writes) (sym by_change.writes) tt)
+        (subst (λ (most : Option ℕ). RisesAtMost most first.session.store.pages.asks new.session.store.pages.asks) (sym by_change.may.asks) tt)
+        (subst (λ (most : Option ℕ). RisesAtMost most first.session.store.pages.writes new.session.store.pages.writes) (sym by_change.may.writes) tt)
 
-    keeps_all : KeepsTables first new
+    keeps_all : KeepsTables first.session new.session
     keeps_all told state kept shows =
         then (looks.moments told state kept shows) (change.moments (looks.goes.told.0 told) state kept (looks.shows told state shows)) (λ image holds. holds)
 
   -- the same states are shown where nothing was changed
-  in_still : {new : SessionView} {state : State} → StillShows mid new → IsTold first.store.pages.disk → IsIn first state → IsIn new state
-  in_still {state = state} still told is_in = record { shows = still state (looks.shows told state is_in.shows); kept = is_in.kept }
+  in_still : {new : RssParts} {state : State} → StillShows mid new.session → new.locks.locks ≡ first.locks.locks → IsTold first.session.store.pages.disk → IsIn first state → IsIn new state
+  in_still {state = state} still same told is_in = record { shows = still state (looks.shows told state is_in.shows); locked = is_in.locked ∙ sym same; kept = is_in.kept }
 
-  module _ {new : SessionView} {U : Type 0} {up_now : Type 0} where
+  module _ {new : RssParts} {U : Type 0} {up_now : Type 0} where
     -- the step was made
-    leads_made : {done : U} → IsChangeOf mid new up_now t told_change (Ok done) → LeadsAll first new call (Ok reply)
-    leads_made change told state is_in =
+    leads_made : {done : U} → new.locks.locks ≡ after → IsChangeOf mid new.session up_now t told_change (Ok done) → LeadsAll first new call (Ok reply)
+    leads_made locked change told state is_in =
         let last = by_change.last told state is_in in
         let made = change.ends.1 in
         let passes = said made.passes told is_in in
         let one = made.makes (looks.goes.told.0 told) state last.change last.by is_in.kept (looks.shows told state is_in.shows) (may_looked (last.may passes)) in
         record {
-          next = record (ruled last.change one.over state) { locks = last.locks };
+          next = record (ruled last.change one.over state) { locks = after };
           step = last.steps passes one.over one.allowed;
-          shows = shows_locked last.locks one.shows;
-          moments = widened (keeps_all change told state is_in.kept is_in.shows) (λ image opens. inl opens);
+          shows = shows_locked after one.shows;
+          locked = sym locked;
+          moments = widened (keeps_all new change told state is_in.kept is_in.shows) (λ image opens. inl opens);
         }
 
-    pub ends_made : {n m : ℕ} {up : Type 0} {done : U} → up → m ≤ n + 1 → (IsTold first.store.pages.disk → GetsPlace (engine_view first n up) call (Ok reply)) → IsChangeOf mid new up_now t told_change (Ok done)
+    pub ends_made : {n m : ℕ} {up : Type 0} {done : U} → new.locks.locks ≡ after → up → m ≤ n + 1 → (IsTold first.session.store.pages.disk → (state : State) → IsIn first state → GetsPlace (engine_view first n up) state call (Ok reply)) → IsChangeOf mid new.session up_now t told_change (Ok done)
         → IsCallOf (engine_view first n up) (engine_view new m up_now) call (Ok reply)
-    ends_made was_up calls placed change = comes_to was_up (goes_all change calls) (answers change.ends.0 by_change.short placed (leads_made change))
+    ends_made locked was_up calls placed change = comes_to was_up (goes_all new change calls) (answers change.ends.0 by_change.short placed (leads_made locked change))
 
-    pub ends_short : {n m : ℕ} {up : Type 0} {why : CallError} (result : Result Reply CallError) → IsErrAnd result (λ e. e ≡ why) → up → m ≤ n + 1 → IsChangeOf {T = U} mid new up_now t told_change (Err why)
+    pub ends_short : {n m : ℕ} {up : Type 0} {why : CallError} (result : Result Reply CallError) → IsErrAnd result (λ e. e ≡ why) → new.locks.locks ≡ first.locks.locks → up → m ≤ n + 1 → IsChangeOf {T = U} mid new.session up_now t told_change (Err why)
         → IsCallOf (engine_view first n up) (engine_view new m up_now) call result
-    ends_short {n = n} {m = m} {up = up} {why = why} result is was_up calls change =
+    ends_short {n = n} {m = m} {up = up} {why = why} result is same was_up calls change =
         let so = err_from_is_err_and result is in
-        subst (IsCallOf (engine_view first n up) (engine_view new m up_now) call) (sym (so.1 ∙ ap Err so.2)) (comes_to was_up (goes_all change calls) (by why change))
+        subst (IsCallOf (engine_view first n up) (engine_view new m up_now) call) (sym (so.1 ∙ ap Err so.2)) (comes_to was_up (goes_all new change calls) (by why change))
       where
-        by : (why : CallError) → IsChangeOf {T = U} mid new up_now t told_change (Err why) → IsOutcome (engine_view first n up) (engine_view new m up_now) call (Err why)
+        by : (why : CallError) → IsChangeOf {T = U} mid new.session up_now t told_change (Err why) → IsOutcome (engine_view first n up) (engine_view new m up_now) call (Err why)
         by (Refused why) change = refused_by change.ends.0 change.ends.1.short (λ told state is_in.
-            let refused = (by_change.last told state is_in).refuses ∙ said change.ends.1.refuses told is_in in
-            (refused, in_left call (in_still change.ends.1.still told is_in) refused, keeps_all change told state is_in.kept is_in.shows))
+            let last = by_change.last told state is_in in
+            let no_room = said change.ends.1.refuses told is_in in
+            let refused = last.refuses ∙ no_room in
+            let none = keeps_none (ruling state last.change) no_room in (
+              refused,
+              in_left call is_in refused (change.ends.1.still state (looks.shows told state is_in.shows)) (left_same call why none is_in ∙ sym same),
+              keeps_all new change told state is_in.kept is_in.shows,
+            ))
         by Device change = record {
-          stopped = λ told state is_in. stops is_in.kept call by_change.built by_change.names (keeps_all change told state is_in.kept is_in.shows);
+          stopped = λ told state is_in. stops is_in.kept call by_change.may.stop.built by_change.may.stop.names by_change.may.stop.granule (keeps_all new change told state is_in.kept is_in.shows);
           down = change.ends.0;
           cause = rises_since looks.goes.later change.ends.1;
         }
@@ -222,8 +242,9 @@ module _ {first mid : SessionView} {t : ℕ} {told_change : told.Change} {call :
           down = change.ends.0;
         }
         by NoMemory change = record {
-          unmade = λ told state is_in. keeps_all change told state is_in.kept is_in.shows;
+          may = by_change.may.stop.memory;
+          unmade = λ told state is_in. keeps_all new change told state is_in.kept is_in.shows;
           up = change.ends.0;
-          same = λ told state is_in. in_still change.ends.1 told is_in;
+          same = λ told state is_in. in_still change.ends.1 same told is_in;
         }
         by Down change = absurd change.ends

@@ -1,40 +1,49 @@
 -- A fetch, by what was found.
-use Rattle.std.proofs.Common.{ℕ, ◌+◌, ◌≤◌, List, refl, ap, arith}
+use Rattle.std.proofs.Common.{◌≡◌, ℕ, ◌+◌, ◌≤◌, List, Some, refl, sym, ◌∙◌, ap, subst, arith}
 use Rattle.std.specs.Prelude.{None, Ok, is_some}
 use Rattle.rss_base.specs.declared.answer.Reply.TheVariants.{Tuple as TupleReply}
 use Rattle.rss_base.specs.declared.call.Call.TheVariants.{Fetch}
 use Rattle.rss_base.specs.declared.name.Name.{Name}
+use Rattle.rss_base.specs.declared.need.Need.{Need}
 use Rattle.rss_base.specs.declared.tid.Tid.{Tid}
 use Rattle.rss_base.specs.declared.value.Value.{Value}
 use Rattle.rss_model.specs.Calls.{IsCallOf}
+use Rattle.rss_model.specs.Locks.{Locks, granted}
 use Rattle.rss_model.specs.Steps.{admission, locked}
 use Rattle.rss_model.specs.Steps.StepBy.{fetches}
 use Rattle.rss_model.proofs.Endings.{comes_to}
 use Rattle.rss_session.specs.Admissions.{Says}
+use Rattle.rss_session.specs.Looks.{LooksOn}
 use Rattle.rss_session.specs.Sessions.{SessionView}
-use Rattle.rss_rsi.specs.Views.{engine_view}
-use Rattle.rss_rsi.specs.Looking.{LooksFor, Finds}
+use Rattle.rss_rsi.specs.Views.{RssParts, engine_view}
+use Rattle.rss_rsi.specs.Looking.{LooksFor, LooksUp, FindsHeld}
+use Rattle.rss_rsi.specs.declared.locking.Access.TheVariants.{Read}
+use Rattle.rss_rsi.proofs.Claims.{free_as, locked_as}
 use Rattle.rss_rsi.proofs.Looks.{goes_looked}
-use Rattle.rss_rsi.proofs.TupleTests.{fetch_lacks, fetch_passes}
+use Rattle.rss_rsi.proofs.TupleTests.{fetch_busy, fetch_lacks, fetch_passes}
 use Rattle.rss_rsi.proofs.Ways.{shows_locked, answers, leads_by}
 
-module _ {session : SessionView} (t : ℕ) (relation : Name) (tid : Tid) (admitted : Says session (λ state. admission state t relation) None) where
+module _ (parts : RssParts) (t : ℕ) (relation : Name) (tid : Tid) (admitted : Says parts.session (λ state. admission state t relation) None) where
   -- it looks for its tuple first
-  pub fetch_looks : LooksFor session relation tid (Fetch t relation tid)
+  pub fetch_looks : LooksFor parts t relation tid Read (Fetch t relation tid)
   fetch_looks = record {
-    lacks = λ told state is_in none. fetch_lacks state t relation is_in.kept tid (admitted told state is_in.shows) none;
-    built = refl;
-    names = tt;
-    asks = omega arith;
-    writes = omega arith;
+    may = record { stop = record { built = refl; names = tt; granule = tt; memory = refl }; asks = omega arith; writes = omega arith };
+    by = refl;
+    needs_are = λ state is_in. refl;
+    busy_so = λ told state is_in bar. fetch_busy state t relation tid (admitted told state is_in.shows) bar;
+    lacks = λ told state is_in. fetch_lacks state t relation tid (admitted told state is_in.shows);
   }
 
-  -- and gives what is found
-  pub fetch_gives : {new : SessionView} {number n m : ℕ} {values : List Value} {up up_now : Type 0} → Finds session new number relation tid values → up → up_now → m ≤ n + 1 → IsCallOf (engine_view session n up) (engine_view new m up_now) (Fetch t relation tid) (Ok (TupleReply values))
-  fetch_gives {values = values} finds was_up is_up calls =
-      let looks = finds.looks in
-      comes_to was_up (goes_looked looks (record { asks_high = finds.asks_high; writes_high = finds.writes_high }) fetch_looks calls) (answers is_up finds.short (λ told. tt) (λ told state is_in.
-      let has = finds.has told state is_in in
-      leads_by (locked (Fetch t relation tid) state) looks.moments told is_in
-      (fetches t relation tid values (fetch_passes state t relation is_in.kept tid (admitted told state is_in.shows) (ap is_some has)) has)
-      (shows_locked _ (looks.shows told state is_in.shows))))
+  -- and gives what is found, whose locks it holds then
+  pub fetch_gives : {mid new : RssParts} {number n m : ℕ} {values : List Value} {list : List Need} {up up_now : Type 0} → FindsHeld parts mid t number relation tid Read values list
+      → new.session ≡ mid.session → new.locks.locks ≡ granted t list mid.locks.locks → up → up_now → m ≤ n + 1
+      → IsCallOf (engine_view parts n up) (engine_view new m up_now) (Fetch t relation tid) (Ok (TupleReply values))
+  fetch_gives {new = new} {values = values} {list = list} found same taken was_up is_up calls =
+      let looked = subst (λ (session : SessionView). LooksUp parts.session session values) (sym same) found.looked in
+      comes_to was_up (goes_looked {new = new} looked.looks looked.costs fetch_looks.may calls) (answers is_up found.finds.short (λ told state is_in. tt) (λ told state is_in.
+      let has = found.finds.has told state is_in in
+      let listed = found.lists told state is_in in
+      leads_by (locked (Fetch t relation tid) state) looked.looks.moments told is_in
+      (fetches t relation tid values (fetch_passes state t relation tid (admitted told state is_in.shows) (free_as is_in (Fetch t relation tid) listed found.claimed) (ap is_some has)) has)
+      (shows_locked _ (looked.looks.shows told state is_in.shows))
+      (locked_as is_in (Fetch t relation tid) listed t refl ∙ ap (granted t list) (sym found.claimed.same) ∙ sym taken)))

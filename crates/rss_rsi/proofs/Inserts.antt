@@ -1,22 +1,21 @@
 -- An insert, by its tests and by what was found for it.
-use Rattle.std.proofs.Common.{◌≡◌, ℕ, ◌+◌, ◌^◌, ◌≤◌, ◌<◌, List, [], ◌∷◌, length, drop, refl, sym, ◌∙◌, ap, subst, arith}
-use Rattle.std.specs.Prelude.{Option, Some, None, is_some, Result, Ok, Err, IsErrAnd}
+use Rattle.std.proofs.Common.{◌≡◌, ℕ, ◌+◌, ◌^◌, ◌≤◌, ◌<◌, List, [], ◌∷◌, ◌++◌, append-nil, length, drop, refl, sym, ◌∙◌, ap, subst, arith}
+use Rattle.std.specs.Prelude.{Option, Some, None, is_some, option_map, Result, Ok, Err}
 use Rattle.std.proofs.lemmas.Bool.{false_from_ne_true}
-use Rattle.rss_base.specs.Answers.{page_error}
+use Rattle.std.proofs.lemmas.Option.{same_Some}
 use Rattle.rss_base.specs.DiskRule.{IsTold}
 use Rattle.rss_base.specs.Listings.{relation_at, IsNumberOf}
 use Rattle.rss_base.specs.LogRecords.{IsShort}
 use Rattle.rss_base.specs.TupleTypes.{kinds, Spells}
 use Rattle.rss_base.specs.declared.answer.CallError.{CallError}
-use Rattle.rss_base.specs.declared.answer.CallError.TheVariants.{Refused}
-use Rattle.rss_base.specs.declared.answer.Reply.{Reply}
+use Rattle.rss_base.specs.declared.answer.CallError.TheVariants.{NoMemory}
 use Rattle.rss_base.specs.declared.answer.Reply.TheVariants.{Tid as Identifier}
-use Rattle.rss_base.specs.declared.call.Call.{Call}
 use Rattle.rss_base.specs.declared.call.Call.TheVariants.{Insert}
 use Rattle.rss_base.specs.declared.change.Change.TheVariants.{Insert as InsertRecord}
-use Rattle.rss_base.specs.declared.fault.PageFault.{PageFault}
 use Rattle.rss_base.specs.declared.item.Item.TheVariants.{Tuple as TupleItem}
 use Rattle.rss_base.specs.declared.name.Name.{Name}
+use Rattle.rss_base.specs.declared.need.Mode.TheVariants.{X}
+use Rattle.rss_base.specs.declared.need.Need.{Need}
 use Rattle.rss_base.specs.declared.refusal.Kind.TheVariants.{Relation as RelationKind}
 use Rattle.rss_base.specs.declared.refusal.LimitKind.TheVariants.{Identifiers as IdentifierLimit}
 use Rattle.rss_base.specs.declared.refusal.Refusal.{Refusal}
@@ -25,33 +24,39 @@ use Rattle.rss_base.specs.declared.relation.RelationEntry.{RelationEntry}
 use Rattle.rss_base.specs.declared.tid.Tid.{Tid}
 use Rattle.rss_base.specs.declared.value.Value.{Value}
 use Rattle.rss_tuple.specs.Placing.{IsChosen}
-use Rattle.rss_model.specs.Calls.{GoesOn, IsCallOf}
+use Rattle.rss_lock.specs.Locks.{LocksView}
+use Rattle.rss_model.specs.Calls.{GoesOn, IsCallOf, AreBarred}
 use Rattle.rss_model.specs.Fits.{ArePlain}
-use Rattle.rss_model.specs.Kept.{Kept}
 use Rattle.rss_model.specs.LogLaws.{IsToldBy}
-use Rattle.rss_model.specs.Locks.{Locks}
-use Rattle.rss_model.specs.Machine.{State}
+use Rattle.rss_model.specs.Locks.{Bar, Locks, first_bar, with_lock, granted}
+use Rattle.rss_model.specs.Machine.{State, now}
+use Rattle.rss_model.specs.Needs.{need, needs, changing, tuple_changed}
+use Rattle.rss_model.specs.Refusals.{busy}
+use Rattle.rss_model.specs.Ruled.{ruled}
 use Rattle.rss_model.specs.Rules.{if_no_room}
-use Rattle.rss_model.specs.Steps.{first_of, tests, misfit_of, unless_open, unless_defined, value_admission, if_used_up, if_full, refusal, insertion, locked, holding, IsFree}
+use Rattle.rss_model.specs.Steps.{Step, first_of, tests, misfit_of, unless_open, unless_defined, value_admission, if_used_up, if_full, refusal, insertion, locked, holding, IsFree}
 use Rattle.rss_model.specs.Steps.StepBy.{inserts}
 use Rattle.rss_model.specs.Store.{plain_body}
 use Rattle.rss_model.specs.Tables.{fields_of}
 use Rattle.rss_model.proofs.Frees.{some_free_is, free_there}
-use Rattle.rss_model.proofs.Keeping.{none_busy}
 use Rattle.rss_model.proofs.Lengths.{identifier_line}
 use Rattle.rss_model.proofs.PlainStores.{tables_plain, none_duplicate}
 use Rattle.rss_model.proofs.Testing.{all_none, holds}
 use Rattle.rss_model.proofs.Tests.{goes_on, refuses_at, passes_unless, refuses_unless}
-use Rattle.rss_model.proofs.Totals.{as_many, stops}
+use Rattle.rss_model.proofs.Totals.{as_many}
 use Rattle.rss_access.proofs.Numbered.{name_of}
 use Rattle.rss_session.specs.Admissions.{Says}
-use Rattle.rss_session.specs.Looks.{LooksOn, IsPlace, HasNoPlace}
+use Rattle.rss_session.specs.Looks.{LooksOn}
 use Rattle.rss_session.specs.Sessions.{SessionView}
-use Rattle.rss_rsi.specs.Views.{IsIn, MayStandAt, engine_view}
+use Rattle.rss_rsi.specs.Locking.{Lists, IsClaimed, ClaimEnds}
+use Rattle.rss_rsi.specs.Placing.{IsPlaceFor, IsRelationIn, MayCost, PlacesTuple}
+use Rattle.rss_rsi.specs.Views.{RssParts, IsIn, MayStandAt, engine_view}
 use Rattle.rss_rsi.proofs.Changes.{IsLast, EndsByChange}
+use Rattle.rss_rsi.proofs.Claims.{first_bar_behind, granted_behind, none_bars, claim_fails}
+use Rattle.rss_rsi.proofs.NoKeys.{no_keys}
 use Rattle.rss_rsi.proofs.Telling.{tells_insert, may_make}
-use Rattle.rss_rsi.proofs.TupleTests.{three_stop, three_pass, last_test, open_by_values}
-use Rattle.rss_rsi.proofs.Ways.{failed_within, goes, refused_behind}
+use Rattle.rss_rsi.proofs.TupleTests.{three_stop, three_pass, last_test}
+use Rattle.rss_rsi.proofs.Ways.{goes, lacks_behind}
 
 -- ---- the tests
 
@@ -74,14 +79,23 @@ module _ (state : State) (t : ℕ) (relation : Name) (values : List Value) where
           insert_comes ∙ goes_on (drop 4 (tests state (Insert t relation values))) few
           ∙ refuses_at (drop 5 (tests state (Insert t relation values))) (refuses_unless (Limit IdentifierLimit) (false_from_ne_true _ (λ some. let free = free_there state t relation defined some in none free.0 free.1)))
 
-      -- one is: what is left are the rules
-      pub insert_there : Kept state → ArePlain state.base.definitions → (tid : Tid) → IsFree state t relation tid → refusal state (Insert t relation values) ≡ if_full state (Insert t relation values)
-      insert_there kept plain tid free =
-          insert_comes ∙ goes_on (drop 4 (tests state (Insert t relation values))) few
-          ∙ goes_on (drop 5 (tests state (Insert t relation values))) (passes_unless (Limit IdentifierLimit) (some_free_is state t relation tid free))
-          ∙ goes_on (drop 6 (tests state (Insert t relation values))) (none_busy kept t (open_by_values state t relation values admitted) (Insert t relation values))
-          ∙ goes_on (drop 7 (tests state (Insert t relation values))) (none_duplicate state plain relation None values)
-          ∙ last_test (if_full state (Insert t relation values))
+      module _ (tid : Tid) (free : IsFree state t relation tid) where
+        insert_free : refusal state (Insert t relation values) ≡ first_of (drop 5 (tests state (Insert t relation values)))
+        insert_free =
+            insert_comes ∙ goes_on (drop 4 (tests state (Insert t relation values))) few
+            ∙ goes_on (drop 5 (tests state (Insert t relation values))) (passes_unless (Limit IdentifierLimit) (some_free_is state t relation tid free))
+
+        -- one is, and another transaction holds what is needed
+        pub insert_busy : (bar : Bar) → first_bar state.locks t (needs (now state) (Insert t relation values)) ≡ Some bar → refusal state (Insert t relation values) ≡ Some (busy bar)
+        insert_busy bar is = insert_free ∙ refuses_at (drop 6 (tests state (Insert t relation values))) (ap (option_map busy) is)
+
+        -- none does: what is left are the rules
+        pub insert_there : ArePlain state.base.definitions → first_bar state.locks t (needs (now state) (Insert t relation values)) ≡ None → refusal state (Insert t relation values) ≡ if_full state (Insert t relation values)
+        insert_there plain none =
+            insert_free
+            ∙ goes_on (drop 6 (tests state (Insert t relation values))) (ap (option_map busy) none)
+            ∙ goes_on (drop 7 (tests state (Insert t relation values))) (none_duplicate state plain relation None values)
+            ∙ last_test (if_full state (Insert t relation values))
 
 -- ---- the call
 
@@ -96,75 +110,110 @@ pub is_admitted : {session : SessionView} {t : ℕ} {relation : Name} {values : 
     → Says session (λ state. value_admission state t relation values) None → Says session (λ state. if_used_up state entry.name) None → IsAdmitted session t relation values number entry
 is_admitted known at fits few = record { known = known; at = at; fits = fits; few = few }
 
-module _ {session : SessionView} {t : ℕ} {relation : Name} {values : List Value} {number : ℕ} {entry : RelationEntry} (admitted : IsAdmitted session t relation values number entry) where
-  abbrev call : Call
-  call = Insert t relation values
-
+module _ (parts : RssParts) {t : ℕ} {relation : Name} {values : List Value} {number : ℕ} {entry : RelationEntry} (admitted : IsAdmitted parts.session t relation values number entry) where
   named : entry.name ≡ relation
-  named = name_of session.store.catalog.listing relation number entry admitted.known admitted.at
+  named = name_of parts.session.store.catalog.listing relation number entry admitted.known admitted.at
 
   few_so : (state : State) → if_used_up state entry.name ≡ None → if_used_up state relation ≡ None
   few_so state is = ap (if_used_up state) (sym named) ∙ is
 
-  -- ---- the look for an identifier
+  may_insert : MayCost (Insert t relation values)
+  may_insert = record { stop = record { built = refl; names = tt; granule = tt; memory = refl }; asks = refl; writes = refl }
 
-  module _ {mid : SessionView} {n m : ℕ} {up up_now : Type 0} where
-    goes_looked : {T : Type 0} {looked : Result T PageFault} → LooksOn session mid looked → m ≤ n + 1 → GoesOn (engine_view session n up) (engine_view mid m up_now) (Insert t relation values)
-    goes_looked {looked = looked} looks calls = goes looked looks.goes calls tt tt
+  -- it looks for an identifier
+  pub insert_places : PlacesTuple parts t number (Insert t relation values)
+  insert_places = record {
+    may = may_insert;
+    lacks = λ other state has none.
+        let same : other ≡ entry = same_Some _ _ (sym has.at ∙ admitted.at) in
+        let shows = has.is_in.shows in
+        insert_lacks state t relation values (admitted.fits has.told state shows) (few_so state (admitted.few has.told state shows))
+        (λ tid free. none tid (subst (λ (name : Name). IsFree state t name tid) (sym (ap (λ (e : RelationEntry). e.name) same ∙ named)) free));
+  }
 
-    -- it fails
-    pub place_fails : {T : Type 0} {fault : PageFault} (result : Result Reply CallError) → IsErrAnd result (λ e. e ≡ page_error fault) → LooksOn {T = T} session mid (Err fault) → up → (up_now → ⊥) → m ≤ n + 1
-        → IsCallOf (engine_view session n up) (engine_view mid m up_now) (Insert t relation values) result
-    place_fails result is looks was_up down calls =
-        failed_within result is was_up down looks.goes (goes_looked looks calls) (λ place same told state is_in. looks.sound place same told)
-        (λ told state is_in. stops is_in.kept (Insert t relation values) refl tt (looks.moments told state is_in.kept is_in.shows))
+  -- ---- behind the look
 
-    -- it finds none
-    pub lacks_place : {found : Option Tid} → LooksOn session mid (Ok found) → HasNoPlace session entry.segment → up → up_now → m ≤ n + 1
-        → IsCallOf (engine_view session n up) (engine_view mid m up_now) (Insert t relation values) (Err (Refused (Limit IdentifierLimit)))
-    lacks_place looks none was_up is_up calls = refused_behind _ refl was_up is_up (omega arith) (goes_looked looks calls) looks.moments (λ told state is_in. (
-      insert_lacks state t relation values (admitted.fits told state is_in.shows) (few_so state (admitted.few told state is_in.shows)) (λ tid free.
-          none told state number entry is_in.kept is_in.shows (record { at = admitted.at; within = refl }) t tid (subst (λ (name : Name). IsFree state t name tid) (sym named) free)),
-      looks.shows told state is_in.shows,
-    ))
+  module _ {mid : SessionView} {tid : Tid} (looks : LooksOn parts.session mid (Ok tid)) where
+    looks_new : (new : RssParts) → new.session ≡ mid → LooksOn parts.session new.session (Ok tid)
+    looks_new new same = subst (λ (session : SessionView). LooksOn parts.session session (Ok tid)) (sym same) looks
 
-  -- ---- the change
+    goes_placed : (new : RssParts) {n m : ℕ} {up up_now : Type 0} → new.session ≡ mid → m ≤ n + 1 → GoesOn (engine_view parts n up) (engine_view new m up_now) (Insert t relation values)
+    goes_placed new same calls = goes (Ok tid) (looks_new new same).goes calls tt tt
 
-  module _ {tid : Tid} {size : ℕ} (place : IsPlace session entry.segment size tid) where
-    -- the identifier is one of those that the pages have for the tuple
-    pub gets_place : size ≡ length (plain_body number values) → IsTold session.store.pages.disk → MayStandAt session.store.pages session.store.catalog.listing relation values [] tid
-    gets_place same told = record {
-      number = number;
-      entry = entry;
-      at = admitted.at;
-      named = named;
-      chosen = subst (λ (k : ℕ). IsChosen session.store.pages entry.segment k [] tid) same (place.chosen told);
-    }
+    -- memory runs out for the needs
+    pub insert_no_needs : (new : RssParts) {n m : ℕ} {up up_now : Type 0} → new.session ≡ mid → new.locks.locks ≡ parts.locks.locks → up → up_now → m ≤ n + 1 → IsCallOf (engine_view parts n up) (engine_view new m up_now) (Insert t relation values) (Err NoMemory)
+    insert_no_needs new same locks was_up is_up calls = lacks_behind refl was_up is_up (goes_placed new same calls) (looks_new new same).moments (looks_new new same).shows locks
 
-    -- the record tells the change
-    module _ {bytes : List ℕ} (spelled : Spells (kinds entry.fields) bytes values) (short : IsShort bytes) (small : t < 2 ^ 32) (page : tid.page < 2 ^ 32) (slot : tid.slot < 2 ^ 32) where
-      is_told : IsToldBy session.store.catalog.listing (InsertRecord number tid bytes) (insertion t relation tid values)
-      is_told = tells_insert admitted.known admitted.at t small tid page spelled (place.named.low, short)
+  -- ---- by what was found
 
-      -- which the rules alone refuse
-      last_of : IsTold session.store.pages.disk → (state : State) → IsIn session state → IsLast session t (InsertRecord number tid bytes) (Insert t relation values) (Identifier tid) state
-      last_of told state is_in =
-          let fits = admitted.fits told state is_in.shows in
-          let opened = open_by_values state t relation values fits in
-          let free : IsFree state t relation tid = subst (λ (name : Name). IsFree state t name tid) named (place.free told state number entry is_in.kept is_in.shows (record { at = admitted.at; within = refl }) t opened) in
-          let refuses : refusal state (Insert t relation values) ≡ if_no_room state (insertion t relation tid values) =
-          insert_there state t relation values fits (few_so state (admitted.few told state is_in.shows)) is_in.kept (tables_plain is_in.shows.store.spells) tid free in
-          let held : Locks = (holding t (TupleItem relation tid) (locked (Insert t relation values) state)).locks in
-          record {
-            change = insertion t relation tid values;
-            by = refl;
-            is_told = is_told;
-            refuses = refuses;
-            may = λ passes. may_make session held is_in.kept opened is_told (sym (free.absent relation refl))
-                (inserts t relation values tid state.meter.over (refuses ∙ passes) free (as_many state.meter.over));
-            locks = held;
-            steps = λ passes over allowed. inserts t relation values tid over (refuses ∙ passes) free allowed;
-          }
+  module _ {mid : SessionView} {tid : Tid} {length_of : ℕ} (looks : LooksOn parts.session mid (Ok tid)) (place : IsPlaceFor parts t number length_of tid) {list : List Need} (lists : Lists parts (λ tables. tuple_changed tables relation tid) list) where
+    its_relation : {state : State} → IsTold parts.session.store.pages.disk → IsIn parts state → IsRelationIn parts number entry state
+    its_relation told is_in = record { told = told; is_in = is_in; at = admitted.at }
 
-      pub insert_ends : EndsByChange session t (InsertRecord number tid bytes) (Insert t relation values) (Identifier tid)
-      insert_ends = record { last = last_of; short = identifier_line tid page slot; built = refl; names = tt; asks = refl; writes = refl }
+    its_free : (state : State) → IsTold parts.session.store.pages.disk → IsIn parts state → IsFree state t relation tid
+    its_free state told is_in = subst (λ (name : Name). IsFree state t name tid) named (place.free entry state (its_relation told is_in))
+
+    -- the new tuple is locked behind all that the (Insert t relation values) needs, and nobody bars it from that
+    needs_are : (state : State) → IsIn parts state → needs (now state) (Insert t relation values) ≡ changing (now state) relation
+    needs_are state is_in = ap (λ (keys : List Need). changing (now state) relation ++ keys) (no_keys (now state) (tables_plain is_in.shows.store.spells) relation (values ∷ [])) ∙ append-nil _
+
+    bars_too : (state : State) → IsTold parts.session.store.pages.disk → IsIn parts state → first_bar state.locks t (needs (now state) (Insert t relation values)) ≡ first_bar parts.locks.locks t list
+    bars_too state told is_in =
+        ap (first_bar state.locks t) (needs_are state is_in)
+        ∙ sym (first_bar_behind state.locks t (changing (now state) relation) (need (TupleItem relation tid) X) (none_bars state.locks t (TupleItem relation tid) X (λ u apart. (its_free state told is_in).alone relation u refl apart)))
+        ∙ (λ i. first_bar (is_in.locked i) t (lists told state is_in i))
+
+    locks_too : (state : State) → IsTold parts.session.store.pages.disk → IsIn parts state → (holding t (TupleItem relation tid) (locked (Insert t relation values) state)).locks ≡ granted t list parts.locks.locks
+    locks_too state told is_in =
+        ap (λ (list : List Need). with_lock t (need (TupleItem relation tid) X) (granted t list state.locks)) (needs_are state is_in)
+        ∙ sym (granted_behind t (changing (now state) relation) (need (TupleItem relation tid) X) state.locks)
+        ∙ (λ i. granted t (lists told state is_in i) (is_in.locked i))
+
+    -- the claim fails
+    pub insert_lost : (new : RssParts) (U : Type 0) (before after : LocksView) {n m : ℕ} {up up_now : Type 0} {why : CallError} → new.session ≡ mid → new.locks.locks ≡ parts.locks.locks → before.locks ≡ parts.locks.locks → up → up_now → m ≤ n + 1
+        → ClaimEnds {T = U} before after t list (Err why) → IsCallOf (engine_view parts n up) (engine_view new m up_now) (Insert t relation values) (Err why)
+    insert_lost new U before after same locks were was_up is_up calls =
+        claim_fails refl was_up is_up (goes_placed looks new same calls) (looks_new looks new same).moments (looks_new looks new same).shows locks U before after t list were
+        (λ told state is_in bar is.
+        insert_busy state t relation values (admitted.fits told state is_in.shows) (few_so state (admitted.few told state is_in.shows)) tid (its_free state told is_in) bar (bars_too state told is_in ∙ is))
+
+    -- ---- the change
+
+    module _ {claimed : LocksView} (claims : IsClaimed parts.locks claimed t list) where
+      -- the identifier is one of those that the pages have for the tuple
+      pub gets_place : length_of ≡ length (plain_body number values) → IsTold parts.session.store.pages.disk → (state : State) → IsIn parts state → (barred : List Tid) → AreBarred state t relation barred
+          → MayStandAt parts.session.store.pages parts.session.store.catalog.listing relation values barred tid
+      gets_place same told state is_in barred exact = record {
+        number = number;
+        entry = entry;
+        at = admitted.at;
+        named = named;
+        chosen = subst (λ (k : ℕ). IsChosen parts.session.store.pages entry.segment k barred tid) same
+            (place.chosen entry state (its_relation told is_in) barred (subst (λ (name : Name). AreBarred state t name barred) (sym named) exact));
+      }
+
+      -- the record tells the change
+      module _ {bytes : List ℕ} (spelled : Spells (kinds entry.fields) bytes values) (short : IsShort bytes) (small : t < 2 ^ 32) (page : tid.page < 2 ^ 32) (slot : tid.slot < 2 ^ 32) where
+        is_told : IsToldBy parts.session.store.catalog.listing (InsertRecord number tid bytes) (insertion t relation tid values)
+        is_told = tells_insert admitted.known admitted.at t small tid page spelled (place.named.low, short)
+
+        -- which the rules alone refuse
+        last_of : IsTold parts.session.store.pages.disk → (state : State) → IsIn parts state → IsLast parts.session (granted t list parts.locks.locks) t (InsertRecord number tid bytes) (Insert t relation values) (Identifier tid) state
+        last_of told state is_in =
+            let fits = admitted.fits told state is_in.shows in
+            let free = its_free state told is_in in
+            let refuses : refusal state (Insert t relation values) ≡ if_no_room state (insertion t relation tid values) =
+            insert_there state t relation values fits (few_so state (admitted.few told state is_in.shows)) tid free (tables_plain is_in.shows.store.spells) (bars_too state told is_in ∙ claims.free) in
+            record {
+              change = insertion t relation tid values;
+              by = refl;
+              is_told = is_told;
+              refuses = refuses;
+              may = λ passes. may_make parts.session (holding t (TupleItem relation tid) (locked (Insert t relation values) state)).locks is_in.kept is_told (sym (free.absent relation refl))
+                  (inserts t relation values tid state.meter.over (refuses ∙ passes) free (as_many state.meter.over));
+              steps = λ passes over allowed. subst (λ (locks : Locks). Step state (Insert t relation values) (Ok (Identifier tid)) (record (ruled (insertion t relation tid values) over state) { locks = locks })) (locks_too state told is_in)
+                  (inserts t relation values tid over (refuses ∙ passes) free allowed);
+            }
+
+        pub insert_ends : EndsByChange parts (granted t list parts.locks.locks) t (InsertRecord number tid bytes) (Insert t relation values) (Identifier tid)
+        insert_ends = record { last = last_of; short = identifier_line tid page slot; may = may_insert }

@@ -8,6 +8,7 @@ use Rattle.rss_base.specs.DiskRule.{IsTold}
 use Rattle.rss_base.specs.Listings.{relation_at, IsNumberOf}
 use Rattle.rss_base.specs.LogRecords.{HasSlot}
 use Rattle.rss_base.specs.Runs.{run_pages}
+use Rattle.rss_base.specs.Steps.{PagesView}
 use Rattle.rss_base.specs.TupleTypes.{kinds, misfit}
 use Rattle.rss_base.specs.declared.answer.CallError.{CallError}
 use Rattle.rss_base.specs.declared.answer.CallError.TheVariants.{Refused, Damaged, NoMemory}
@@ -17,6 +18,7 @@ use Rattle.rss_base.specs.declared.fault.PageFault.{PageFault}
 use Rattle.rss_base.specs.declared.field.FieldDef.{FieldDef}
 use Rattle.rss_base.specs.declared.item.Item.TheVariants.{Tuple as TupleItem}
 use Rattle.rss_base.specs.declared.name.Name.{Name}
+use Rattle.rss_base.specs.declared.need.Need.{Need}
 use Rattle.rss_base.specs.declared.place.Place.{Place}
 use Rattle.rss_base.specs.declared.refusal.Kind.TheVariants.{Relation as RelationKind}
 use Rattle.rss_base.specs.declared.refusal.Refusal.TheVariants.{NoTuple}
@@ -26,11 +28,12 @@ use Rattle.rss_base.specs.declared.value.Value.{Value}
 use Rattle.rss_model.specs.Calls.{EngineView, GoesOn, IsCallOf}
 use Rattle.rss_model.specs.Costs.{most_asks, most_writes}
 use Rattle.rss_model.specs.Items.{Content}
-use Rattle.rss_model.specs.Kept.{Kept}
+use Rattle.rss_model.specs.Locks.{first_bar, granted}
 use Rattle.rss_model.specs.Machine.{State, now}
+use Rattle.rss_model.specs.Needs.{needs}
 use Rattle.rss_model.specs.ReplyText.{IsShort}
 use Rattle.rss_model.specs.Steps.{HasValues}
-use Rattle.rss_model.specs.Tables.{content}
+use Rattle.rss_model.specs.Tables.{Tables, content}
 use Rattle.rss_model.proofs.Endings.{comes_to, within_most}
 use Rattle.rss_model.proofs.StepKeeping.{kept_fit}
 use Rattle.rss_model.proofs.Totals.{stops}
@@ -38,13 +41,23 @@ use Rattle.rss_access.specs.Bodies.{IsBodyOf}
 use Rattle.rss_access.proofs.Numbered.{name_of}
 use Rattle.rss_catalog.specs.Catalogs.{CatalogView}
 use Rattle.rss_session.specs.Looks.{LooksOn, FindsTuple}
+use Rattle.rss_lock.specs.Locks.{LocksView}
+use Rattle.rss_lock.specs.Table.{told}
+use Rattle.rss_lock.specs.declared.locks.Locks.{Locks as LockTable}
 use Rattle.rss_log.specs.Logs.{LogView}
-use Rattle.rss_trans.specs.Transactions.{OpenView, transaction_in}
+use Rattle.rss_trans.specs.Transactions.{OpenView, is_open, transaction_in}
+use Rattle.rss_session.specs.Parts.{view as session_view}
 use Rattle.rss_session.specs.Sessions.{SessionView}
+use Rattle.rss_session.specs.declared.session.Session.{Session}
+use Rattle.rss_session.specs.Sessions.{IsReady as IsSessionReady}
+use Rattle.rss_session.proofs.Passing.{goes_opened}
 use Rattle.rss_rsi.specs.Changing.{IsAsked}
-use Rattle.rss_rsi.specs.Views.{IsIn, IsReady, engine_view}
-use Rattle.rss_rsi.specs.Looking.{EndsEach, LooksFor}
-use Rattle.rss_rsi.proofs.Ways.{asked, failed_within, goes, goes_nowhere, keeps_same, lacks_behind, refused_behind}
+use Rattle.rss_rsi.specs.Views.{RssParts, IsIn, IsReady, engine_view}
+use Rattle.rss_rsi.specs.Locking.{accessing, Lists, ClaimEnds}
+use Rattle.rss_rsi.specs.Looking.{EndsEach, MayLook, LooksFor, CostsTwo, LooksUp, FindsNone}
+use Rattle.rss_rsi.specs.declared.locking.Access.{Access}
+use Rattle.rss_rsi.proofs.Claims.{bars_as, locked_as, claim_fails}
+use Rattle.rss_rsi.proofs.Ways.{asked, failed_within, goes, holders_stay, keeps_same, lacks_behind, refused_behind}
 
 -- ---- what a look passes on
 
@@ -71,73 +84,114 @@ looks_as given looks = record {
   };
 }
 
--- the two pages that a look may ask for, and what they may drive out
-pub record CostsTwo (old new : SessionView) : Type 0 where
-  pub asks_high : new.store.pages.asks ≤ old.store.pages.asks + 2
-  pub writes_high : new.store.pages.writes ≤ old.store.pages.writes + run_pages * 2
+-- nothing was looked at
+pub looks_nothing : {T : Type 0} {session : SessionView} (found : T) → IsSessionReady session → LooksUp session session found
+looks_nothing {session = session} found ready = record {
+  looks = record {
+    ready = ready;
+    shows = λ told state shows. shows;
+    catalog = refl;
+    log = refl;
+    opened = refl;
+    sound = λ place is. absurd (cc (is));
+    moments = keeps_same session session refl;
+    goes = goes_opened {opened = session.opened} found (λ t. omega arith);
+  };
+  costs = record { asks_high = omega arith; writes_high = omega arith };
+}
 
-module _ {T : Type 0} {old new : SessionView} {result : Result T PageFault} (looks : LooksOn old new result) (costs : CostsTwo old new) {relation : Name} {tid : Tid} {call : Call} (first : LooksFor old relation tid call) {n m : ℕ} (calls : m ≤ n + 1) where
+-- what was looked at is there still
+pub still_looked : {S T : Type 0} (pages_view : S → PagesView) (old : SessionView) {mid new : Session S} {found : T} → new ≡ mid → LooksUp old (session_view pages_view mid) found → LooksUp old (session_view pages_view new) found
+still_looked pages_view old {found = found} same = subst (λ (session : Session _). LooksUp old (session_view pages_view session) found) (sym same)
+
+-- the needs are the same before the look
+pub lists_before : (old mid : RssParts) {T : Type 0} {found : Result T PageFault} (wanted : Tables → List Need) {list : List Need} → LooksOn old.session mid.session found → mid.locks.locks ≡ old.locks.locks → Lists mid wanted list → Lists old wanted list
+lists_before old mid wanted looks same lists told state is_in =
+    lists (looks.goes.told.0 told) state (record { shows = looks.shows told state is_in.shows; locked = is_in.locked ∙ sym same; kept = is_in.kept })
+
+-- ---- calls that may be made of what was looked at
+
+module _ {T : Type 0} {old new : RssParts} {result : Result T PageFault} (looks : LooksOn old.session new.session result) (costs : CostsTwo old.session new.session) {call : Call} (may : MayLook call) {n m : ℕ} (calls : m ≤ n + 1) where
   pub goes_looked : {up up_now : Type 0} → GoesOn (engine_view old n up) (engine_view new m up_now) call
   goes_looked = goes result looks.goes calls
-      (within_most (most_asks call) 2 old.store.pages.asks new.store.pages.asks first.asks costs.asks_high)
-      (within_most (most_writes call) (run_pages * 2) old.store.pages.writes new.store.pages.writes first.writes costs.writes_high)
-
-  -- the tuple isn't there
-  pub lacks_tuple : {up up_now : Type 0} (why : CallError) → why ≡ Refused (NoTuple relation tid) → up → up_now → IsShort (Err (NoTuple relation tid))
-      → (IsTold old.store.pages.disk → (state : State) → IsIn old state → content (now state).contents (TupleItem relation tid) ≡ None) → IsCallOf (engine_view old n up) (engine_view new m up_now) call (Err why)
-  lacks_tuple why is was_up is_up short none = refused_behind (Err why) is was_up is_up short goes_looked looks.moments (λ told state is_in. (first.lacks told state is_in (none told state is_in), looks.shows told state is_in.shows))
+      (within_most (most_asks call) 2 old.session.store.pages.asks new.session.store.pages.asks may.asks costs.asks_high)
+      (within_most (most_writes call) (run_pages * 2) old.session.store.pages.writes new.session.store.pages.writes may.writes costs.writes_high)
 
   -- memory runs out behind the look
-  pub lacks_looked : {up up_now : Type 0} → up → up_now → IsCallOf (engine_view old n up) (engine_view new m up_now) call (Err NoMemory)
-  lacks_looked was_up is_up = lacks_behind was_up is_up goes_looked looks.moments looks.shows
+  pub lacks_looked : {up up_now : Type 0} → up → up_now → new.locks.locks ≡ old.locks.locks → IsCallOf (engine_view old n up) (engine_view new m up_now) call (Err NoMemory)
+  lacks_looked was_up is_up same = lacks_behind may.stop.memory was_up is_up goes_looked looks.moments looks.shows same
 
 -- no tuple of any relation can have the identifier
-none_past : (state : State) → Kept state → (relation : Name) (tid : Tid) → (HasSlot tid → ⊥) → content (now state).contents (TupleItem relation tid) ≡ None
-none_past state kept relation tid past = by (content (now state).contents (TupleItem relation tid)) refl
+pub none_past : {parts : RssParts} (relation : Name) (tid : Tid) → (HasSlot tid → ⊥) → FindsNone parts relation tid
+none_past relation tid past told state is_in = by (content (now state).contents (TupleItem relation tid)) refl
   where
     by : (held : Option Content) → content (now state).contents (TupleItem relation tid) ≡ held → held ≡ None
     by None so = refl
-    by (Some held) so = absurd (past ((kept_fit state kept).1.tids relation tid (ap is_some so)).slot)
-
-pub lacks_at_once : {session : SessionView} {relation : Name} {tid : Tid} {call : Call} → LooksFor session relation tid call → (HasSlot tid → ⊥) → {n m : ℕ} → m ≤ n + 1 → {up up_now : Type 0} (why : CallError) → why ≡ Refused (NoTuple relation tid) → up → up_now → IsShort (Err (NoTuple relation tid)) → IsCallOf (engine_view session n up) (engine_view session m up_now) call (Err why)
-lacks_at_once {session = session} {relation = relation} {tid = tid} {call = call} first past calls why is was_up is_up short =
-    refused_behind (Err why) is was_up is_up short (goes_nowhere call refl calls) (keeps_same session session refl) (λ told state is_in. (first.lacks told state is_in (none_past state is_in.kept relation tid past), is_in.shows))
+    by (Some held) so = absurd (past ((kept_fit state is_in.kept).1.tids relation tid (ap is_some so)).slot)
 
 -- each call ends by the error that is passed on
-passed_on : {U : Type 0} {Is : Call → Type 0} {old new : EngineView} {why : CallError} (result : Result U CallError) → IsErrAnd result (λ e. e ≡ why) → EndsEach Is old new (Err why) → IfErr result (λ e. EndsEach Is old new (Err e))
+pub passed_on : {U : Type 0} {Is : Call → Type 0} {old new : EngineView} {why : CallError} (result : Result U CallError) → IsErrAnd result (λ e. e ≡ why) → EndsEach Is old new (Err why) → IfErr result (λ e. EndsEach Is old new (Err e))
 passed_on {U = U} {Is = Is} {old = old} {new = new} result is ends =
     let so = err_from_is_err_and result is in
     subst (λ (r : Result U CallError). IfErr r (λ e. EndsEach Is old new (Err e))) (sym (so.1 ∙ ap Err so.2)) ends
 
 -- the look itself fails
-pub look_fails : {T U : Type 0} {old new : SessionView} {fault : PageFault} → LooksOn {T = T} old new (Err fault) → CostsTwo old new → (relation : Name) (tid : Tid) (n : ℕ) {up up_now : Type 0} (result : Result U CallError) → IsErrAnd result (λ why. why ≡ page_error fault) → up → (up_now → ⊥)
-    → IfErr result (λ why. EndsEach (LooksFor old relation tid) (engine_view old n up) (engine_view new n up_now) (Err why))
-look_fails {fault = fault} looks costs relation tid n result is was_up is_down =
-    passed_on result is (λ calls call counted first. failed_within (Err (page_error fault)) refl was_up is_down looks.goes (goes_looked looks costs first counted)
+pub look_fails : {T U : Type 0} (old new : RssParts) {fault : PageFault} → LooksOn {T = T} old.session new.session (Err fault) → CostsTwo old.session new.session → (n : ℕ) {up up_now : Type 0} (result : Result U CallError) → IsErrAnd result (λ why. why ≡ page_error fault) → up → (up_now → ⊥)
+    → IfErr result (λ why. EndsEach MayLook (engine_view old n up) (engine_view new n up_now) (Err why))
+look_fails old new {fault = fault} looks costs n result is was_up is_down =
+    passed_on result is (λ calls call counted may. failed_within (Err (page_error fault)) refl was_up is_down looks.goes (goes_looked looks costs may counted)
     (λ place same told state is_in. looks.sound place same told)
-    (λ told state is_in. stops is_in.kept call first.built first.names (looks.moments told state is_in.kept is_in.shows)))
+    (λ told state is_in. stops is_in.kept call may.stop.built may.stop.names may.stop.granule (looks.moments told state is_in.kept is_in.shows)))
 
 -- what is there is no tuple
-pub reads_none : {T U : Type 0} {old new : SessionView} {found : Result T PageFault} → LooksOn old new found → CostsTwo old new → (relation : Name) (tid : Tid) (n : ℕ) {up up_now : Type 0} (result : Result U CallError) {why : CallError} (place : Place) → IsErrAnd result (λ e. e ≡ why) → why ≡ Damaged place → up → (up_now → ⊥)
-    → (IsTold old.store.pages.disk → (state : State) → IsIn old state → ⊥) → IfErr result (λ why. EndsEach (LooksFor old relation tid) (engine_view old n up) (engine_view new n up_now) (Err why))
-reads_none {old = old} {new = new} looks costs relation tid n {up = up} {up_now = up_now} result place is damaged was_up is_down sound =
-    passed_on result is (λ calls call counted first.
+pub reads_none : {T U : Type 0} (old new : RssParts) {found : Result T PageFault} → LooksOn old.session new.session found → CostsTwo old.session new.session → (n : ℕ) {up up_now : Type 0} (result : Result U CallError) {why : CallError} (place : Place) → IsErrAnd result (λ e. e ≡ why) → why ≡ Damaged place → up → (up_now → ⊥)
+    → (IsTold old.session.store.pages.disk → (state : State) → IsIn old state → ⊥) → IfErr result (λ why. EndsEach MayLook (engine_view old n up) (engine_view new n up_now) (Err why))
+reads_none old new looks costs n {up = up} {up_now = up_now} result place is damaged was_up is_down sound =
+    passed_on result is (λ calls call counted may.
     subst (λ (e : CallError). IsCallOf (engine_view old calls up) (engine_view new n up_now) call (Err e)) (sym damaged)
-    (comes_to was_up (goes_looked looks costs first counted) (record { sound = sound; down = is_down })))
+    (comes_to was_up (goes_looked looks costs may counted) (record { sound = sound; down = is_down })))
+
+-- ---- calls that look for a tuple
+
+-- what ends each call that looks, ends each that looks for this tuple
+pub each_looks : {parts : RssParts} {t : ℕ} {relation : Name} {tid : Tid} {access : Access} {old new : EngineView} {why : CallError} → EndsEach MayLook old new (Err why) → EndsEach (LooksFor parts t relation tid access) old new (Err why)
+each_looks ends calls call counted first = ends calls call counted first.may
+
+module _ {old : RssParts} {t : ℕ} {relation : Name} {tid : Tid} {access : Access} {call : Call} (first : LooksFor old t relation tid access call) {list : List Need} (lists : Lists old (λ tables. accessing tables access relation tid) list) where
+  -- these are the needs of the call
+  pub its_needs : IsTold old.session.store.pages.disk → (state : State) → IsIn old state → needs (now state) call ≡ list
+  its_needs told state is_in = first.needs_are state is_in ∙ lists told state is_in
+
+  module _ {T : Type 0} (new : RssParts) {found : T} (looked : LooksUp old.session new.session found) {n m : ℕ} (calls : m ≤ n + 1) {up up_now : Type 0} (was_up : up) (is_up : up_now) where
+    -- its claim fails
+    pub claim_lost : (U : Type 0) (before after : LocksView) {why : CallError} → new.locks.locks ≡ old.locks.locks → before.locks ≡ old.locks.locks → ClaimEnds {T = U} before after t list (Err why) → IsCallOf (engine_view old n up) (engine_view new m up_now) call (Err why)
+    claim_lost U before after same were ends =
+        claim_fails first.may.stop.memory was_up is_up (goes_looked looked.looks looked.costs first.may calls) looked.looks.moments looked.looks.shows same U before after t list were
+        (λ told state is_in bar is. first.busy_so told state is_in bar (bars_as is_in call (its_needs told state is_in) t ∙ is)) ends
+
+    -- there is no such tuple, and the locks are kept
+    pub lacks_tuple : (why : CallError) → why ≡ Refused (NoTuple relation tid) → IsShort (Err (NoTuple relation tid)) → FindsNone old relation tid
+        → first_bar old.locks.locks t list ≡ None → new.locks.locks ≡ granted t list old.locks.locks → IsCallOf (engine_view old n up) (engine_view new m up_now) call (Err why)
+    lacks_tuple why is short none free taken = refused_behind (Err why) is was_up is_up short (goes_looked looked.looks looked.costs first.may calls) looked.looks.moments (λ told state is_in.
+        let listed = its_needs told state is_in in (
+          first.lacks told state is_in (bars_as is_in call listed t ∙ free) (none told state is_in),
+          looked.looks.shows told state is_in.shows,
+          locked_as is_in call listed t first.by ∙ sym taken,
+        ))
 
 -- ---- what is found
 
-module _ {view : SessionView} (relation : Name) (number : ℕ) (known : IsNumberOf RelationKind view.store.catalog.listing relation number) {entry : RelationEntry} (at : relation_at view.store.catalog.listing number ≡ Some entry) {tid : Tid} {there : Bool} {body : List ℕ} (finds : IsTold view.store.pages.disk → FindsTuple view entry.segment number tid there body) where
+module _ (parts : RssParts) (relation : Name) (number : ℕ) (known : IsNumberOf RelationKind parts.session.store.catalog.listing relation number) {entry : RelationEntry} (at : relation_at parts.session.store.catalog.listing number ≡ Some entry) {tid : Tid} {there : Bool} {body : List ℕ} (finds : IsTold parts.session.store.pages.disk → FindsTuple parts.session entry.segment number tid there body) where
   named : entry.name ≡ relation
-  named = name_of view.store.catalog.listing relation number entry known at
+  named = name_of parts.session.store.catalog.listing relation number entry known at
 
   -- there is none of this relation
-  pub none_there : there ≡ false → IsTold view.store.pages.disk → (state : State) → IsIn view state → content (now state).contents (TupleItem relation tid) ≡ None
+  pub none_there : there ≡ false → FindsNone parts relation tid
   none_there is told state is_in =
       subst (λ (name : Name). content (now state).contents (TupleItem name tid) ≡ None) named
       ((finds told).none is state entry is_in.kept is_in.shows (record { at = at; within = refl }))
 
-  module _ (found : Option (List Value)) (exact : (values : List Value) → IsBodyOf number (kinds entry.fields) values body → found ≡ Some values) (is : there ≡ true) (told : IsTold view.store.pages.disk) (state : State) (is_in : IsIn view state) where
+  module _ (found : Option (List Value)) (exact : (values : List Value) → IsBodyOf number (kinds entry.fields) values body → found ≡ Some values) (is : there ≡ true) (told : IsTold parts.session.store.pages.disk) (state : State) (is_in : IsIn parts state) where
     -- it has the values that its body is of
     pub some_there : (values : List Value) → found ≡ Some values → HasValues state relation tid values
     some_there values so =
@@ -145,11 +199,12 @@ module _ {view : SessionView} (relation : Name) (number : ℕ) (known : IsNumber
         subst (λ (name : Name). HasValues state name tid values) named
         (subst (λ (v : List Value). HasValues state entry.name tid v) (same_Some _ _ (sym (exact has.values has.spelled) ∙ so)) has.holds)
 
-    -- whose body is of some
-    pub none_spelled : found ≡ None → ⊥
-    none_spelled none =
-        let has = (finds told).some is state entry is_in.kept is_in.shows (record { at = at; within = refl }) in
-        none-some has.values (sym none ∙ exact has.values has.spelled)
+-- what is there has values, which its body spells
+pub none_spelled : (parts : RssParts) {number : ℕ} {entry : RelationEntry} → relation_at parts.session.store.catalog.listing number ≡ Some entry → {tid : Tid} {there : Bool} {body : List ℕ} → (IsTold parts.session.store.pages.disk → FindsTuple parts.session entry.segment number tid there body)
+    → (found : Option (List Value)) → ((values : List Value) → IsBodyOf number (kinds entry.fields) values body → found ≡ Some values) → there ≡ true → IsTold parts.session.store.pages.disk → (state : State) → IsIn parts state → found ≡ None → ⊥
+none_spelled parts {entry = entry} at finds found exact is told state is_in none =
+    let has = (finds told).some is state entry is_in.kept is_in.shows (record { at = at; within = refl }) in
+    none-some has.values (sym none ∙ exact has.values has.spelled)
 
 -- the same body of a relation that is listed still, as slices give it
 pub body_as : {old new : CatalogView} {number : ℕ} {entry same : RelationEntry} → new ≡ old → relation_at old.listing number ≡ Some entry → relation_at new.listing number ≡ Some same
@@ -169,23 +224,31 @@ body_fits {number = number} {same = same} catalog at_new {fields = fields} is_fi
 -- ---- ends
 
 -- a call ends so, once it was counted
-pub ends_so : {old mid : SessionView} {down down_now : Bool} {n : ℕ} {new : EngineView} {call : Call} {why : CallError} (result : Result Reply CallError) → IsErrAnd result (λ e. e ≡ why) → mid ≡ old → down_now ≡ down
-    → IsCallOf (engine_view mid n (down_now ≡ false)) new call (Err why) → IsCallOf (engine_view old n (down ≡ false)) new call result
-ends_so {old = old} {mid = mid} {down = down} {n = n} {new = new} {call = call} {why = why} result is same same_down ends =
+pub ends_so : {S : Type 0} (pages_view : S → PagesView) {old mid : Session S} {locks now : LockTable} {down down_now : Bool} {n : ℕ} {new : EngineView} {call : Call} {why : CallError} (result : Result Reply CallError) → IsErrAnd result (λ e. e ≡ why) → mid ≡ old → now ≡ locks → down_now ≡ down
+    → IsCallOf (engine_view (record { session = session_view pages_view mid; locks = told now }) n (down_now ≡ false)) new call (Err why)
+    → IsCallOf (engine_view (record { session = session_view pages_view old; locks = told locks }) n (down ≡ false)) new call result
+ends_so pages_view {old = old} {mid = mid} {locks = locks} {now = now} {down = down} {n = n} {new = new} {call = call} {why = why} result is same same_locks same_down ends =
     let so = err_from_is_err_and result is in
-    subst (IsCallOf (engine_view old n (down ≡ false)) new call) (sym (so.1 ∙ ap Err so.2))
-    (asked same (subst (λ (b : Bool). IsCallOf (engine_view mid n (b ≡ false)) new call (Err why)) same_down ends))
+    subst (IsCallOf (engine_view (record { session = session_view pages_view old; locks = told locks }) n (down ≡ false)) new call) (sym (so.1 ∙ ap Err so.2))
+    (asked pages_view same same_locks (subst (λ (b : Bool). IsCallOf (engine_view (record { session = session_view pages_view mid; locks = told now }) n (b ≡ false)) new call (Err why)) same_down ends))
+
+-- by the error that is passed on
+pub passed_call : {old new : EngineView} {call : Call} {why : CallError} (result : Result Reply CallError) → IsErrAnd result (λ e. e ≡ why) → IsCallOf old new call (Err why) → IsCallOf old new call result
+passed_call {old = old} {new = new} {call = call} result is ends =
+    let so = err_from_is_err_and result is in
+    subst (IsCallOf old new call) (sym (so.1 ∙ ap Err so.2)) ends
 
 -- ---- what may follow
 
 -- another call could have been made before this one, and still could
-pub asked_looked : {T : Type 0} {old new : SessionView} {found : T} {before calls : ℕ} → IsReady old before → LooksOn old new (Ok found) → calls ≡ before + 1 → IsAsked new calls
-asked_looked {before = before} ready looks counted = record {
+pub asked_looked : {T : Type 0} (old new : RssParts) {found : T} {before calls : ℕ} → IsReady old before → LooksOn old.session new.session (Ok found) → new.locks.locks ≡ old.locks.locks → calls ≡ before + 1 → IsAsked new calls
+asked_looked old new {before = before} ready looks same counted = record {
   before = before;
   ready = record {
     session = looks.ready;
     paced = omega (arith, ready.paced, ap (λ (l : LogView). l.end) looks.log);
     saves = λ t. omega (arith, ready.saves t, ap (λ (o : OpenView). length (transaction_in o t).saves) looks.opened);
+    holders = holders_stay old new ready.holders (λ t opened. ap (λ (o : OpenView). is_open o t) looks.opened ∙ opened) same;
   };
   counted = counted;
 }

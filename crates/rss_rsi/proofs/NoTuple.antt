@@ -9,10 +9,10 @@ use Rattle.rss_base.specs.declared.refusal.Refusal.TheVariants.{NoTuple}
 use Rattle.rss_model.specs.Spellings.{name_text, tid_text}
 use Rattle.rss_model.specs.ReplyText.{answer_line}
 
-name_short : (name : Name) → length name.bytes ≡ 16 → length (name_text name) ≤ 16
+pub name_short : (name : Name) → length name.bytes ≡ 16 → length (name_text name) ≤ 16
 name_short name long = omega (arith, long, length-take (prefix_len (λ (b : ℕ). not (b == 0)) name.bytes) name.bytes)
 
-tid_short : (tid : Tid) → tid.page < 2 ^ 32 → tid.slot < 2 ^ 32 → length (tid_text tid) ≤ 21
+pub tid_short : (tid : Tid) → tid.page < 2 ^ 32 → tid.slot < 2 ^ 32 → length (tid_text tid) ≤ 21
 tid_short tid page slot =
     let first = length-decimal-le 10 tid.page (omega arith) (omega (arith, page)) (omega (arith, page)) in
     let second = length-decimal-le 10 tid.slot (omega arith) (omega (arith, slot)) (omega (arith, slot)) in

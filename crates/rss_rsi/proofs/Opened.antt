@@ -3,11 +3,14 @@ use Rattle.std.proofs.Common.{◌≡◌, ℕ, length, sym, ◌∙◌, ap, subst,
 use Rattle.std.specs.Prelude.{unwrap_or}
 use Rattle.std.specs.FinMap.{FinMap, empty, get, get-empty}
 use Rattle.std.specs.Ordering.{nat_cmp}
+use Rattle.std.proofs.lemmas.Option.{none-some}
 use Rattle.rss_base.specs.Devices.{DeviceView}
 use Rattle.rss_base.specs.DiskRule.{Pages}
 use Rattle.rss_base.specs.Paged.{mapped_of}
 use Rattle.rss_base.specs.Steps.{device_below}
 use Rattle.rss_base.specs.declared.key.Space.TheVariants.{Overflow}
+use Rattle.rss_lock.specs.Locks.{LocksView}
+use Rattle.rss_model.specs.Locks.{claim, claim_cmp}
 use Rattle.rss_model.specs.Machine.{StoreSize, State, IsAtRest}
 use Rattle.rss_model.specs.Ruled.{HasBothRooms}
 use Rattle.rss_model.specs.Store.{Stored, IsStore, size_of}
@@ -33,11 +36,12 @@ none_saved : (opened : OpenView) → opened.transactions ≡ empty → (t : ℕ)
 none_saved opened none t =
     ap (λ (m : FinMap nat_cmp Transaction). length (unwrap_or (get m t) nothing).saves) none ∙ ap (λ o. length (unwrap_or o nothing).saves) (get-empty {X = Transaction} nat_cmp t)
 
-pub opened_ready : {old : DeviceView} {store : StoreView} {session : SessionView} → OpensStore old store → session.store ≡ store → IsSessionReady session → session.opened.transactions ≡ empty → IsReady session 0
+pub opened_ready : {old : DeviceView} {store : StoreView} {session : SessionView} → OpensStore old store → session.store ≡ store → IsSessionReady session → session.opened.transactions ≡ empty → IsReady (record { session = session; locks = record { locks = empty; spare = 0 } }) 0
 opened_ready {session = session} is same ready none = record {
   session = ready;
   paced = omega (arith, is.early, ap (λ (s : StoreView). s.log.end) same);
   saves = λ t. omega (arith, none_saved session.opened none t);
+  holders = λ t item mode has. absurd (none-some mode (sym (get-empty claim_cmp (claim t item)) ∙ has));
 }
 
 -- ---- where it begins
@@ -51,11 +55,12 @@ module _ (session : SessionView) (ready : IsStoreReady session.store) (saved : I
   rested_saved : {state : State} → StoreShows session.store state → IsRested session state
   rested_saved shows none all = shows.over_is ∙ (λ i. mapped_of (saved.pages i) Overflow (ready.size i))
 
-  begins_in : {pages : Pages} {stored : Stored} {calls : ℕ} {up : Type 0} → ShowsRest session.store session → IsStore pages stored → StoreBeginsIn stored session.store → BeginsIn stored (engine_view session calls up)
-  begins_in {stored = stored} shows store begins = record {
+  begins_in : {pages : Pages} {stored : Stored} {locks : LocksView} {calls : ℕ} {up : Type 0} → locks.locks ≡ empty → ShowsRest session.store session → IsStore pages stored → StoreBeginsIn stored session.store → BeginsIn stored (engine_view (record { session = session; locks = locks }) calls up)
+  begins_in {stored = stored} none shows store begins = record {
     state = begins.state;
     shows = record {
       shows = shows _ stored.tables begins.state begins.shows begins.rest (record { metered = begins.metered; log = begins.room }) (rested_saved begins.shows);
+      locked = begins.rest.idle.none_locked ∙ sym none;
       kept = rest_keeps (size_of stored.root) stored.tables begins.state begins.rest.idle (recovered_fit store.log);
     };
     rest = begins.rest;
@@ -63,9 +68,9 @@ module _ (session : SessionView) (ready : IsStoreReady session.store) (saved : I
   }
 
 -- the store of the session was opened
-opened_there : {old : DeviceView} {session : SessionView} {calls : ℕ} {up : Type 0} → OpensStore old session.store → ShowsRest session.store session → calls ≡ 0 → up → IsOpened old (engine_view session calls up)
-opened_there {session = session} is shows none_asked is_up = record {
-  begins = λ pages told stored store. begins_in session is.ready is.saved shows store (is.begins pages told stored store);
+opened_there : {old : DeviceView} {session : SessionView} {locks : LocksView} {calls : ℕ} {up : Type 0} → OpensStore old session.store → locks.locks ≡ empty → ShowsRest session.store session → calls ≡ 0 → up → IsOpened old (engine_view (record { session = session; locks = locks }) calls up)
+opened_there {session = session} is none shows none_asked is_up = record {
+  begins = λ pages told stored store. begins_in session is.ready is.saved none shows store (is.begins pages told stored store);
   up = is_up;
   none_asked = none_asked;
   unbroken = is.unbroken;
@@ -74,10 +79,10 @@ opened_there {session = session} is shows none_asked is_up = record {
   tables = is.tables;
 }
 
-pub opens_over : {old : DeviceView} {store : StoreView} {session : SessionView} {calls : ℕ} {up : Type 0} (size : ℕ) → OpensStore old store → session.store ≡ store → ShowsRest store session → calls ≡ 0 → up → OpensOver old (record (device_below session.store.pages) { size = size }) (engine_view session calls up)
-opens_over {old = old} {session = session} size is same shows none_asked is_up =
+pub opens_over : {old : DeviceView} {store : StoreView} {session : SessionView} {locks : LocksView} {calls : ℕ} {up : Type 0} (size : ℕ) → OpensStore old store → session.store ≡ store → locks.locks ≡ empty → ShowsRest store session → calls ≡ 0 → up → OpensOver old (record (device_below session.store.pages) { size = size }) (engine_view (record { session = session; locks = locks }) calls up)
+opens_over {old = old} {session = session} size is same none shows none_asked is_up =
     let here : OpensStore old session.store = subst (OpensStore old) (sym same) is in
     record {
-      opened = opened_there here (subst (λ (s : StoreView). ShowsRest s session) (sym same) shows) none_asked is_up;
+      opened = opened_there here none (subst (λ (s : StoreView). ShowsRest s session) (sym same) shows) none_asked is_up;
       passes = passes_sized size here.passes;
     }

@@ -1,12 +1,11 @@
 -- The machine's change of a tuple, and the record that tells it.
-use Rattle.std.proofs.Common.{◌≡◌, ℕ, ◌^◌, ◌<◌, true, List, [], ◌∷◌, zero, suc, refl, sym, ap, arith}
-use Rattle.std.specs.Prelude.{Option, Some, unwrap_or, All}
+use Rattle.std.proofs.Common.{◌≡◌, ℕ, ◌^◌, ◌<◌, List, refl, sym, ap}
+use Rattle.std.specs.Prelude.{Option, Some, unwrap_or}
 use Rattle.rss_base.specs.Listings.{Listing, relation_at, IsNumberOf}
 use Rattle.rss_base.specs.LogRecords.{IsChangeBounded}
 use Rattle.rss_base.specs.TupleTypes.{kinds, Spells}
 use Rattle.rss_base.specs.declared.change.Change as told
 use Rattle.rss_base.specs.declared.change.Change.TheVariants.{Insert, Delete, Update}
-use Rattle.rss_base.specs.declared.item.Item.{Item}
 use Rattle.rss_base.specs.declared.item.Item.TheVariants.{Tuple as TupleItem}
 use Rattle.rss_base.specs.declared.name.Name.{Name}
 use Rattle.rss_base.specs.declared.refusal.Kind.TheVariants.{Relation as RelationKind}
@@ -19,7 +18,7 @@ use Rattle.rss_model.specs.Locks.{Locks}
 use Rattle.rss_model.specs.Ruled.{ruled}
 use Rattle.rss_model.specs.Steps.{Answer, Step}
 use Rattle.rss_model.specs.Tables.{content}
-use Rattle.rss_model.proofs.StepKeeping.{steps_keep}
+use Rattle.rss_model.proofs.StepKeeping.{steps_keep, only_its_own}
 use Rattle.rss_store.specs.Changing.{MayMake}
 use Rattle.rss_session.specs.Sessions.{SessionView}
 use Rattle.rss_model.specs.Items.{Values}
@@ -27,29 +26,21 @@ use Rattle.rss_model.specs.Kept.{Kept}
 use Rattle.rss_model.specs.LogLaws.{IsToldBy}
 use Rattle.rss_model.specs.Machine.{State, now}
 use Rattle.rss_model.specs.Meanings.{nameless, name_at, TellsValues}
-use Rattle.rss_model.specs.Refusals.{is_open, insertion, deletion, replacement}
-use Rattle.rss_model.specs.Restart.{OnlyBy}
-use Rattle.rss_model.proofs.Counts.{the_only}
+use Rattle.rss_model.specs.Refusals.{insertion, deletion, replacement}
 
--- ---- one transaction is open at a time
-
--- so that all changes are its own
-pub only_its_own : {state : State} → Kept state → (t : ℕ) → is_open state t ≡ true → (item : Item) → OnlyBy t item state.changes
-only_its_own {state = state} kept t has item = by state.changes kept.opened
-  where
-    by : (changes : List Change) → All (λ change. is_open state change.by ≡ true) changes → OnlyBy t item changes
-    by [] all = tt
-    by (change ∷ changes) all = ((λ same. the_only state.marks t change.by kept.few has (all zero change (omega arith))), by changes (λ k d lt. all (suc k) d (omega (arith, lt))))
+-- ---- changes that may be made
 
 -- a change of what is there may be made, where some step makes it with as many overflow pages as there are
-pub may_make : (view : SessionView) {state : State} {told_change : told.Change} {change : Change} {call : Call} {answer : Answer} (locks : Locks) → Kept state → is_open state change.by ≡ true → IsToldBy view.store.catalog.listing told_change change → change.old ≡ content (now state).contents change.item
+pub may_make : (view : SessionView) {state : State} {told_change : told.Change} {change : Change} {call : Call} {answer : Answer} (locks : Locks) → Kept state → IsToldBy view.store.catalog.listing told_change change → change.old ≡ content (now state).contents change.item
     → Step state call answer (record (ruled change state.meter.over state) { locks = locks }) → MayMake view.store state told_change change
-may_make view {state = state} {change = change} locks kept has is_told finds step = record {
-  told = is_told;
-  finds = finds;
-  alone = only_its_own kept change.by has change.item;
-  mixed = (steps_keep state _ _ _ step kept).fit;
-}
+may_make view {state = state} {change = change} locks kept is_told finds step =
+    let after = steps_keep state _ _ _ step kept in
+    record {
+      told = is_told;
+      finds = finds;
+      alone = only_its_own after change state.changes refl;
+      mixed = after.fit;
+    }
 
 -- ---- records
 

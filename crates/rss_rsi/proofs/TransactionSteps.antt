@@ -1,5 +1,5 @@
 -- The calls on transactions: to which state each leads, and by which step it stops.
-use Rattle.std.proofs.Common.{◌≡◌, ℕ, ◌+◌, ◌^◌, ◌<◌, ◌≤◌, true, List, [], length, sym, ◌∙◌, subst, arith, length-append}
+use Rattle.std.proofs.Common.{◌≡◌, ℕ, ◌+◌, ◌^◌, ◌<◌, ◌≤◌, true, List, [], length, sym, ◌∙◌, ap, subst, arith, length-append}
 use Rattle.std.specs.Prelude.{None, Ok, codes, decimal}
 use Rattle.std.proofs.lemmas.Fmt.{length-decimal-le}
 use Rattle.rss_base.specs.DiskRule.{IsTold}
@@ -7,6 +7,7 @@ use Rattle.rss_base.specs.declared.call.Call.TheVariants.{Begin, Save, Restore, 
 use Rattle.rss_base.specs.declared.answer.Reply.TheVariants.{Ok as Done, Number}
 use Rattle.rss_model.specs.Changes.{own}
 use Rattle.rss_model.specs.Kept.{Kept, FitMixed}
+use Rattle.rss_model.specs.Locks.{released}
 use Rattle.rss_model.specs.Machine.{State}
 use Rattle.rss_model.specs.Refusals.{unless_saved}
 use Rattle.rss_model.specs.ReplyText.{answer_line}
@@ -23,7 +24,7 @@ use Rattle.rss_session.specs.Admissions.{Says}
 use Rattle.rss_session.specs.Calls.{KeepsTables, CommitsTables, HasMarks, Restores, Aborts}
 use Rattle.rss_session.specs.Sessions.{SessionView}
 use Rattle.rss_session.specs.Shown.{Shows}
-use Rattle.rss_rsi.specs.Views.{IsIn}
+use Rattle.rss_rsi.specs.Views.{RssParts, IsIn}
 use Rattle.rss_rsi.proofs.Ways.{Leads, LeadsAll, stopped_by, leads_by, keeps_same}
 
 -- an open transaction has the save points that are listed
@@ -32,9 +33,9 @@ has_marks t opened shows = open_saves shows.told t opened
 
 -- ---- begins and save points
 
-pub begin_leads : (old new : SessionView) (t : ℕ) → new.store ≡ old.store → Says old (λ state. refusal state (Begin t)) None → ((state : State) → Shows old state → Shows new (begun t state)) → LeadsAll old new (Begin t) (Ok Done)
-begin_leads old new t same passes begins_so told state is_in =
-    leads_by (begun t state) (keeps_same old new same) told is_in (begins t (passes told state is_in.shows)) (begins_so state is_in.shows)
+pub begin_leads : (old new : RssParts) (t : ℕ) → new.session.store ≡ old.session.store → new.locks.locks ≡ old.locks.locks → Says old.session (λ state. refusal state (Begin t)) None → ((state : State) → Shows old.session state → Shows new.session (begun t state)) → LeadsAll old new (Begin t) (Ok Done)
+begin_leads old new t same locks passes begins_so told state is_in =
+    leads_by (begun t state) (keeps_same old.session new.session same) told is_in (begins t (passes told state is_in.shows)) (begins_so state is_in.shows) (is_in.locked ∙ sym locks)
 
 pub number_line : (n : ℕ) → n < 2 ^ 32 → length (answer_line (Ok (Number n))) ≤ 8192
 number_line n small =
@@ -42,25 +43,25 @@ number_line n small =
     omega (arith, short, length-append (decimal n) (codes "\n"))
 
 -- the save point's number is one more than the transaction had
-pub save_leads : (old new : SessionView) (t save : ℕ) → is_open old.opened t ≡ true → new.store ≡ old.store → Says old (λ state. unless_open state t) None
-    → ((state : State) (marks : List ℕ) → HasMarks state t marks → Shows old state → (save ≡ length marks + 1) × Shows new (with_save t marks state)) → LeadsAll old new (Save t) (Ok (Number save))
-save_leads old new t save opened same passes saves_so told state is_in =
-    let marks = (transaction_in old.opened t).saves in
+pub save_leads : (old new : RssParts) (t save : ℕ) → is_open old.session.opened t ≡ true → new.session.store ≡ old.session.store → new.locks.locks ≡ old.locks.locks → Says old.session (λ state. unless_open state t) None
+    → ((state : State) (marks : List ℕ) → HasMarks state t marks → Shows old.session state → (save ≡ length marks + 1) × Shows new.session (with_save t marks state)) → LeadsAll old new (Save t) (Ok (Number save))
+save_leads old new t save opened same locks passes saves_so told state is_in =
+    let marks = (transaction_in old.session.opened t).saves in
     let has = has_marks t opened is_in.shows in
     let so = saves_so state marks has is_in.shows in
     subst (λ (n : ℕ). Leads old new state (Save t) (Ok (Number n))) (sym so.0)
-    (leads_by (with_save t marks state) (keeps_same old new same) told is_in (saves t marks (goes_on [] (passes told state is_in.shows)) has) so.1)
+    (leads_by (with_save t marks state) (keeps_same old.session new.session same) told is_in (saves t marks (goes_on [] (passes told state is_in.shows)) has) so.1 (is_in.locked ∙ sym locks))
 
 -- ---- ways back
 
-module _ (old new : SessionView) (t save : ℕ) (opened : is_open old.opened t ≡ true) (passes : Says old (λ state. unless_open state t) None) (saved : Says old (λ state. unless_saved state t save) None) (keeps : KeepsTables old new) where
+module _ (old new : RssParts) (t save : ℕ) (opened : is_open old.session.opened t ≡ true) (passes : Says old.session (λ state. unless_open state t) None) (saved : Says old.session (λ state. unless_saved state t save) None) (keeps : KeepsTables old.session new.session) where
   abbrev marks : List ℕ
-  marks = (transaction_in old.opened t).saves
+  marks = (transaction_in old.session.opened t).saves
 
-  restore_passes : IsTold old.store.pages.disk → (state : State) → Shows old state → refusal state (Restore t save) ≡ None
+  restore_passes : IsTold old.session.store.pages.disk → (state : State) → Shows old.session state → refusal state (Restore t save) ≡ None
   restore_passes told state shows = goes_on _ (passes told state shows) ∙ goes_on [] (saved told state shows)
 
-  pub restore_stops : IsTold old.store.pages.disk → (state : State) → IsIn old state → IsStopped old.store.pages.disk new.store.pages.disk state (Restore t save)
+  pub restore_stops : IsTold old.session.store.pages.disk → (state : State) → IsIn old state → IsStopped old.session.store.pages.disk new.session.store.pages.disk state (Restore t save)
   restore_stops told state is_in =
       let over = state.meter.over in
       stopped_by new keeps told is_in (record {
@@ -69,19 +70,19 @@ module _ (old new : SessionView) (t save : ℕ) (opened : is_open old.opened t �
         step = restores t save marks over (restore_passes told state is_in.shows) (has_marks t opened is_in.shows) (undo_same _ (undone_to state t (left_at marks save)) over);
       })
 
-  pub restore_leads : (IsTold old.store.pages.disk → (state : State) (marks : List ℕ) → Kept state → HasMarks state t marks → Shows old state → Restores new state t save marks) → LeadsAll old new (Restore t save) (Ok Done)
-  restore_leads restores_so told state is_in =
+  pub restore_leads : new.locks.locks ≡ old.locks.locks → (IsTold old.session.store.pages.disk → (state : State) (marks : List ℕ) → Kept state → HasMarks state t marks → Shows old.session state → Restores new.session state t save marks) → LeadsAll old new (Restore t save) (Ok Done)
+  restore_leads locks restores_so told state is_in =
       let has = has_marks t opened is_in.shows in
       let so = restores_so told state marks is_in.kept has is_in.shows in
       let next = restored t save marks so.over state in
       let step : Step state (Restore t save) (Ok Done) next = restores t save marks so.over (restore_passes told state is_in.shows) has so.way in
-      leads_by next keeps told is_in step (so.shows (steps_keep state next (Restore t save) (Ok Done) step is_in.kept).fit)
+      leads_by next keeps told is_in step (so.shows (steps_keep state next (Restore t save) (Ok Done) step is_in.kept).fit) (is_in.locked ∙ sym locks)
 
-module _ (old new : SessionView) (t : ℕ) (passes : Says old (λ state. unless_open state t) None) where
-  abort_passes : IsTold old.store.pages.disk → (state : State) → Shows old state → refusal state (Abort t) ≡ None
+module _ (old new : RssParts) (t : ℕ) (passes : Says old.session (λ state. unless_open state t) None) where
+  abort_passes : IsTold old.session.store.pages.disk → (state : State) → Shows old.session state → refusal state (Abort t) ≡ None
   abort_passes told state shows = goes_on [] (passes told state shows)
 
-  pub abort_stops : KeepsTables old new → IsTold old.store.pages.disk → (state : State) → IsIn old state → IsStopped old.store.pages.disk new.store.pages.disk state (Abort t)
+  pub abort_stops : KeepsTables old.session new.session → IsTold old.session.store.pages.disk → (state : State) → IsIn old state → IsStopped old.session.store.pages.disk new.session.store.pages.disk state (Abort t)
   abort_stops keeps told state is_in =
       let over = state.meter.over in
       stopped_by new keeps told is_in (record {
@@ -90,49 +91,54 @@ module _ (old new : SessionView) (t : ℕ) (passes : Says old (λ state. unless_
         step = aborts t over (abort_passes told state is_in.shows) (undo_same _ (own t state.changes) over);
       })
 
-  pub abort_leads : KeepsTables old new → (IsTold old.store.pages.disk → (state : State) → Kept state → Shows old state → Aborts new state t) → LeadsAll old new (Abort t) (Ok Done)
-  abort_leads keeps aborts_so told state is_in =
+  -- the locks of a transaction that is gone are released
+  released_so : new.locks.locks ≡ released t old.locks.locks → {state : State} → IsIn old state → released t state.locks ≡ new.locks.locks
+  released_so locks is_in = ap (released t) is_in.locked ∙ sym locks
+
+  pub abort_leads : new.locks.locks ≡ released t old.locks.locks → KeepsTables old.session new.session → (IsTold old.session.store.pages.disk → (state : State) → Kept state → Shows old.session state → Aborts new.session state t) → LeadsAll old new (Abort t) (Ok Done)
+  abort_leads locks keeps aborts_so told state is_in =
       let so = aborts_so told state is_in.kept is_in.shows in
       let next = gone t so.over state in
       let step : Step state (Abort t) (Ok Done) next = aborts t so.over (abort_passes told state is_in.shows) so.way in
-      leads_by next keeps told is_in step (so.shows (steps_keep state next (Abort t) (Ok Done) step is_in.kept).fit)
+      leads_by next keeps told is_in step (so.shows (steps_keep state next (Abort t) (Ok Done) step is_in.kept).fit) (released_so locks is_in)
 
   -- ---- an end
 
-  end_step : IsTold old.store.pages.disk → (state : State) → Shows old state → Step state (End t) (Ok Done) (ended t state)
+  end_step : IsTold old.session.store.pages.disk → (state : State) → Shows old.session state → Step state (End t) (Ok Done) (ended t state)
   end_step told state shows = ends t (goes_on [] (passes told state shows))
 
-  end_fits : IsTold old.store.pages.disk → (state : State) → IsIn old state → FitMixed (committing t state)
+  end_fits : IsTold old.session.store.pages.disk → (state : State) → IsIn old state → FitMixed (committing t state)
   end_fits told state is_in = (steps_keep state (ended t state) (End t) (Ok Done) (end_step told state is_in.shows) is_in.kept).fit
 
-  module _ (commits : CommitsTables old new t) where
-    pub end_stops : IsTold old.store.pages.disk → (state : State) → IsIn old state → IsStopped old.store.pages.disk new.store.pages.disk state (End t)
+  module _ (commits : CommitsTables old.session new.session t) where
+    pub end_stops : IsTold old.session.store.pages.disk → (state : State) → IsIn old state → IsStopped old.session.store.pages.disk new.session.store.pages.disk state (End t)
     end_stops told state is_in = record {
       answer = Ok Done;
       next = ended t state;
       answered = record { step = end_step told state is_in.shows; moments = commits told state is_in.kept (end_fits told state is_in) is_in.shows };
     }
 
-    pub end_leads : (IsTold old.store.pages.disk → (state : State) → Kept state → FitMixed (committing t state) → Shows old state → Shows new (committing t state)) → LeadsAll old new (End t) (Ok Done)
-    end_leads commits_so told state is_in =
+    pub end_leads : new.locks.locks ≡ released t old.locks.locks → (IsTold old.session.store.pages.disk → (state : State) → Kept state → FitMixed (committing t state) → Shows old.session state → Shows new.session (committing t state)) → LeadsAll old new (End t) (Ok Done)
+    end_leads locks commits_so told state is_in =
         let fits = end_fits told state is_in in
         record {
           next = ended t state;
           step = end_step told state is_in.shows;
           shows = commits_so told state is_in.kept fits is_in.shows;
+          locked = released_so locks is_in;
           moments = commits told state is_in.kept fits is_in.shows;
         }
 
 -- ---- checkpoints
 
-module _ (old new : SessionView) (passes : Says old if_no_log_room None) (keeps : KeepsTables old new) where
-  checkpoint_step : IsTold old.store.pages.disk → (state : State) → Shows old state → Step state Checkpoint (Ok Done) (record state { meter = saved_now state })
+module _ (old new : RssParts) (passes : Says old.session if_no_log_room None) (keeps : KeepsTables old.session new.session) where
+  checkpoint_step : IsTold old.session.store.pages.disk → (state : State) → Shows old.session state → Step state Checkpoint (Ok Done) (record state { meter = saved_now state })
   checkpoint_step told state shows = checkpoints (goes_on [] (passes told state shows))
 
-  pub checkpoint_stops : IsTold old.store.pages.disk → (state : State) → IsIn old state → IsStopped old.store.pages.disk new.store.pages.disk state Checkpoint
+  pub checkpoint_stops : IsTold old.session.store.pages.disk → (state : State) → IsIn old state → IsStopped old.session.store.pages.disk new.session.store.pages.disk state Checkpoint
   checkpoint_stops told state is_in =
       stopped_by new keeps told is_in (record { answer = Ok Done; next = record state { meter = saved_now state }; step = checkpoint_step told state is_in.shows })
 
-  pub checkpoint_leads : (IsTold old.store.pages.disk → (state : State) → Kept state → Shows old state → Shows new (record state { meter = saved_now state })) → LeadsAll old new Checkpoint (Ok Done)
-  checkpoint_leads saves_so told state is_in =
-      leads_by _ keeps told is_in (checkpoint_step told state is_in.shows) (saves_so told state is_in.kept is_in.shows)
+  pub checkpoint_leads : new.locks.locks ≡ old.locks.locks → (IsTold old.session.store.pages.disk → (state : State) → Kept state → Shows old.session state → Shows new.session (record state { meter = saved_now state })) → LeadsAll old new Checkpoint (Ok Done)
+  checkpoint_leads locks saves_so told state is_in =
+      leads_by _ keeps told is_in (checkpoint_step told state is_in.shows) (saves_so told state is_in.kept is_in.shows) (is_in.locked ∙ sym locks)

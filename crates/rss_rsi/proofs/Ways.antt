@@ -1,8 +1,12 @@
 -- The ways in which a call of an engine over a session ends.
-use Rattle.std.proofs.Common.{◌≡◌, inl, ℕ, ◌+◌, ◌^◌, ◌≤◌, length, Option, Some, None, arith, refl, sym, ◌∙◌, ap, subst}
-use Rattle.std.specs.Prelude.{Bool, true, false, if◌then◌else◌, Result, Err, IsErrAnd, IsErrOf, IfSome}
+use Rattle.std.proofs.Common.{◌≡◌, inl, List, [], ℕ, ◌+◌, ◌^◌, ◌≤◌, length, Option, Some, None, arith, refl, sym, ◌∙◌, ap, subst}
+use Rattle.std.specs.Prelude.{Bool, true, false, if◌then◌else◌, Result, Err, is_some, IsErrAnd, IsErrOf, IfSome}
+use Rattle.std.specs.FinMap.{FinMap, get}
+use Rattle.std.specs.Ordering.{nat_cmp}
+use Rattle.std.proofs.lemmas.Bool.{cond-false}
 use Rattle.std.proofs.lemmas.Result.{err_from_is_err_and}
 use Rattle.rss_base.specs.DiskRule.{IsTold, Passes, Continues}
+use Rattle.rss_base.specs.Steps.{PagesView}
 use Rattle.rss_base.specs.Answers.{page_error}
 use Rattle.rss_base.specs.declared.call.Call.{Call}
 use Rattle.rss_base.specs.declared.answer.Reply.{Reply}
@@ -10,32 +14,41 @@ use Rattle.rss_base.specs.declared.answer.CallError.{CallError}
 use Rattle.rss_base.specs.declared.answer.CallError.TheVariants.{Refused, NoMemory, Down}
 use Rattle.rss_base.specs.declared.fault.PageFault.{PageFault}
 use Rattle.rss_base.specs.declared.fault.PageFault.TheVariants.{Device as PageDevice, Damaged as PageDamaged, NoMemory as PageNoMemory}
+use Rattle.rss_base.specs.declared.item.Item.{Item}
+use Rattle.rss_base.specs.declared.need.Mode.{Mode}
+use Rattle.rss_base.specs.declared.need.Need.{Need}
 use Rattle.rss_base.specs.declared.place.Place.{Place}
 use Rattle.rss_base.specs.declared.refusal.Refusal.{Refusal}
 use Rattle.rss_base.proofs.Moments.{started, widened}
+use Rattle.rss_lock.specs.Table.{told}
+use Rattle.rss_lock.specs.declared.locks.Locks.{Locks as LockTable}
 use Rattle.rss_model.specs.Calls.{EngineView, GoesOn, GetsPlace, IsAnswer, IsCallOf}
-use Rattle.rss_model.specs.Costs.{RisesAtMost, most_asks, most_writes}
-use Rattle.rss_model.specs.Kept.{Kept}
-use Rattle.rss_model.specs.Locks.{Locks}
-use Rattle.rss_model.specs.Machine.{State}
+use Rattle.rss_model.specs.Costs.{RisesAtMost, most_asks, most_writes, may_lack_memory}
+use Rattle.rss_model.specs.Locks.{Locks, held, granted, released}
+use Rattle.rss_model.specs.Machine.{State, now}
+use Rattle.rss_model.specs.Needs.{needs}
 use Rattle.rss_model.specs.ReplyText.{IsShort}
-use Rattle.rss_model.specs.Steps.{Answer, Step, refusal, left_by, locked_by, keeps_locks}
+use Rattle.rss_model.specs.Steps.{Answer, Step, refusal, left_by, locked, locked_by, keeps_locks}
 use Rattle.rss_model.specs.Callers.{caller}
 use Rattle.rss_model.specs.Store.{OpensToEither}
+use Rattle.rss_model.specs.Tables.{Tables}
 use Rattle.rss_model.specs.Turns.{IsStopped}
 use Rattle.rss_model.proofs.Endings.{within_most, refused_by, comes_to, failed, was_down}
+use Rattle.rss_model.proofs.Locking.{released_was}
 use Rattle.rss_model.proofs.OpenKeeping.{keeps_refused}
 use Rattle.rss_model.proofs.StepKeeping.{steps_keep}
-use Rattle.rss_trans.specs.Transactions.{transaction_in}
+use Rattle.rss_trans.specs.Transactions.{Transaction, is_open, transaction_in}
+use Rattle.rss_session.specs.Parts.{view as session_view}
+use Rattle.rss_session.specs.declared.session.Session.{Session}
 use Rattle.rss_session.specs.Sessions.{SessionView}
 use Rattle.rss_session.specs.Sessions.{IsReady as IsSessionReady}
-use Rattle.rss_session.specs.Calls.{Appends, KeepsTables}
+use Rattle.rss_session.specs.Calls.{Appends, KeepsTables, NoMoreSaves, StayOpen, OthersStayOpen}
 use Rattle.rss_session.specs.Calls.{GoesOn as SessionGoesOn}
 use Rattle.rss_session.specs.Shown.{Shows}
 use Rattle.rss_store.specs.Stores.{StoreView}
 use Rattle.rss_store.specs.Shown.{HoldsTables}
 use Rattle.rss_session.proofs.Steady.{shows_same}
-use Rattle.rss_rsi.specs.Views.{IsIn, engine_view, IsReady}
+use Rattle.rss_rsi.specs.Views.{RssParts, IsIn, engine_view, IsReady}
 
 -- ---- states that are shown
 
@@ -60,13 +73,34 @@ shows_locked {state = state} locks shows =
       rested = shows.rested;
     }
 
-pub in_left : {view : SessionView} {state : State} (call : Call) {why : Refusal} → IsIn view state → refusal state call ≡ Some why → IsIn view (left_by state call why)
-in_left {view = view} {state = state} call {why = why} is_in is = by (keeps_locks why) (caller call) (keeps_refused is_in.kept call why is)
+pub in_left : {old new : RssParts} {state : State} (call : Call) {why : Refusal} → IsIn old state → refusal state call ≡ Some why → Shows new.session state → (left_by state call why).locks ≡ new.locks.locks → IsIn new (left_by state call why)
+in_left {new = new} {state = state} call {why = why} is_in is shows locked = record {
+  shows = by (keeps_locks why) (caller call);
+  locked = locked;
+  kept = keeps_refused is_in.kept call why is;
+}
   where
-    by : (keeps : Bool) (by : Option ℕ) → Kept (if keeps then locked_by by call state else state) → IsIn view (if keeps then locked_by by call state else state)
-    by false c kept = is_in
-    by true None kept = is_in
-    by true (Some t) kept = record { shows = shows_locked _ is_in.shows; kept = kept }
+    by : (keeps : Bool) (by : Option ℕ) → Shows new.session (if keeps then locked_by by call state else state)
+    by false c = shows
+    by true None = shows
+    by true (Some t) = shows_locked _ shows
+
+-- a refusal that keeps no locks leaves those that there were
+pub left_same : {old : RssParts} {state : State} (call : Call) (why : Refusal) → keeps_locks why ≡ false → IsIn old state → (left_by state call why).locks ≡ old.locks.locks
+left_same {state = state} call why none is_in = ap (λ (left : State). left.locks) (cond-false (keeps_locks why) (locked call state) state none) ∙ is_in.locked
+
+-- the call needs no locks
+abbrev pub NeedsNone : Call → Type 0
+NeedsNone call = (tables : Tables) → needs tables call ≡ []
+
+-- and so does a call that needs none
+pub left_bare : {old : RssParts} {state : State} (call : Call) (why : Refusal) → needs (now state) call ≡ [] → IsIn old state → (left_by state call why).locks ≡ old.locks.locks
+left_bare {state = state} call why none is_in = so (keeps_locks why) (caller call) ∙ is_in.locked
+  where
+    so : (keeps : Bool) (by : Option ℕ) → (if keeps then locked_by by call state else state).locks ≡ state.locks
+    so false by = refl
+    so true None = refl
+    so true (Some t) = ap (λ (list : List Need). granted t list state.locks) none
 
 -- ---- what goes on
 
@@ -75,8 +109,8 @@ none_within None = tt
 none_within (Some m) = omega arith
 
 -- with what the call costs
-pub goes : {T : Type 0} {old new : SessionView} {n m : ℕ} {up up_now : Type 0} {call : Call} (result : Result T PageFault) → SessionGoesOn old new result → m ≤ n + 1
-    → RisesAtMost (most_asks call) old.store.pages.asks new.store.pages.asks → RisesAtMost (most_writes call) old.store.pages.writes new.store.pages.writes
+pub goes : {T : Type 0} {old new : RssParts} {n m : ℕ} {up up_now : Type 0} {call : Call} (result : Result T PageFault) → SessionGoesOn old.session new.session result → m ≤ n + 1
+    → RisesAtMost (most_asks call) old.session.store.pages.asks new.session.store.pages.asks → RisesAtMost (most_writes call) old.session.store.pages.writes new.session.store.pages.writes
     → GoesOn (engine_view old n up) (engine_view new m up_now) call
 goes result on calls asks writes = record {
   asks = asks;
@@ -89,33 +123,34 @@ goes result on calls asks writes = record {
 }
 
 -- of the store nothing has changed
-pub goes_nowhere : {old new : SessionView} {n m : ℕ} {up up_now : Type 0} (call : Call) → new.store ≡ old.store → m ≤ n + 1 → GoesOn (engine_view old n up) (engine_view new m up_now) call
+pub goes_nowhere : {old new : RssParts} {n m : ℕ} {up up_now : Type 0} (call : Call) → new.session.store ≡ old.session.store → m ≤ n + 1 → GoesOn (engine_view old n up) (engine_view new m up_now) call
 goes_nowhere {old = old} call same calls = record {
-  asks = within_most (most_asks call) 0 old.store.pages.asks _ (none_within (most_asks call)) (omega (arith, ap (λ (s : StoreView). s.pages.asks) same));
-  writes = within_most (most_writes call) 0 old.store.pages.writes _ (none_within (most_writes call)) (omega (arith, ap (λ (s : StoreView). s.pages.writes) same));
+  asks = within_most (most_asks call) 0 old.session.store.pages.asks _ (none_within (most_asks call)) (omega (arith, ap (λ (s : StoreView). s.pages.asks) same));
+  writes = within_most (most_writes call) 0 old.session.store.pages.writes _ (none_within (most_writes call)) (omega (arith, ap (λ (s : StoreView). s.pages.writes) same));
   calls = calls;
   slots = ap (λ (s : StoreView). s.root.slots) same;
   told = λ told. subst (λ (s : StoreView). IsTold s.pages.disk) (sym same) told;
-  history = λ told. subst (λ (s : StoreView). Continues old.store.pages.disk s.pages.disk) (sym same) (started old.store.pages.disk _);
+  history = λ told. subst (λ (s : StoreView). Continues old.session.store.pages.disk s.pages.disk) (sym same) (started old.session.store.pages.disk _);
   later = omega (arith, ap (λ (s : StoreView). s.pages.faults) same);
 }
 
 -- ---- answers
 
 -- from a state a step leads to one that is shown
-pub record Leads (old new : SessionView) (state : State) (call : Call) (answer : Answer) : Type 0 where
+pub record Leads (old new : RssParts) (state : State) (call : Call) (answer : Answer) : Type 0 where
   pub next : State
   pub step : Step state call answer next
-  pub shows : Shows new next
-  pub moments : Passes old.store.pages.disk new.store.pages.disk (OpensToEither state.size state.base next.base)
+  pub shows : Shows new.session next
+  pub locked : next.locks ≡ new.locks.locks
+  pub moments : Passes old.session.store.pages.disk new.session.store.pages.disk (OpensToEither state.size state.base next.base)
 
-abbrev pub LeadsAll : SessionView → SessionView → Call → Answer → Type 0
-LeadsAll old new call answer = IsTold old.store.pages.disk → (state : State) → IsIn old state → Leads old new state call answer
+abbrev pub LeadsAll : RssParts → RssParts → Call → Answer → Type 0
+LeadsAll old new call answer = IsTold old.session.store.pages.disk → (state : State) → IsIn old state → Leads old new state call answer
 
-pub leads_in : {old new : SessionView} {state : State} {call : Call} {answer : Answer} → IsIn old state → (leads : Leads old new state call answer) → IsIn new leads.next
-leads_in {state = state} {call = call} {answer = answer} is_in leads = record { shows = leads.shows; kept = steps_keep state leads.next call answer leads.step is_in.kept }
+pub leads_in : {old new : RssParts} {state : State} {call : Call} {answer : Answer} → IsIn old state → (leads : Leads old new state call answer) → IsIn new leads.next
+leads_in {state = state} {call = call} {answer = answer} is_in leads = record { shows = leads.shows; locked = leads.locked; kept = steps_keep state leads.next call answer leads.step is_in.kept }
 
-pub answers : {old new : SessionView} {n m : ℕ} {up up_now : Type 0} {call : Call} {answer : Answer} → up_now → IsShort answer → (IsTold old.store.pages.disk → GetsPlace (engine_view old n up) call answer) → LeadsAll old new call answer → IsAnswer (engine_view old n up) (engine_view new m up_now) call answer
+pub answers : {old new : RssParts} {n m : ℕ} {up up_now : Type 0} {call : Call} {answer : Answer} → up_now → IsShort answer → (IsTold old.session.store.pages.disk → (state : State) → IsIn old state → GetsPlace (engine_view old n up) state call answer) → LeadsAll old new call answer → IsAnswer (engine_view old n up) (engine_view new m up_now) call answer
 answers is_up short placed leads = record {
   answered = λ told state is_in.
       let to = leads told state is_in in
@@ -134,7 +169,7 @@ pub record MayStep (state : State) (call : Call) : Type 0 where
   pub step : Step state call answer next
 
 -- a call that stops on its way to such a step has left the committed tables at each moment
-pub stopped_by : {old : SessionView} (new : SessionView) {state : State} {call : Call} → KeepsTables old new → IsTold old.store.pages.disk → IsIn old state → MayStep state call → IsStopped old.store.pages.disk new.store.pages.disk state call
+pub stopped_by : {old : RssParts} (new : RssParts) {state : State} {call : Call} → KeepsTables old.session new.session → IsTold old.session.store.pages.disk → IsIn old state → MayStep state call → IsStopped old.session.store.pages.disk new.session.store.pages.disk state call
 stopped_by new {state = state} keeps told is_in may = record {
   answer = may.answer;
   next = may.next;
@@ -142,11 +177,12 @@ stopped_by new {state = state} keeps told is_in may = record {
 }
 
 -- and one that made the step leads there
-pub leads_by : {old new : SessionView} {state : State} {call : Call} {answer : Answer} (next : State) → KeepsTables old new → IsTold old.store.pages.disk → IsIn old state → Step state call answer next → Shows new next → Leads old new state call answer
-leads_by {state = state} next keeps told is_in step shows = record {
+pub leads_by : {old new : RssParts} {state : State} {call : Call} {answer : Answer} (next : State) → KeepsTables old.session new.session → IsTold old.session.store.pages.disk → IsIn old state → Step state call answer next → Shows new.session next → next.locks ≡ new.locks.locks → Leads old new state call answer
+leads_by {state = state} next keeps told is_in step shows locked = record {
   next = next;
   step = step;
   shows = shows;
+  locked = locked;
   moments = widened (keeps told state is_in.kept is_in.shows) (λ image opens. inl opens);
 }
 
@@ -157,36 +193,74 @@ keeps_same old new same told state kept shows =
 
 -- ---- calls are counted
 
-pub ready_counted : {view : SessionView} {calls more : ℕ} → calls ≤ more → IsReady view calls → IsReady view more
+pub ready_counted : {parts : RssParts} {calls more : ℕ} → calls ≤ more → IsReady parts calls → IsReady parts more
 ready_counted fewer ready = record {
   session = ready.session;
   paced = omega (arith, ready.paced, fewer);
   saves = λ t. omega (arith, ready.saves t, fewer);
+  holders = ready.holders;
 }
 
+-- who holds an item now is open now
+abbrev pub HoldersOpen : RssParts → Type 0
+HoldersOpen parts = (t : ℕ) (item : Item) (mode : Mode) → held parts.locks.locks t item ≡ Some mode → is_open parts.session.opened t ≡ true
+
+-- who was open still is, and the locks are those that there were
+pub holders_stay : (old new : RssParts) → HoldersOpen old → StayOpen old.session new.session → new.locks.locks ≡ old.locks.locks → HoldersOpen new
+holders_stay old new holders stay same t item mode has = stay t (holders t item mode (ap (λ (locks : Locks). held locks t item) (sym same) ∙ has))
+
+-- the same transactions are open
+pub opened_stay : (old new : SessionView) → new.opened.transactions ≡ old.opened.transactions → StayOpen old new
+opened_stay old new same t opened = ap (λ (m : FinMap nat_cmp Transaction). is_some (get m t)) same ∙ opened
+
+-- a transaction is gone with its locks
+pub holders_gone : (old new : RssParts) (t : ℕ) → HoldersOpen old → OthersStayOpen t old.session new.session → new.locks.locks ≡ released t old.locks.locks → HoldersOpen new
+holders_gone old new t holders others same u item mode has =
+    let was = released_was t u old.locks.locks item mode (ap (λ (locks : Locks). held locks u item) (sym same) ∙ has) in
+    others u was.0 (holders u item mode was.1)
+
 -- from before the call on, the log has so many bytes more, and no transaction more than one save point more
-pub ready_then : {old new : SessionView} {calls more appended : ℕ} → IsReady old calls → more ≡ calls + 1 → appended ≤ 2 ^ 13 → IsSessionReady new → Appends appended old new
-    → ((t : ℕ) → length (transaction_in new.opened t).saves ≤ length (transaction_in old.opened t).saves + 1) → IsReady new more
-ready_then ready counted few session appends saves = record {
+pub ready_then : {old new : RssParts} {calls more appended : ℕ} → IsReady old calls → more ≡ calls + 1 → appended ≤ 2 ^ 13 → IsSessionReady new.session → Appends appended old.session new.session
+    → ((t : ℕ) → length (transaction_in new.session.opened t).saves ≤ length (transaction_in old.session.opened t).saves + 1) → HoldersOpen new → IsReady new more
+ready_then ready counted few session appends saves holders = record {
   session = session;
   paced = omega (arith, ready.paced, appends, few, counted);
   saves = λ t. omega (arith, ready.saves t, saves t, counted);
+  holders = holders;
 }
 
+-- a transaction is gone
+pub ready_gone : {old new : RssParts} {calls more appended : ℕ} (t : ℕ) → IsReady old calls → more ≡ calls + 1 → appended ≤ 2 ^ 13 → IsSessionReady new.session → Appends appended old.session new.session → NoMoreSaves old.session new.session
+    → OthersStayOpen t old.session new.session → new.locks.locks ≡ released t old.locks.locks → IsReady new more
+ready_gone {old = old} {new = new} t ready counted few session appends saves others gone =
+    ready_then ready counted few session appends (λ u. omega (arith, saves u)) (holders_gone old new t ready.holders others gone)
+
 -- nothing is appended where the store is as it was
-pub ready_still : {old new : SessionView} {calls more : ℕ} → IsReady old calls → more ≡ calls + 1 → IsSessionReady new → new.store ≡ old.store
-    → ((t : ℕ) → length (transaction_in new.opened t).saves ≤ length (transaction_in old.opened t).saves + 1) → IsReady new more
-ready_still ready counted session same saves = ready_then {appended = 0} ready counted (omega arith) session (omega (arith, ap (λ (s : StoreView). s.log.end) same)) saves
+pub ready_still : {old new : RssParts} {calls more : ℕ} → IsReady old calls → more ≡ calls + 1 → IsSessionReady new.session → new.session.store ≡ old.session.store
+    → ((t : ℕ) → length (transaction_in new.session.opened t).saves ≤ length (transaction_in old.session.opened t).saves + 1) → HoldersOpen new → IsReady new more
+ready_still ready counted session same saves holders = ready_then {appended = 0} ready counted (omega arith) session (omega (arith, ap (λ (s : StoreView). s.log.end) same)) saves holders
 
 -- ---- whole calls
 
--- refused by a test of the session, at once
-pub refused_test : {session : SessionView} {n m : ℕ} {up up_now : Type 0} {call : Call} {why : Refusal} (result : Result Reply CallError) → IsErrAnd result (λ e. e ≡ Refused why) → up → up_now → m ≤ n + 1 → IsShort (Err why)
-    → (IsTold session.store.pages.disk → (state : State) → Shows session state → refusal state call ≡ Some why) → IsCallOf (engine_view session n up) (engine_view session m up_now) call result
-refused_test {session = session} {n = n} {m = m} {up = up} {up_now = up_now} {call = call} result is was_up is_up calls short refused =
-    let why = err_from_is_err_and result is in
-    subst (IsCallOf (engine_view session n up) (engine_view session m up_now) call) (sym (why.1 ∙ ap Err why.2))
-    (comes_to was_up (goes_nowhere call refl calls) (refused_by is_up short (λ told state is_in. let why_so = refused told state is_in.shows in (why_so, in_left call is_in why_so, started _ _))))
+-- Refused at once by a test of the session, with the locks that the refusal leaves.
+refused_alike : {parts : RssParts} {n m : ℕ} {up up_now : Type 0} {call : Call} {why : Refusal} (result : Result Reply CallError) → IsErrAnd result (λ e. e ≡ Refused why) → up → up_now → m ≤ n + 1 → IsShort (Err why)
+    → (IsTold parts.session.store.pages.disk → (state : State) → IsIn parts state → (refusal state call ≡ Some why) × ((left_by state call why).locks ≡ parts.locks.locks)) → IsCallOf (engine_view parts n up) (engine_view parts m up_now) call result
+refused_alike {parts = parts} {n = n} {m = m} {up = up} {up_now = up_now} {call = call} {why = why} result is was_up is_up calls short refused =
+    let so = err_from_is_err_and result is in
+    subst (IsCallOf (engine_view parts n up) (engine_view parts m up_now) call) (sym (so.1 ∙ ap Err so.2))
+    (comes_to was_up (goes_nowhere call refl calls) (refused_by is_up short (λ told state is_in. let so = refused told state is_in in (so.0, in_left call is_in so.0 is_in.shows so.1, started _ _))))
+
+-- The call needs no locks.
+pub refused_test : {parts : RssParts} {n m : ℕ} {up up_now : Type 0} {call : Call} {why : Refusal} (result : Result Reply CallError) → IsErrAnd result (λ e. e ≡ Refused why) → up → up_now → m ≤ n + 1 → IsShort (Err why) → NeedsNone call
+    → (IsTold parts.session.store.pages.disk → (state : State) → Shows parts.session state → refusal state call ≡ Some why) → IsCallOf (engine_view parts n up) (engine_view parts m up_now) call result
+refused_test {call = call} {why = why} result is was_up is_up calls short none refused =
+    refused_alike result is was_up is_up calls short (λ told state is_in. (refused told state is_in.shows, left_bare call why (none (now state)) is_in))
+
+-- Or the refusal keeps none.
+pub refused_early : {parts : RssParts} {n m : ℕ} {up up_now : Type 0} {call : Call} {why : Refusal} (result : Result Reply CallError) → IsErrAnd result (λ e. e ≡ Refused why) → up → up_now → m ≤ n + 1 → IsShort (Err why)
+    → (IsTold parts.session.store.pages.disk → (state : State) → Shows parts.session state → (refusal state call ≡ Some why) × (keeps_locks why ≡ false)) → IsCallOf (engine_view parts n up) (engine_view parts m up_now) call result
+refused_early {call = call} {why = why} result is was_up is_up calls short refused =
+    refused_alike result is was_up is_up calls short (λ told state is_in. let so = refused told state is_in.shows in (so.0, left_same call why so.1 is_in))
 
 -- since the store was down
 pub found_down : {old new : EngineView} {call : Call} {why : CallError} (result : Result Reply CallError) → IsErrAnd result (λ e. e ≡ why) → why ≡ Down → new ≡ old → (old.is_up → ⊥) → IsCallOf old new call result
@@ -195,41 +269,45 @@ found_down {old = old} {new = new} {call = call} result is same stays not =
     subst (λ (view : EngineView). IsCallOf old view call result) (sym stays)
     (subst (IsCallOf old old call) (sym (so.1 ∙ ap Err (so.2 ∙ same))) (was_down call not))
 
--- the call was counted, and goes on from the session as it was
-pub asked : {old mid : SessionView} {n : ℕ} {up : Type 0} {new : EngineView} {call : Call} {result : Result Reply CallError} → mid ≡ old → IsCallOf (engine_view mid n up) new call result → IsCallOf (engine_view old n up) new call result
-asked {n = n} {up = up} {new = new} {call = call} {result = result} same = subst (λ (session : SessionView). IsCallOf (engine_view session n up) new call result) same
+-- the call was counted, and goes on from the session and the locks as they were
+pub asked : {S : Type 0} (pages_view : S → PagesView) {old mid : Session S} {locks now : LockTable} {n : ℕ} {up : Type 0} {new : EngineView} {call : Call} {result : Result Reply CallError} → mid ≡ old → now ≡ locks
+    → IsCallOf (engine_view (record { session = session_view pages_view mid; locks = told now }) n up) new call result → IsCallOf (engine_view (record { session = session_view pages_view old; locks = told locks }) n up) new call result
+asked pages_view {n = n} {up = up} {new = new} {call = call} {result = result} same same_locks =
+    let parts : (session : Session _) (locks : LockTable) → RssParts = λ session locks. record { session = session_view pages_view session; locks = told locks } in
+    subst (λ (parts : RssParts). IsCallOf (engine_view parts n up) new call result) (λ i. parts (same i) (same_locks i))
 
--- Refused behind calls of the session that left the committed tables and its states.
-pub refused_behind : {old new : SessionView} {n m : ℕ} {up up_now : Type 0} {call : Call} {why : Refusal} (result : Result Reply CallError) → IsErrAnd result (λ e. e ≡ Refused why) → up → up_now → IsShort (Err why)
-    → GoesOn (engine_view old n up) (engine_view new m up_now) call → KeepsTables old new
-    → (IsTold old.store.pages.disk → (state : State) → IsIn old state → (refusal state call ≡ Some why) × Shows new state) → IsCallOf (engine_view old n up) (engine_view new m up_now) call result
+-- Refused behind calls of the session that left the committed tables and its states, with the locks that the refusal leaves.
+pub refused_behind : {old new : RssParts} {n m : ℕ} {up up_now : Type 0} {call : Call} {why : Refusal} (result : Result Reply CallError) → IsErrAnd result (λ e. e ≡ Refused why) → up → up_now → IsShort (Err why)
+    → GoesOn (engine_view old n up) (engine_view new m up_now) call → KeepsTables old.session new.session
+    → (IsTold old.session.store.pages.disk → (state : State) → IsIn old state → (refusal state call ≡ Some why) × Shows new.session state × ((left_by state call why).locks ≡ new.locks.locks)) → IsCallOf (engine_view old n up) (engine_view new m up_now) call result
 refused_behind {old = old} {new = new} {n = n} {m = m} {up = up} {up_now = up_now} {call = call} result is was_up is_up short goes keeps refused =
     let why = err_from_is_err_and result is in
     subst (IsCallOf (engine_view old n up) (engine_view new m up_now) call) (sym (why.1 ∙ ap Err why.2))
     (comes_to was_up goes (refused_by is_up short (λ told state is_in.
     let so = refused told state is_in in
-    (so.0, in_left call (record { shows = so.1; kept = is_in.kept }) so.0, keeps told state is_in.kept is_in.shows))))
+    (so.0, in_left call is_in so.0 so.1 so.2, keeps told state is_in.kept is_in.shows))))
 
--- Memory ran out behind calls of the session that left the committed tables and its states.
-pub lacks_behind : {old new : SessionView} {n m : ℕ} {up up_now : Type 0} {call : Call} → up → up_now
-    → GoesOn (engine_view old n up) (engine_view new m up_now) call → KeepsTables old new
-    → (IsTold old.store.pages.disk → (state : State) → Shows old state → Shows new state) → IsCallOf (engine_view old n up) (engine_view new m up_now) call (Err NoMemory)
-lacks_behind was_up is_up goes keeps shows = comes_to was_up goes (record {
+-- Memory ran out behind calls of the session that left the committed tables and its states; no lock has changed.
+pub lacks_behind : {old new : RssParts} {n m : ℕ} {up up_now : Type 0} {call : Call} → may_lack_memory call ≡ true → up → up_now
+    → GoesOn (engine_view old n up) (engine_view new m up_now) call → KeepsTables old.session new.session
+    → (IsTold old.session.store.pages.disk → (state : State) → Shows old.session state → Shows new.session state) → new.locks.locks ≡ old.locks.locks → IsCallOf (engine_view old n up) (engine_view new m up_now) call (Err NoMemory)
+lacks_behind may was_up is_up goes keeps shows same = comes_to was_up goes (record {
+  may = may;
   unmade = λ told state is_in. keeps told state is_in.kept is_in.shows;
   up = is_up;
-  same = λ told state is_in. record { shows = shows told state is_in.shows; kept = is_in.kept };
+  same = λ told state is_in. record { shows = shows told state is_in.shows; locked = is_in.locked ∙ sym same; kept = is_in.kept };
 })
 
 -- It ran out before the store was touched.
-pub lacks_memory : {old new : SessionView} {n m : ℕ} {up up_now : Type 0} (call : Call) → up → up_now → new.store ≡ old.store → m ≤ n + 1
-    → ((state : State) → Shows old state → Shows new state) → IsCallOf (engine_view old n up) (engine_view new m up_now) call (Err NoMemory)
-lacks_memory {old = old} {new = new} call was_up is_up same calls shows = lacks_behind was_up is_up (goes_nowhere call same calls) (keeps_same old new same) (λ told. shows)
+pub lacks_memory : {old new : RssParts} {n m : ℕ} {up up_now : Type 0} (call : Call) → may_lack_memory call ≡ true → up → up_now → new.session.store ≡ old.session.store → m ≤ n + 1
+    → ((state : State) → Shows old.session state → Shows new.session state) → new.locks.locks ≡ old.locks.locks → IsCallOf (engine_view old n up) (engine_view new m up_now) call (Err NoMemory)
+lacks_memory {old = old} {new = new} call may was_up is_up same calls shows locked = lacks_behind may was_up is_up (goes_nowhere call same calls) (keeps_same old.session new.session same) (λ told. shows) locked
 
 -- By a fault of a call of the session, within a step that was on its way.
-pub failed_within : {T : Type 0} {old new : SessionView} {n m : ℕ} {up up_now : Type 0} {call : Call} {fault : PageFault} (result : Result Reply CallError) → IsErrAnd result (λ e. e ≡ page_error fault) → up → (up_now → ⊥)
-    → SessionGoesOn {T = T} old new (Err fault) → GoesOn (engine_view old n up) (engine_view new m up_now) call
-    → ((place : Place) → ◌≡◌ {A = Result T PageFault} (Err fault) (Err (PageDamaged place)) → IsTold old.store.pages.disk → (state : State) → IsIn old state → ⊥)
-    → (IsTold old.store.pages.disk → (state : State) → IsIn old state → IsStopped old.store.pages.disk new.store.pages.disk state call)
+pub failed_within : {T : Type 0} {old new : RssParts} {n m : ℕ} {up up_now : Type 0} {call : Call} {fault : PageFault} (result : Result Reply CallError) → IsErrAnd result (λ e. e ≡ page_error fault) → up → (up_now → ⊥)
+    → SessionGoesOn {T = T} old.session new.session (Err fault) → GoesOn (engine_view old n up) (engine_view new m up_now) call
+    → ((place : Place) → ◌≡◌ {A = Result T PageFault} (Err fault) (Err (PageDamaged place)) → IsTold old.session.store.pages.disk → (state : State) → IsIn old state → ⊥)
+    → (IsTold old.session.store.pages.disk → (state : State) → IsIn old state → IsStopped old.session.store.pages.disk new.session.store.pages.disk state call)
     → IsCallOf (engine_view old n up) (engine_view new m up_now) call result
 failed_within result is was_up down on goes sound stopped = failed result is was_up goes down (record {
   memory = λ same. on.memory (ap Err same);

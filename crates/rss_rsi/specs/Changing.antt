@@ -14,12 +14,12 @@ use Rattle.rss_model.specs.Rules.{if_no_room}
 use Rattle.rss_session.specs.Sessions.{SessionView}
 use Rattle.rss_session.specs.Shown.{Shows}
 use Rattle.rss_session.specs.Calls.{GoesOn, KeepsTables, Makes, MayNotMake}
-use Rattle.rss_rsi.specs.Views.{IsReady}
+use Rattle.rss_rsi.specs.Views.{RssParts, IsReady}
 
 -- A call is being made, the one of this number: before it another call could be made.
-pub record IsAsked (view : SessionView) (calls : ℕ) : Type 0 where
+pub record IsAsked (parts : RssParts) (calls : ℕ) : Type 0 where
   pub before : ℕ
-  pub ready : IsReady view before
+  pub ready : IsReady parts before
   pub counted : calls ≡ before + 1
 
 -- On a device that tells its contents the rules say this of each change of a transaction that this record tells, in each state in which the session may be.

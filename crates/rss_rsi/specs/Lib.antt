@@ -4,4 +4,6 @@ pub mod Changing
 pub mod RsiLaws
 pub mod Opening
 pub mod Definitions
+pub mod Locking
 pub mod Looking
+pub mod Placing

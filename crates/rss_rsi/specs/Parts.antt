@@ -4,9 +4,10 @@ use Rattle.rss_base.specs.declared.pages.Pages.{Ghosts as PagesGhosts}
 use Rattle.rss_buffer.specs.declared.saving.Saving.{Ghosts}
 use Rattle.rss_model.specs.Calls.{EngineView}
 use Rattle.rss_store.specs.declared.store.DurableStore.{DurableStore}
+use Rattle.rss_lock.specs.Table.{told}
 use Rattle.rss_session.specs.Sessions.{SessionView}
 use Rattle.rss_session.specs.Parts.{view as session_view}
-use Rattle.rss_rsi.specs.Views.{engine_view}
+use Rattle.rss_rsi.specs.Views.{RssParts, engine_view}
 use Rattle.rss_rsi.specs.declared.engine.Rss.{Rss}
 
 module _ {S : Type 0} {g : Ghosts S} {h : PagesGhosts S} where
@@ -22,6 +23,10 @@ module _ {S : Type 0} {g : Ghosts S} {h : PagesGhosts S} where
   abbrev pub session_of : Rss S g h → SessionView
   session_of store = session_view h.view store.session
 
+  -- with its locks
+  abbrev pub parts_of : Rss S g h → RssParts
+  parts_of store = record { session = session_of store; locks = told store.locks }
+
   -- what there is to see of it
   abbrev pub view : Rss S g h → EngineView
-  view store = engine_view (session_of store) store.calls (store.down ≡ false)
+  view store = engine_view (parts_of store) store.calls (store.down ≡ false)

@@ -7,13 +7,12 @@ use Rattle.rss_base.specs.declared.key.Space.TheVariants.{Overflow}
 use Rattle.rss_model.specs.Machine.{State}
 use Rattle.rss_model.specs.Store.{HoldsState}
 use Rattle.rss_model.proofs.Stores.{same_overflow}
-use Rattle.rss_session.specs.Sessions.{SessionView}
-use Rattle.rss_rsi.specs.Views.{IsIn}
+use Rattle.rss_rsi.specs.Views.{RssParts, IsIn}
 
 -- In each state that the store may be in, a stop leaves its committed tables; and behind a checkpoint, the overflow pages that it counts.
-pub opens_shown : {view : SessionView} {state : State} → IsIn view state
-    → ((image : Pages) → Leaves view.store.pages.disk image → HasFixed view.store.pages.fixed image) → (image : Pages) → Leaves view.store.pages.disk image → HoldsState image state
-opens_shown {view = view} {state = state} shown fixed image left =
+pub opens_shown : {parts : RssParts} {state : State} → IsIn parts state
+    → ((image : Pages) → Leaves parts.session.store.pages.disk image → HasFixed parts.session.store.pages.fixed image) → (image : Pages) → Leaves parts.session.store.pages.disk image → HoldsState image state
+opens_shown {state = state} shown fixed image left =
     let disk = shown.shows.store.disk in
     let store = disk.fixes image (fixed image left) in
     record {

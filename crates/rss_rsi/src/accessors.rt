@@ -62,6 +62,7 @@ impl<S: Saving> Rss<S> {
     {
         let Rss {
             session,
+            locks: _,
             calls: _,
             down: _,
             alloc: _,

@@ -4,6 +4,7 @@ ghost use Rattle.rss_base.specs.declared.call.Call.TheVariants.{Delete};
 ghost use Rattle.rss_model.specs.Calls.{calls_most};
 
 use crate::Rss;
+use crate::locking::Access;
 use crate::values::values_of;
 use rss_base::{CallError, Change, Name, Reply, Tid};
 use rss_buffer::Saving;
@@ -26,14 +27,15 @@ impl<S: Saving> Rss<S> {
     {
         self.ask()?;
         let number = self.session.admit(transaction, relation)?;
-        let values = self.find(number, relation, tid)?;
+        let found = self.find(transaction, number, relation, tid, Access::Change)?;
         let entry = self.session.store.catalog.relation(number);
         let change = Change::Delete {
             relation: number,
             tid,
-            values: values_of(entry.fields.as_slice(), &values),
+            values: values_of(entry.fields.as_slice(), &found.tuple),
         };
         self.change(transaction, change)?;
+        self.hold(transaction, found.needs);
         Ok(Reply::Ok)
     }
 }

@@ -4,6 +4,8 @@ ghost use Rattle.rss_tuple.proofs.Props.{AreHeaps-prop};
 ghost use Rattle.rss_model.proofs.Props.{system_or_heap-prop};
 ghost use Rattle.std.specs.Prelude.{◌≡◌, ◌+◌, ◌<◌, false, true, IfErr, OnOk};
 ghost use Rattle.rss_base.specs.declared.answer.CallError.TheVariants.{Down};
+ghost use Rattle.std.specs.FinMap.{empty};
+ghost use Rattle.rss_lock.specs.Table.{told};
 ghost use Rattle.rss_model.specs.Calls.{calls_most};
 ghost use Rattle.rss_session.proofs.Props.{AreRising-prop};
 ghost use Rattle.rss_session.specs.Parts.{view as session_view};
@@ -11,40 +13,51 @@ ghost use Rattle.rss_rsi.specs.Views.{IsReady};
 
 use rss_base::{Call, CallError, Reply};
 use rss_buffer::Saving;
+use rss_lock::Locks;
 use rss_model::Engine;
 use rss_session::Session;
 use std::alloc::Global;
 
-/// A store that is open: its tables and its log, with the transactions that are open in it.
+/// A store that is open: its tables and its log, with the transactions that are open in it and the
+/// locks that they hold.
 ///
 /// A transaction's changes go to the pages and to the log in memory at once, and are committed when
-/// it ends.
+/// it ends. Up to 32 are open at a time, and their calls come in any order: a call whose item another
+/// transaction holds is refused.
 ///
 /// Each call has a method of its own, which answers as `Engine` says. While a call changes pages the
 /// store counts as down, and so it stays where the call fails.
 pub struct Rss<S: Saving> {
     pub(crate) session: Session<S>,
+    /// What its transactions hold.
+    pub(crate) locks: Locks,
     /// How many calls it was asked for while it was up.
     pub(crate) calls: u32,
     /// A call has met a fault, or is changing pages.
     pub(crate) down: bool,
     pub(crate) alloc: Global,
     ghost ready: { down ≡ false
-        → IsReady (session_view S.view session) calls } by { Prim.hlevel (props, system_or_heap-prop, AreHeaps-prop, AreRising-prop) },
+        → IsReady (record { session = session_view S.view session; locks = told locks }) calls } by { Prim.hlevel (props, system_or_heap-prop, AreHeaps-prop, AreRising-prop) },
 }
 
 impl<S: Saving> Rss<S> {
-    ghost use Rattle.rss_rsi.specs.Parts.{session_of};
+    ghost use Rattle.rss_rsi.specs.Parts.{parts_of};
 
-    /// The store of a session. It is up, and was asked for no call as yet.
+    /// The store of a session in which no transaction is open. It is up, and was asked for no call as
+    /// yet.
     pub(crate) fn new(alloc: Global, session: Session<S>) -> Self
-        requires ready { IsReady (session_view S.view session) 0 }
+        requires ready { IsReady (record {
+          session = session_view S.view session;
+          locks = record { locks = empty; spare = 0 };
+        }) 0 }
         ensures session { result.session ≡ session }
+        ensures none_locked { (told result.locks).locks ≡ empty }
         ensures calls { result.calls ≡ 0 }
         ensures up { result.down ≡ false }
     {
         Rss {
             session,
+            locks: Locks::new(alloc),
             calls: 0,
             down: false,
             alloc,
@@ -57,7 +70,8 @@ impl<S: Saving> Rss<S> {
         ensures up { OnOk result (self.new.down ≡ false) }
         ensures counted { OnOk result (self.new.calls ≡ self.old.calls + 1) }
         ensures session { self.new.session ≡ self.old.session }
-        ensures ready { OnOk result (IsReady (session_of self.new) self.old.calls) }
+        ensures locks { self.new.locks ≡ self.old.locks }
+        ensures ready { OnOk result (IsReady (parts_of self.new) self.old.calls) }
         ensures was_up { OnOk result (self.old.down ≡ false) }
         ensures down { IfErr result (λ why. (why ≡ Down) × (self.old.down ≡ true)
             × (self.new ≡ self.old)) }
@@ -94,6 +108,7 @@ impl<S: Saving> Engine for Rss<S> {
                 self.update(*transaction, relation, *tid, tuple)
             }
             Call::Delete(transaction, relation, tid) => self.delete(*transaction, relation, *tid),
+            Call::Lock(transaction, item, exclusive) => self.lock(*transaction, item, *exclusive),
             Call::Checkpoint => self.checkpoint(),
             Call::MakeSegment(name) => self.make_segment(name),
             Call::MakeRelation(name, segment, fields) => self.make_relation(name, segment, fields),

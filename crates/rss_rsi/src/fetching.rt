@@ -4,6 +4,7 @@ ghost use Rattle.rss_base.specs.declared.call.Call.TheVariants.{Fetch};
 ghost use Rattle.rss_model.specs.Calls.{calls_most};
 
 use crate::Rss;
+use crate::locking::Access;
 use rss_base::{CallError, Name, Reply, Tid};
 use rss_buffer::Saving;
 
@@ -20,6 +21,8 @@ impl<S: Saving> Rss<S> {
     {
         self.ask()?;
         let number = self.session.admit(transaction, relation)?;
-        Ok(Reply::Tuple(self.find(number, relation, tid)?))
+        let found = self.find(transaction, number, relation, tid, Access::Read)?;
+        self.hold(transaction, found.needs);
+        Ok(Reply::Tuple(found.tuple))
     }
 }

@@ -4,8 +4,9 @@ ghost use Rattle.rss_base.specs.declared.call.Call.TheVariants.{Insert};
 ghost use Rattle.rss_model.specs.Calls.{calls_most};
 
 use crate::Rss;
+use crate::locking::Access;
 use crate::values::values_of;
-use rss_base::{CallError, Change, LimitKind, Name, Refusal, Reply, Tuple};
+use rss_base::{CallError, Change, Name, Reply, Tuple};
 use rss_buffer::Saving;
 
 impl<S: Saving> Rss<S> {
@@ -27,23 +28,28 @@ impl<S: Saving> Rss<S> {
         self.ask()?;
         let number = self.session.admit_tuple(transaction, relation, tuple)?;
         self.session.test_limit(number)?;
-        let entry = self.session.store.catalog.relation(number);
-        let segment = entry.segment;
-        let values = values_of(entry.fields.as_slice(), tuple);
+        let fields = self
+            .session
+            .store
+            .catalog
+            .relation(number)
+            .fields
+            .as_slice();
+        let values = values_of(fields, tuple);
         // The number of the relation stands before the values.
         let length = values.as_slice().len() as u16 + 1;
-        self.down = true;
-        let found = self.session.choose(segment, length)?;
-        self.down = false;
-        let Some(tid) = found else {
-            return Err(CallError::Refused(Refusal::Limit(LimitKind::Identifiers)));
+        let tid = self.place_for(transaction, number, length)?;
+        let Ok(needs) = self.tuple_needs(number, relation, tid, Access::Change) else {
+            return Err(CallError::NoMemory);
         };
+        let needs = self.claim(transaction, needs)?;
         let change = Change::Insert {
             relation: number,
             tid,
             values,
         };
         self.change(transaction, change)?;
+        self.hold(transaction, needs);
         Ok(Reply::Tid(tid))
     }
 }

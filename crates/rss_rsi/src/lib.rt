@@ -4,11 +4,13 @@
 
 mod accessors;
 mod changing;
+mod choosing;
 mod definitions;
 mod deleting;
 mod engine;
 mod fetching;
 mod inserting;
+mod locking;
 mod looking;
 mod opening;
 mod transactions;

@@ -1,37 +1,84 @@
 // What the calls on a tuple that is there begin with.
-ghost use Rattle.std.specs.Prelude.{◌≡◌, false, Some, None, Err, IfOk, IfErr, OnOk};
-ghost use Rattle.rss_base.specs.Listings.{IsNumberOf};
+ghost use Rattle.std.specs.Prelude.{◌≡◌, true, false, Some, None, Err, is_some, IfOk, IfErr, OnOk};
+ghost use Rattle.rss_base.specs.Listings.{IsNumberOf, relation_at};
 ghost use Rattle.rss_base.specs.declared.answer.CallError.TheVariants.{Refused, Damaged};
 ghost use Rattle.rss_base.specs.declared.place.Place.TheVariants.{Tuple as TuplePlace};
 ghost use Rattle.rss_base.specs.declared.refusal.Kind.TheVariants.{Relation as RelationKind};
 ghost use Rattle.rss_base.specs.declared.refusal.Refusal.TheVariants.{NoTuple};
 ghost use Rattle.rss_model.specs.ReplyText.{IsShort};
-ghost use Rattle.rss_rsi.specs.Looking.{LooksFor, Finds, EndsEach};
+ghost use Rattle.rss_trans.specs.Transactions.{is_open};
+ghost use Rattle.rss_rsi.specs.Looking.{MayLook, LooksFor, LooksUp, FindsHeld, FindsAny, EndsEach};
 
 use crate::Rss;
+use crate::locking::Access;
 use rss_access::tuple_of;
-use rss_base::{Body, CallError, Name, PAGE_ENTRIES, Place, Refusal, Tid, Tuple};
+use rss_base::{Body, CallError, Name, Need, PAGE_ENTRIES, Place, Refusal, Tid, Tuple};
 use rss_buffer::Saving;
 
-impl<S: Saving> Rss<S> {
-    ghost use Rattle.rss_rsi.specs.Parts.{view, session_of};
+/// A tuple, and the locks that the call needs that looks for it.
+#[derive(Drop)]
+pub(crate) struct Found {
+    pub(crate) tuple: Tuple,
+    pub(crate) needs: Vec<Need>,
+}
 
-    /// The tuple with this identifier of a relation, which has this number. Nothing is changed, and
-    /// the call that looks for it is refused where there is none.
-    pub(crate) fn find(&mut self, number: u8, relation: &Name, tid: Tid) -> Result<Tuple, CallError>
+impl<S: Saving> Rss<S> {
+    ghost use Rattle.rss_rsi.specs.Parts.{parts_of, session_of, view};
+
+    /// The tuple with this identifier of a relation, which has this number; with the locks that the
+    /// call needs, which are claimed. No tuple is changed. The call that looks for it is refused where
+    /// another transaction holds what it needs, and then where there is no such tuple; that refusal
+    /// keeps the locks.
+    pub(crate) fn find(
+        &mut self,
+        transaction: u32,
+        number: u8,
+        relation: &Name,
+        tid: Tid,
+        access: Access,
+    ) -> Result<Found, CallError>
         requires up { self.old.down ≡ false }
+        requires open { is_open (session_of self.old).opened transaction ≡ true }
         requires known { IsNumberOf RelationKind
             (session_of self.old).store.catalog.listing relation.now number }
         ensures up { OnOk result (self.new.down ≡ false) }
         ensures calls { OnOk result (self.new.calls ≡ self.old.calls) }
-        ensures finds { IfOk result
-            (Finds (session_of self.old) (session_of self.new) number relation.now tid) }
+        ensures finds { IfOk result (λ found. FindsHeld (parts_of self.old) (parts_of self.new)
+            transaction number relation.now tid access found.tuple found.needs.items) }
         ensures fails { IfErr result (λ why. EndsEach
-            (LooksFor (session_of self.old) relation.now tid) (view self.old) (view self.new)
+            (LooksFor (parts_of self.old) transaction relation.now tid access)
+            (view self.old) (view self.new) (Err why)) }
+    {
+        let found = self.look_up(number, tid)?;
+        let Ok(needs) = self.tuple_needs(number, relation, tid, access) else {
+            return Err(CallError::NoMemory);
+        };
+        let needs = self.claim(transaction, needs)?;
+        match found {
+            Some(tuple) => Ok(Found { tuple, needs }),
+            None => {
+                self.hold(transaction, needs);
+                Err(no_tuple(relation, tid))
+            }
+        }
+    }
+
+    /// The tuple with this identifier of the relation of this number, if there is one. Nothing is
+    /// changed.
+    fn look_up(&mut self, number: u8, tid: Tid) -> Result<Option<Tuple>, CallError>
+        requires up { self.old.down ≡ false }
+        requires known { is_some (relation_at (session_of self.old).store.catalog.listing number)
+            ≡ true }
+        ensures up { OnOk result (self.new.down ≡ false) }
+        ensures calls { OnOk result (self.new.calls ≡ self.old.calls) }
+        ensures locks { self.new.locks ≡ self.old.locks }
+        ensures looks { IfOk result (LooksUp (session_of self.old) (session_of self.new)) }
+        ensures finds { IfOk result (FindsAny (parts_of self.old) number tid) }
+        ensures fails { IfErr result (λ why. EndsEach MayLook (view self.old) (view self.new)
             (Err why)) }
     {
         if usize::from(tid.slot) >= PAGE_ENTRIES {
-            return Err(no_tuple(relation, tid));
+            return Ok(None);
         }
         let segment = self.session.store.catalog.relation(number).segment;
         let mut body = Body::new();
@@ -39,7 +86,7 @@ impl<S: Saving> Rss<S> {
         let there = self.session.look(segment, number, tid, &mut body)?;
         self.down = false;
         if !there {
-            return Err(no_tuple(relation, tid));
+            return Ok(None);
         }
         let entry = self.session.store.catalog.relation(number);
         let Ok(read) = tuple_of(self.alloc, number, entry.fields.as_slice(), body.as_slice()) else {
@@ -48,7 +95,7 @@ impl<S: Saving> Rss<S> {
         self.down = true;
         let tuple = test_read(read, segment, tid)?;
         self.down = false;
-        Ok(tuple)
+        Ok(Some(tuple))
     }
 }
 

@@ -79,6 +79,7 @@ impl<S: Saving> Rss<S> {
         self.session.test_open(transaction)?;
         self.down = true;
         self.session.commit(transaction)?;
+        self.locks.release_all(transaction);
         self.down = false;
         Ok(Reply::Ok)
     }
@@ -94,6 +95,7 @@ impl<S: Saving> Rss<S> {
         self.session.test_open(transaction)?;
         self.down = true;
         self.session.abort(transaction)?;
+        self.locks.release_all(transaction);
         self.down = false;
         Ok(Reply::Ok)
     }

@@ -4,6 +4,7 @@ ghost use Rattle.rss_base.specs.declared.call.Call.TheVariants.{Update};
 ghost use Rattle.rss_model.specs.Calls.{calls_most};
 
 use crate::Rss;
+use crate::locking::Access;
 use crate::values::values_of;
 use rss_base::{CallError, Change, Name, Reply, Tid, Tuple};
 use rss_buffer::Saving;
@@ -27,7 +28,7 @@ impl<S: Saving> Rss<S> {
     {
         self.ask()?;
         let number = self.session.admit_tuple(transaction, relation, tuple)?;
-        let values = self.find(number, relation, tid)?;
+        let found = self.find(transaction, number, relation, tid, Access::Change)?;
         let fields = self
             .session
             .store
@@ -38,10 +39,11 @@ impl<S: Saving> Rss<S> {
         let change = Change::Update {
             relation: number,
             tid,
-            from: values_of(fields, &values),
+            from: values_of(fields, &found.tuple),
             to: values_of(fields, tuple),
         };
         self.change(transaction, change)?;
+        self.hold(transaction, found.needs);
         Ok(Reply::Ok)
     }
 }

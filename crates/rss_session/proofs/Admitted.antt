@@ -74,15 +74,15 @@ module _ {view : SessionView} {state : State} (shows : Shows view state) where
 
   -- ---- begin
 
-  pub too_many : (t : ℕ) → is_open view.opened t ≡ false → 1 ≤ map.len view.opened.transactions → refusal state (Begin t) ≡ Some TooMany
+  pub too_many : (t : ℕ) → is_open view.opened t ≡ false → 32 ≤ map.len view.opened.transactions → refusal state (Begin t) ≡ Some TooMany
   too_many t closed many =
       goes_on _ (passes_if AlreadyOpen (closed_here t closed))
-      ∙ refuses_at [] (refuses_if TooMany (le-leb 1 (map.len state.marks) (omega (arith, many, count_same))))
+      ∙ refuses_at [] (refuses_if TooMany (le-leb 32 (map.len state.marks) (omega (arith, many, count_same))))
 
-  pub may_begin : (t : ℕ) → is_open view.opened t ≡ false → map.len view.opened.transactions < 1 → refusal state (Begin t) ≡ None
+  pub may_begin : (t : ℕ) → is_open view.opened t ≡ false → map.len view.opened.transactions < 32 → refusal state (Begin t) ≡ None
   may_begin t closed few =
       goes_on _ (passes_if AlreadyOpen (closed_here t closed))
-      ∙ goes_on [] (passes_if TooMany (lt-leb 1 (map.len state.marks) (omega (arith, few, count_same))))
+      ∙ goes_on [] (passes_if TooMany (lt-leb 32 (map.len state.marks) (omega (arith, few, count_same))))
 
   -- ---- the calls on a relation
 

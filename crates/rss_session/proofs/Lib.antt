@@ -1,6 +1,7 @@
 pub mod Marked
 pub mod Sums
 pub mod SavePoints
+pub mod StaysOpen
 pub mod Passing
 pub mod Noted
 pub mod Changed

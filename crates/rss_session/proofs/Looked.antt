@@ -1,7 +1,12 @@
 -- A look leaves the session as it was.
-use Rattle.std.proofs.Common.{◌≡◌, ℕ, true, Bool, List, [], refl, sym, ◌∙◌, ap, subst, arith}
-use Rattle.std.specs.Prelude.{Option, Some, None, Result, Ok, Err, IfOk, IfSome}
+use Rattle.std.proofs.Common.{◌≡◌, inl, inr, ℕ, true, Bool, List, refl, sym, ◌∙◌, ap, subst, arith}
+use Rattle.std.specs.Prelude.{Option, Some, None, Result, Ok, Err, IfOk, IfSome, ◌==◌, ◌&&◌}
+use Rattle.std.specs.Bool.{Decides}
+use Rattle.std.specs.Set.{is_member}
 use Rattle.rss_base.specs.DiskRule.{IsTold}
+use Rattle.std.proofs.lemmas.Bool.{cases_Bool}
+use Rattle.std.proofs.lemmas.Bool.Decides.{Decides-and, Decides-eqb, Decides-like, not_from_Decides}
+use Rattle.std.proofs.lemmas.Map.Made.{is_member-Decides}
 use Rattle.std.proofs.lemmas.Option.{none-some}
 use Rattle.rss_base.specs.Listings.{segment_at}
 use Rattle.rss_base.specs.Paged.{Held, Mapped, Fixed, Backing, HasFixed, mapped_of, mapped_pages, page_key}
@@ -10,7 +15,6 @@ use Rattle.rss_base.specs.StoredPages.{mapped_by}
 use Rattle.rss_base.specs.Steps.{PagesView, PassesOn, AreCounted}
 use Rattle.rss_base.specs.declared.key.Space.TheVariants.{Overflow, System}
 use Rattle.rss_base.specs.declared.fault.PageFault.{PageFault}
-use Rattle.rss_base.specs.declared.item.Item.TheVariants.{Tuple as TupleItem}
 use Rattle.rss_base.specs.declared.name.Name.{Name}
 use Rattle.rss_base.specs.declared.relation.RelationEntry.{RelationEntry}
 use Rattle.rss_base.specs.declared.root.Root.{Root}
@@ -21,7 +25,6 @@ use Rattle.rss_model.specs.Machine.{StoreSize, State, now}
 use Rattle.rss_model.specs.Spares.{page_counts, change_counts, HasRoomFor, IsInSession}
 use Rattle.rss_model.specs.Store.{IsListed, SpellsTables}
 use Rattle.rss_model.specs.Tables.{segment_of}
-use Rattle.rss_model.proofs.Keeping.{is_alone}
 use Rattle.rss_model.proofs.Listed.{listed, stands_within}
 use Rattle.rss_model.proofs.PlainStores.{contents_spelled}
 use Rattle.rss_model.proofs.StepKeeping.{kept_fit}
@@ -136,33 +139,49 @@ module _ {view : SessionView} {state : State} (shows : Shows view state) {segmen
   stands = stands_within (now state) shows.store.spells.listed shows.store.spells.defines number relation in_it.at its_segment.0 its_segment.1.within
 
 -- where a new tuple gets its identifier
-pub finds_place : {view : SessionView} {segment length : ℕ} {tid : Tid} → IsReady view → IsNameable view.store.pages.slots [] tid → (IsTold view.store.pages.disk → IsChosen view.store.pages segment length [] tid) → (IsTold view.store.pages.disk → body_at view.store.pages segment tid ≡ None) → IsPlace view segment length tid
-finds_place {view = view} {segment = segment} {tid = tid} ready named chosen absent = record {
-  named = named;
-  chosen = chosen;
-  free = λ told state number relation kept shows in_it t opened. record {
-    within = record { page = omega (arith, named.within, slots_shown ready shows); slot = named.low };
-    absent = λ other same.
-        none_beside shows.store.spells (kept_fit state kept).1 relation.segment (its_segment shows in_it).0 (its_segment shows in_it).1.within other (same ∙ stands shows in_it) tid
-        (ap (λ (s : ℕ). body_at view.store.pages s tid) in_it.within ∙ absent told);
-    alone = λ other u same apart. is_alone kept t opened u (TupleItem other tid) apart;
-  };
-}
+module _ (view : SessionView) (segment length : ℕ) (barred : List Tid) (ready : IsReady view) where
+  finds_place : {tid : Tid} → IsNameable view.store.pages.slots barred tid → (IsTold view.store.pages.disk → IsChosen view.store.pages segment length barred tid) → (IsTold view.store.pages.disk → body_at view.store.pages segment tid ≡ None) → IsPlace view segment length barred tid
+  finds_place {tid = tid} named chosen absent = record {
+    named = named;
+    chosen = chosen;
+    free = λ told state number relation kept shows in_it t alone. record {
+      within = record { page = omega (arith, named.within, slots_shown ready shows); slot = named.low };
+      absent = λ other same.
+          none_beside shows.store.spells (kept_fit state kept).1 relation.segment (its_segment shows in_it).0 (its_segment shows in_it).1.within other (same ∙ stands shows in_it) tid
+          (ap (λ (s : ℕ). body_at view.store.pages s tid) in_it.within ∙ absent told);
+      alone = alone;
+    };
+  }
 
-pub place_found : (view : SessionView) (segment length : ℕ) (result : Result (Option Tid) PageFault) → IsReady view → IfOk result (λ found. IfSome found (IsNameable view.store.pages.slots []))
-    → IfOk result (λ found. IfSome found (λ tid. IsTold view.store.pages.disk → IsFree (tuples_in view.store.pages) segment [] tid))
-    → IfOk result (λ found. IfSome found (λ tid. IsTold view.store.pages.disk → IsChosen view.store.pages segment length [] tid)) → IfOk result (FindsPlace view segment length)
-place_found view segment length (Ok None) ready named free chosen = tt
-place_found view segment length (Ok (Some tid)) ready named free chosen = finds_place ready named chosen (λ told. (free told).absent)
-place_found view segment length (Err fault) ready named free chosen = tt
+  pub place_found : (result : Result (Option Tid) PageFault) → IfOk result (λ found. IfSome found (IsNameable view.store.pages.slots barred))
+      → IfOk result (λ found. IfSome found (λ tid. IsTold view.store.pages.disk → IsFree (tuples_in view.store.pages) segment barred tid))
+      → IfOk result (λ found. IfSome found (λ tid. IsTold view.store.pages.disk → IsChosen view.store.pages segment length barred tid)) → IfOk result (FindsPlace view segment length barred)
+  place_found (Ok None) named free chosen = tt
+  place_found (Ok (Some tid)) named free chosen = finds_place named chosen (λ told. (free told).absent)
+  place_found (Err fault) named free chosen = tt
 
--- where no identifier of the segment is free in the pages, none is in the machine
-pub has_no_place : {view : SessionView} {segment : ℕ} → IsReady view → (IsTold view.store.pages.disk → NoneIs (IsFree (tuples_in view.store.pages) segment [])) → HasNoPlace view segment
-has_no_place {view = view} {segment = segment} ready none told state number relation kept shows in_it t tid free =
-    none told tid (record {
-      named = record { within = omega (arith, free.within.page, slots_shown ready shows); low = free.within.slot; allowed = λ has. omega (arith, has.1) };
-      absent = by (body_at view.store.pages segment tid) refl;
-    })
+-- whether two identifiers are one
+same_tid : Tid → Tid → Bool
+same_tid a b = (a.page == b.page) && (a.slot == b.slot)
+
+tid_decides : (a b : Tid) → Decides (same_tid a b) (a ≡ b)
+unfolding same_tid
+tid_decides a b = Decides-like (same_tid a b)
+    (λ (both : (a.page ≡ b.page) × (a.slot ≡ b.slot)) i. record { page = both.0 i; slot = both.1 i })
+    (λ same. (ap (λ (t : Tid). t.page) same, ap (λ (t : Tid). t.slot) same))
+    (Decides-and (a.page == b.page) (a.slot == b.slot) (Decides-eqb a.page b.page) (Decides-eqb a.slot b.slot))
+
+-- where no identifier of the segment that isn't barred is free in the pages, none is in the machine
+pub has_no_place : {view : SessionView} {segment : ℕ} {barred : List Tid} → IsReady view → (IsTold view.store.pages.disk → NoneIs (IsFree (tuples_in view.store.pages) segment barred)) → HasNoPlace view segment barred
+has_no_place {view = view} {segment = segment} {barred = barred} ready none told state number relation kept shows in_it t tid free =
+    let is_barred = is_member-Decides tid_decides barred tid in
+    elim (cases_Bool (is_member same_tid barred tid)) [
+      | inl is ↦ is_barred.0 is
+      | inr off ↦ absurd (none told tid (record {
+        named = record { within = omega (arith, free.within.page, slots_shown ready shows); low = free.within.slot; allowed = not_from_Decides _ is_barred off };
+        absent = by (body_at view.store.pages segment tid) refl;
+      }))
+    ]
   where
     by : (body : Option (List ℕ)) → body_at view.store.pages segment tid ≡ body → body ≡ None
     by None is = refl

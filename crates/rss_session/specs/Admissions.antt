@@ -1,6 +1,10 @@
 -- What a call is refused for by a test that looks neither at pages nor at room.
-use Rattle.std.specs.Prelude.{◌≡◌, Option, Some, None, Result, Ok, Err}
+use Rattle.std.specs.Prelude.{◌≡◌, ℕ, Option, Some, None, Result, Ok, Err}
 use Rattle.rss_base.specs.DiskRule.{IsTold}
+use Rattle.rss_base.specs.Listings.{Listing, IsNumberOf}
+use Rattle.rss_base.specs.declared.item.Item.{Item}
+use Rattle.rss_base.specs.declared.item.Item.TheVariants.{Segment as SegmentItem, Relation as RelationItem, Tuple as TupleItem, Chain as ChainItem, Key as KeyItem}
+use Rattle.rss_base.specs.declared.refusal.Kind.TheVariants.{Segment as SegmentKind, Relation as RelationKind}
 use Rattle.rss_base.specs.declared.refusal.Refusal.{Refusal}
 use Rattle.rss_model.specs.Machine.{State}
 use Rattle.rss_model.specs.ReplyText.{IsShort}
@@ -20,3 +24,11 @@ Refuses view test why = Says view test (Some why) × IsShort (Err why)
 abbrev pub Tests : {T : Type 0} → SessionView → (State → Option Refusal) → Result T Refusal → Type 0
 Tests view test (Ok value) = Says view test None
 Tests view test (Err why) = Refuses view test why
+
+-- the number is that of the segment, or of the relation
+abbrev pub IsGranuleOf : Listing → Item → ℕ → Type 0
+IsGranuleOf listing (SegmentItem name) number = IsNumberOf SegmentKind listing name number
+IsGranuleOf listing (RelationItem name) number = IsNumberOf RelationKind listing name number
+IsGranuleOf listing (TupleItem relation tid) number = ⊥
+IsGranuleOf listing (ChainItem link parent) number = ⊥
+IsGranuleOf listing (KeyItem image values) number = ⊥

@@ -1,5 +1,5 @@
 -- What the calls of a session leave.
-use Rattle.std.specs.Prelude.{◌≡◌, ◌↔◌, ◌⊎◌, ℕ, ◌+◌, ◌≤◌, List, [], length, take, slice_get, Option, Some, option_map, IfSome, IfNone, Result, IsErrOf}
+use Rattle.std.specs.Prelude.{◌≡◌, ◌↔◌, ◌⊎◌, ℕ, ◌+◌, ◌≤◌, true, List, [], length, take, slice_get, Option, Some, option_map, IfSome, IfNone, Result, IsErrOf}
 use Rattle.std.specs.FinMap as map
 use Rattle.rss_base.specs.DiskRule.{IsTold, Passes, Continues}
 use Rattle.rss_base.specs.Faults.{Rises}
@@ -16,7 +16,7 @@ use Rattle.rss_model.specs.Ruled.{HasBothRooms, ruled}
 use Rattle.rss_model.specs.Kept.{Kept, FitMixed}
 use Rattle.rss_model.specs.Steps.{IsOver, MayUndo, undone_to, left_at, restored, gone, committing, redefined}
 use Rattle.rss_model.specs.Store.{SpellsTables}
-use Rattle.rss_trans.specs.Transactions.{OpenView, Transaction, transaction_in, without_newest, count_at, Steps}
+use Rattle.rss_trans.specs.Transactions.{OpenView, Transaction, is_open, transaction_in, without_newest, count_at, Steps}
 use Rattle.rss_store.specs.Changing.{MayMake, IsOwnAt}
 use Rattle.rss_store.specs.Shown.{HoldsTables}
 use Rattle.rss_access.specs.Written.{heap_now, AreWritten}
@@ -35,6 +35,15 @@ NoMoreSaves old new =
 abbrev pub OneSaveMore : SessionView → SessionView → Type 0
 OneSaveMore old new =
     (t : ℕ) → length (transaction_in new.opened t).saves ≤ length (transaction_in old.opened t).saves + 1
+
+-- who was open still is
+abbrev pub StayOpen : SessionView → SessionView → Type 0
+StayOpen old new = (t : ℕ) → is_open old.opened t ≡ true → is_open new.opened t ≡ true
+
+-- and so is each transaction but this one
+abbrev pub OthersStayOpen : ℕ → SessionView → SessionView → Type 0
+OthersStayOpen t old new =
+    (u : ℕ) → (u ≡ t → ⊥) → is_open old.opened u ≡ true → is_open new.opened u ≡ true
 
 -- By the result: the device tells its contents and its history as before, each failure of it has its cause, and memory never runs out. The store has its size, and no transaction more save points.
 pub record GoesOn {T : Type 0} (old new : SessionView) (result : Result T PageFault) : Type 0 where

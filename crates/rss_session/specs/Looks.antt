@@ -1,11 +1,12 @@
 -- What a look at tuples finds, and what it passes on.
-use Rattle.std.specs.Prelude.{◌≡◌, ℕ, Bool, true, false, List, [], Option, Some, None, IfSome, Result, Err, OnOk}
+use Rattle.std.specs.Prelude.{◌≡◌, ℕ, Bool, true, false, List, Option, Some, None, IfSome, Result, Err, OnOk, Contains}
 use Rattle.rss_base.specs.DiskRule.{IsTold}
 use Rattle.rss_base.specs.Listings.{relation_at}
 use Rattle.rss_base.specs.TupleTypes.{kinds}
 use Rattle.rss_base.specs.declared.fault.PageFault.{PageFault}
 use Rattle.rss_base.specs.declared.fault.PageFault.TheVariants.{Damaged}
 use Rattle.rss_base.specs.declared.item.Item.TheVariants.{Tuple}
+use Rattle.rss_base.specs.declared.name.Name.{Name}
 use Rattle.rss_base.specs.declared.place.Place.{Place}
 use Rattle.rss_base.specs.declared.relation.RelationEntry.{RelationEntry}
 use Rattle.rss_base.specs.declared.tid.Tid.{Tid}
@@ -13,9 +14,10 @@ use Rattle.rss_base.specs.declared.value.Value.{Value}
 use Rattle.rss_tuple.specs.Placing.{IsNameable, IsChosen}
 use Rattle.rss_model.specs.Items.{Values}
 use Rattle.rss_model.specs.Kept.{Kept}
+use Rattle.rss_model.specs.Locks.{held}
 use Rattle.rss_model.specs.Machine.{State, now}
-use Rattle.rss_model.specs.Steps.{is_open, IsFree}
-use Rattle.rss_model.specs.Tables.{content}
+use Rattle.rss_model.specs.Steps.{IsFree}
+use Rattle.rss_model.specs.Tables.{content, segment_of}
 use Rattle.rss_access.specs.Bodies.{IsBodyOf}
 use Rattle.rss_session.specs.Sessions.{SessionView, IsReady}
 use Rattle.rss_session.specs.Shown.{Shows}
@@ -31,6 +33,11 @@ pub record LooksOn {T : Type 0} (old new : SessionView) (result : Result T PageF
   pub sound : (place : Place) → result ≡ Err (Damaged place) → IsTold old.store.pages.disk → ⊥
   pub moments : KeepsTables old new
   pub goes : GoesOn old new result
+
+-- the pages hold what they held
+pub record KeepsPages (old new : SessionView) : Type 0 where
+  pub mapped : new.store.pages.mapped ≡ old.store.pages.mapped
+  pub held : IsTold old.store.pages.disk → new.store.pages.held ≡ old.store.pages.held
 
 -- the relation of this number, and this segment, is listed
 pub record IsRelationIn (view : SessionView) (segment number : ℕ) (relation : RelationEntry) : Type 0 where
@@ -51,22 +58,28 @@ pub record FindsTuple (view : SessionView) (segment number : ℕ) (tid : Tid) (t
       → IsRelationIn view segment number relation
       → content (now state).contents (Tuple relation.name tid) ≡ None
 
--- The identifier is the one that the placing rule names, and it is free for a new tuple of any relation of the segment, whichever transaction it is of.
-pub record IsPlace (view : SessionView) (segment length : ℕ) (tid : Tid) : Type 0 where
-  pub named : IsNameable view.store.pages.slots [] tid
-  pub chosen : IsTold view.store.pages.disk → IsChosen view.store.pages segment length [] tid
+-- no other transaction holds a tuple of the relation's segment with this identifier
+abbrev pub IsAloneAt : State → ℕ → Name → Tid → Type 0
+IsAloneAt state t relation tid =
+    (other : Name) (u : ℕ) → segment_of state.base other ≡ segment_of state.base relation
+    → (u ≡ t → ⊥) → held state.locks u (Tuple other tid) ≡ None
+
+-- The identifier is the one that the placing rule names where these are barred. It is free for a new tuple of any relation of the segment, where no other transaction holds one that has it.
+pub record IsPlace (view : SessionView) (segment length : ℕ) (barred : List Tid) (tid : Tid) : Type 0 where
+  pub named : IsNameable view.store.pages.slots barred tid
+  pub chosen : IsTold view.store.pages.disk → IsChosen view.store.pages segment length barred tid
   pub free : IsTold view.store.pages.disk
       → (state : State) (number : ℕ) (relation : RelationEntry) → Kept state → Shows view state
       → IsRelationIn view segment number relation
-      → (t : ℕ) → is_open state t ≡ true → IsFree state t relation.name tid
+      → (t : ℕ) → IsAloneAt state t relation.name tid → IsFree state t relation.name tid
 
-abbrev pub FindsPlace : SessionView → ℕ → ℕ → Option Tid → Type 0
-FindsPlace view segment length found = IfSome found (IsPlace view segment length)
+abbrev pub FindsPlace : SessionView → ℕ → ℕ → List Tid → Option Tid → Type 0
+FindsPlace view segment length barred found = IfSome found (IsPlace view segment length barred)
 
--- none is
-abbrev pub HasNoPlace : SessionView → ℕ → Type 0
-HasNoPlace view segment =
+-- what is free is barred
+abbrev pub HasNoPlace : SessionView → ℕ → List Tid → Type 0
+HasNoPlace view segment barred =
     IsTold view.store.pages.disk
     → (state : State) (number : ℕ) (relation : RelationEntry) → Kept state → Shows view state
     → IsRelationIn view segment number relation
-    → (t : ℕ) (tid : Tid) → IsFree state t relation.name tid → ⊥
+    → (t : ℕ) (tid : Tid) → IsFree state t relation.name tid → Contains barred tid

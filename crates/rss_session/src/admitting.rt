@@ -7,26 +7,31 @@ ghost use Rattle.rss_base.specs.Listings.{relation_at, IsNumberOf};
 ghost use Rattle.rss_base.specs.declared.call.Call.TheVariants.{Begin};
 ghost use Rattle.rss_base.specs.declared.refusal.Kind.TheVariants.{Relation as RelationKind};
 ghost use Rattle.rss_base.specs.declared.relation.RelationEntry.{RelationEntry as Entry};
-ghost use Rattle.rss_model.specs.Defining.{if_any_open};
-ghost use Rattle.rss_model.specs.Refusals.{unless_saved};
+ghost use Rattle.rss_model.specs.Defining.{IsGranule, if_any_open};
+ghost use Rattle.rss_model.specs.Refusals.{unless_granule, unless_saved};
 ghost use Rattle.rss_model.specs.Steps.{unless_open, admission, value_admission, if_used_up};
 ghost use Rattle.rss_model.specs.Steps.{refusal};
 ghost use Rattle.rss_trans.specs.Transactions.{is_open, transaction_in};
-ghost use Rattle.rss_session.specs.Admissions.{Tests};
+ghost use Rattle.rss_session.specs.Admissions.{IsGranuleOf, Tests};
 
 use crate::Session;
-use rss_base::{Kind, LimitKind, Name, Refusal, Tuple};
+use rss_base::{Item, Kind, LimitKind, MARKS_MOST, Name, Refusal, Tuple};
 use rss_buffer::Saving;
 use rss_store::TUPLES_MOST;
 use rss_value::fits;
-
-/// So many transactions may be open.
-const MOST_OPEN: u32 = 1;
 
 impl<S: Saving> Session<S> {
     ghost use Rattle.rss_session.specs.Parts.{view};
 
     // ---- transactions
+
+    /// How many transactions are open.
+    pub fn open_count(&self) -> u32
+        ensures is { result ≡ len (view S.view self.now).opened.transactions }
+        ensures most { result ≤ 32 }
+    {
+        self.open.count()
+    }
 
     /// No transaction is open.
     pub fn test_rest(&self) -> Result<(), Refusal>
@@ -39,7 +44,7 @@ impl<S: Saving> Session<S> {
         }
     }
 
-    /// The transaction may begin.
+    /// The transaction may begin. So many may be open as a checkpoint has marks for.
     pub fn test_begin(&self, transaction: u32) -> Result<(), Refusal>
         ensures closed { OnOk result (is_open (view S.view self.now).opened transaction ≡ false) }
         ensures few { OnOk result (len (view S.view self.now).opened.transactions < 32) }
@@ -49,7 +54,7 @@ impl<S: Saving> Session<S> {
         if self.open.is_open(transaction) {
             return Err(Refusal::AlreadyOpen);
         }
-        if self.open.count() >= MOST_OPEN {
+        if self.open.count() >= MARKS_MOST as u32 {
             return Err(Refusal::TooMany);
         }
         Ok(())
@@ -78,6 +83,26 @@ impl<S: Saving> Session<S> {
             return Err(Refusal::NoSave);
         }
         Ok(())
+    }
+
+    // ---- locks
+
+    /// What is to be locked, a segment or a relation, is there. Answers its number.
+    pub fn test_granule(&self, item: &Item) -> Result<u8, Refusal>
+        requires { IsGranule item.now }
+        ensures known { IfOk result
+            (IsGranuleOf (view S.view self.now).store.catalog.listing item.now) }
+        ensures tests { Tests (view S.view self.now) (λ state. unless_granule state item.now) result }
+    {
+        let (kind, name) = match item {
+            Item::Segment(name) => (Kind::Segment, name),
+            Item::Relation(name) => (Kind::Relation, name),
+            Item::Tuple(..) | Item::Chain(..) | Item::Key(..) => unreachable!(),
+        };
+        match self.store.catalog.find(kind, name) {
+            Some(number) => Ok(number),
+            None => Err(Refusal::NoSuch(kind)),
+        }
     }
 
     // ---- tuples

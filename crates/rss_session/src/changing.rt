@@ -11,7 +11,7 @@ ghost use Rattle.rss_access.specs.Changes.{IsTupleRecord, number_told};
 ghost use Rattle.rss_session.specs.Changes.{is_delete_told};
 ghost use Rattle.rss_session.specs.Sessions.{IsReady, IsEarly};
 ghost use Rattle.rss_session.specs.Weighing.{weighed, RulesSo};
-ghost use Rattle.rss_session.specs.Calls.{GoesOn, NoMoreSaves, Appends, KeepsTables, Makes, MayNotMake};
+ghost use Rattle.rss_session.specs.Calls.{GoesOn, NoMoreSaves, StayOpen, Appends, KeepsTables, Makes, MayNotMake};
 ghost use Rattle.rss_session.specs.Shown.{Shows};
 ghost use Rattle.rss_model.specs.Machine.{State};
 ghost use Rattle.rss_model.specs.ReplyText.{IsShort};
@@ -52,7 +52,7 @@ impl<S: Saving> Session<S> {
         requires open { is_open (view S.view self.old).opened transaction ≡ true }
         ensures ready { IsReady (view S.view self.new) }
         ensures place { OnOk result (1 ≤ (view S.view self.new).opened.room transaction) }
-        ensures open { is_open (view S.view self.new).opened transaction ≡ true }
+        ensures stay { StayOpen (view S.view self.old) (view S.view self.new) }
         ensures shows { (state : State) → Shows (view S.view self.old) state
             → Shows (view S.view self.new) state }
         ensures weighs { (size : ℕ) → weighed (view S.view self.new) transaction size
@@ -64,8 +64,7 @@ impl<S: Saving> Session<S> {
     }
 
     /// Makes a change of a tuple, behind a checkpoint where the rules ask for one, as `weigh_change`
-    /// says. It
-    /// takes no memory but what `reserve` took.
+    /// says. It takes no memory but what `reserve` took.
     ///
     /// Where the tuple isn't as the change tells it, which no device shows that tells its contents, the
     /// fault is `Damaged`.
@@ -90,6 +89,7 @@ impl<S: Saving> Session<S> {
             → IsTold (view S.view self.old).store.pages.disk
             → MayNotMake (view S.view self.old) transaction change }
         ensures moments { KeepsTables (view S.view self.old) (view S.view self.new) }
+        ensures stay { OnOk result (StayOpen (view S.view self.old) (view S.view self.new)) }
         ensures appends { Appends (longest_record + largest_checkpoint)
             (view S.view self.old) (view S.view self.new) }
         ensures goes { GoesOn (view S.view self.old) (view S.view self.new) result }
@@ -118,6 +118,7 @@ impl<S: Saving> Session<S> {
             → IsTold (view S.view self.old).store.pages.disk
             → MayNotMake (view S.view self.old) transaction change }
         ensures moments { KeepsTables (view S.view self.old) (view S.view self.new) }
+        ensures stay { OnOk result (StayOpen (view S.view self.old) (view S.view self.new)) }
         ensures appends { Appends longest_record (view S.view self.old) (view S.view self.new) }
         ensures goes { GoesOn (view S.view self.old) (view S.view self.new) result }
     {

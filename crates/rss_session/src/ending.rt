@@ -12,7 +12,7 @@ ghost use Rattle.rss_trans.specs.Transactions.{is_open, transaction_in};
 ghost use Rattle.rss_store.specs.Commits.{IsEndPlace, new_pieces};
 ghost use Rattle.rss_session.specs.Sessions.{IsReady, IsEarly};
 ghost use Rattle.rss_session.specs.Shown.{Shows};
-ghost use Rattle.rss_session.specs.Calls.{GoesOn, NoMoreSaves, OneSaveMore, Appends, CommitsTables};
+ghost use Rattle.rss_session.specs.Calls.{GoesOn, NoMoreSaves, OneSaveMore, StayOpen, OthersStayOpen, Appends, CommitsTables};
 ghost use Rattle.rss_session.specs.Calls.{HasMarks};
 
 use crate::Session;
@@ -34,6 +34,7 @@ impl<S: Saving> Session<S> {
         ensures same { OnErr result ((state : State) → Shows (view S.view self.old) state
             → Shows (view S.view self.new) state) }
         ensures saves { NoMoreSaves (view S.view self.old) (view S.view self.new) }
+        ensures stay { StayOpen (view S.view self.old) (view S.view self.new) }
         ensures store { self.new.store ≡ self.old.store }
     {
         self.open.begin(transaction)
@@ -52,6 +53,7 @@ impl<S: Saving> Session<S> {
         ensures same { OnErr result ((state : State) → Shows (view S.view self.old) state
             → Shows (view S.view self.new) state) }
         ensures more { OneSaveMore (view S.view self.old) (view S.view self.new) }
+        ensures stay { StayOpen (view S.view self.old) (view S.view self.new) }
         ensures store { self.new.store ≡ self.old.store }
     {
         self.open.save(transaction)
@@ -85,6 +87,7 @@ impl<S: Saving> Session<S> {
             ≡ (view S.view self.old).store.pages.asks }
         ensures still { length (transaction_in (view S.view self.old).opened transaction).changes ≡ 0
             → self.new.store ≡ self.old.store }
+        ensures others { OthersStayOpen transaction (view S.view self.old) (view S.view self.new) }
         ensures appends { Appends end_size (view S.view self.old) (view S.view self.new) }
         ensures goes { GoesOn (view S.view self.old) (view S.view self.new) result }
     {

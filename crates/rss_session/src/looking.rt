@@ -5,7 +5,7 @@ ghost use Rattle.rss_base.specs.Listings.{relation_at};
 ghost use Rattle.rss_base.specs.Runs.{run_pages};
 ghost use Rattle.rss_base.specs.declared.relation.RelationEntry.{RelationEntry as AnyEntry};
 ghost use Rattle.rss_session.specs.Sessions.{IsReady};
-ghost use Rattle.rss_session.specs.Looks.{LooksOn, FindsTuple, FindsPlace, HasNoPlace};
+ghost use Rattle.rss_session.specs.Looks.{LooksOn, KeepsPages, FindsTuple, FindsPlace, HasNoPlace};
 ghost use Rattle.rss_tuple.specs.Calls.{MayPut};
 
 use crate::Session;
@@ -39,15 +39,23 @@ impl<S: Saving> Session<S> {
         find(&mut self.store.tuples, segment, number, tid, into)
     }
 
-    /// The identifier that a new tuple gets in a segment, with a body of this length, if one is free.
-    pub fn choose(&mut self, segment: u8, length: u16) -> Result<Option<Tid>, PageFault>
+    /// The identifier that a new tuple gets in a segment, with a body of this length: one that no tuple
+    /// of the segment has and that isn't barred, if there is one.
+    pub fn choose(
+        &mut self,
+        segment: u8,
+        length: u16,
+        barred: &[Tid],
+    ) -> Result<Option<Tid>, PageFault>
         requires ready { IsReady (view S.view self.old) }
         requires may { MayPut segment length }
         ensures looks { LooksOn (view S.view self.old) (view S.view self.new) result }
-        ensures finds { IfOk result (λ found. FindsPlace (view S.view self.old) segment length found) }
+        ensures pages { KeepsPages (view S.view self.old) (view S.view self.new) }
+        ensures finds { IfOk result (λ found.
+            FindsPlace (view S.view self.old) segment length barred.now found) }
         ensures none { IfOk result (λ found. found ≡ None
-            → HasNoPlace (view S.view self.old) segment) }
+            → HasNoPlace (view S.view self.old) segment barred.now) }
     {
-        self.store.tuples.choose(segment, length, &[])
+        self.store.tuples.choose(segment, length, barred)
     }
 }

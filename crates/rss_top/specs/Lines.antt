@@ -70,7 +70,7 @@ abbrev pub IsCallEnd : EngineView → EngineView → Call → Result Answer Stat
 IsCallEnd old new call (Ok answer) = IsAnswer old new call answer
 IsCallEnd old new call (Err DeviceFault) = IsFault old new call
 IsCallEnd old new call (Err (Damaged place)) = IsDamaged old new
-IsCallEnd old new call (Err NoMemory) = IsUnanswered old new
+IsCallEnd old new call (Err NoMemory) = IsUnanswered old new call
 IsCallEnd old new call (Err status) = ⊥
 
 pub record IsAsked (old new : EngineView) (call : Call) (result : Result Answer Status)

@@ -79,7 +79,8 @@ impl Open {
 
     /// How many transactions are open.
     pub fn count(&self) -> u32
-        ensures { result ≡ len (told self.now).transactions }
+        ensures is { result ≡ len (told self.now).transactions }
+        ensures most { result ≤ 32 }
     {
         self.keys.len() as u32
     }

@@ -15,5 +15,6 @@ pub mod Moved
 pub mod Fitting
 pub mod Walks
 pub mod Chosen
+pub mod Barred
 pub mod Inserted
 pub mod Props

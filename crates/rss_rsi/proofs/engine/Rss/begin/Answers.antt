@@ -1,23 +1,29 @@
-use Rattle.std.proofs.Common.{ap, arith}
+use Rattle.std.proofs.Common.{refl, ap, arith}
 use Rattle.rss_model.proofs.Endings.{comes_to}
 use Rattle.rss_store.specs.Parts.{view as store_view}
-use Rattle.rss_session.specs.Parts.{view as session_view}
 use Rattle.rss_rsi.proofs.TransactionSteps.{begin_leads}
-use Rattle.rss_rsi.proofs.Ways.{asked, answers, goes_nowhere, refused_test}
+use Rattle.rss_rsi.proofs.Ways.{asked, answers, goes_nowhere, lacks_memory, refused_test}
 use Rattle.rss_rsi.proofs.engine.Rss.begin.Goals as goal
 
 pub returns-in_err-test_begin-clause-did : goal.returns-in_err-test_begin-clause-did
 returns-in_err-test_begin-clause-did g c =
     let asked_so = c.in_ok-ask.ensures in
     let tests = c.in_err-test_begin.ensures.tests in
-    asked (ap (session_view g.S.Pages.view) asked_so.session)
-    (refused_test _ c.from_residual-in_err-test_begin.ensures.1 asked_so.was_up asked_so.up (omega (arith, asked_so.counted)) tests.1 tests.0)
+    asked g.S.Pages.view asked_so.session asked_so.locks
+    (refused_test _ c.from_residual-in_err-test_begin.ensures.1 asked_so.was_up asked_so.up (omega (arith, asked_so.counted)) tests.1 (λ tables. refl) tests.0)
 
 pub returns-clause-did : goal.returns-clause-did
 returns-clause-did g c =
     let asked_so = c.in_ok-ask.ensures in
     let begun = c.in-Ok.ensures in
     let same = ap (store_view g.S.Pages.view) begun.store in
-    asked (ap (session_view g.S.Pages.view) asked_so.session)
+    asked g.S.Pages.view asked_so.session asked_so.locks
     (comes_to asked_so.was_up (goes_nowhere _ same (omega (arith, asked_so.counted)))
-    (answers asked_so.up (omega arith) (λ told. tt) (begin_leads _ _ c.args.transaction same c.in_ok-test_begin.ensures.tests begun.begins)))
+    (answers asked_so.up (omega arith) (λ told state is_in. tt) (begin_leads _ _ c.args.transaction same refl c.in_ok-test_begin.ensures.tests begun.begins)))
+
+pub returns-in_default-clause-did : goal.returns-in_default-clause-did
+returns-in_default-clause-did g c =
+    let asked_so = c.in_ok-ask.ensures in
+    let lacks = c.in_default.ensures in
+    asked g.S.Pages.view asked_so.session asked_so.locks
+    (lacks_memory _ refl asked_so.was_up asked_so.up (ap (store_view g.S.Pages.view) lacks.store) (omega (arith, asked_so.counted)) lacks.same refl)

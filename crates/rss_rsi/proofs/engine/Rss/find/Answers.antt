@@ -1,57 +1,57 @@
-use Rattle.std.proofs.Common.{List, ◌≤◌, arith, sym, ap, subst, refl}
-use Rattle.std.specs.Prelude.{Ok, is_some}
-use Rattle.rss_base.specs.TupleTypes.{kinds, width, most_width}
-use Rattle.rss_base.specs.declared.field.FieldDef.{FieldDef}
-use Rattle.rss_model.proofs.Lengths.{tuple_line}
-use Rattle.rss_rsi.proofs.Looks.{look_fails, lacks_at_once, lacks_tuple, lacks_looked, reads_none, none_there, some_there, none_spelled, looks_as, body_as, body_fits}
-use Rattle.rss_access.proofs.Numbered.{entry_at}
+use Rattle.std.proofs.Common.{List, Vec, Global, refl, sym, ◌∙◌, ap, arith, subst}
+use Rattle.rss_base.specs.declared.need.Need.{Need}
+use Rattle.rss_lock.specs.Table.{told}
+use Rattle.rss_lock.specs.declared.locks.Locks.{Locks as LockTable}
+use Rattle.rss_model.specs.Locks.{granted}
+use Rattle.rss_model.specs.Tables.{Tables}
+use Rattle.rss_rsi.specs.Locking.{accessing, Lists, IsClaimed}
+use Rattle.rss_rsi.specs.Parts.{parts_of, session_of}
+use Rattle.rss_rsi.proofs.Claims.{claimed_from}
+use Rattle.rss_rsi.proofs.Looks.{passed_on, each_looks, looks_as, still_looked, lists_before, lacks_looked, claim_lost, lacks_tuple}
 use Rattle.rss_rsi.proofs.engine.Rss.find.Goals as goal
 
-pub relation-requires : goal.relation-requires
-relation-requires g c = ap is_some (entry_at c.args.self.now.session.store.catalog.listing c.args.relation.now c.args.number c.requires.known).at
-
-pub returns-then-from-ge-PAGE_ENTRIES-clause-fails : goal.returns-then-from-ge-PAGE_ENTRIES-clause-fails
-returns-then-from-ge-PAGE_ENTRIES-clause-fails g c = λ calls call counted first.
-    lacks_at_once first (λ low. absurd (omega (arith, low, c.if-from-ge-PAGE_ENTRIES.true, c.from.ensures))) counted c.no_tuple.result c.no_tuple.ensures.is c.requires.up c.requires.up c.no_tuple.ensures.short
-
-pub returns-in_err-there-clause-fails : goal.returns-in_err-there-clause-fails
-returns-in_err-there-clause-fails g c =
-    let look = c.in_err-there.ensures in
-    look_fails look.looks (record { asks_high = look.costs.0; writes_high = look.costs.1 }) _ _ _ c.from_residual.result c.from_residual.ensures.1 c.requires.up (λ up. absurd (cc (up)))
-
-pub returns-then-not-there-clause-fails : goal.returns-then-not-there-clause-fails
-returns-then-not-there-clause-fails g c = λ calls call counted first.
-    let look = c.in_ok-there.ensures in
-    lacks_tuple look.looks (record { asks_high = look.costs.0; writes_high = look.costs.1 }) first counted c.no_tuple-then-not-there.result c.no_tuple-then-not-there.ensures.is c.requires.up refl c.no_tuple-then-not-there.ensures.short
-    (none_there c.args.relation.now c.args.number c.requires.known c.relation.ensures.is look.finds c.if-not-there.true)
+pub returns-in_err-found-clause-fails : goal.returns-in_err-found-clause-fails
+returns-in_err-found-clause-fails g c = passed_on c.from_residual.result c.from_residual.ensures.1 (each_looks c.in_err-found.ensures.fails)
 
 pub returns-in_default-clause-fails : goal.returns-in_default-clause-fails
 returns-in_default-clause-fails g c = λ calls call counted first.
-    let look = c.in_ok-there.ensures in
-    lacks_looked {result = Ok c.in_ok-there.there} look.looks (record { asks_high = look.costs.0; writes_high = look.costs.1 }) first counted c.requires.up refl
+    let looked = c.in_ok-found.ensures in
+    lacks_looked looked.looks.looks looked.looks.costs first.may (omega (arith, counted, looked.calls)) c.requires.up looked.up (ap (λ (t : LockTable). (told t).locks) looked.locks)
 
-pub returns-in_err-tuple-clause-fails : goal.returns-in_err-tuple-clause-fails
-returns-in_err-tuple-clause-fails g c =
-    let look = c.in_ok-there.ensures in
-    let damaged = c.in_err-tuple.ensures.damaged in
-    reads_none {found = Ok c.in_ok-there.there} look.looks (record { asks_high = look.costs.0; writes_high = look.costs.1 }) _ _ _ c.from_residual-in_err-tuple.result _ c.from_residual-in_err-tuple.ensures.1 damaged.0 c.requires.up (λ up. absurd (cc (up))) (λ told state is_in.
-    none_spelled c.args.relation.now c.args.number c.requires.known c.relation.ensures.is look.finds c.in-Ok.read
-    (λ values body. c.in-Ok.ensures.exact values (body_as look.looks.catalog c.relation.ensures.is c.relation-entry.ensures.is c.as_slice.ensures c.as_slice-2.ensures.bytes values body))
-    c.if-not-there.false told state is_in damaged.1)
+pub returns-in_err-needs-clause-fails : goal.returns-in_err-needs-clause-fails
+returns-in_err-needs-clause-fails g c =
+    let looked = c.in_ok-found.ensures in
+    let claim = c.claim.ensures in
+    let same = ap (λ (t : LockTable). (told t).locks) looked.locks in
+    passed_on c.from_residual-in_err-needs.result c.from_residual-in_err-needs.ensures.1 (λ calls call counted first.
+    claim_lost first (lists_before (parts_of c.args.self.now) (parts_of c.look_up.new.self) (λ (tables : Tables). accessing tables c.args.access c.args.relation.now c.args.tid) looked.looks.looks same c.in-Ok.ensures.lists)
+    (parts_of c.claim.new.self) (still_looked g.S.Pages.view (session_of c.args.self.now) claim.session looked.looks) (omega (arith, counted, looked.calls, claim.calls)) c.requires.up (claim.down ∙ looked.up)
+    (Vec Need Global) (told c.look_up.new.self.locks) (told c.claim.new.self.locks) (claim.locks ∙ same) same c.in_err-needs.ensures.ends)
 
-pub returns-clause-finds : goal.returns-clause-finds
-returns-clause-finds g c =
-    let look = c.in_ok-there.ensures in
-    let spelled = rw c.in_ok-tuple.ensures.some at c.in-Ok.ensures.some in
+pub returns-in-Some-clause-finds : goal.returns-in-Some-clause-finds
+returns-in-Some-clause-finds g c =
+    let looked = c.in_ok-found.ensures in
+    let claim = c.in_ok-needs.ensures in
+    let same = ap (λ (t : LockTable). (told t).locks) looked.locks in
+    let wanted = λ (tables : Tables). accessing tables c.args.access c.args.relation.now c.args.tid in
     record {
-      looks = looks_as c.in_ok-tuple.tuple look.looks;
-      asks_high = look.costs.0;
-      writes_high = look.costs.1;
-      has = λ told state is_in. some_there c.args.relation.now c.args.number c.requires.known c.relation.ensures.is look.finds c.in-Ok.read
-          (λ values body. c.in-Ok.ensures.exact values (body_as look.looks.catalog c.relation.ensures.is c.relation-entry.ensures.is c.as_slice.ensures c.as_slice-2.ensures.bytes values body))
-          c.if-not-there.false told state is_in c.in_ok-tuple.tuple c.in_ok-tuple.ensures.some;
-      fit = body_fits look.looks.catalog c.relation-entry.ensures.is c.as_slice.ensures spelled;
-      storable = spelled.spelled.storable;
-      short = tuple_line (kinds c.as_slice.result.now) c.in_ok-tuple.tuple spelled.spelled.fit (subst (λ (f : List FieldDef). width (kinds f) ≤ most_width) (sym c.as_slice.ensures) c.relation-entry.ensures.safe.narrow) spelled.spelled.storable;
-      slot = omega (arith, c.if-from-ge-PAGE_ENTRIES.false, c.from.ensures);
+      looked = still_looked g.S.Pages.view (session_of c.args.self.now) claim.session (record { looks = looks_as c.in-Some.tuple looked.looks.looks; costs = looked.looks.costs });
+      finds = (rw c.in-Some.is at looked.finds) c.args.relation.now c.requires.known;
+      lists = subst (λ (needs : Vec Need Global). Lists (parts_of c.args.self.now) wanted needs.items) (sym claim.same)
+          (lists_before (parts_of c.args.self.now) (parts_of c.look_up.new.self) wanted looked.looks.looks same c.in-Ok.ensures.lists);
+      claimed = subst (λ (needs : Vec Need Global). IsClaimed (told c.args.self.now.locks) (told c.claim.new.self.locks) c.args.transaction needs.items) (sym claim.same)
+          (claimed_from (told c.args.self.now.locks) (told c.look_up.new.self.locks) (told c.claim.new.self.locks) same claim.ends);
     }
+
+pub returns-in-None-clause-fails : goal.returns-in-None-clause-fails
+returns-in-None-clause-fails g c = λ calls call counted first.
+    let looked = c.in_ok-found.ensures in
+    let claim = c.in_ok-needs.ensures in
+    let held = c.hold.ensures in
+    let same = ap (λ (t : LockTable). (told t).locks) looked.locks in
+    let wanted = λ (tables : Tables). accessing tables c.args.access c.args.relation.now c.args.tid in
+    let claimed = claimed_from (told c.args.self.now.locks) (told c.look_up.new.self.locks) (told c.claim.new.self.locks) same claim.ends in
+    lacks_tuple first (lists_before (parts_of c.args.self.now) (parts_of c.look_up.new.self) wanted looked.looks.looks same c.in-Ok.ensures.lists)
+    (parts_of c.hold.new.self) (still_looked g.S.Pages.view (session_of c.args.self.now) (held.session ∙ claim.session) looked.looks) (omega (arith, counted, looked.calls, claim.calls, held.calls)) c.requires.up (held.down ∙ claim.down ∙ looked.up)
+    c.no_tuple.result c.no_tuple.ensures.is c.no_tuple.ensures.short ((rw c.in-None.is at looked.finds) c.args.relation.now c.requires.known)
+    claimed.free (held.locks ∙ ap (λ (needs : Vec Need Global). granted c.args.transaction needs.items (told c.claim.new.self.locks).locks) claim.same ∙ ap (granted c.args.transaction c.in-Ok.needs.items) claimed.same)

@@ -1,23 +1,42 @@
-use Rattle.std.proofs.Common.{◌∙◌, List, length, refl, sym, ap, subst, arith}
-use Rattle.std.specs.Prelude.{is_some}
+use Rattle.std.proofs.Common.{◌∙◌, List, Vec, Global, length, refl, sym, ap, subst, arith}
+use Rattle.std.specs.Prelude.{is_some, Ok}
+use Rattle.rss_base.specs.Listings.{IsNumberOf}
 use Rattle.rss_base.specs.TupleTypes.{kinds, Spells}
+use Rattle.rss_base.specs.declared.call.Call.TheVariants.{Insert}
 use Rattle.rss_base.specs.declared.field.FieldDef.{FieldDef}
+use Rattle.rss_base.specs.declared.need.Need.{Need}
+use Rattle.rss_base.specs.declared.refusal.Kind.TheVariants.{Relation as RelationKind}
+use Rattle.rss_catalog.specs.Catalogs.{CatalogView}
+use Rattle.rss_lock.specs.Table.{told}
+use Rattle.rss_lock.specs.declared.locks.Locks.{Locks as LockTable}
+use Rattle.rss_model.specs.Locks.{first_bar, granted}
+use Rattle.rss_model.specs.Needs.{tuple_changed}
 use Rattle.rss_model.specs.Steps.{if_used_up}
+use Rattle.rss_model.specs.Tables.{Tables}
 use Rattle.rss_access.proofs.Numbered.{entry_at}
+use Rattle.rss_session.specs.Looks.{LooksOn}
 use Rattle.rss_session.specs.Parts.{view as session_view}
-use Rattle.rss_rsi.proofs.Changes.{ends_short, ends_made}
-use Rattle.rss_rsi.proofs.Inserts.{is_admitted, insert_unfit, insert_used_up, place_fails, lacks_place, gets_place, insert_ends}
-use Rattle.rss_rsi.proofs.Looks.{asked_looked}
-use Rattle.rss_rsi.proofs.Ways.{asked, refused_test}
+use Rattle.rss_session.specs.declared.session.Session.{Session}
+use Rattle.rss_trans.specs.Transactions.{OpenView, is_open}
+use Rattle.rss_rsi.specs.Parts.{parts_of, session_of}
+use Rattle.rss_rsi.proofs.Changes.{still_made, ends_short, ends_made}
+use Rattle.rss_rsi.proofs.Claims.{claimed_from, claimed_free}
+use Rattle.rss_rsi.proofs.Inserts.{is_admitted, insert_unfit, insert_used_up, insert_places, insert_no_needs, insert_lost, gets_place, insert_ends}
+use Rattle.rss_rsi.proofs.Looks.{ends_so, asked_looked, lists_before, passed_call}
+use Rattle.rss_rsi.proofs.TupleTests.{values_keep, used_up_keeps}
+use Rattle.rss_rsi.proofs.Ways.{asked, refused_early}
 use Rattle.rss_rsi.proofs.engine.Rss.insert.Goals as goal
 
 pub returns-in_err-number-clause-did : goal.returns-in_err-number-clause-did
 returns-in_err-number-clause-did g c =
     let counted = c.in_ok-ask.ensures in
     let tests = c.in_err-number.ensures.tests in
-    asked (ap (session_view g.S.Pages.view) counted.session)
-    (refused_test _ c.from_residual-in_err-number.ensures.1 counted.was_up counted.up (omega (arith, counted.counted)) tests.1
-    (λ told state shows. insert_unfit state c.args.transaction c.args.relation.now c.args.tuple.now (tests.0 told state shows)))
+    asked g.S.Pages.view counted.session counted.locks
+    (refused_early c.from_residual-in_err-number.result c.from_residual-in_err-number.ensures.1 counted.was_up counted.up (omega (arith, counted.counted)) tests.1
+    (λ told state shows. (
+      insert_unfit state c.args.transaction c.args.relation.now c.args.tuple.now (tests.0 told state shows),
+      values_keep state c.args.transaction c.args.relation.now c.args.tuple.now (tests.0 told state shows),
+    )))
 
 pub test_limit-requires : goal.test_limit-requires
 test_limit-requires g c = ap is_some (entry_at c.ask.new.self.session.store.catalog.listing c.args.relation.now c.in_ok-number.number c.in_ok-number.ensures.known).at
@@ -28,52 +47,114 @@ returns-in_err-test_limit-clause-did g c =
     let admitted = c.in_ok-number.ensures in
     let has = entry_at c.ask.new.self.session.store.catalog.listing c.args.relation.now c.in_ok-number.number admitted.known in
     let tests = c.in_err-test_limit.ensures has.entry has.at in
-    asked (ap (session_view g.S.Pages.view) counted.session)
-    (refused_test _ c.from_residual-in_err-test_limit.ensures.1 counted.was_up counted.up (omega (arith, counted.counted)) tests.1
-    (λ told state shows. insert_used_up state c.args.transaction c.args.relation.now c.args.tuple.now (admitted.tests told state shows) (ap (if_used_up state) (sym has.named) ∙ tests.0 told state shows)))
+    asked g.S.Pages.view counted.session counted.locks
+    (refused_early c.from_residual-in_err-test_limit.result c.from_residual-in_err-test_limit.ensures.1 counted.was_up counted.up (omega (arith, counted.counted)) tests.1
+    (λ told state shows.
+    let so = ap (if_used_up state) (sym has.named) ∙ tests.0 told state shows in (
+      insert_used_up state c.args.transaction c.args.relation.now c.args.tuple.now (admitted.tests told state shows) so,
+      used_up_keeps state c.args.relation.now so,
+    )))
 
-pub relation-entry-requires : goal.relation-entry-requires
-relation-entry-requires g c = ap is_some (entry_at c.ask.new.self.session.store.catalog.listing c.args.relation.now c.in_ok-number.number c.in_ok-number.ensures.known).at
+pub relation-requires : goal.relation-requires
+relation-requires g c = ap is_some (entry_at c.ask.new.self.session.store.catalog.listing c.args.relation.now c.in_ok-number.number c.in_ok-number.ensures.known).at
 
-pub returns-in_err-found-clause-did : goal.returns-in_err-found-clause-did
-returns-in_err-found-clause-did g c =
+pub returns-in_err-tid-clause-did : goal.returns-in_err-tid-clause-did
+returns-in_err-tid-clause-did g c =
     let counted = c.in_ok-ask.ensures in
-    let admitted = is_admitted c.in_ok-number.ensures.known c.relation-entry.ensures.is c.in_ok-number.ensures.tests (c.in_ok-test_limit.ensures c.relation-entry.result.now c.relation-entry.ensures.is) in
-    asked (ap (session_view g.S.Pages.view) counted.session)
-    (place_fails admitted _ c.from_residual-in_err-found.ensures.1 c.in_err-found.ensures.looks counted.was_up (λ up. absurd (cc (up))) (omega (arith, counted.counted)))
+    let admitted = is_admitted c.in_ok-number.ensures.known c.relation.ensures.is c.in_ok-number.ensures.tests (c.in_ok-test_limit.ensures c.relation.result.now c.relation.ensures.is) in
+    ends_so g.S.Pages.view c.from_residual-in_err-tid.result c.from_residual-in_err-tid.ensures.1 counted.session counted.locks (counted.up ∙ sym counted.was_up)
+    (c.in_err-tid.ensures.fails c.args.self.now.calls (Insert c.args.transaction c.args.relation.now c.args.tuple.now) (omega (arith, counted.counted)) (insert_places (parts_of c.ask.new.self) admitted))
+
+pub tuple_needs-requires : goal.tuple_needs-requires
+tuple_needs-requires g c = record { known = subst (λ (catalog : CatalogView). IsNumberOf RelationKind catalog.listing c.args.relation.now c.in_ok-number.number) (sym c.in_ok-tid.ensures.looks.catalog) c.in_ok-number.ensures.known }
 
 pub returns-in_default-clause-did : goal.returns-in_default-clause-did
 returns-in_default-clause-did g c =
     let counted = c.in_ok-ask.ensures in
-    let admitted = is_admitted c.in_ok-number.ensures.known c.relation-entry.ensures.is c.in_ok-number.ensures.tests (c.in_ok-test_limit.ensures c.relation-entry.result.now c.relation-entry.ensures.is) in
-    asked (ap (session_view g.S.Pages.view) counted.session)
-    (lacks_place admitted c.in_ok-found.ensures.looks (c.in_ok-found.ensures.none c.in_default.is) counted.was_up refl (omega (arith, counted.counted)))
+    let placed = c.in_ok-tid.ensures in
+    let admitted = is_admitted c.in_ok-number.ensures.known c.relation.ensures.is c.in_ok-number.ensures.tests (c.in_ok-test_limit.ensures c.relation.result.now c.relation.ensures.is) in
+    asked g.S.Pages.view counted.session counted.locks
+    (insert_no_needs (parts_of c.ask.new.self) admitted placed.looks (parts_of c.place_for.new.self) refl (ap (λ (t : LockTable). (told t).locks) c.in_ok-tid.ensures.locks) counted.was_up placed.up (omega (arith, counted.counted, placed.calls)))
+
+pub returns-in_err-needs-clause-did : goal.returns-in_err-needs-clause-did
+returns-in_err-needs-clause-did g c =
+    let counted = c.in_ok-ask.ensures in
+    let placed = c.in_ok-tid.ensures in
+    let claim = c.claim.ensures in
+    let admitted = is_admitted c.in_ok-number.ensures.known c.relation.ensures.is c.in_ok-number.ensures.tests (c.in_ok-test_limit.ensures c.relation.result.now c.relation.ensures.is) in
+    let same = ap (λ (t : LockTable). (told t).locks) c.in_ok-tid.ensures.locks in
+    asked g.S.Pages.view counted.session counted.locks
+    (passed_call c.from_residual-in_err-needs.result c.from_residual-in_err-needs.ensures.1
+    (insert_lost (parts_of c.ask.new.self) admitted placed.looks placed.place (lists_before (parts_of c.ask.new.self) (parts_of c.place_for.new.self) (λ (tables : Tables). tuple_changed tables c.args.relation.now c.in_ok-tid.tid) c.in_ok-tid.ensures.looks same c.in-Ok.ensures.lists)
+    (parts_of c.claim.new.self) (Vec Need Global) (told c.place_for.new.self.locks) (told c.claim.new.self.locks) (ap (session_view g.S.Pages.view) claim.session) (claim.locks ∙ same) same counted.was_up (claim.down ∙ placed.up) (omega (arith, counted.counted, placed.calls, claim.calls)) c.in_err-needs.ensures.ends))
+
+pub change-requires-clause-open : goal.change-requires-clause-open
+change-requires-clause-open g c =
+    ap (λ (session : Session _). is_open (session_view g.S.Pages.view session).opened c.args.transaction) c.claim.ensures.session
+    ∙ ap (λ (o : OpenView). is_open o c.args.transaction) c.in_ok-tid.ensures.looks.opened ∙ c.in_ok-number.ensures.open
 
 pub change-requires-clause-asked : goal.change-requires-clause-asked
 change-requires-clause-asked g c =
     let counted = c.in_ok-ask.ensures in
-    asked_looked counted.ready c.in_ok-found.ensures.looks counted.counted
+    let placed = c.in_ok-tid.ensures in
+    let claim = c.claim.ensures in
+    asked_looked (parts_of c.ask.new.self) (parts_of c.claim.new.self) counted.ready
+    (subst (λ (session : Session _). LooksOn (session_of c.ask.new.self) (session_view g.S.Pages.view session) (Ok c.in_ok-tid.tid)) (sym claim.session) placed.looks)
+    (claim.locks ∙ ap (λ (t : LockTable). (told t).locks) placed.locks) (claim.calls ∙ placed.calls ∙ counted.counted)
+
+pub change-requires-clause-bounded : goal.change-requires-clause-bounded
+change-requires-clause-bounded g c = (c.in_ok-tid.ensures.place.named.low, c.values_of-values.ensures.short)
 
 pub returns-in_err-change-clause-did : goal.returns-in_err-change-clause-did
 returns-in_err-change-clause-did g c =
     let counted = c.in_ok-ask.ensures in
-    let admitted = is_admitted c.in_ok-number.ensures.known c.relation-entry.ensures.is c.in_ok-number.ensures.tests (c.in_ok-test_limit.ensures c.relation-entry.result.now c.relation-entry.ensures.is) in
-    let place = rw c.in-Some.is at c.in_ok-found.ensures.finds in
-    let spelled = subst (λ (fields : List FieldDef). Spells (kinds fields) c.values_of-values.result c.args.tuple.now) c.as_slice.ensures c.values_of-values.ensures.spelled in
-    asked (ap (session_view g.S.Pages.view) counted.session)
-    (ends_short c.in_ok-found.ensures.looks
-    (insert_ends admitted place spelled c.values_of-values.ensures.short (omega arith) (omega arith) (omega arith))
-    c.from_residual-in_err-change.result c.from_residual-in_err-change.ensures.1 counted.was_up (omega (arith, counted.counted, c.change.ensures.calls)) c.in_err-change.ensures.did)
+    let placed = c.in_ok-tid.ensures in
+    let claim = c.in_ok-needs.ensures in
+    let admitted = is_admitted c.in_ok-number.ensures.known c.relation.ensures.is c.in_ok-number.ensures.tests (c.in_ok-test_limit.ensures c.relation.result.now c.relation.ensures.is) in
+    let same = ap (λ (t : LockTable). (told t).locks) c.in_ok-tid.ensures.locks in
+    let spelled = subst (λ (fields : List FieldDef). Spells (kinds fields) c.values_of-values.result c.args.tuple.now) c.as_slice-fields.ensures c.values_of-values.ensures.spelled in
+    asked g.S.Pages.view counted.session counted.locks
+    (ends_short (subst (λ (session : Session _). LooksOn (session_of c.ask.new.self) (session_view g.S.Pages.view session) (Ok c.in_ok-tid.tid)) (sym claim.session) placed.looks)
+    (insert_ends (parts_of c.ask.new.self) admitted placed.looks placed.place (lists_before (parts_of c.ask.new.self) (parts_of c.place_for.new.self) (λ (tables : Tables). tuple_changed tables c.args.relation.now c.in_ok-tid.tid) c.in_ok-tid.ensures.looks same c.in-Ok.ensures.lists)
+    (claimed_from (told c.ask.new.self.locks) (told c.place_for.new.self.locks) (told c.claim.new.self.locks) same claim.ends) spelled c.values_of-values.ensures.short (omega arith) (omega arith) (omega arith))
+    c.from_residual-in_err-change.result c.from_residual-in_err-change.ensures.1 (ap (λ (t : LockTable). (told t).locks) c.change.ensures.locks ∙ claim.locks ∙ same)
+    counted.was_up (omega (arith, counted.counted, placed.calls, claim.calls, c.change.ensures.calls)) c.in_err-change.ensures.did)
+
+pub hold-requires-clause-open : goal.hold-requires-clause-open
+hold-requires-clause-open g c = c.in_ok-change.ensures.stay c.args.transaction (
+    ap (λ (session : Session _). is_open (session_view g.S.Pages.view session).opened c.args.transaction) c.claim.ensures.session
+    ∙ ap (λ (o : OpenView). is_open o c.args.transaction) c.in_ok-tid.ensures.looks.opened ∙ c.in_ok-number.ensures.open)
+
+pub hold-requires-clause-free : goal.hold-requires-clause-free
+hold-requires-clause-free g c =
+    let claim = c.in_ok-needs.ensures in
+    ap (λ (t : LockTable). first_bar (told t).locks c.args.transaction c.in_ok-needs.needs.items) c.change.ensures.locks
+    ∙ ap (λ (needs : Vec Need Global). first_bar (told c.claim.new.self.locks).locks c.args.transaction needs.items) claim.same
+    ∙ claimed_free (told c.place_for.new.self.locks) (told c.claim.new.self.locks) claim.ends
+
+pub hold-requires-clause-room : goal.hold-requires-clause-room
+hold-requires-clause-room g c =
+    let claim = c.in_ok-needs.ensures in
+    omega (arith, claim.ends.room, ap (λ (needs : Vec Need Global). length needs.items) claim.same, c.in_ok-needs.needs.ok, ap (λ (t : LockTable). (told t).spare) c.change.ensures.locks)
 
 pub returns-clause-did : goal.returns-clause-did
 returns-clause-did g c =
     let counted = c.in_ok-ask.ensures in
-    let admitted = is_admitted c.in_ok-number.ensures.known c.relation-entry.ensures.is c.in_ok-number.ensures.tests (c.in_ok-test_limit.ensures c.relation-entry.result.now c.relation-entry.ensures.is) in
-    let place = rw c.in-Some.is at c.in_ok-found.ensures.finds in
-    let spelled = subst (λ (fields : List FieldDef). Spells (kinds fields) c.values_of-values.result c.args.tuple.now) c.as_slice.ensures c.values_of-values.ensures.spelled in
-    asked (ap (session_view g.S.Pages.view) counted.session)
-    (ends_made c.in_ok-found.ensures.looks
-    (insert_ends admitted place spelled c.values_of-values.ensures.short (omega arith) (omega arith) (omega arith))
-    counted.was_up (omega (arith, counted.counted, c.change.ensures.calls))
-    (gets_place admitted place (omega (arith, ap length c.as_slice-2.ensures.bytes, ap length spelled.same)))
-    c.in_ok-change.ensures.did)
+    let placed = c.in_ok-tid.ensures in
+    let claim = c.in_ok-needs.ensures in
+    let held = c.hold.ensures in
+    let admitted = is_admitted c.in_ok-number.ensures.known c.relation.ensures.is c.in_ok-number.ensures.tests (c.in_ok-test_limit.ensures c.relation.result.now c.relation.ensures.is) in
+    let same = ap (λ (t : LockTable). (told t).locks) c.in_ok-tid.ensures.locks in
+    let spelled = subst (λ (fields : List FieldDef). Spells (kinds fields) c.values_of-values.result c.args.tuple.now) c.as_slice-fields.ensures c.values_of-values.ensures.spelled in
+    let lists = lists_before (parts_of c.ask.new.self) (parts_of c.place_for.new.self) (λ (tables : Tables). tuple_changed tables c.args.relation.now c.in_ok-tid.tid) c.in_ok-tid.ensures.looks same c.in-Ok.ensures.lists in
+    let claimed = claimed_from (told c.ask.new.self.locks) (told c.place_for.new.self.locks) (told c.claim.new.self.locks) same claim.ends in
+    asked g.S.Pages.view counted.session counted.locks
+    (ends_made (subst (λ (session : Session _). LooksOn (session_of c.ask.new.self) (session_view g.S.Pages.view session) (Ok c.in_ok-tid.tid)) (sym claim.session) placed.looks)
+    (insert_ends (parts_of c.ask.new.self) admitted placed.looks placed.place lists claimed spelled c.values_of-values.ensures.short (omega arith) (omega arith) (omega arith))
+    (held.locks
+    ∙ ap (λ (t : LockTable). granted c.args.transaction c.in_ok-needs.needs.items (told t).locks) c.change.ensures.locks
+    ∙ ap (λ (needs : Vec Need Global). granted c.args.transaction needs.items (told c.claim.new.self.locks).locks) claim.same
+    ∙ ap (granted c.args.transaction c.in-Ok.needs.items) claimed.same)
+    counted.was_up (omega (arith, counted.counted, placed.calls, claim.calls, c.change.ensures.calls, held.calls))
+    (gets_place (parts_of c.ask.new.self) admitted placed.looks placed.place lists claimed (omega (arith, ap length c.as_slice.ensures.bytes, ap length spelled.same)))
+    (still_made g.S.Pages.view held.session held.down c.in_ok-change.ensures.did))

@@ -38,7 +38,7 @@ returns-in_err-redefine-clause-memory g c = fault_of_memory c.from_residual.resu
 pub invariant_of-self-2 : goal.invariant_of-self-2
 invariant_of-self-2 g c =
     let redefine = c.in_ok-redefine.ensures in
-    record { ready = λ up. redefined_ready g.S.Pages.view c.requires.some.1 (made_ok c.args.made c.in_default.not-Err) redefine.goes redefine.moments redefine.asks redefine.ready redefine.appends }
+    record { ready = λ up. redefined_ready g.S.Pages.view c.requires.some.1 (made_ok c.args.made c.in_default.not-Err) redefine.goes redefine.moments redefine.asks redefine.ready redefine.appends redefine.anew.transactions }
 
 pub returns-clause-did : goal.returns-clause-did
 returns-clause-did g c = λ to is.

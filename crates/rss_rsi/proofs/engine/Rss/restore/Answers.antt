@@ -1,6 +1,7 @@
-use Rattle.std.proofs.Common.{◌∙◌, refl, ap, arith}
+use Rattle.std.proofs.Common.{◌∙◌, refl, arith}
 use Rattle.rss_model.proofs.Endings.{comes_to}
 use Rattle.rss_model.proofs.Tests.{goes_on, refuses_at}
+use Rattle.rss_lock.specs.Table.{told}
 use Rattle.rss_session.specs.Parts.{view as session_view}
 use Rattle.rss_rsi.proofs.TransactionSteps.{restore_stops, restore_leads}
 use Rattle.rss_rsi.proofs.Ways.{asked, answers, goes, refused_test, failed_within}
@@ -10,30 +11,30 @@ pub returns-in_err-test_open-clause-did : goal.returns-in_err-test_open-clause-d
 returns-in_err-test_open-clause-did g c =
     let asked_so = c.in_ok-ask.ensures in
     let tests = c.in_err-test_open.ensures.tests in
-    asked (ap (session_view g.S.Pages.view) asked_so.session)
-    (refused_test _ c.from_residual-in_err-test_open.ensures.1 asked_so.was_up asked_so.up (omega (arith, asked_so.counted)) tests.1 (λ told state shows. refuses_at _ (tests.0 told state shows)))
+    asked g.S.Pages.view asked_so.session asked_so.locks
+    (refused_test _ c.from_residual-in_err-test_open.ensures.1 asked_so.was_up asked_so.up (omega (arith, asked_so.counted)) tests.1 (λ tables. refl) (λ told state shows. refuses_at _ (tests.0 told state shows)))
 
 pub returns-in_err-test_save-clause-did : goal.returns-in_err-test_save-clause-did
 returns-in_err-test_save-clause-did g c =
     let asked_so = c.in_ok-ask.ensures in
     let tests = c.in_err-test_save.ensures.tests in
-    asked (ap (session_view g.S.Pages.view) asked_so.session)
-    (refused_test _ c.from_residual-in_err-test_save.ensures.1 asked_so.was_up asked_so.up (omega (arith, asked_so.counted)) tests.1
+    asked g.S.Pages.view asked_so.session asked_so.locks
+    (refused_test _ c.from_residual-in_err-test_save.ensures.1 asked_so.was_up asked_so.up (omega (arith, asked_so.counted)) tests.1 (λ tables. refl)
     (λ told state shows. goes_on _ (c.in_ok-test_open.ensures.tests told state shows) ∙ refuses_at _ (tests.0 told state shows)))
 
 pub returns-in_err-restore-clause-did : goal.returns-in_err-restore-clause-did
 returns-in_err-restore-clause-did g c =
     let asked_so = c.in_ok-ask.ensures in
     let failed = c.in_err-restore.ensures in
-    asked (ap (session_view g.S.Pages.view) asked_so.session)
+    asked g.S.Pages.view asked_so.session asked_so.locks
     (failed_within _ c.from_residual-in_err-restore.ensures.1 asked_so.was_up (λ up. absurd (cc (up))) failed.goes (goes _ failed.goes (omega (arith, asked_so.counted)) tt tt)
     (λ place is told state is_in. failed.sound place is told state is_in.kept is_in.shows)
-    (restore_stops _ (session_view g.S.Pages.view c.restore.new.self) c.args.transaction c.args.save c.in_ok-test_open.ensures.open c.in_ok-test_open.ensures.tests c.in_ok-test_save.ensures.tests failed.moments))
+    (restore_stops _ (record { session = session_view g.S.Pages.view c.restore.new.self; locks = told c.ask.new.self.locks }) c.args.transaction c.args.save c.in_ok-test_open.ensures.open c.in_ok-test_open.ensures.tests c.in_ok-test_save.ensures.tests failed.moments))
 
 pub returns-clause-did : goal.returns-clause-did
 returns-clause-did g c =
     let asked_so = c.in_ok-ask.ensures in
     let back = c.in_ok-restore.ensures in
-    asked (ap (session_view g.S.Pages.view) asked_so.session)
+    asked g.S.Pages.view asked_so.session asked_so.locks
     (comes_to asked_so.was_up (goes _ back.goes (omega (arith, asked_so.counted)) tt tt)
-    (answers refl (omega arith) (λ told. tt) (restore_leads _ _ c.args.transaction c.args.save c.in_ok-test_open.ensures.open c.in_ok-test_open.ensures.tests c.in_ok-test_save.ensures.tests back.moments back.shows)))
+    (answers refl (omega arith) (λ told state is_in. tt) (restore_leads _ _ c.args.transaction c.args.save c.in_ok-test_open.ensures.open c.in_ok-test_open.ensures.tests c.in_ok-test_save.ensures.tests back.moments refl back.shows)))

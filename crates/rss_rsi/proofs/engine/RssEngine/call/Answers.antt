@@ -55,6 +55,12 @@ returns-in-Delete-clause-done g c = rw c.in-Delete.is c.delete.ensures.did
 pub returns-in-Delete-clause-untouched : goal.returns-in-Delete-clause-untouched
 returns-in-Delete-clause-untouched g c = λ is. c.delete.ensures.untouched (λ up. never_down c.delete.ensures.did up is)
 
+pub returns-in-Lock-clause-done : goal.returns-in-Lock-clause-done
+returns-in-Lock-clause-done g c = rw c.in-Lock.is c.lock.ensures.did
+
+pub returns-in-Lock-clause-untouched : goal.returns-in-Lock-clause-untouched
+returns-in-Lock-clause-untouched g c = λ is. c.lock.ensures.untouched (λ up. never_down c.lock.ensures.did up is)
+
 pub returns-in-Checkpoint-clause-done : goal.returns-in-Checkpoint-clause-done
 returns-in-Checkpoint-clause-done g c = rw c.in-Checkpoint.is c.checkpoint.ensures.did
 

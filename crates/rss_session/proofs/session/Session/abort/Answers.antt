@@ -15,6 +15,7 @@ use Rattle.rss_session.proofs.Ended.{ready_left}
 use Rattle.rss_session.proofs.Restored.{still_open, undone_own, none_own}
 use Rattle.rss_session.proofs.Passing.{goes_still}
 use Rattle.rss_session.proofs.SavePoints.{gone_saves}
+use Rattle.rss_session.proofs.StaysOpen.{put_stay, others_stay}
 use Rattle.rss_session.proofs.session.Session.abort.Goals as goal
 
 -- a position was found, or none
@@ -80,3 +81,9 @@ returns-then-is_some-clause-goes g c = goes_still _ c.in_ok-first.ensures.goes (
 
 pub returns-else-is_some-clause-goes : goal.returns-else-is_some-clause-goes
 returns-else-is_some-clause-goes g c = goes_still _ c.in_ok-first.ensures.goes refl refl (gone_saves _ c.args.transaction c.gone.ensures.transactions)
+
+pub returns-then-is_some-clause-others : goal.returns-then-is_some-clause-others
+returns-then-is_some-clause-others g c = λ u off is. others_stay _ c.args.transaction c.gone.ensures.transactions u off (put_stay _ c.args.transaction _ c.in_ok-first.ensures.takes.opened.transactions u is)
+
+pub returns-else-is_some-clause-others : goal.returns-else-is_some-clause-others
+returns-else-is_some-clause-others g c = λ u off is. others_stay _ c.args.transaction c.gone.ensures.transactions u off (put_stay _ c.args.transaction _ c.in_ok-first.ensures.takes.opened.transactions u is)

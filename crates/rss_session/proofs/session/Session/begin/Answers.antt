@@ -6,6 +6,7 @@ use Rattle.rss_trans.proofs.Told.{begin_tells}
 use Rattle.rss_session.specs.Parts.{view}
 use Rattle.rss_session.proofs.Shown.{either, done_nothing, shows_opened, shows_still, ready_with, ready_still}
 use Rattle.rss_session.proofs.SavePoints.{same_saves, keeps_saves}
+use Rattle.rss_session.proofs.StaysOpen.{same_stay, put_stay}
 use Rattle.rss_session.proofs.session.Session.begin.Goals as goal
 
 pub returns-clause-ready : goal.returns-clause-ready
@@ -34,3 +35,9 @@ returns-clause-saves g c =
     either c.begin.result c.begin.ensures.ok c.begin.ensures.err
     (λ begins. keeps_saves _ c.args.transaction nothing begins.transactions (omega arith))
     (λ same. same_saves _ same.transactions)
+
+pub returns-clause-stay : goal.returns-clause-stay
+returns-clause-stay g c =
+    either c.begin.result c.begin.ensures.ok c.begin.ensures.err
+    (λ begins. put_stay _ c.args.transaction nothing begins.transactions)
+    (λ same. same_stay _ same.transactions)

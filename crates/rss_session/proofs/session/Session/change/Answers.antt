@@ -4,6 +4,7 @@ use Rattle.rss_record.proofs.Parsing.{some_bytes}
 use Rattle.rss_base.specs.declared.log_record.LogRecord.TheVariants as records
 use Rattle.rss_store.proofs.Altered.{fault_passed}
 use Rattle.rss_session.proofs.SavePoints.{keeps_saves}
+use Rattle.rss_session.proofs.StaysOpen.{put_stay}
 use Rattle.rss_session.proofs.Noted.{weighed_goes}
 use Rattle.rss_session.proofs.Changed.{ready_noted, makes_noted}
 use Rattle.rss_session.proofs.Passing.{keeps_altered, goes_altered, fault_same}
@@ -36,3 +37,6 @@ returns-clause-makes g c = λ told state change by kept shows may.
     let store = c.in_ok-position.ensures in
     makes_noted c.requires.tuple c.requires.ready c.requires.«open» c.requires.weighed c.note.ensures store.at c.relation_of-relation.ensures c.is_delete-is_delete.ensures store.did.definitions refl refl state change by shows may
     (store.makes told state change by shows.store may)
+
+pub returns-clause-stay : goal.returns-clause-stay
+returns-clause-stay g c = put_stay _ c.args.transaction _ c.note.ensures.transactions

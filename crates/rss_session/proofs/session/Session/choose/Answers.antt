@@ -24,8 +24,11 @@ returns-clause-looks g c =
       goes = goes_called did.step.passes ready.store.settled_now did.failed did.memory;
     }
 
+pub returns-clause-pages : goal.returns-clause-pages
+returns-clause-pages g c = record { mapped = c.choose.ensures.mapped; held = c.choose.ensures.held }
+
 pub returns-clause-finds : goal.returns-clause-finds
-returns-clause-finds g c = place_found (view g.S.Pages.view c.args.self.now) c.args.segment c.args.length c.choose.result c.requires.ready c.choose.ensures.named c.choose.ensures.free c.choose.ensures.chosen
+returns-clause-finds g c = place_found (view g.S.Pages.view c.args.self.now) c.args.segment c.args.length c.args.barred.now c.requires.ready c.choose.result c.choose.ensures.named c.choose.ensures.free c.choose.ensures.chosen
 
 pub returns-clause-none : goal.returns-clause-none
 returns-clause-none g c = IfOk-weaker c.choose.result _ _ (λ found none is. has_no_place c.requires.ready (none is)) c.choose.ensures.none

@@ -11,6 +11,7 @@ use Rattle.rss_session.proofs.Fewer.{some_newer, none_newer}
 use Rattle.rss_session.proofs.Ended.{end_room, ready_ended, ready_left, may_commit, own_some, shows_ended, shows_left}
 use Rattle.rss_session.proofs.Passing.{goes_committed, goes_opened}
 use Rattle.rss_session.proofs.SavePoints.{gone_saves}
+use Rattle.rss_session.proofs.StaysOpen.{others_stay}
 use Rattle.rss_session.proofs.session.Session.commit.Goals as goal
 
 -- it has no changes
@@ -70,3 +71,9 @@ pub returns-clause-still : goal.returns-clause-still
 returns-clause-still g c = λ none.
     let some = some_are (told c.args.self.now.open) c.args.transaction c.newest.ensures c.if-not-changed.ensures in
     absurd (omega (arith, some, none))
+
+pub returns-then-not-changed-clause-others : goal.returns-then-not-changed-clause-others
+returns-then-not-changed-clause-others g c = others_stay _ c.args.transaction c.gone.ensures.transactions
+
+pub returns-clause-others : goal.returns-clause-others
+returns-clause-others g c = others_stay _ c.args.transaction c.gone.ensures.transactions

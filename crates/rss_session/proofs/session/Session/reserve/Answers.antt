@@ -2,6 +2,7 @@ use Rattle.rss_session.specs.Parts.{view}
 use Rattle.rss_trans.specs.Tables.{told}
 use Rattle.rss_session.proofs.Shown.{shows_still, weighed_still}
 use Rattle.rss_session.proofs.SavePoints.{same_saves}
+use Rattle.rss_session.proofs.StaysOpen.{same_stay}
 use Rattle.rss_session.proofs.session.Session.reserve.Goals as goal
 
 pub returns-clause-shows : goal.returns-clause-shows
@@ -12,3 +13,6 @@ returns-clause-weighs g c = weighed_still (view g.S.Pages.view c.args.self.now) 
 
 pub returns-clause-saves : goal.returns-clause-saves
 returns-clause-saves g c = same_saves _ c.reserve.ensures.same.transactions
+
+pub returns-clause-stay : goal.returns-clause-stay
+returns-clause-stay g c = same_stay _ c.reserve.ensures.same.transactions

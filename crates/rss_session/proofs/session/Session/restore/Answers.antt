@@ -8,6 +8,7 @@ use Rattle.rss_session.specs.Sessions.{SessionView}
 use Rattle.rss_session.proofs.Restored.{still_open, save_there, restore_room, ready_restored, ready_unchanged, restores_some, restores_none, undone_own, none_own}
 use Rattle.rss_session.proofs.Passing.{goes_still}
 use Rattle.rss_session.proofs.SavePoints.{cut_saves}
+use Rattle.rss_session.proofs.StaysOpen.{put_stay}
 use Rattle.rss_session.proofs.session.Session.restore.Goals as goal
 
 pub cut-requires-clause-open : goal.cut-requires-clause-open
@@ -61,3 +62,9 @@ returns-in-Some-clause-goes g c =
 
 pub returns-in_default-clause-goes : goal.returns-in_default-clause-goes
 returns-in_default-clause-goes g c = goes_still _ c.in_ok-first.ensures.goes refl refl (cut_saves _ c.args.transaction c.args.save c.cut.ensures.transactions)
+
+pub returns-in-Some-clause-stay : goal.returns-in-Some-clause-stay
+returns-in-Some-clause-stay g c = λ u is. put_stay _ c.args.transaction _ c.cut.ensures.transactions u (put_stay _ c.args.transaction _ c.in_ok-first.ensures.takes.opened.transactions u is)
+
+pub returns-in_default-clause-stay : goal.returns-in_default-clause-stay
+returns-in_default-clause-stay g c = λ u is. put_stay _ c.args.transaction _ c.cut.ensures.transactions u (put_stay _ c.args.transaction _ c.in_ok-first.ensures.takes.opened.transactions u is)

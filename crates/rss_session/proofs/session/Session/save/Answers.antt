@@ -10,6 +10,7 @@ use Rattle.rss_trans.proofs.Asked.{saves_told}
 use Rattle.rss_session.specs.Parts.{view}
 use Rattle.rss_session.proofs.Shown.{either, if_ok_with, shows_opened, shows_still, ready_with, ready_still}
 use Rattle.rss_session.proofs.SavePoints.{same_saves, put_saves, one_more}
+use Rattle.rss_session.proofs.StaysOpen.{same_stay, put_stay}
 use Rattle.rss_session.proofs.session.Session.save.Goals as goal
 
 pub returns-clause-ready : goal.returns-clause-ready
@@ -43,3 +44,9 @@ returns-clause-more g c =
     either c.save.result c.save.ensures.ok c.save.ensures.err
     (λ steps. put_saves _ c.args.transaction 1 _ steps.transactions (one_more (transaction_in old c.args.transaction)))
     (λ same t. omega (arith, same_saves _ same.transactions t))
+
+pub returns-clause-stay : goal.returns-clause-stay
+returns-clause-stay g c =
+    either c.save.result c.save.ensures.ok c.save.ensures.err
+    (λ steps. put_stay _ c.args.transaction _ steps.transactions)
+    (λ same. same_stay _ same.transactions)

@@ -6,8 +6,8 @@ use Rattle.rss_trans.proofs.Mapping.{len_made}
 use Rattle.rss_trans.proofs.Stepping.{in_order}
 use Rattle.rss_trans.proofs.open.Open.count.Goals as goal
 
-pub returns : goal.returns
-returns c =
+pub returns-clause-is : goal.returns-clause-is
+returns-clause-is c =
     let old : Table = table c.self.inside.keys.entries c.self.inside.records.slots c.self.inside.since c.self.inside.since_of in
     c.len.ensures.len
     ∙ sym (length-shown c.self.inside.keys.entries c.self.inside.records.slots)

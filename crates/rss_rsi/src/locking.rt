@@ -1,0 +1,232 @@
+// The locks of calls.
+ghost use Rattle.std.specs.Prelude.{◌≡◌, ◌<◌, ◌≤◌, [], ◌∷◌, Err, None, false, true, vec_len, IfOk};
+ghost use Rattle.rss_base.specs.Listings.{IsNumberOf};
+ghost use Rattle.rss_base.specs.declared.call.Call.TheVariants.{Lock};
+ghost use Rattle.rss_base.specs.declared.item.Item.TheVariants.{Segment, Relation, Tuple};
+ghost use Rattle.rss_base.specs.declared.refusal.Kind.TheVariants.{Relation as RelationKind};
+ghost use Rattle.rss_base.specs.declared.refusal.Refusal.TheVariants.{Busy};
+ghost use Rattle.rss_lock.specs.Table.{told};
+ghost use Rattle.rss_model.specs.Calls.{calls_most};
+ghost use Rattle.rss_model.specs.Defining.{IsGranule, LocksGranule};
+ghost use Rattle.rss_model.specs.Locks.{first_bar, granted, least_holder};
+ghost use Rattle.rss_model.specs.Machine.{State};
+ghost use Rattle.rss_model.specs.Needs.{need, lock_needs, relation_needs};
+ghost use Rattle.rss_model.specs.ReplyText.{IsShort};
+ghost use Rattle.rss_session.specs.Admissions.{IsGranuleOf};
+ghost use Rattle.rss_trans.specs.Transactions.{is_open};
+ghost use Rattle.rss_rsi.specs.Locking.{accessing, IsSayable, AreSayable, Lists, ClaimEnds};
+
+use crate::Rss;
+use rss_base::{CallError, Item, Kind, Mode, Name, Need, Refusal, Reply, Tid};
+use rss_buffer::Saving;
+use std::alloc::AllocError;
+
+/// For what a call goes to a tuple.
+#[derive(Clone, Copy)]
+pub(crate) enum Access {
+    Read,
+    Change,
+}
+
+impl<S: Saving> Rss<S> {
+    ghost use Rattle.rss_model.specs.Calls.{IsCallOf};
+    ghost use Rattle.rss_rsi.specs.Parts.{parts_of, session_of, view};
+
+    /// Locks a segment or a relation, shared or exclusive, until the transaction ends.
+    pub fn lock(
+        &mut self,
+        transaction: u32,
+        item: &Item,
+        exclusive: bool,
+    ) -> Result<Reply, CallError>
+        requires few { (view self.old).calls < calls_most }
+        requires granule { LocksGranule (Lock transaction item.now exclusive) }
+        ensures did { IsCallOf (view self.old) (view self.new)
+            (Lock transaction item.now exclusive) result }
+        ensures untouched { ((view self.old).is_up → ⊥) → self.new ≡ self.old }
+    {
+        self.ask()?;
+        self.session.test_open(transaction)?;
+        let number = self.session.test_granule(item)?;
+        let Ok(needs) = self.granule_needs(number, item, exclusive) else {
+            return Err(CallError::NoMemory);
+        };
+        let needs = self.claim(transaction, needs)?;
+        self.hold(transaction, needs);
+        Ok(Reply::Ok)
+    }
+
+    /// The least transaction that holds an item.
+    pub fn holder(&self, item: &Item) -> Option<u32>
+        ensures { (state : State) → (view self.now).shows state
+            → result ≡ least_holder state.locks item.now }
+    {
+        self.locks.holder(item)
+    }
+
+    /// The locks of a segment or a relation, which has this number.
+    fn granule_needs(
+        &self,
+        number: u8,
+        item: &Item,
+        exclusive: bool,
+    ) -> Result<Vec<Need>, AllocError>
+        requires granule { IsGranule item.now }
+        requires known { IsGranuleOf (session_of self.now).store.catalog.listing item.now number }
+        ensures lists { IfOk result (λ needs. Lists (parts_of self.now)
+            (λ tables. lock_needs tables item.now exclusive) needs.items) }
+        ensures few { IfOk result (λ needs. vec_len needs ≤ 2) }
+        ensures sayable { IfOk result (λ needs. AreSayable needs.items) }
+    {
+        match (item, exclusive) {
+            (Item::Segment(name), false) => self.segment_needs(name, Mode::S),
+            (Item::Segment(name), true) => self.segment_needs(name, Mode::X),
+            (Item::Relation(name), false) => self.relation_needs(number, name, Mode::IS, Mode::S),
+            (Item::Relation(name), true) => self.relation_needs(number, name, Mode::IX, Mode::X),
+            _ => unreachable!(),
+        }
+    }
+
+    fn segment_needs(&self, segment: &Name, mode: Mode) -> Result<Vec<Need>, AllocError>
+        ensures is { IfOk result (λ needs. needs.items ≡ need (Segment segment.now) mode ∷ []) }
+        ensures sayable { IfOk result (λ needs. AreSayable needs.items) }
+    {
+        let mut needs = Vec::new(self.alloc);
+        needs.push(segment_need(segment, mode))?;
+        Ok(needs)
+    }
+
+    /// The locks of a relation, which has this number, and of its segment before it.
+    fn relation_needs(
+        &self,
+        number: u8,
+        relation: &Name,
+        coarse: Mode,
+        mode: Mode,
+    ) -> Result<Vec<Need>, AllocError>
+        requires known { IsNumberOf RelationKind (session_of self.now).store.catalog.listing
+            relation.now number }
+        ensures lists { IfOk result (λ needs. Lists (parts_of self.now)
+            (λ tables. relation_needs tables relation.now coarse mode) needs.items) }
+        ensures few { IfOk result (λ needs. vec_len needs ≤ 2) }
+        ensures sayable { IfOk result (λ needs. AreSayable needs.items) }
+    {
+        let segment = self.session.store.catalog.relation(number).segment;
+        let mut needs = Vec::with_capacity(self.alloc, 3)?;
+        if let Some(segment) = self.session.store.catalog.name_at(Kind::Segment, segment) {
+            needs.push(segment_need(&segment, coarse))?;
+        }
+        needs.push(relation_need(relation, mode))?;
+        Ok(needs)
+    }
+
+    /// The locks with which a tuple of a relation, which has this number, is read or changed.
+    pub(crate) fn tuple_needs(
+        &self,
+        number: u8,
+        relation: &Name,
+        tid: Tid,
+        access: Access,
+    ) -> Result<Vec<Need>, AllocError>
+        requires known { IsNumberOf RelationKind (session_of self.now).store.catalog.listing
+            relation.now number }
+        ensures lists { IfOk result (λ needs. Lists (parts_of self.now)
+            (λ tables. accessing tables access relation.now tid) needs.items) }
+        ensures few { IfOk result (λ needs. vec_len needs ≤ 3) }
+        ensures sayable { IfOk result (λ needs. AreSayable needs.items) }
+    {
+        let (coarse, mode) = match access {
+            Access::Read => (Mode::IS, Mode::S),
+            Access::Change => (Mode::IX, Mode::X),
+        };
+        let mut needs = self.relation_needs(number, relation, coarse, coarse)?;
+        needs.push(tuple_need(relation, tid, mode))?;
+        Ok(needs)
+    }
+
+    /// Nobody bars the transaction from these locks, and memory is taken for them. They are handed
+    /// back.
+    pub(crate) fn claim(
+        &mut self,
+        transaction: u32,
+        mut needs: Vec<Need>,
+    ) -> Result<Vec<Need>, CallError>
+        requires few { vec_len needs ≤ 3 }
+        requires sayable { AreSayable needs.items }
+        ensures ends { ClaimEnds (told self.old.locks) (told self.new.locks) transaction needs.items
+            result }
+        ensures same { IfOk result (λ claimed. claimed ≡ needs) }
+        ensures locks { (told self.new.locks).locks ≡ (told self.old.locks).locks }
+        ensures session { self.new.session ≡ self.old.session }
+        ensures down { self.new.down ≡ self.old.down }
+        ensures calls { self.new.calls ≡ self.old.calls }
+    {
+        if let Some((place, holder)) = self.locks.check(transaction, &needs) {
+            let need = needs.swap_remove(place as usize);
+            return Err(CallError::Refused(busy(need, holder)));
+        }
+        match self.locks.reserve(needs.len() as u32) {
+            Ok(()) => Ok(needs),
+            Err(_) => Err(CallError::NoMemory),
+        }
+    }
+
+    /// Takes locks that were claimed.
+    pub(crate) fn hold(&mut self, transaction: u32, needs: Vec<Need>)
+        requires up { self.old.down ≡ false }
+        requires open { is_open (session_of self.old).opened transaction ≡ true }
+        requires free { first_bar (told self.old.locks).locks transaction needs.items ≡ None }
+        requires room { vec_len needs ≤ (told self.old.locks).spare }
+        ensures locks { (told self.new.locks).locks
+            ≡ granted transaction needs.items (told self.old.locks).locks }
+        ensures session { self.new.session ≡ self.old.session }
+        ensures down { self.new.down ≡ self.old.down }
+        ensures calls { self.new.calls ≡ self.old.calls }
+    {
+        let _count = self.session.open_count();
+        self.locks.take(transaction, needs);
+    }
+}
+
+fn segment_need(segment: &Name, mode: Mode) -> Need
+    ensures is { result ≡ need (Segment segment.now) mode }
+    ensures sayable { IsSayable (Segment segment.now) }
+{
+    let Name { bytes } = *segment;
+    Need {
+        item: Item::Segment(Name { bytes }),
+        mode,
+    }
+}
+
+fn relation_need(relation: &Name, mode: Mode) -> Need
+    ensures is { result ≡ need (Relation relation.now) mode }
+    ensures sayable { IsSayable (Relation relation.now) }
+{
+    let Name { bytes } = *relation;
+    Need {
+        item: Item::Relation(Name { bytes }),
+        mode,
+    }
+}
+
+pub(crate) fn tuple_need(relation: &Name, tid: Tid, mode: Mode) -> Need
+    ensures is { result ≡ need (Tuple relation.now tid) mode }
+    ensures sayable { IsSayable (Tuple relation.now tid) }
+{
+    let Name { bytes } = *relation;
+    Need {
+        item: Item::Tuple(Name { bytes }, tid),
+        mode,
+    }
+}
+
+/// The refusal that tells of an item, and who holds it.
+fn busy(need: Need, holder: u32) -> Refusal
+    requires { IsSayable need.item }
+    ensures is { result ≡ Busy need.item holder }
+    ensures short { IsShort (Err (Busy need.item holder)) }
+{
+    let Need { item, .. } = need;
+    Refusal::Busy { item, holder }
+}
