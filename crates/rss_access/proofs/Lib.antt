@@ -8,3 +8,4 @@ pub mod Writing
 pub mod Telling
 pub mod Altering
 pub mod Making
+mod NextTuples

@@ -1,5 +1,5 @@
 -- What the calls on tuples do to the pages.
-use Rattle.std.specs.Prelude.{◌≡◌, ◌⊎◌, ℕ, ◌<◌, Bool, true, false, List, [], ◌∷◌, length, sum_by, Option, Some, None, option_map, unwrap_or}
+use Rattle.std.specs.Prelude.{◌≡◌, ◌⊎◌, ℕ, ◌<◌, Bool, true, false, List, [], ◌∷◌, length, sum_by, Option, Some, None, MatchOption, option_map, unwrap_or}
 use Rattle.std.specs.List.{range_with_len}
 use Rattle.rss_base.specs.DiskRule.{IsTold}
 use Rattle.rss_base.specs.Sizes.{page_entries}
@@ -10,8 +10,10 @@ use Rattle.rss_base.specs.declared.key.PageKey.{PageKey}
 use Rattle.rss_base.specs.declared.key.Space.TheVariants.{Home, Overflow}
 use Rattle.rss_page.specs.Slotted.{bodies_room}
 use Rattle.rss_tuple.specs.Directory.{Bodies, bodies_of, with_body, tid_at}
+use Rattle.rss_tuple.specs.Finding.{IsAfter}
 use Rattle.rss_tuple.specs.Heaps.{AreHeaps}
 use Rattle.rss_tuple.specs.Placing.{IsChosen}
+use Rattle.rss_tuple.specs.TupleSteps.{IsLeast, NoneIs}
 use Rattle.rss_model.specs.Fits.{IsIdentifier}
 
 -- the pages that a tuple may have: the home pages of its identifier's number, and overflow pages
@@ -66,3 +68,19 @@ pub record FindsBody (segment number : ℕ) (tid : Tid) (pages : PagesView) (the
   pub rest : List ℕ
   pub some : there ≡ true → (bytes ≡ number ∷ rest) × (body_at pages segment tid ≡ Some bytes)
   pub none : there ≡ false → (values : List ℕ) → body_at pages segment tid ≡ Some (number ∷ values) → ⊥
+
+-- a tuple of the relation of this number stands at the identifier, behind another one, or anywhere where there is none
+pub record IsNextOf (segment number : ℕ) (after : Option Tid) (pages : PagesView) (tid : Tid) : Type 0 where
+  pub rest : List ℕ
+  pub behind : IsAfter after tid
+  pub body : body_at pages segment tid ≡ Some (number ∷ rest)
+
+-- the least of them, with its body
+pub record IsNextBody (segment number : ℕ) (after : Option Tid) (pages : PagesView) (bytes : List ℕ) (tid : Tid) : Type 0 where
+  pub least : IsLeast (IsNextOf segment number after pages) tid
+  pub body : body_at pages segment tid ≡ Some bytes
+
+-- if there is one
+abbrev pub FindsNextBody : ℕ → ℕ → Option Tid → PagesView → Option Tid → List ℕ → Type 0
+FindsNextBody segment number after pages found bytes =
+    MatchOption found (NoneIs (IsNextOf segment number after pages)) (IsNextBody segment number after pages bytes)

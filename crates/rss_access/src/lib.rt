@@ -8,4 +8,4 @@ mod tuples;
 
 pub use applying::{apply, undo};
 pub use bodies::{body_of, tuple_of};
-pub use tuples::{delete, find, insert, update};
+pub use tuples::{delete, find, find_next, insert, update};

@@ -1,5 +1,5 @@
 // Tuples in their pages.
-ghost use Rattle.std.specs.Prelude.{◌≡◌, ◌+◌, ◌*◌, ◌≤◌, length, None, Some, IsSome, IfOk, OnOk};
+ghost use Rattle.std.specs.Prelude.{◌≡◌, ℕ, ◌+◌, ◌*◌, ◌≤◌, length, None, Some, IsSome, IfOk, OnOk};
 ghost use Rattle.rss_base.specs.DiskRule.{IsTold};
 ghost use Rattle.rss_base.specs.Paged.{page_key};
 ghost use Rattle.rss_base.specs.Steps.{PagesCall, no_page};
@@ -10,7 +10,7 @@ ghost use Rattle.rss_tuple.specs.Calls.{IsSegment, MayPut, MayInsert};
 ghost use Rattle.rss_tuple.specs.TupleSteps.{tuples_in};
 ghost use Rattle.rss_tuple.specs.Checked.{pages_of};
 ghost use Rattle.rss_tuple.specs.Heaps.{AreHeaps};
-ghost use Rattle.rss_access.specs.Tuples.{body_at, CanChange, ChangesTuple, Inserts, FindsBody};
+ghost use Rattle.rss_access.specs.Tuples.{body_at, CanChange, ChangesTuple, Inserts, FindsBody, FindsNextBody};
 
 use rss_base::{Body, PageFault, PageKey, Pages, Place, Space, Tid};
 use rss_tuple::{Store, Tuples};
@@ -77,6 +77,34 @@ pub fn find<P: Pages>(
 {
     let live = tuples.fetch(segment, tid, into)?;
     Ok(live && into.as_slice().first() == Some(&number))
+}
+
+/// The least identifier behind this one, or the least of all, that a tuple of the relation of this
+/// number has in a segment. The tuple's body is put into `into`.
+pub fn find_next<P: Pages>(
+    tuples: &mut Store<P>,
+    segment: u8,
+    number: u8,
+    after: Option<Tid>,
+    into: &mut Body,
+) -> Result<Option<Tid>, PageFault>
+    requires segment { IsSegment segment }
+    requires heaps { IsTold (P.view tuples.old.pages).disk → AreHeaps (P.view tuples.old.pages) }
+    ensures finds { IfOk result (λ found. IsTold (P.view tuples.old.pages).disk
+        → FindsNextBody segment number after (P.view tuples.old.pages) found into.new) }
+    ensures heaps { OnOk result (IsTold (P.view tuples.old.pages).disk
+        → AreHeaps (P.view tuples.new.pages)) }
+    ensures did { (most : ℕ) × PagesCall no_page most most
+        (P.view tuples.old.pages) (P.view tuples.new.pages) result }
+{
+    let mut last = after;
+    while let Some(tid) = tuples.next_live(segment, last)? {
+        if find(tuples, segment, number, tid, into)? {
+            return Ok(Some(tid));
+        }
+        last = Some(tid);
+    }
+    Ok(None)
 }
 
 /// Gives a tuple another body.

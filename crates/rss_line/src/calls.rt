@@ -25,6 +25,9 @@ pub(crate) fn is_built(call: &Call) -> bool
             | Call::Fetch(..)
             | Call::Update(..)
             | Call::Delete(..)
+            | Call::OpenRelation(..)
+            | Call::Next(..)
+            | Call::CloseScan(..)
             | Call::Lock(..)
             | Call::Checkpoint
             | Call::MakeSegment(_)

@@ -95,10 +95,10 @@ found_in {R = R} total apart (e ∷ es) q v is = by_test (eq_by_cmp R q e.0)
     (λ t. ⊎_elim (λ f. false_true (subst (λ (k : _). eq_by_cmp R q k ≡ true) (sym (ap (λ (p : _ × _). p.0) f)) (tied total apart q)) t) (λ i. rw t (found_in total apart es q v i)) is)
 
 module _ (tables : Tables) (relation : Name) (names : List Name) where
-  abbrev given : Item × Content → List (Entry × ⊤)
+  abbrev pub given : Item × Content → List (Entry × ⊤)
   given held = entry_of relation (fields_in tables.definitions relation) names held.0 held.1
 
-  abbrev the_map : FinMap entry_cmp ⊤
+  abbrev pub the_map : FinMap entry_cmp ⊤
   the_map = finite.from_entries {R = entry_cmp} (flat_map given (finite.entries tables.contents))
 
   pub listed : (tid : Tid) (values : List Value) → content tables.contents (Tuple relation tid) ≡ Some (Values values) → In (entry (key_of (fields_in tables.definitions relation) names values) tid) (entries_by tables relation names)

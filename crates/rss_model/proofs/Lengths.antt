@@ -13,7 +13,7 @@ use Rattle.rss_base.specs.declared.value.FieldKind.TheVariants.{Int as IntField,
 use Rattle.rss_base.specs.TupleTypes.{fits, misfit, misfit_from, width, most_width, field_width, is_allowed_text, IsStorable}
 use Rattle.std.proofs.lemmas.Bool.{cases_Bool, cond-true, cond-false, leb-true, and_parts}
 use Rattle.std.proofs.lemmas.List.Sums.{sum_by-cons}
-use Rattle.rss_base.specs.declared.answer.Reply.TheVariants.{Tid as Identifier, Tuple as TupleReply}
+use Rattle.rss_base.specs.declared.answer.Reply.TheVariants.{Tid as Identifier, Tuple as TupleReply, Row}
 use Rattle.rss_base.specs.declared.refusal.Refusal.TheVariants.{BadTuple, NoTuple, Full}
 use Rattle.rss_base.specs.Names.{IsName}
 use Rattle.rss_model.specs.Spellings.{quote, doubled, value_text, name_text, tid_text}
@@ -93,3 +93,8 @@ values_short k (field ∷ fields) (value ∷ values) fit stored =
 
 pub tuple_line : (fields : List FieldKind) (values : List Value) → misfit fields values ≡ None → width fields ≤ most_width → All IsStorable values → length (answer_line (Ok (TupleReply values))) ≤ 8192
 tuple_line fields values fit narrow stored = omega (arith, narrow, values_short 1 fields values fit stored, length-append (values_text values) (codes "\n"))
+
+-- with its identifier before it
+pub row_line : (tid : Tid) (fields : List FieldKind) (values : List Value) → tid.page < 2 ^ 32 → tid.slot < 2 ^ 32 → misfit fields values ≡ None → width fields ≤ most_width → All IsStorable values → length (answer_line (Ok (Row tid values))) ≤ 8192
+row_line tid fields values page slot fit narrow stored =
+    omega (arith, narrow, values_short 1 fields values fit stored, tid_short tid page slot, length-append (tid_text tid ++ values_text values) (codes "\n"), length-append (tid_text tid) (values_text values))

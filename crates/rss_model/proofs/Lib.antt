@@ -32,6 +32,8 @@ pub mod Listed
 pub mod Spelled
 pub mod ByNumber
 pub mod Relisted
+pub mod RelationLists
+pub mod Scanning
 pub mod ListedOnce
 pub mod Props
 pub mod MapSums

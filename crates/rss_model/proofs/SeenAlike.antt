@@ -155,13 +155,19 @@ module _ (definitions : Definitions) (relation : Name) (names : List Name) where
   of_given (Chain link parent) held e is = absurd is
   of_given (Key image values) held e is = absurd is
 
+  -- an entry stems from a tuple that is there
+  pub tuple_in : (a : Contents) (q : Entry) → In (q, tt) (flat_map given (finite.entries a)) → (tid : Tid) × (values : List Value) × (content a (Tuple relation tid) ≡ Some (Values values)) × (entry (key_of fields names values) tid ≡ q)
+  tuple_in a q is =
+      let at = flat_in given (finite.entries a) (q, tt) is in
+      let of = of_given at.0.0 at.0.1 (q, tt) at.2 in
+      (of.0, of.1, ap (content a) (sym of.2) ∙ got_in item_total item_apart a at.0.0 at.0.1 at.1 ∙ ap (λ (c : Content). Some c) of.3, of.4)
+
   some_in : (a b : Contents) → ((tid : Tid) → content a (Tuple relation tid) ≡ content b (Tuple relation tid)) → (q : Entry) → is_some (found entry_cmp q (flat_map given (finite.entries a))) ≡ true → is_some (found entry_cmp q (flat_map given (finite.entries b))) ≡ true
   some_in a b same q is =
-      let at = flat_in given (finite.entries a) (q, tt) (in_found entry_apart (flat_map given (finite.entries a)) q tt (only (found entry_cmp q (flat_map given (finite.entries a))) is)) in
-      let of = of_given at.0.0 at.0.1 (q, tt) at.2 in
-      let there : content b (Tuple relation of.0) ≡ Some (Values of.1) = sym (same of.0) ∙ ap (content a) (sym of.2) ∙ got_in item_total item_apart a at.0.0 at.0.1 at.1 ∙ ap (λ (c : Content). Some c) of.3 in
+      let of = tuple_in a q (in_found entry_apart (flat_map given (finite.entries a)) q tt (only (found entry_cmp q (flat_map given (finite.entries a))) is)) in
+      let there : content b (Tuple relation of.0) ≡ Some (Values of.1) = sym (same of.0) ∙ of.2 in
       let named : is_name relation relation ≡ true = tied name_total name_apart relation in
-      let one : In (q, tt) (given (Tuple relation of.0, Values of.1)) = rw named (inl (ap (λ (e : Entry). (e, tt)) of.4)) in
+      let one : In (q, tt) (given (Tuple relation of.0, Values of.1)) = rw named (inl (ap (λ (e : Entry). (e, tt)) of.3)) in
       found_in entry_total entry_apart (flat_map given (finite.entries b)) q tt (in_flat given (finite.entries b) (Tuple relation of.0, Values of.1) (q, tt) (in_entries item_apart b (Tuple relation of.0) (Values of.1) there) one)
     where
       only : (o : Option ⊤) → is_some o ≡ true → o ≡ Some tt

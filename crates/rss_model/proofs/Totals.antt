@@ -1,38 +1,38 @@
 -- Each call has a step, so that a device that fails within it stops the call within a step.
-use Rattle.std.proofs.Common.{◌≡◌, inl, ℕ, ◌+◌, true, List, [], ◌∷◌, length, refl, ◌∙◌, ap, arith}
-use Rattle.std.specs.Prelude.{Option, Some, None, is_some, Ok, Err}
+use Rattle.std.proofs.Common.{◌≡◌, inl, ℕ, ◌+◌, true, List, [], ◌∷◌, length, refl, arith}
+use Rattle.std.specs.Prelude.{Option, Some, None, Ok, Err}
 use Rattle.std.specs.FinMap as map
 use Rattle.rss_base.specs.DiskRule.{Disk, Passes}
-use Rattle.rss_base.specs.declared.name.Name.{Name}
-use Rattle.rss_base.specs.declared.tid.Tid.{Tid}
-use Rattle.rss_base.specs.declared.value.Value.{Value}
 use Rattle.rss_base.specs.declared.item.Item.{Item}
 use Rattle.rss_base.specs.declared.item.Item.TheVariants.{Tuple}
 use Rattle.rss_base.specs.declared.call.Call.{Call}
-use Rattle.rss_base.specs.declared.call.Call.TheVariants.{Begin, Save, Restore, End, Abort, Insert, Fetch, Update, Delete, Lock, Checkpoint, MakeSegment, MakeRelation, DropSegment, DropRelation}
-use Rattle.rss_base.specs.declared.answer.Reply.TheVariants.{Ok as Done, Tid as Identifier, Number, Tuple as TupleReply}
+use Rattle.rss_base.specs.declared.call.Call.TheVariants.{Begin, Save, Restore, End, Abort, Insert, Fetch, Update, Delete, OpenRelation, Next, CloseScan, Lock, Checkpoint, MakeSegment, MakeRelation, DropSegment, DropRelation}
+use Rattle.rss_base.specs.declared.answer.Reply.TheVariants.{Ok as Done, Tid as Identifier, Number, Tuple as TupleReply, Row, End as AtEnd}
 use Rattle.rss_base.specs.declared.refusal.Refusal.{Refusal}
 use Rattle.rss_base.proofs.Moments.{widened}
-use Rattle.rss_model.specs.Tables.{Definitions, Tables, content}
+use Rattle.rss_model.specs.Tables.{Definitions, Tables}
 use Rattle.rss_model.specs.Defining.{DefinesNames, LocksGranule, defined, with_definitions}
 use Rattle.rss_model.specs.Commits.{MayCommit}
 use Rattle.rss_model.specs.Changes.{Change, own, undo}
 use Rattle.rss_model.specs.Callers.{is_built}
 use Rattle.rss_model.specs.Items.{Content}
+use Rattle.rss_model.specs.Images.{Entry}
 use Rattle.rss_model.specs.Kept.{Kept}
 use Rattle.rss_model.specs.Machine.{State, with_changes, now}
 use Rattle.rss_model.specs.Meter.{MayLead}
-use Rattle.rss_model.specs.Steps.{Answer, Step, tests, refusal, is_open, HasValues, MayUndo, undone_to, left_at, left_by, locked, holding, begun, with_save, restored, gone, changed, insertion, replacement, deletion, ended, redefined}
+use Rattle.rss_model.specs.Steps.{Answer, Step, tests, refusal, is_open, with_scan, with_given, MayUndo, undone_to, left_at, left_by, locked, holding, begun, with_save, restored, gone, changed, insertion, replacement, deletion, ended, redefined}
 use Rattle.rss_model.specs.Steps.MayUndo.{none, more}
 use Rattle.rss_model.specs.Rules.{saved_now}
-use Rattle.rss_model.specs.Steps.StepBy.{refuses, begins, saves, restores, aborts, checkpoints, inserts, fetches, updates, deletes, locks, ends, defines}
+use Rattle.rss_model.specs.Scans.{RelationPath, Scan, scans_most, scan_of, new_scan, next_of_scan}
+use Rattle.rss_model.specs.Steps.StepBy.{refuses, begins, saves, restores, aborts, checkpoints, inserts, fetches, updates, deletes, opens, gives, stops as ends_scan, closes, locks, ends, defines}
 use Rattle.rss_model.specs.Store.{OpensToEither}
 use Rattle.rss_model.specs.Turns.{IsStopped, IsUnmade}
-use Rattle.rss_model.proofs.Testing.{all_none, holds}
+use Rattle.rss_model.proofs.Testing.{all_none, holds, holds_not}
 use Rattle.rss_model.proofs.LogLists.{some_of}
-use Rattle.rss_model.proofs.StepKeeping.{kept_fit}
 use Rattle.rss_model.proofs.Committing.{defines_may, left_base}
 use Rattle.rss_model.proofs.Frees.{free_there}
+use Rattle.rss_model.proofs.ScanKeeping.{its_scan}
+use Rattle.rss_model.proofs.Scanning.{the_values, free_below, next_given}
 
 -- ---- what a step needs
 
@@ -48,13 +48,6 @@ as_many_undone {tables = tables} (change ∷ changes) over = more (as_many over)
 -- an open transaction has save points
 the_marks : (state : State) (t : ℕ) → is_open state t ≡ true → (marks : List ℕ) × (map.get state.marks t ≡ Some marks)
 the_marks state t is = some_of (map.get state.marks t) is
-
--- a tuple that is there has values
-pub the_values : {state : State} → Kept state → (relation : Name) (tid : Tid) → is_some (content (now state).contents (Tuple relation tid)) ≡ true → (values : List Value) × HasValues state relation tid values
-the_values {state = state} kept relation tid lives =
-    let some = some_of _ lives in
-    let of = (kept_fit state kept).1.tuples relation tid some.0 some.1 in
-    (of.values, some.1 ∙ ap Some of.tuple)
 
 -- ---- the steps
 
@@ -74,6 +67,18 @@ has_definition state call definitions names is so = record {
 }
 
 module _ {state : State} (kept : Kept state) where
+  -- a scan gives what is next, or is at its end
+  goes_on : (t number : ℕ) (scan : Scan) → refusal state (Next t number) ≡ None → scan_of state.scans t number ≡ Some scan → (next : Option Entry) → next_of_scan (now state) scan ≡ next → HasStep state (Next t number)
+  goes_on t number scan is has None at_end = record { answer = Ok AtEnd; next = state; step = ends_scan t number scan is has at_end; same_base = λ not. refl }
+  goes_on t number scan is has (Some given) some =
+      let its = next_given kept number scan given (its_scan state.scans t number scan has).0 some in
+      record {
+        answer = Ok (Row given.tid its.0);
+        next = with_scan number (with_given scan given) state;
+        step = gives t number scan given its.0 is has its.1;
+        same_base = λ not. refl;
+      }
+
   passes : (call : Call) → is_built call ≡ true → DefinesNames call → LocksGranule call → refusal state call ≡ None → HasStep state call
   passes (Begin t) built names granule is = record { answer = Ok Done; next = begun t state; step = begins t is; same_base = λ not. refl }
   passes (Save t) built names granule is =
@@ -128,6 +133,21 @@ module _ {state : State} (kept : Kept state) where
         step = deletes t relation tid was.0 state.meter.over is was.1 (as_many state.meter.over);
         same_base = λ not. refl;
       }
+  passes (OpenRelation t relation) built names granule is =
+      let passed = all_none (tests state (OpenRelation t relation)) is in
+      let free = free_below state.scans scans_most (holds_not _ _ (passed 2 None (omega arith))) in
+      record {
+        answer = Ok (Number free.0);
+        next = with_scan free.0 (new_scan t (RelationPath relation)) (locked (OpenRelation t relation) state);
+        step = opens (OpenRelation t relation) t free.0 (RelationPath relation) is refl refl (omega (arith, free.1)) free.2;
+        same_base = λ not. refl;
+      }
+  passes (Next t number) built names granule is =
+      let passed = all_none (tests state (Next t number)) is in
+      let scan = some_of (scan_of state.scans t number) (holds _ _ (passed 1 None (omega arith))) in
+      goes_on t number scan.0 is scan.1 (next_of_scan (now state) scan.0) refl
+  passes (CloseScan t number) built names granule is =
+      record { answer = Ok Done; next = record state { scans = map.remove state.scans number }; step = closes t number is; same_base = λ not. refl }
   passes (Lock t item exclusive) built names granule is =
       record { answer = Ok Done; next = locked (Lock t item exclusive) state; step = locks t item exclusive is granule; same_base = λ not. refl }
   passes (MakeSegment name) built names granule is = has_definition state (MakeSegment name) _ names is refl

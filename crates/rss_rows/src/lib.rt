@@ -38,6 +38,8 @@ mod relations;
 #[cfg(test)]
 mod ring;
 #[cfg(test)]
+mod scanning;
+#[cfg(test)]
 mod scripts;
 #[cfg(test)]
 mod statuses;

@@ -52,3 +52,19 @@ pub(crate) fn write_absent(replies: &mut String, first: u32, end: u32) -> Result
     }
     Ok(())
 }
+
+/// Writes so many lines that ask scan 0 for a tuple.
+pub(crate) fn write_nexts(script: &mut String, count: u32) -> Result<(), Fail> {
+    for _ in 0..count {
+        script.push_str("next 1 0\n")?;
+    }
+    Ok(())
+}
+
+/// Writes what a scan gives of the tuples of these places.
+pub(crate) fn write_given(replies: &mut String, first: u32, end: u32) -> Result<(), Fail> {
+    for place in first..end {
+        writeln!(replies, "ok {}.{} {place}", place / 128, place % 128)?;
+    }
+    Ok(())
+}

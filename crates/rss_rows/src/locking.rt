@@ -246,7 +246,7 @@ fn going_on(
 }
 
 /// Runs a script that goes on with another, over a store without tuples.
-fn assert_going_on(alloc: Global, texts: (&str, &str), rest: &Row) -> Result<(), Fail> {
+pub(crate) fn assert_going_on(alloc: Global, texts: (&str, &str), rest: &Row) -> Result<(), Fail> {
     let (script, replies) = going_on(alloc, texts, rest)?;
     let row = Row {
         script: script.as_slice(),

@@ -11,7 +11,7 @@ struct Recovered {
     probe: Row<'static>,
 }
 
-static ROWS: [Recovered; 5] = [
+static ROWS: [Recovered; 6] = [
     // A way back undoes what a checkpoint saved, and takes later save points along.
     Recovered {
         row: Row {
@@ -161,6 +161,42 @@ ok 0.0
         probe: Row {
             script: b"begin 1\nfetch 1 r 0.0\n",
             replies: b"ok\nrefused 9 no tuple r 0.0\n",
+        },
+    }, // A scan is gone with its run. A new one gives what was committed.
+    Recovered {
+        row: Row {
+            script: b"\
+begin 1
+insert 1 r 1
+insert 1 r 2
+end 1
+begin 1
+open 1 relation r
+next 1 0
+delete 1 r 0.1
+insert 1 r 3
+insert 1 r 4
+checkpoint
+next 1 0
+",
+            replies: b"\
+ok
+ok 0.0
+ok 0.1
+ok
+ok
+ok 0
+ok 0.0 1
+ok
+ok 0.1
+ok 0.2
+ok
+ok 0.1 3
+",
+        },
+        probe: Row {
+            script: b"begin 1\nnext 1 0\nopen 1 relation r\nnext 1 0\nnext 1 0\nnext 1 0\n",
+            replies: b"ok\nrefused 5 no such scan\nok 0\nok 0.0 1\nok 0.1 2\nend\n",
         },
     },
 ];

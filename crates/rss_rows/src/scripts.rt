@@ -11,9 +11,13 @@ use std::test::Fail;
 /// Scripts, each over the store that the one before it left, and how many writes of the device they
 /// make. A commit writes the root and the selector, and a checkpoint what is named, the map, the root
 /// and the selector. Where the log isn't at rest the opening takes one.
-static WRITES: [(&[u8], usize); 18] = [
+static WRITES: [(&[u8], usize); 19] = [
     (b"", 0),
     (b"begin 1\nend 1\n", 0),
+    (
+        b"begin 1\nopen 1 relation r\nnext 1 0\nclose 1 0\nend 1\n",
+        0,
+    ),
     (b"begin 1\ninsert 1 r 1\n", 0),
     (b"begin 1\ninsert 1 r 1\ninsert 1 r 2\nend 1\n", 2),
     // The opening: the home page, and that of the count. Then a commit.
@@ -40,7 +44,7 @@ static WRITES: [(&[u8], usize); 18] = [
 ];
 
 /// Lines that are words.
-static WORDS: [&[u8]; 58] = [
+static WORDS: [&[u8]; 73] = [
     b"\t",
     b"\r",
     b"\0",
@@ -99,6 +103,22 @@ static WORDS: [&[u8]; 58] = [
     b"delete 1 r 0.0 7",
     b"delete 1 r 00.0",
     b"Delete 1 r 0.0",
+    b"open 1 r",
+    b"open 1 relation",
+    b"open 1 relation r 0.0",
+    b"open 0 relation r",
+    b"open 1 Relation r",
+    b"open 1 segment s",
+    b"next 1",
+    b"next 1 00",
+    b"next 1 -1",
+    b"next 1 4294967296",
+    b"next 1 0 1",
+    b"close 1",
+    b"close 1 0.0",
+    // Calls that aren't built.
+    b"open 1 image r",
+    b"open 1 link r",
 ];
 
 /// Scripts over a relation of one TEXT, whose bytes between quotes are none that a field takes.

@@ -133,6 +133,15 @@ fn write_left(replies: &mut String) -> Result<(), Fail> {
     Ok(())
 }
 
+/// Writes what a scan gives of them.
+fn write_given(replies: &mut String) -> Result<(), Fail> {
+    for (slot, texts) in LEFT.iter().enumerate() {
+        write!(replies, "ok 0.{slot}")?;
+        write_texts(replies, texts)?;
+    }
+    Ok(())
+}
+
 /// Makes the changes over a store, and fetches what they leave. Answers the device.
 fn assert_changes(alloc: Global, device: MemDevice) -> Result<MemDevice, Fail> {
     let mut script = String::new(alloc);
@@ -155,13 +164,29 @@ fn assert_changes(alloc: Global, device: MemDevice) -> Result<MemDevice, Fail> {
     Ok(without_moments(alloc, &after)?)
 }
 
-/// Fetches what they left in another run. Answers the device.
+/// What fetches and scans them in another run.
+const FOUND: &[u8] = b"\
+begin 1
+fetch 1 w 0.0
+fetch 1 w 0.1
+fetch 1 w 0.2
+open 1 relation w
+next 1 0
+next 1 0
+next 1 0
+next 1 0
+";
+
+/// Finds what they left in another run. Answers the device.
 fn assert_left(alloc: Global, device: MemDevice) -> Result<MemDevice, Fail> {
     let mut replies = String::new(alloc);
     write_lines(&mut replies, "ok\n")?;
     write_left(&mut replies)?;
+    write_lines(&mut replies, "ok 0\n")?;
+    write_given(&mut replies)?;
+    write_lines(&mut replies, "end\n")?;
     let row = Row {
-        script: b"begin 1\nfetch 1 w 0.0\nfetch 1 w 0.1\nfetch 1 w 0.2\n",
+        script: FOUND,
         replies: replies.as_bytes(),
     };
     let after = assert_script(alloc, device, &row, WHOLE, "the next run")?;

@@ -1,6 +1,6 @@
 -- The relations of a segment: those that the catalog lists are those of the machine, and what others hold in them is free to nobody.
-use Rattle.std.proofs.Common.{◌≡◌, ◌↔◌, ◌⊎◌, inl, inr, ℕ, ◌<◌, true, false, List, [], ◌∷◌, get_or, length, refl, sym, ◌∙◌, ap, subst, Contains}
-use Rattle.std.specs.Prelude.{Bool, Option, Some, None, filter, is_some, option_map, unwrap_or, ◌||◌}
+use Rattle.std.proofs.Common.{◌≡◌, ◌↔◌, inl, inr, ℕ, true, false, List, [], ◌∷◌, refl, sym, ◌∙◌, ap, subst, Contains}
+use Rattle.std.specs.Prelude.{Bool, Option, Some, filter, option_map, unwrap_or, ◌||◌}
 use Rattle.std.specs.FinMap as map
 use Rattle.std.specs.List.{list_any}
 use Rattle.std.specs.Ordering.{eq_by_cmp}

@@ -46,8 +46,8 @@ use Rattle.rss_session.specs.Weighing.{outcome, RulesSo}
 use Rattle.rss_session.proofs.Passing.{goes_then, goes_still, goes_opened}
 use Rattle.rss_rsi.specs.Changing.{RulesSay, StillShows, ChangeEnds, IsChangeOf}
 use Rattle.rss_rsi.specs.Placing.{MayCost}
-use Rattle.rss_rsi.specs.Views.{RssParts, IsIn, engine_view}
-use Rattle.rss_rsi.proofs.Ways.{shows_locked, in_left, left_same, goes, LeadsAll, answers}
+use Rattle.rss_rsi.specs.Views.{RssParts, IsIn, SameHeld, engine_view}
+use Rattle.rss_rsi.proofs.Ways.{shows_locked, still_scanned, in_held, in_left, left_same, goes, LeadsAll, answers}
 
 -- ---- what was weighed
 
@@ -191,13 +191,13 @@ module _ {first : RssParts} {mid : SessionView} {after : Locks} {t : ℕ} {told_
         then (looks.moments told state kept shows) (change.moments (looks.goes.told.0 told) state kept (looks.shows told state shows)) (λ image holds. holds)
 
   -- the same states are shown where nothing was changed
-  in_still : {new : RssParts} {state : State} → StillShows mid new.session → new.locks.locks ≡ first.locks.locks → IsTold first.session.store.pages.disk → IsIn first state → IsIn new state
-  in_still {state = state} still same told is_in = record { shows = still state (looks.shows told state is_in.shows); locked = is_in.locked ∙ sym same; kept = is_in.kept }
+  in_still : {new : RssParts} {state : State} → StillShows mid new.session → SameHeld first new → IsTold first.session.store.pages.disk → IsIn first state → IsIn new state
+  in_still {state = state} still held told is_in = in_held held (still state (looks.shows told state is_in.shows)) is_in
 
   module _ {new : RssParts} {U : Type 0} {up_now : Type 0} where
     -- the step was made
-    leads_made : {done : U} → new.locks.locks ≡ after → IsChangeOf mid new.session up_now t told_change (Ok done) → LeadsAll first new call (Ok reply)
-    leads_made locked change told state is_in =
+    leads_made : {done : U} → new.locks.locks ≡ after → new.scans ≡ first.scans → IsChangeOf mid new.session up_now t told_change (Ok done) → LeadsAll first new call (Ok reply)
+    leads_made locked scans change told state is_in =
         let last = by_change.last told state is_in in
         let made = change.ends.1 in
         let passes = said made.passes told is_in in
@@ -207,16 +207,17 @@ module _ {first : RssParts} {mid : SessionView} {after : Locks} {t : ℕ} {told_
           step = last.steps passes one.over one.allowed;
           shows = shows_locked after one.shows;
           locked = sym locked;
+          scanned = still_scanned scans refl is_in.scanned;
           moments = widened (keeps_all new change told state is_in.kept is_in.shows) (λ image opens. inl opens);
         }
 
-    pub ends_made : {n m : ℕ} {up : Type 0} {done : U} → new.locks.locks ≡ after → up → m ≤ n + 1 → (IsTold first.session.store.pages.disk → (state : State) → IsIn first state → GetsPlace (engine_view first n up) state call (Ok reply)) → IsChangeOf mid new.session up_now t told_change (Ok done)
+    pub ends_made : {n m : ℕ} {up : Type 0} {done : U} → new.locks.locks ≡ after → new.scans ≡ first.scans → up → m ≤ n + 1 → (IsTold first.session.store.pages.disk → (state : State) → IsIn first state → GetsPlace (engine_view first n up) state call (Ok reply)) → IsChangeOf mid new.session up_now t told_change (Ok done)
         → IsCallOf (engine_view first n up) (engine_view new m up_now) call (Ok reply)
-    ends_made locked was_up calls placed change = comes_to was_up (goes_all new change calls) (answers change.ends.0 by_change.short placed (leads_made locked change))
+    ends_made locked scans was_up calls placed change = comes_to was_up (goes_all new change calls) (answers change.ends.0 by_change.short placed (leads_made locked scans change))
 
-    pub ends_short : {n m : ℕ} {up : Type 0} {why : CallError} (result : Result Reply CallError) → IsErrAnd result (λ e. e ≡ why) → new.locks.locks ≡ first.locks.locks → up → m ≤ n + 1 → IsChangeOf {T = U} mid new.session up_now t told_change (Err why)
+    pub ends_short : {n m : ℕ} {up : Type 0} {why : CallError} (result : Result Reply CallError) → IsErrAnd result (λ e. e ≡ why) → SameHeld first new → up → m ≤ n + 1 → IsChangeOf {T = U} mid new.session up_now t told_change (Err why)
         → IsCallOf (engine_view first n up) (engine_view new m up_now) call result
-    ends_short {n = n} {m = m} {up = up} {why = why} result is same was_up calls change =
+    ends_short {n = n} {m = m} {up = up} {why = why} result is held was_up calls change =
         let so = err_from_is_err_and result is in
         subst (IsCallOf (engine_view first n up) (engine_view new m up_now) call) (sym (so.1 ∙ ap Err so.2)) (comes_to was_up (goes_all new change calls) (by why change))
       where
@@ -227,7 +228,7 @@ module _ {first : RssParts} {mid : SessionView} {after : Locks} {t : ℕ} {told_
             let refused = last.refuses ∙ no_room in
             let none = keeps_none (ruling state last.change) no_room in (
               refused,
-              in_left call is_in refused (change.ends.1.still state (looks.shows told state is_in.shows)) (left_same call why none is_in ∙ sym same),
+              in_left call is_in refused (change.ends.1.still state (looks.shows told state is_in.shows)) (left_same call why none is_in ∙ sym held.locks) held.scans,
               keeps_all new change told state is_in.kept is_in.shows,
             ))
         by Device change = record {
@@ -245,6 +246,6 @@ module _ {first : RssParts} {mid : SessionView} {after : Locks} {t : ℕ} {told_
           may = by_change.may.stop.memory;
           unmade = λ told state is_in. keeps_all new change told state is_in.kept is_in.shows;
           up = change.ends.0;
-          same = λ told state is_in. in_still change.ends.1 same told is_in;
+          same = λ told state is_in. in_still change.ends.1 held told is_in;
         }
         by Down change = absurd change.ends

@@ -24,7 +24,7 @@ use Rattle.rss_model.specs.Steps.{locked, locked_by, refusal}
 use Rattle.rss_session.specs.Calls.{KeepsTables}
 use Rattle.rss_session.specs.Shown.{Shows}
 use Rattle.rss_rsi.specs.Locking.{IsClaimed, ClaimEnds}
-use Rattle.rss_rsi.specs.Views.{RssParts, IsIn, engine_view}
+use Rattle.rss_rsi.specs.Views.{RssParts, IsIn, SameHeld, engine_view}
 use Rattle.rss_rsi.proofs.Ways.{left_same, lacks_behind, refused_behind}
 
 -- ---- one need more
@@ -75,7 +75,7 @@ free_as {t = t} is_in call listed claimed = bars_as is_in call listed t ∙ clai
 -- ---- a claim that fails
 
 module _ {old new : RssParts} {n m : ℕ} {up up_now : Type 0} {call : Call} (may : may_lack_memory call ≡ true) (was_up : up) (is_up : up_now) (goes : GoesOn (engine_view old n up) (engine_view new m up_now) call) (keeps : KeepsTables old.session new.session)
-    (shows : IsTold old.session.store.pages.disk → (state : State) → Shows old.session state → Shows new.session state) (same : new.locks.locks ≡ old.locks.locks) where
+    (shows : IsTold old.session.store.pages.disk → (state : State) → Shows old.session state → Shows new.session state) (same : SameHeld old new) where
   -- another transaction holds what is needed, or memory runs out
   pub claim_fails : (T : Type 0) (before after : LocksView) (t : ℕ) (list : List Need) {why : CallError} → before.locks ≡ old.locks.locks
       → (IsTold old.session.store.pages.disk → (state : State) → IsIn old state → (bar : Bar) → first_bar old.locks.locks t list ≡ Some bar → refusal state call ≡ Some (busy bar))
@@ -84,10 +84,10 @@ module _ {old new : RssParts} {n m : ℕ} {up up_now : Type 0} {call : Call} (ma
     where
       by : (why : CallError) → ClaimEnds {T = T} before after t list (Err why) → IsCallOf (engine_view old n up) (engine_view new m up_now) call (Err why)
       by (Refused why) is = subst (λ (w : Refusal). IsCallOf (engine_view old n up) (engine_view new m up_now) call (Err (Refused w))) (sym is.is)
-          (refused_behind _ refl was_up is_up (subst (λ (w : Refusal). IsShort (Err w)) is.is is.short) goes keeps (λ told state is_in. (
+          (refused_behind _ refl was_up is_up (subst (λ (w : Refusal). IsShort (Err w)) is.is is.short) goes keeps same.scans (λ told state is_in. (
             bars told state is_in is.bar (ap (λ (locks : Locks). first_bar locks t list) (sym were) ∙ is.first),
             shows told state is_in.shows,
-            left_same call (busy is.bar) refl is_in ∙ sym same,
+            left_same call (busy is.bar) refl is_in ∙ sym same.locks,
           )))
       by NoMemory is = lacks_behind may was_up is_up goes keeps shows same
       by Device is = absurd is

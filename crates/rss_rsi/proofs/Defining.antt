@@ -29,6 +29,7 @@ use Rattle.rss_model.proofs.Endings.{comes_to, IsDefined, defined_by}
 use Rattle.rss_model.proofs.StepKeeping.{steps_keep}
 use Rattle.rss_catalog.specs.Catalogs.{CatalogView}
 use Rattle.rss_lock.specs.Locks.{LocksView}
+use Rattle.rss_scan.specs.Scans.{OpenScans}
 use Rattle.rss_trans.specs.Tables.{told}
 use Rattle.rss_session.specs.Admissions.{Says}
 use Rattle.rss_session.specs.Calls.{with_catalog, IsRedefined, RedefinesTables, Appends}
@@ -43,7 +44,7 @@ use Rattle.rss_session.specs.declared.session.Session.{Session}
 use Rattle.rss_session.proofs.Relisting.{but_catalog, ready_redefined, closed_redefined, early_redefined, is_redefined, defines_some}
 use Rattle.rss_rsi.specs.Definitions.{Definition, IsDefining, parts_before, view_of}
 use Rattle.rss_rsi.specs.Views.{RssParts, IsIn, engine_view, IsReady}
-use Rattle.rss_rsi.proofs.Ways.{NeedsNone, goes, failed_within, refused_test, ready_counted, ready_then, opened_stay, holders_stay}
+use Rattle.rss_rsi.proofs.Ways.{GoOverRelations, NeedsNone, still_scanned, goes, failed_within, refused_test, ready_counted, ready_then, opened_stay, holders_stay}
 
 -- a call that defines asks for no page
 no_asks : {old new : Listing} {call : Call} (before now : ℕ) → now ≡ before → Relists old call new → RisesAtMost (most_asks call) before now
@@ -78,16 +79,16 @@ pub made_ok : (made : Result (Unit {0}) Refusal) → ((why : Refusal) → made �
 made_ok (Ok done) not = refl
 made_ok (Err why) not = absurd (not why refl)
 
-module _ {S : Type 0} (pages_view : S → PagesView) {to : Definition S} {now : Session S} {locks : LocksView} {calls : ℕ} {made : Result (Unit {0}) Refusal} (is : IsDefining pages_view to now locks calls made) where
+module _ {S : Type 0} (pages_view : S → PagesView) {to : Definition S} {now : Session S} {locks : LocksView} {scans : OpenScans} {calls : ℕ} {made : Result (Unit {0}) Refusal} (is : IsDefining pages_view to now locks scans calls made) where
   abbrev before : RssParts
   before = parts_before pages_view to
 
   abbrev between : SessionView
   between = session_view pages_view now
 
-  -- the engine with this session has the locks that it had
-  abbrev with_locks : SessionView → RssParts
-  with_locks session = record { session = session; locks = locks }
+  -- the engine with this session has the locks and the scans that it had
+  abbrev with_held : SessionView → RssParts
+  with_held session = record { session = session; locks = locks; scans = scans }
 
   -- ---- it was refused
 
@@ -95,14 +96,14 @@ module _ {S : Type 0} (pages_view : S → PagesView) {to : Definition S} {now : 
     refuses : Defining pages_view to.session now to.call (Err why)
     refuses = subst (Defining pages_view to.session now to.call) so is.defining
 
-    same : with_locks between ≡ before
-    same i = record { session = session_view pages_view (refuses.same i); locks = is.locked i }
+    same : with_held between ≡ before
+    same i = record { session = session_view pages_view (refuses.same i); locks = is.locked i; scans = is.scanned i }
 
-    pub refused_define : {up : Type 0} → up → IsCallOf (view_of pages_view to) (engine_view (with_locks between) calls up) to.call (Err (Refused why))
+    pub refused_define : {up : Type 0} → up → IsCallOf (view_of pages_view to) (engine_view (with_held between) calls up) to.call (Err (Refused why))
     refused_define {up = up} is_up = subst (λ (parts : RssParts). IsCallOf (view_of pages_view to) (engine_view parts calls up) to.call (Err (Refused why))) (sym same)
         (refused_test (Err (Refused why)) refl refl is_up (omega (arith, is.counted)) refuses.tests.1 is.bare refuses.tests.0)
 
-    pub refused_ready : IsReady (with_locks between) calls
+    pub refused_ready : IsReady (with_held between) calls
     refused_ready = subst (λ (parts : RssParts). IsReady parts calls) (sym same) (ready_counted (omega (arith, is.counted)) is.ready)
 
   -- ---- it is listed
@@ -142,7 +143,7 @@ module _ {S : Type 0} (pages_view : S → PagesView) {to : Definition S} {now : 
       on_before : SessionGoesOn before.session new result
       on_before = but_listed now.store.catalog (subst (λ (v : SessionView). SessionGoesOn v new result) (sym (but_catalog pages_view redefines)) on)
 
-      pub goes_redefining : {up_now : Type 0} → GoesOn (view_of pages_view to) (engine_view (with_locks new) calls up_now) to.call
+      pub goes_redefining : {up_now : Type 0} → GoesOn (view_of pages_view to) (engine_view (with_held new) calls up_now) to.call
       goes_redefining = goes result on_before (omega (arith, is.counted))
           (no_asks before.session.store.pages.asks new.store.pages.asks (asks ∙ ap (λ (p : PagesView). p.asks) pages_same) redefines.relists)
           (any_writes before.session.store.pages.writes new.store.pages.writes redefines.relists)
@@ -171,7 +172,7 @@ module _ {S : Type 0} (pages_view : S → PagesView) {to : Definition S} {now : 
         may_stop = record { answer = Ok Done; next = redefined definitions state; answered = record { step = step; moments = either } }
 
         is_defined : {up : Type 0} → (IsTold between.store.pages.disk → (catalog : CatalogView) (state : State) (definitions : Definitions) → IsRedefined between catalog state definitions → Shows new (redefined definitions state))
-            → IsDefined (view_of pages_view to) (engine_view (with_locks new) calls up) state to.call
+            → IsDefined (view_of pages_view to) (engine_view (with_held new) calls up) state to.call
         is_defined shows = record {
           definitions = definitions;
           passed = not_refused;
@@ -179,48 +180,51 @@ module _ {S : Type 0} (pages_view : S → PagesView) {to : Definition S} {now : 
           shows = record {
             shows = shows (told_then told) to.session.store.catalog state definitions redefining;
             locked = is_in.locked ∙ ap (λ (l : LocksView). l.locks) (sym is.locked);
+            scanned = still_scanned is.scanned refl is_in.scanned;
             kept = steps_keep state (redefined definitions state) to.call (Ok Done) step is_in.kept;
           };
           moments = either;
         }
 
       pub redefined_done : {up : Type 0} → up → (IsTold between.store.pages.disk → (catalog : CatalogView) (state : State) (definitions : Definitions) → IsRedefined between catalog state definitions → Shows new (redefined definitions state))
-          → IsCallOf (view_of pages_view to) (engine_view (with_locks new) calls up) to.call (Ok Done)
+          → IsCallOf (view_of pages_view to) (engine_view (with_held new) calls up) to.call (Ok Done)
       redefined_done is_up shows = comes_to refl goes_redefining (defined_by is.names is_up (λ told state is_in. is_defined told state is_in shows))
 
       -- nothing was begun or ended
       opened_same : new.opened.transactions ≡ between.opened.transactions → new.opened.transactions ≡ before.session.opened.transactions
       opened_same as_between = as_between ∙ ap (λ opened. (told opened).transactions) redefines.rest.opened
 
-      pub redefined_ready : IsSessionReady new → Appends largest_checkpoint between new → new.opened.transactions ≡ between.opened.transactions → IsReady (with_locks new) calls
+      pub redefined_ready : IsSessionReady new → Appends largest_checkpoint between new → new.opened.transactions ≡ between.opened.transactions → IsReady (with_held new) calls
       redefined_ready ready appends transactions = ready_then is.ready is.counted (omega arith) ready
           (subst (λ (v : SessionView). Appends largest_checkpoint v new) (sym (but_catalog pages_view redefines)) appends)
           (λ t. omega (arith, on_before.saves t))
-          (holders_stay before (with_locks new) is.ready.holders (opened_stay before.session new (opened_same transactions)) (ap (λ (l : LocksView). l.locks) is.locked))
+          (holders_stay before (with_held new) is.ready.holders (opened_stay before.session new (opened_same transactions)) (ap (λ (l : LocksView). l.locks) is.locked))
+          (subst GoOverRelations (sym is.scanned) is.ready.relations)
 
     -- the device failed, or shows damage, which none does that tells its contents
     pub redefining_fails : {new : SessionView} {fault : PageFault} {up_now : Type 0} (answer : Result Reply CallError) → IsErrAnd answer (λ why. why ≡ page_error fault) → (up_now → ⊥)
         → SessionGoesOn {T = Unit {0}} between new (Err fault) → RedefinesTables between new → new.store.pages.asks ≡ between.store.pages.asks
-        → ((place : Place) → ◌≡◌ {A = Result (Unit {0}) PageFault} (Err fault) (Err (PageDamaged place)) → IsTold between.store.pages.disk → ⊥) → IsCallOf (view_of pages_view to) (engine_view (with_locks new) calls up_now) to.call answer
+        → ((place : Place) → ◌≡◌ {A = Result (Unit {0}) PageFault} (Err fault) (Err (PageDamaged place)) → IsTold between.store.pages.disk → ⊥) → IsCallOf (view_of pages_view to) (engine_view (with_held new) calls up_now) to.call answer
     redefining_fails answer answered down on moments asks sound =
         failed_within answer answered refl down (on_before on moments asks) (goes_redefining on moments asks) (λ place same told state is_in. sound place same (told_then told)) (may_stop on moments asks)
 
 -- ---- calls that define
 
 module _ {S : Type 0} (pages_view : S → PagesView) where
-  -- what came to an engine of this session, with these locks
-  abbrev pub asks_for : Call → Session S → LocksView → ℕ → Definition S
-  asks_for call session locks calls = record { call = call; session = session; locks = locks; calls = calls }
+  -- what came to an engine of this session, with these locks and scans
+  abbrev pub asks_for : Call → Session S → LocksView → OpenScans → ℕ → Definition S
+  asks_for call session locks scans calls = record { call = call; session = session; locks = locks; scans = scans; calls = calls }
 
   -- the session that counted the call was told to define
-  pub is_defining : (to : Definition S) {asked now : Session S} {locks : LocksView} {calls : ℕ} {made : Result (Unit {0}) Refusal} → asked ≡ to.session → Defining pages_view asked now to.call made → DefinesNames to.call → NeedsNone to.call
-      → IsReady (parts_before pages_view to) to.calls → locks ≡ to.locks → to.calls < calls_most → calls ≡ to.calls + 1 → IsDefining pages_view to now locks calls made
-  is_defining to {now = now} {made = made} same defining names bare ready locked few counted = record {
+  pub is_defining : (to : Definition S) {asked now : Session S} {locks : LocksView} {scans : OpenScans} {calls : ℕ} {made : Result (Unit {0}) Refusal} → asked ≡ to.session → Defining pages_view asked now to.call made → DefinesNames to.call → NeedsNone to.call
+      → IsReady (parts_before pages_view to) to.calls → locks ≡ to.locks → scans ≡ to.scans → to.calls < calls_most → calls ≡ to.calls + 1 → IsDefining pages_view to now locks scans calls made
+  is_defining to {now = now} {made = made} same defining names bare ready locked scanned few counted = record {
     names = names;
     bare = bare;
     defining = subst (λ (s : Session S). Defining pages_view s now to.call made) same defining;
     ready = ready;
     locked = locked;
+    scanned = scanned;
     few = few;
     counted = counted;
   }

@@ -1,6 +1,6 @@
 -- An insert, by its tests and by what was found for it.
 use Rattle.std.proofs.Common.{◌≡◌, ℕ, ◌+◌, ◌^◌, ◌≤◌, ◌<◌, List, [], ◌∷◌, ◌++◌, append-nil, length, drop, refl, sym, ◌∙◌, ap, subst, arith}
-use Rattle.std.specs.Prelude.{Option, Some, None, is_some, option_map, Result, Ok, Err}
+use Rattle.std.specs.Prelude.{Some, None, is_some, option_map, Ok, Err}
 use Rattle.std.proofs.lemmas.Bool.{false_from_ne_true}
 use Rattle.std.proofs.lemmas.Option.{same_Some}
 use Rattle.rss_base.specs.DiskRule.{IsTold}
@@ -50,7 +50,7 @@ use Rattle.rss_session.specs.Looks.{LooksOn}
 use Rattle.rss_session.specs.Sessions.{SessionView}
 use Rattle.rss_rsi.specs.Locking.{Lists, IsClaimed, ClaimEnds}
 use Rattle.rss_rsi.specs.Placing.{IsPlaceFor, IsRelationIn, MayCost, PlacesTuple}
-use Rattle.rss_rsi.specs.Views.{RssParts, IsIn, MayStandAt, engine_view}
+use Rattle.rss_rsi.specs.Views.{RssParts, IsIn, SameHeld, MayStandAt, engine_view}
 use Rattle.rss_rsi.proofs.Changes.{IsLast, EndsByChange}
 use Rattle.rss_rsi.proofs.Claims.{first_bar_behind, granted_behind, none_bars, claim_fails}
 use Rattle.rss_rsi.proofs.NoKeys.{no_keys}
@@ -141,8 +141,8 @@ module _ (parts : RssParts) {t : ℕ} {relation : Name} {values : List Value} {n
     goes_placed new same calls = goes (Ok tid) (looks_new new same).goes calls tt tt
 
     -- memory runs out for the needs
-    pub insert_no_needs : (new : RssParts) {n m : ℕ} {up up_now : Type 0} → new.session ≡ mid → new.locks.locks ≡ parts.locks.locks → up → up_now → m ≤ n + 1 → IsCallOf (engine_view parts n up) (engine_view new m up_now) (Insert t relation values) (Err NoMemory)
-    insert_no_needs new same locks was_up is_up calls = lacks_behind refl was_up is_up (goes_placed new same calls) (looks_new new same).moments (looks_new new same).shows locks
+    pub insert_no_needs : (new : RssParts) {n m : ℕ} {up up_now : Type 0} → new.session ≡ mid → SameHeld parts new → up → up_now → m ≤ n + 1 → IsCallOf (engine_view parts n up) (engine_view new m up_now) (Insert t relation values) (Err NoMemory)
+    insert_no_needs new same held was_up is_up calls = lacks_behind refl was_up is_up (goes_placed new same calls) (looks_new new same).moments (looks_new new same).shows held
 
   -- ---- by what was found
 
@@ -170,10 +170,10 @@ module _ (parts : RssParts) {t : ℕ} {relation : Name} {values : List Value} {n
         ∙ (λ i. granted t (lists told state is_in i) (is_in.locked i))
 
     -- the claim fails
-    pub insert_lost : (new : RssParts) (U : Type 0) (before after : LocksView) {n m : ℕ} {up up_now : Type 0} {why : CallError} → new.session ≡ mid → new.locks.locks ≡ parts.locks.locks → before.locks ≡ parts.locks.locks → up → up_now → m ≤ n + 1
+    pub insert_lost : (new : RssParts) (U : Type 0) (before after : LocksView) {n m : ℕ} {up up_now : Type 0} {why : CallError} → new.session ≡ mid → SameHeld parts new → before.locks ≡ parts.locks.locks → up → up_now → m ≤ n + 1
         → ClaimEnds {T = U} before after t list (Err why) → IsCallOf (engine_view parts n up) (engine_view new m up_now) (Insert t relation values) (Err why)
-    insert_lost new U before after same locks were was_up is_up calls =
-        claim_fails refl was_up is_up (goes_placed looks new same calls) (looks_new looks new same).moments (looks_new looks new same).shows locks U before after t list were
+    insert_lost new U before after same held were was_up is_up calls =
+        claim_fails refl was_up is_up (goes_placed looks new same calls) (looks_new looks new same).moments (looks_new looks new same).shows held U before after t list were
         (λ told state is_in bar is.
         insert_busy state t relation values (admitted.fits told state is_in.shows) (few_so state (admitted.few told state is_in.shows)) tid (its_free state told is_in) bar (bars_too state told is_in ∙ is))
 

@@ -15,6 +15,8 @@ pub mod Beside
 pub mod Placed
 pub mod TupleTests
 pub mod Fetches
+pub mod Scans
+pub mod ScanCalls
 pub mod Telling
 pub mod Changes
 pub mod Updates

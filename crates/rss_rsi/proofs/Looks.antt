@@ -26,7 +26,7 @@ use Rattle.rss_base.specs.declared.relation.RelationEntry.{RelationEntry}
 use Rattle.rss_base.specs.declared.tid.Tid.{Tid}
 use Rattle.rss_base.specs.declared.value.Value.{Value}
 use Rattle.rss_model.specs.Calls.{EngineView, GoesOn, IsCallOf}
-use Rattle.rss_model.specs.Costs.{most_asks, most_writes}
+use Rattle.rss_model.specs.Costs.{RisesAtMost, most_asks, most_writes}
 use Rattle.rss_model.specs.Items.{Content}
 use Rattle.rss_model.specs.Locks.{first_bar, granted}
 use Rattle.rss_model.specs.Machine.{State, now}
@@ -42,7 +42,6 @@ use Rattle.rss_access.proofs.Numbered.{name_of}
 use Rattle.rss_catalog.specs.Catalogs.{CatalogView}
 use Rattle.rss_session.specs.Looks.{LooksOn, FindsTuple}
 use Rattle.rss_lock.specs.Locks.{LocksView}
-use Rattle.rss_lock.specs.Table.{told}
 use Rattle.rss_lock.specs.declared.locks.Locks.{Locks as LockTable}
 use Rattle.rss_log.specs.Logs.{LogView}
 use Rattle.rss_trans.specs.Transactions.{OpenView, is_open, transaction_in}
@@ -52,12 +51,13 @@ use Rattle.rss_session.specs.declared.session.Session.{Session}
 use Rattle.rss_session.specs.Sessions.{IsReady as IsSessionReady}
 use Rattle.rss_session.proofs.Passing.{goes_opened}
 use Rattle.rss_rsi.specs.Changing.{IsAsked}
-use Rattle.rss_rsi.specs.Views.{RssParts, IsIn, IsReady, engine_view}
+use Rattle.rss_rsi.specs.Views.{RssParts, IsIn, SameHeld, IsReady, engine_view}
 use Rattle.rss_rsi.specs.Locking.{accessing, Lists, ClaimEnds}
 use Rattle.rss_rsi.specs.Looking.{EndsEach, MayLook, LooksFor, CostsTwo, LooksUp, FindsNone}
+use Rattle.rss_rsi.specs.Placing.{FailsToLook, MayCost}
 use Rattle.rss_rsi.specs.declared.locking.Access.{Access}
 use Rattle.rss_rsi.proofs.Claims.{bars_as, locked_as, claim_fails}
-use Rattle.rss_rsi.proofs.Ways.{asked, failed_within, goes, holders_stay, keeps_same, lacks_behind, refused_behind}
+use Rattle.rss_rsi.proofs.Ways.{GoOverRelations, ScanTable, asked, failed_within, goes, holders_stay, in_held, keeps_same, lacks_behind, refused_behind, rss_parts}
 
 -- ---- what a look passes on
 
@@ -105,9 +105,9 @@ pub still_looked : {S T : Type 0} (pages_view : S → PagesView) (old : SessionV
 still_looked pages_view old {found = found} same = subst (λ (session : Session _). LooksUp old (session_view pages_view session) found) (sym same)
 
 -- the needs are the same before the look
-pub lists_before : (old mid : RssParts) {T : Type 0} {found : Result T PageFault} (wanted : Tables → List Need) {list : List Need} → LooksOn old.session mid.session found → mid.locks.locks ≡ old.locks.locks → Lists mid wanted list → Lists old wanted list
-lists_before old mid wanted looks same lists told state is_in =
-    lists (looks.goes.told.0 told) state (record { shows = looks.shows told state is_in.shows; locked = is_in.locked ∙ sym same; kept = is_in.kept })
+pub lists_before : (old mid : RssParts) {T : Type 0} {found : Result T PageFault} (wanted : Tables → List Need) {list : List Need} → LooksOn old.session mid.session found → SameHeld old mid → Lists mid wanted list → Lists old wanted list
+lists_before old mid wanted looks held lists told state is_in =
+    lists (looks.goes.told.0 told) state (in_held held (looks.shows told state is_in.shows) is_in)
 
 -- ---- calls that may be made of what was looked at
 
@@ -118,8 +118,36 @@ module _ {T : Type 0} {old new : RssParts} {result : Result T PageFault} (looks 
       (within_most (most_writes call) (run_pages * 2) old.session.store.pages.writes new.session.store.pages.writes may.writes costs.writes_high)
 
   -- memory runs out behind the look
-  pub lacks_looked : {up up_now : Type 0} → up → up_now → new.locks.locks ≡ old.locks.locks → IsCallOf (engine_view old n up) (engine_view new m up_now) call (Err NoMemory)
-  lacks_looked was_up is_up same = lacks_behind may.stop.memory was_up is_up goes_looked looks.moments looks.shows same
+  pub lacks_looked : {up up_now : Type 0} → up → up_now → SameHeld old new → IsCallOf (engine_view old n up) (engine_view new m up_now) call (Err NoMemory)
+  lacks_looked was_up is_up held = lacks_behind may.stop.memory was_up is_up goes_looked looks.moments looks.shows held
+
+-- ---- calls of which it isn't said what they may cost
+
+module _ (old new : RssParts) {T : Type 0} {result : Result T PageFault} (looks : LooksOn old.session new.session result) {n m : ℕ} (calls : m ≤ n + 1) {up up_now : Type 0} {call : Call} (may : MayCost call) where
+  pub goes_costly : GoesOn (engine_view old n up) (engine_view new m up_now) call
+  goes_costly = goes result looks.goes calls
+      (subst (λ (most : Option ℕ). RisesAtMost most old.session.store.pages.asks new.session.store.pages.asks) (sym may.asks) tt)
+      (subst (λ (most : Option ℕ). RisesAtMost most old.session.store.pages.writes new.session.store.pages.writes) (sym may.writes) tt)
+
+  -- memory runs out behind the look
+  pub lacks_costly : up → up_now → SameHeld old new → IsCallOf (engine_view old n up) (engine_view new m up_now) call (Err NoMemory)
+  lacks_costly was_up is_up held = lacks_behind may.stop.memory was_up is_up goes_costly looks.moments looks.shows held
+
+-- the look fails
+pub costly_fails : {T : Type 0} (old new : RssParts) {why : CallError} → FailsToLook T old.session new.session why → (n m : ℕ) → m ≡ n → {up up_now : Type 0} → up → (up_now → ⊥) → EndsEach MayCost (engine_view old n up) (engine_view new m up_now) (Err why)
+costly_fails old new {why = why} fails n m same was_up is_down = λ calls call counted may.
+    failed_within (Err why) fails.is was_up is_down fails.looks.goes (goes_costly old new fails.looks (omega (arith, counted, same)) may)
+    (λ place damaged told state is_in. fails.looks.sound place damaged told)
+    (λ told state is_in. stops is_in.kept call may.stop.built may.stop.names may.stop.granule (fails.looks.moments told state is_in.kept is_in.shows))
+
+-- what is there is no tuple
+pub costly_damaged : {T : Type 0} (old new : RssParts) {found : T} → LooksOn old.session new.session (Ok found) → (n m : ℕ) → m ≡ n → {up up_now : Type 0} → up → (up_now → ⊥) → {why : CallError} (place : Place) → why ≡ Damaged place
+    → (IsTold old.session.store.pages.disk → (state : State) → IsIn old state → ⊥) → EndsEach MayCost (engine_view old n up) (engine_view new m up_now) (Err why)
+costly_damaged old new looks n m same {up = up} {up_now = up_now} was_up is_down place damaged sound = λ calls call counted may.
+    subst (λ (e : CallError). IsCallOf (engine_view old calls up) (engine_view new m up_now) call (Err e)) (sym damaged)
+    (comes_to was_up (goes_costly old new looks (omega (arith, counted, same)) may) (record { sound = sound; down = is_down }))
+
+-- ---- what a look finds
 
 -- no tuple of any relation can have the identifier
 pub none_past : {parts : RssParts} (relation : Name) (tid : Tid) → (HasSlot tid → ⊥) → FindsNone parts relation tid
@@ -164,15 +192,15 @@ module _ {old : RssParts} {t : ℕ} {relation : Name} {tid : Tid} {access : Acce
 
   module _ {T : Type 0} (new : RssParts) {found : T} (looked : LooksUp old.session new.session found) {n m : ℕ} (calls : m ≤ n + 1) {up up_now : Type 0} (was_up : up) (is_up : up_now) where
     -- its claim fails
-    pub claim_lost : (U : Type 0) (before after : LocksView) {why : CallError} → new.locks.locks ≡ old.locks.locks → before.locks ≡ old.locks.locks → ClaimEnds {T = U} before after t list (Err why) → IsCallOf (engine_view old n up) (engine_view new m up_now) call (Err why)
-    claim_lost U before after same were ends =
-        claim_fails first.may.stop.memory was_up is_up (goes_looked looked.looks looked.costs first.may calls) looked.looks.moments looked.looks.shows same U before after t list were
+    pub claim_lost : (U : Type 0) (before after : LocksView) {why : CallError} → SameHeld old new → before.locks ≡ old.locks.locks → ClaimEnds {T = U} before after t list (Err why) → IsCallOf (engine_view old n up) (engine_view new m up_now) call (Err why)
+    claim_lost U before after held were ends =
+        claim_fails first.may.stop.memory was_up is_up (goes_looked looked.looks looked.costs first.may calls) looked.looks.moments looked.looks.shows held U before after t list were
         (λ told state is_in bar is. first.busy_so told state is_in bar (bars_as is_in call (its_needs told state is_in) t ∙ is)) ends
 
     -- there is no such tuple, and the locks are kept
     pub lacks_tuple : (why : CallError) → why ≡ Refused (NoTuple relation tid) → IsShort (Err (NoTuple relation tid)) → FindsNone old relation tid
-        → first_bar old.locks.locks t list ≡ None → new.locks.locks ≡ granted t list old.locks.locks → IsCallOf (engine_view old n up) (engine_view new m up_now) call (Err why)
-    lacks_tuple why is short none free taken = refused_behind (Err why) is was_up is_up short (goes_looked looked.looks looked.costs first.may calls) looked.looks.moments (λ told state is_in.
+        → first_bar old.locks.locks t list ≡ None → new.locks.locks ≡ granted t list old.locks.locks → new.scans ≡ old.scans → IsCallOf (engine_view old n up) (engine_view new m up_now) call (Err why)
+    lacks_tuple why is short none free taken scans = refused_behind (Err why) is was_up is_up short (goes_looked looked.looks looked.costs first.may calls) looked.looks.moments scans (λ told state is_in.
         let listed = its_needs told state is_in in (
           first.lacks told state is_in (bars_as is_in call listed t ∙ free) (none told state is_in),
           looked.looks.shows told state is_in.shows,
@@ -224,13 +252,13 @@ body_fits {number = number} {same = same} catalog at_new {fields = fields} is_fi
 -- ---- ends
 
 -- a call ends so, once it was counted
-pub ends_so : {S : Type 0} (pages_view : S → PagesView) {old mid : Session S} {locks now : LockTable} {down down_now : Bool} {n : ℕ} {new : EngineView} {call : Call} {why : CallError} (result : Result Reply CallError) → IsErrAnd result (λ e. e ≡ why) → mid ≡ old → now ≡ locks → down_now ≡ down
-    → IsCallOf (engine_view (record { session = session_view pages_view mid; locks = told now }) n (down_now ≡ false)) new call (Err why)
-    → IsCallOf (engine_view (record { session = session_view pages_view old; locks = told locks }) n (down ≡ false)) new call result
-ends_so pages_view {old = old} {mid = mid} {locks = locks} {now = now} {down = down} {n = n} {new = new} {call = call} {why = why} result is same same_locks same_down ends =
+pub ends_so : {S : Type 0} (pages_view : S → PagesView) {old mid : Session S} {locks now : LockTable} {scans scans_now : ScanTable} {down down_now : Bool} {n : ℕ} {new : EngineView} {call : Call} {why : CallError} (result : Result Reply CallError) → IsErrAnd result (λ e. e ≡ why) → mid ≡ old → now ≡ locks → scans_now ≡ scans → down_now ≡ down
+    → IsCallOf (engine_view (rss_parts pages_view mid now scans_now) n (down_now ≡ false)) new call (Err why)
+    → IsCallOf (engine_view (rss_parts pages_view old locks scans) n (down ≡ false)) new call result
+ends_so pages_view {old = old} {mid = mid} {locks = locks} {now = now} {scans = scans} {scans_now = scans_now} {down = down} {n = n} {new = new} {call = call} {why = why} result is same same_locks same_scans same_down ends =
     let so = err_from_is_err_and result is in
-    subst (IsCallOf (engine_view (record { session = session_view pages_view old; locks = told locks }) n (down ≡ false)) new call) (sym (so.1 ∙ ap Err so.2))
-    (asked pages_view same same_locks (subst (λ (b : Bool). IsCallOf (engine_view (record { session = session_view pages_view mid; locks = told now }) n (b ≡ false)) new call (Err why)) same_down ends))
+    subst (IsCallOf (engine_view (rss_parts pages_view old locks scans) n (down ≡ false)) new call) (sym (so.1 ∙ ap Err so.2))
+    (asked pages_view same same_locks same_scans (subst (λ (b : Bool). IsCallOf (engine_view (rss_parts pages_view mid now scans_now) n (b ≡ false)) new call (Err why)) same_down ends))
 
 -- by the error that is passed on
 pub passed_call : {old new : EngineView} {call : Call} {why : CallError} (result : Result Reply CallError) → IsErrAnd result (λ e. e ≡ why) → IsCallOf old new call (Err why) → IsCallOf old new call result
@@ -240,15 +268,16 @@ passed_call {old = old} {new = new} {call = call} result is ends =
 
 -- ---- what may follow
 
--- another call could have been made before this one, and still could
-pub asked_looked : {T : Type 0} (old new : RssParts) {found : T} {before calls : ℕ} → IsReady old before → LooksOn old.session new.session (Ok found) → new.locks.locks ≡ old.locks.locks → calls ≡ before + 1 → IsAsked new calls
-asked_looked old new {before = before} ready looks same counted = record {
-  before = before;
-  ready = record {
-    session = looks.ready;
-    paced = omega (arith, ready.paced, ap (λ (l : LogView). l.end) looks.log);
-    saves = λ t. omega (arith, ready.saves t, ap (λ (o : OpenView). length (transaction_in o t).saves) looks.opened);
-    holders = holders_stay old new ready.holders (λ t opened. ap (λ (o : OpenView). is_open o t) looks.opened ∙ opened) same;
-  };
-  counted = counted;
+-- another call may be made still
+pub ready_looked : {T : Type 0} (old new : RssParts) {found : T} {calls : ℕ} → IsReady old calls → LooksOn old.session new.session (Ok found) → SameHeld old new → IsReady new calls
+ready_looked old new ready looks held = record {
+  session = looks.ready;
+  paced = omega (arith, ready.paced, ap (λ (l : LogView). l.end) looks.log);
+  saves = λ t. omega (arith, ready.saves t, ap (λ (o : OpenView). length (transaction_in o t).saves) looks.opened);
+  relations = subst GoOverRelations (sym held.scans) ready.relations;
+  holders = holders_stay old new ready.holders (λ t opened. ap (λ (o : OpenView). is_open o t) looks.opened ∙ opened) held.locks;
 }
+
+-- and could have been before this one was counted
+pub asked_looked : {T : Type 0} (old new : RssParts) {found : T} {before calls : ℕ} → IsReady old before → LooksOn old.session new.session (Ok found) → SameHeld old new → calls ≡ before + 1 → IsAsked new calls
+asked_looked old new {before = before} ready looks held counted = record { before = before; ready = ready_looked old new ready looks held; counted = counted }

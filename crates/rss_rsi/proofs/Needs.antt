@@ -1,7 +1,6 @@
 -- The locks of calls, as the catalog's names give them, are those of the machine.
-use Rattle.std.proofs.Common.{◌≡◌, ℕ, List, [], ◌∷◌, ◌++◌, sym, ◌∙◌, ap, subst}
+use Rattle.std.proofs.Common.{◌≡◌, ℕ, List, [], ◌∷◌, ◌++◌, sym, ◌∙◌, ap}
 use Rattle.std.specs.Prelude.{Option, Some, None}
-use Rattle.rss_base.specs.DiskRule.{IsTold}
 use Rattle.rss_base.specs.Listings.{IsNumberOf, relation_at, segment_at}
 use Rattle.rss_base.specs.declared.item.Item.TheVariants.{Segment, Relation}
 use Rattle.rss_base.specs.declared.name.Name.{Name}

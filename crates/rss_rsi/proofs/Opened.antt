@@ -17,6 +17,8 @@ use Rattle.rss_model.specs.Store.{Stored, IsStore, size_of}
 use Rattle.rss_model.specs.Tables.{Tables}
 use Rattle.rss_model.proofs.LogPlaced.{recovered_fit}
 use Rattle.rss_model.proofs.StepKeeping.{rest_keeps}
+use Rattle.rss_scan.specs.Scans.{OpenScans}
+use Rattle.rss_scan.proofs.Spelled.{none_spelled}
 use Rattle.rss_trans.specs.Transactions.{Transaction, nothing, OpenView, transaction_in}
 use Rattle.rss_store.specs.Opening.{OpensStore}
 use Rattle.rss_store.specs.Opening.{BeginsIn as StoreBeginsIn}
@@ -28,7 +30,8 @@ use Rattle.rss_session.specs.Sessions.{SessionView}
 use Rattle.rss_session.specs.Sessions.{IsReady as IsSessionReady}
 use Rattle.rss_session.specs.Shown.{Shows, IsRested}
 use Rattle.rss_rsi.specs.Opening.{BeginsIn, IsOpened, OpensOver}
-use Rattle.rss_rsi.specs.Views.{IsReady, engine_view}
+use Rattle.rss_rsi.specs.Views.{IsReady, spelling, engine_view}
+use Rattle.rss_rsi.proofs.Ways.{still_scanned}
 
 -- ---- ready
 
@@ -36,11 +39,12 @@ none_saved : (opened : OpenView) → opened.transactions ≡ empty → (t : ℕ)
 none_saved opened none t =
     ap (λ (m : FinMap nat_cmp Transaction). length (unwrap_or (get m t) nothing).saves) none ∙ ap (λ o. length (unwrap_or o nothing).saves) (get-empty {X = Transaction} nat_cmp t)
 
-pub opened_ready : {old : DeviceView} {store : StoreView} {session : SessionView} → OpensStore old store → session.store ≡ store → IsSessionReady session → session.opened.transactions ≡ empty → IsReady (record { session = session; locks = record { locks = empty; spare = 0 } }) 0
+pub opened_ready : {old : DeviceView} {store : StoreView} {session : SessionView} → OpensStore old store → session.store ≡ store → IsSessionReady session → session.opened.transactions ≡ empty → IsReady (record { session = session; locks = record { locks = empty; spare = 0 }; scans = empty }) 0
 opened_ready {session = session} is same ready none = record {
   session = ready;
   paced = omega (arith, is.early, ap (λ (s : StoreView). s.log.end) same);
   saves = λ t. omega (arith, none_saved session.opened none t);
+  relations = λ number scan has. absurd (none-some scan (sym (get-empty nat_cmp number) ∙ has));
   holders = λ t item mode has. absurd (none-some mode (sym (get-empty claim_cmp (claim t item)) ∙ has));
 }
 
@@ -55,12 +59,13 @@ module _ (session : SessionView) (ready : IsStoreReady session.store) (saved : I
   rested_saved : {state : State} → StoreShows session.store state → IsRested session state
   rested_saved shows none all = shows.over_is ∙ (λ i. mapped_of (saved.pages i) Overflow (ready.size i))
 
-  begins_in : {pages : Pages} {stored : Stored} {locks : LocksView} {calls : ℕ} {up : Type 0} → locks.locks ≡ empty → ShowsRest session.store session → IsStore pages stored → StoreBeginsIn stored session.store → BeginsIn stored (engine_view (record { session = session; locks = locks }) calls up)
-  begins_in {stored = stored} none shows store begins = record {
+  begins_in : {pages : Pages} {stored : Stored} {locks : LocksView} {scans : OpenScans} {calls : ℕ} {up : Type 0} → locks.locks ≡ empty → scans ≡ empty → ShowsRest session.store session → IsStore pages stored → StoreBeginsIn stored session.store → BeginsIn stored (engine_view (record { session = session; locks = locks; scans = scans }) calls up)
+  begins_in {stored = stored} none none_scanned shows store begins = record {
     state = begins.state;
     shows = record {
       shows = shows _ stored.tables begins.state begins.shows begins.rest (record { metered = begins.metered; log = begins.room }) (rested_saved begins.shows);
       locked = begins.rest.idle.none_locked ∙ sym none;
+      scanned = still_scanned none_scanned begins.rest.idle.none_scanned (none_spelled spelling);
       kept = rest_keeps (size_of stored.root) stored.tables begins.state begins.rest.idle (recovered_fit store.log);
     };
     rest = begins.rest;
@@ -68,9 +73,9 @@ module _ (session : SessionView) (ready : IsStoreReady session.store) (saved : I
   }
 
 -- the store of the session was opened
-opened_there : {old : DeviceView} {session : SessionView} {locks : LocksView} {calls : ℕ} {up : Type 0} → OpensStore old session.store → locks.locks ≡ empty → ShowsRest session.store session → calls ≡ 0 → up → IsOpened old (engine_view (record { session = session; locks = locks }) calls up)
-opened_there {session = session} is none shows none_asked is_up = record {
-  begins = λ pages told stored store. begins_in session is.ready is.saved none shows store (is.begins pages told stored store);
+opened_there : {old : DeviceView} {session : SessionView} {locks : LocksView} {scans : OpenScans} {calls : ℕ} {up : Type 0} → OpensStore old session.store → locks.locks ≡ empty → scans ≡ empty → ShowsRest session.store session → calls ≡ 0 → up → IsOpened old (engine_view (record { session = session; locks = locks; scans = scans }) calls up)
+opened_there {session = session} is none none_scanned shows none_asked is_up = record {
+  begins = λ pages told stored store. begins_in session is.ready is.saved none none_scanned shows store (is.begins pages told stored store);
   up = is_up;
   none_asked = none_asked;
   unbroken = is.unbroken;
@@ -79,10 +84,10 @@ opened_there {session = session} is none shows none_asked is_up = record {
   tables = is.tables;
 }
 
-pub opens_over : {old : DeviceView} {store : StoreView} {session : SessionView} {locks : LocksView} {calls : ℕ} {up : Type 0} (size : ℕ) → OpensStore old store → session.store ≡ store → locks.locks ≡ empty → ShowsRest store session → calls ≡ 0 → up → OpensOver old (record (device_below session.store.pages) { size = size }) (engine_view (record { session = session; locks = locks }) calls up)
-opens_over {old = old} {session = session} size is same none shows none_asked is_up =
+pub opens_over : {old : DeviceView} {store : StoreView} {session : SessionView} {locks : LocksView} {scans : OpenScans} {calls : ℕ} {up : Type 0} (size : ℕ) → OpensStore old store → session.store ≡ store → locks.locks ≡ empty → scans ≡ empty → ShowsRest store session → calls ≡ 0 → up → OpensOver old (record (device_below session.store.pages) { size = size }) (engine_view (record { session = session; locks = locks; scans = scans }) calls up)
+opens_over {old = old} {session = session} size is same none none_scanned shows none_asked is_up =
     let here : OpensStore old session.store = subst (OpensStore old) (sym same) is in
     record {
-      opened = opened_there here none (subst (λ (s : StoreView). ShowsRest s session) (sym same) shows) none_asked is_up;
+      opened = opened_there here none none_scanned (subst (λ (s : StoreView). ShowsRest s session) (sym same) shows) none_asked is_up;
       passes = passes_sized size here.passes;
     }

@@ -1,10 +1,9 @@
 -- The identifier of a new tuple: it is free where none holds it that was asked for, and how calls end that find none.
-use Rattle.std.proofs.Common.{◌≡◌, ◌↔◌, ℕ, ◌+◌, ◌≤◌, true, false, List, [], Option, Some, None, refl, sym, ◌∙◌, ap, subst, arith, Contains}
-use Rattle.std.specs.Prelude.{Bool, is_some, IfErr, Result, Ok, Err, IsErrAnd}
+use Rattle.std.proofs.Common.{◌≡◌, ◌↔◌, ℕ, ◌+◌, ◌≤◌, true, false, List, Option, Some, None, refl, sym, ◌∙◌, ap, subst, arith, Contains}
+use Rattle.std.specs.Prelude.{is_some, IfErr, Result, Ok, Err, IsErrAnd}
 use Rattle.std.specs.List.{list_any}
 use Rattle.std.proofs.lemmas.Bool.{true≢false}
-use Rattle.std.proofs.lemmas.Option.{none-some, same_Some}
-use Rattle.rss_base.specs.Answers.{page_error}
+use Rattle.std.proofs.lemmas.Option.{same_Some}
 use Rattle.rss_base.specs.Listings.{relation_at}
 use Rattle.rss_base.specs.declared.answer.CallError.{CallError}
 use Rattle.rss_base.specs.declared.answer.CallError.TheVariants.{Refused, NoMemory}
@@ -22,21 +21,19 @@ use Rattle.rss_lock.specs.Locks.{is_barred}
 use Rattle.rss_lock.proofs.Firsts.{barred_iff_told}
 use Rattle.rss_tuple.specs.Placing.{IsChosen}
 use Rattle.rss_tuple.proofs.Barred.{chosen_barred}
-use Rattle.rss_model.specs.Calls.{AreBarred, GoesOn, IsCallOf}
-use Rattle.rss_model.specs.Costs.{RisesAtMost, most_asks, most_writes}
+use Rattle.rss_model.specs.Calls.{AreBarred, IsCallOf}
 use Rattle.rss_model.specs.Locks.{Locks, held, is_held_by_another}
 use Rattle.rss_model.specs.Machine.{State}
 use Rattle.rss_model.specs.Steps.{IsFree, relations_beside}
-use Rattle.rss_model.proofs.Totals.{stops}
 use Rattle.rss_session.specs.Looks.{LooksOn, IsAloneAt, IsPlace, HasNoPlace}
 use Rattle.rss_session.specs.Sessions.{SessionView}
 use Rattle.rss_rsi.specs.Looking.{EndsEach}
-use Rattle.rss_rsi.specs.Placing.{FailsToLook, IsRelationIn, IsPlaceFor, MayCost, PlacesTuple}
-use Rattle.rss_rsi.specs.Views.{RssParts, IsIn, engine_view}
+use Rattle.rss_rsi.specs.Placing.{FailsToLook, IsRelationIn, IsPlaceFor, PlacesTuple}
+use Rattle.rss_rsi.specs.Views.{RssParts, IsIn, SameHeld, engine_view}
 use Rattle.rss_rsi.proofs.Beside.{any_beside, listed_stands, stands_listed}
-use Rattle.rss_rsi.proofs.Looks.{passed_on}
+use Rattle.rss_rsi.proofs.Looks.{costly_fails, goes_costly, lacks_costly, passed_on}
 use Rattle.rss_rsi.proofs.TwoLooks.{looks_then}
-use Rattle.rss_rsi.proofs.Ways.{failed_within, goes, lacks_behind, left_same, refused_behind}
+use Rattle.rss_rsi.proofs.Ways.{left_same, refused_behind}
 
 -- ---- what others hold
 
@@ -98,37 +95,27 @@ module _ (parts : RssParts) (t number : ℕ) {entry : RelationEntry} (at : relat
 
 -- ---- ends
 
-module _ (old new : RssParts) {T : Type 0} {result : Result T PageFault} (looks : LooksOn old.session new.session result) {n m : ℕ} (calls : m ≤ n + 1) {up up_now : Type 0} where
-  goes_placing : {call : Call} → MayCost call → GoesOn (engine_view old n up) (engine_view new m up_now) call
-  goes_placing may = goes result looks.goes calls
-      (subst (λ (most : Option ℕ). RisesAtMost most old.session.store.pages.asks new.session.store.pages.asks) (sym may.asks) tt)
-      (subst (λ (most : Option ℕ). RisesAtMost most old.session.store.pages.writes new.session.store.pages.writes) (sym may.writes) tt)
+module _ (old new : RssParts) {T : Type 0} {result : Result T PageFault} (looks : LooksOn old.session new.session result) {n m : ℕ} (calls : m ≤ n + 1) {up up_now : Type 0} (held_same : SameHeld old new) {t number : ℕ} {call : Call} (places : PlacesTuple old t number call) (was_up : up) (is_up : up_now) where
+  -- no identifier is free
+  pub none_placed : {entry : RelationEntry} → relation_at old.session.store.catalog.listing number ≡ Some entry → (why : CallError) → why ≡ Refused (Limit Identifiers)
+      → ((relation : RelationEntry) (state : State) → IsRelationIn old number relation state → (tid : Tid) → IsFree state t relation.name tid → ⊥)
+      → IsCallOf (engine_view old n up) (engine_view new m up_now) call (Err why)
+  none_placed {entry = entry} at why is none = refused_behind (Err why) is was_up is_up (omega arith) (goes_costly old new looks calls places.may) looks.moments held_same.scans (λ told state is_in.
+      let in_it : IsRelationIn old number entry state = record { told = told; is_in = is_in; at = at } in (
+        places.lacks entry state in_it (none entry state in_it),
+        looks.shows told state is_in.shows,
+        left_same call (Limit Identifiers) refl is_in ∙ sym held_same.locks,
+      ))
 
-  module _ (same : new.locks.locks ≡ old.locks.locks) {t number : ℕ} {call : Call} (places : PlacesTuple old t number call) (was_up : up) (is_up : up_now) where
-    -- no identifier is free
-    pub none_placed : {entry : RelationEntry} → relation_at old.session.store.catalog.listing number ≡ Some entry → (why : CallError) → why ≡ Refused (Limit Identifiers)
-        → ((relation : RelationEntry) (state : State) → IsRelationIn old number relation state → (tid : Tid) → IsFree state t relation.name tid → ⊥)
-        → IsCallOf (engine_view old n up) (engine_view new m up_now) call (Err why)
-    none_placed {entry = entry} at why is none = refused_behind (Err why) is was_up is_up (omega arith) (goes_placing places.may) looks.moments (λ told state is_in.
-        let in_it : IsRelationIn old number entry state = record { told = told; is_in = is_in; at = at } in (
-          places.lacks entry state in_it (none entry state in_it),
-          looks.shows told state is_in.shows,
-          left_same call (Limit Identifiers) refl is_in ∙ sym same,
-        ))
-
-    -- memory runs out behind a look
-    pub lacks_placing : IsCallOf (engine_view old n up) (engine_view new m up_now) call (Err NoMemory)
-    lacks_placing = lacks_behind places.may.stop.memory was_up is_up (goes_placing places.may) looks.moments looks.shows same
+  -- memory runs out behind a look
+  pub lacks_placing : IsCallOf (engine_view old n up) (engine_view new m up_now) call (Err NoMemory)
+  lacks_placing = lacks_costly old new looks calls places.may was_up is_up held_same
 
 -- a look fails
 pub placing_fails : {T U : Type 0} (old new : RssParts) {why : CallError} → FailsToLook T old.session new.session why → (t number n m : ℕ) → m ≡ n → {up up_now : Type 0} (result : Result U CallError) → IsErrAnd result (λ e. e ≡ why) → up → (up_now → ⊥)
     → IfErr result (λ e. EndsEach (PlacesTuple old t number) (engine_view old n up) (engine_view new m up_now) (Err e))
-placing_fails old new {why = why} fails t number n m same result is was_up is_down =
-    passed_on result is (λ calls call counted places.
-    let stop = places.may.stop in
-    failed_within (Err why) fails.is was_up is_down fails.looks.goes (goes_placing old new fails.looks (omega (arith, counted, same)) places.may)
-    (λ place damaged told state is_in. fails.looks.sound place damaged told)
-    (λ told state is_in. stops is_in.kept call stop.built stop.names stop.granule (fails.looks.moments told state is_in.kept is_in.shows)))
+placing_fails old new fails t number n m same result is was_up is_down =
+    passed_on result is (λ calls call counted places. costly_fails old new fails n m same was_up is_down calls call counted places.may)
 
 -- the second look fails behind the first
 pub fails_then : {S T : Type 0} {old mid new : SessionView} {found : S} {why : CallError} → LooksOn old mid (Ok found) → FailsToLook T mid new why → FailsToLook T old new why

@@ -1,5 +1,5 @@
 -- Locks that are claimed and taken.
-use Rattle.std.proofs.Common.{◌≡◌, ◌≢◌, ℕ, ◌^◌, ◌<◌, ◌≤◌, true, List, length, get_or, refl, sym, ◌∙◌, ap, subst, inl, inr, arith, Contains}
+use Rattle.std.proofs.Common.{◌≡◌, ℕ, ◌<◌, ◌≤◌, true, List, length, get_or, sym, ◌∙◌, ap, subst, inl, inr, arith, Contains}
 use Rattle.std.specs.Prelude.{Some, Err, slice_get}
 use Rattle.std.specs.Cmp.{Equal-is}
 use Rattle.std.specs.FinMap as finite
@@ -9,8 +9,6 @@ use Rattle.std.proofs.lemmas.Bool.{cases_eq}
 use Rattle.std.proofs.lemmas.List.{length-map}
 use Rattle.std.proofs.lemmas.Map.Views.{Contains-from_any}
 use Rattle.std.proofs.lemmas.Option.{same_Some, slice_get-get_or, slice_get_within}
-use Rattle.rss_base.specs.declared.item.Item.{Item}
-use Rattle.rss_base.specs.declared.need.Mode.{Mode}
 use Rattle.rss_base.specs.declared.need.Need.{Need}
 use Rattle.rss_base.specs.declared.refusal.Refusal.{Refusal}
 use Rattle.rss_base.specs.declared.refusal.Refusal.TheVariants.{Busy}
@@ -44,20 +42,22 @@ module _ {locks : Locks} {t place holder : ℕ} (needs read : List Need) (taken 
       }
 
 -- another call may be made where the locks are those that there were
-pub ready_locks : {parts : RssParts} {calls : ℕ} (locks : LocksView) → locks.locks ≡ parts.locks.locks → IsReady parts calls → IsReady (record { session = parts.session; locks = locks }) calls
+pub ready_locks : {parts : RssParts} {calls : ℕ} (locks : LocksView) → locks.locks ≡ parts.locks.locks → IsReady parts calls → IsReady (record parts { locks = locks }) calls
 ready_locks locks same ready = record {
   session = ready.session;
   paced = ready.paced;
   saves = ready.saves;
+  relations = ready.relations;
   holders = λ t item mode has. ready.holders t item mode (ap (λ (l : Locks). held l t item) (sym same) ∙ has);
 }
 
 -- and where an open transaction was granted some
-pub ready_granted : {parts : RssParts} {calls : ℕ} (t : ℕ) (needs : List Need) (locks : LocksView) → is_open parts.session.opened t ≡ true → locks.locks ≡ granted t needs parts.locks.locks → IsReady parts calls → IsReady (record { session = parts.session; locks = locks }) calls
+pub ready_granted : {parts : RssParts} {calls : ℕ} (t : ℕ) (needs : List Need) (locks : LocksView) → is_open parts.session.opened t ≡ true → locks.locks ≡ granted t needs parts.locks.locks → IsReady parts calls → IsReady (record parts { locks = locks }) calls
 ready_granted {parts = parts} t needs locks opened same ready = record {
   session = ready.session;
   paced = ready.paced;
   saves = ready.saves;
+  relations = ready.relations;
   holders = λ u item mode has. elim (cases_eq u t) [
     | inl here ↦ ap (is_open parts.session.opened) here ∙ opened
     | inr off ↦ ready.holders u item mode (sym (held_others t needs parts.locks.locks u item off) ∙ ap (λ (l : Locks). held l u item) (sym same) ∙ has)

@@ -1,5 +1,5 @@
 -- The calls on transactions: to which state each leads, and by which step it stops.
-use Rattle.std.proofs.Common.{◌≡◌, ℕ, ◌+◌, ◌^◌, ◌<◌, ◌≤◌, true, List, [], length, sym, ◌∙◌, ap, subst, arith, length-append}
+use Rattle.std.proofs.Common.{◌≡◌, ℕ, ◌+◌, ◌^◌, ◌<◌, ◌≤◌, true, List, [], length, refl, sym, ◌∙◌, ap, subst, arith, length-append}
 use Rattle.std.specs.Prelude.{None, Ok, codes, decimal}
 use Rattle.std.proofs.lemmas.Fmt.{length-decimal-le}
 use Rattle.rss_base.specs.DiskRule.{IsTold}
@@ -12,20 +12,24 @@ use Rattle.rss_model.specs.Machine.{State}
 use Rattle.rss_model.specs.Refusals.{unless_saved}
 use Rattle.rss_model.specs.ReplyText.{answer_line}
 use Rattle.rss_model.specs.Rules.{saved_now, if_no_log_room}
+use Rattle.rss_model.specs.Scans.{closed}
 use Rattle.rss_model.specs.Steps.{Step, refusal, unless_open, begun, with_save, restored, gone, ended, committing, left_at, undone_to}
 use Rattle.rss_model.specs.Steps.StepBy.{begins, saves, restores, ends, aborts, checkpoints}
 use Rattle.rss_model.specs.Turns.{IsStopped}
 use Rattle.rss_model.proofs.StepKeeping.{steps_keep}
 use Rattle.rss_model.proofs.Tests.{goes_on}
 use Rattle.rss_model.proofs.Transfer.{undo_same}
+use Rattle.rss_scan.specs.Scans.{closed_for}
+use Rattle.rss_scan.specs.Ties.{AreSpelled}
+use Rattle.rss_scan.proofs.Spelled.{closed_spelled}
 use Rattle.rss_trans.specs.Transactions.{is_open, transaction_in}
 use Rattle.rss_trans.proofs.Told.{open_saves}
 use Rattle.rss_session.specs.Admissions.{Says}
 use Rattle.rss_session.specs.Calls.{KeepsTables, CommitsTables, HasMarks, Restores, Aborts}
 use Rattle.rss_session.specs.Sessions.{SessionView}
 use Rattle.rss_session.specs.Shown.{Shows}
-use Rattle.rss_rsi.specs.Views.{RssParts, IsIn}
-use Rattle.rss_rsi.proofs.Ways.{Leads, LeadsAll, stopped_by, leads_by, keeps_same}
+use Rattle.rss_rsi.specs.Views.{RssParts, spelling, IsIn, SameHeld}
+use Rattle.rss_rsi.proofs.Ways.{Leads, LeadsAll, stopped_by, leads_by, leads_held, keeps_same}
 
 -- an open transaction has the save points that are listed
 has_marks : {view : SessionView} {state : State} (t : ℕ) → is_open view.opened t ≡ true → Shows view state → HasMarks state t (transaction_in view.opened t).saves
@@ -33,9 +37,9 @@ has_marks t opened shows = open_saves shows.told t opened
 
 -- ---- begins and save points
 
-pub begin_leads : (old new : RssParts) (t : ℕ) → new.session.store ≡ old.session.store → new.locks.locks ≡ old.locks.locks → Says old.session (λ state. refusal state (Begin t)) None → ((state : State) → Shows old.session state → Shows new.session (begun t state)) → LeadsAll old new (Begin t) (Ok Done)
-begin_leads old new t same locks passes begins_so told state is_in =
-    leads_by (begun t state) (keeps_same old.session new.session same) told is_in (begins t (passes told state is_in.shows)) (begins_so state is_in.shows) (is_in.locked ∙ sym locks)
+pub begin_leads : (old new : RssParts) (t : ℕ) → new.session.store ≡ old.session.store → SameHeld old new → Says old.session (λ state. refusal state (Begin t)) None → ((state : State) → Shows old.session state → Shows new.session (begun t state)) → LeadsAll old new (Begin t) (Ok Done)
+begin_leads old new t same held passes begins_so told state is_in =
+    leads_held (begun t state) (keeps_same old.session new.session same) told is_in (begins t (passes told state is_in.shows)) (begins_so state is_in.shows) held refl refl
 
 pub number_line : (n : ℕ) → n < 2 ^ 32 → length (answer_line (Ok (Number n))) ≤ 8192
 number_line n small =
@@ -43,14 +47,14 @@ number_line n small =
     omega (arith, short, length-append (decimal n) (codes "\n"))
 
 -- the save point's number is one more than the transaction had
-pub save_leads : (old new : RssParts) (t save : ℕ) → is_open old.session.opened t ≡ true → new.session.store ≡ old.session.store → new.locks.locks ≡ old.locks.locks → Says old.session (λ state. unless_open state t) None
+pub save_leads : (old new : RssParts) (t save : ℕ) → is_open old.session.opened t ≡ true → new.session.store ≡ old.session.store → SameHeld old new → Says old.session (λ state. unless_open state t) None
     → ((state : State) (marks : List ℕ) → HasMarks state t marks → Shows old.session state → (save ≡ length marks + 1) × Shows new.session (with_save t marks state)) → LeadsAll old new (Save t) (Ok (Number save))
-save_leads old new t save opened same locks passes saves_so told state is_in =
+save_leads old new t save opened same held passes saves_so told state is_in =
     let marks = (transaction_in old.session.opened t).saves in
     let has = has_marks t opened is_in.shows in
     let so = saves_so state marks has is_in.shows in
     subst (λ (n : ℕ). Leads old new state (Save t) (Ok (Number n))) (sym so.0)
-    (leads_by (with_save t marks state) (keeps_same old.session new.session same) told is_in (saves t marks (goes_on [] (passes told state is_in.shows)) has) so.1 (is_in.locked ∙ sym locks))
+    (leads_held (with_save t marks state) (keeps_same old.session new.session same) told is_in (saves t marks (goes_on [] (passes told state is_in.shows)) has) so.1 held refl refl)
 
 -- ---- ways back
 
@@ -70,13 +74,13 @@ module _ (old new : RssParts) (t save : ℕ) (opened : is_open old.session.opene
         step = restores t save marks over (restore_passes told state is_in.shows) (has_marks t opened is_in.shows) (undo_same _ (undone_to state t (left_at marks save)) over);
       })
 
-  pub restore_leads : new.locks.locks ≡ old.locks.locks → (IsTold old.session.store.pages.disk → (state : State) (marks : List ℕ) → Kept state → HasMarks state t marks → Shows old.session state → Restores new.session state t save marks) → LeadsAll old new (Restore t save) (Ok Done)
-  restore_leads locks restores_so told state is_in =
+  pub restore_leads : SameHeld old new → (IsTold old.session.store.pages.disk → (state : State) (marks : List ℕ) → Kept state → HasMarks state t marks → Shows old.session state → Restores new.session state t save marks) → LeadsAll old new (Restore t save) (Ok Done)
+  restore_leads held restores_so told state is_in =
       let has = has_marks t opened is_in.shows in
       let so = restores_so told state marks is_in.kept has is_in.shows in
       let next = restored t save marks so.over state in
       let step : Step state (Restore t save) (Ok Done) next = restores t save marks so.over (restore_passes told state is_in.shows) has so.way in
-      leads_by next keeps told is_in step (so.shows (steps_keep state next (Restore t save) (Ok Done) step is_in.kept).fit) (is_in.locked ∙ sym locks)
+      leads_held next keeps told is_in step (so.shows (steps_keep state next (Restore t save) (Ok Done) step is_in.kept).fit) held refl refl
 
 module _ (old new : RssParts) (t : ℕ) (passes : Says old.session (λ state. unless_open state t) None) where
   abort_passes : IsTold old.session.store.pages.disk → (state : State) → Shows old.session state → refusal state (Abort t) ≡ None
@@ -95,12 +99,16 @@ module _ (old new : RssParts) (t : ℕ) (passes : Says old.session (λ state. un
   released_so : new.locks.locks ≡ released t old.locks.locks → {state : State} → IsIn old state → released t state.locks ≡ new.locks.locks
   released_so locks is_in = ap (released t) is_in.locked ∙ sym locks
 
-  pub abort_leads : new.locks.locks ≡ released t old.locks.locks → KeepsTables old.session new.session → (IsTold old.session.store.pages.disk → (state : State) → Kept state → Shows old.session state → Aborts new.session state t) → LeadsAll old new (Abort t) (Ok Done)
-  abort_leads locks keeps aborts_so told state is_in =
+  -- and its scans are closed
+  closed_so : new.scans ≡ closed_for t old.scans → {state : State} → IsIn old state → AreSpelled spelling (closed t state.scans) new.scans
+  closed_so scans {state = state} is_in = subst (AreSpelled spelling (closed t state.scans)) (sym scans) (closed_spelled spelling state.scans old.scans t is_in.scanned)
+
+  pub abort_leads : new.locks.locks ≡ released t old.locks.locks → new.scans ≡ closed_for t old.scans → KeepsTables old.session new.session → (IsTold old.session.store.pages.disk → (state : State) → Kept state → Shows old.session state → Aborts new.session state t) → LeadsAll old new (Abort t) (Ok Done)
+  abort_leads locks scans keeps aborts_so told state is_in =
       let so = aborts_so told state is_in.kept is_in.shows in
       let next = gone t so.over state in
       let step : Step state (Abort t) (Ok Done) next = aborts t so.over (abort_passes told state is_in.shows) so.way in
-      leads_by next keeps told is_in step (so.shows (steps_keep state next (Abort t) (Ok Done) step is_in.kept).fit) (released_so locks is_in)
+      leads_by next keeps told is_in step (so.shows (steps_keep state next (Abort t) (Ok Done) step is_in.kept).fit) (released_so locks is_in) (closed_so scans is_in)
 
   -- ---- an end
 
@@ -118,14 +126,15 @@ module _ (old new : RssParts) (t : ℕ) (passes : Says old.session (λ state. un
       answered = record { step = end_step told state is_in.shows; moments = commits told state is_in.kept (end_fits told state is_in) is_in.shows };
     }
 
-    pub end_leads : new.locks.locks ≡ released t old.locks.locks → (IsTold old.session.store.pages.disk → (state : State) → Kept state → FitMixed (committing t state) → Shows old.session state → Shows new.session (committing t state)) → LeadsAll old new (End t) (Ok Done)
-    end_leads locks commits_so told state is_in =
+    pub end_leads : new.locks.locks ≡ released t old.locks.locks → new.scans ≡ closed_for t old.scans → (IsTold old.session.store.pages.disk → (state : State) → Kept state → FitMixed (committing t state) → Shows old.session state → Shows new.session (committing t state)) → LeadsAll old new (End t) (Ok Done)
+    end_leads locks scans commits_so told state is_in =
         let fits = end_fits told state is_in in
         record {
           next = ended t state;
           step = end_step told state is_in.shows;
           shows = commits_so told state is_in.kept fits is_in.shows;
           locked = released_so locks is_in;
+          scanned = closed_so scans is_in;
           moments = commits told state is_in.kept fits is_in.shows;
         }
 
@@ -139,6 +148,6 @@ module _ (old new : RssParts) (passes : Says old.session if_no_log_room None) (k
   checkpoint_stops told state is_in =
       stopped_by new keeps told is_in (record { answer = Ok Done; next = record state { meter = saved_now state }; step = checkpoint_step told state is_in.shows })
 
-  pub checkpoint_leads : new.locks.locks ≡ old.locks.locks → (IsTold old.session.store.pages.disk → (state : State) → Kept state → Shows old.session state → Shows new.session (record state { meter = saved_now state })) → LeadsAll old new Checkpoint (Ok Done)
-  checkpoint_leads locks saves_so told state is_in =
-      leads_by _ keeps told is_in (checkpoint_step told state is_in.shows) (saves_so told state is_in.kept is_in.shows) (is_in.locked ∙ sym locks)
+  pub checkpoint_leads : SameHeld old new → (IsTold old.session.store.pages.disk → (state : State) → Kept state → Shows old.session state → Shows new.session (record state { meter = saved_now state })) → LeadsAll old new Checkpoint (Ok Done)
+  checkpoint_leads held saves_so told state is_in =
+      leads_held _ keeps told is_in (checkpoint_step told state is_in.shows) (saves_so told state is_in.kept is_in.shows) held refl refl

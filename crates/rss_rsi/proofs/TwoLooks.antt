@@ -13,7 +13,7 @@ use Rattle.rss_catalog.specs.Catalogs.{CatalogView}
 use Rattle.rss_page.specs.Slotted.{bodies_room, body_bytes}
 use Rattle.rss_tuple.specs.Directory.{contents}
 use Rattle.rss_tuple.specs.Placing.{Wanted, IsOpen, IsSpot, IsNew, IsChosen, IsNameable, in_room, on_new, by_entry}
-use Rattle.rss_tuple.specs.TupleSteps.{IsLeast, NoneIs}
+use Rattle.rss_tuple.specs.TupleSteps.{IsLeast}
 use Rattle.rss_session.specs.Looks.{LooksOn, KeepsPages, IsRelationIn, IsPlace, HasNoPlace}
 use Rattle.rss_session.specs.Sessions.{SessionView, IsReady}
 use Rattle.rss_session.proofs.Passing.{goes_then}

@@ -1,7 +1,7 @@
 -- The ways in which a call of an engine over a session ends.
 use Rattle.std.proofs.Common.{◌≡◌, inl, List, [], ℕ, ◌+◌, ◌^◌, ◌≤◌, length, Option, Some, None, arith, refl, sym, ◌∙◌, ap, subst}
-use Rattle.std.specs.Prelude.{Bool, true, false, if◌then◌else◌, Result, Err, is_some, IsErrAnd, IsErrOf, IfSome}
-use Rattle.std.specs.FinMap.{FinMap, get}
+use Rattle.std.specs.Prelude.{Bool, true, false, not, option_map, if◌then◌else◌, Result, Err, is_some, IsErrAnd, IsErrOf, IfSome}
+use Rattle.std.specs.FinMap.{FinMap, get, get-retain_keys, nat_cmp-IsAntisymmetric}
 use Rattle.std.specs.Ordering.{nat_cmp}
 use Rattle.std.proofs.lemmas.Bool.{cond-false}
 use Rattle.std.proofs.lemmas.Result.{err_from_is_err_and}
@@ -11,7 +11,7 @@ use Rattle.rss_base.specs.Answers.{page_error}
 use Rattle.rss_base.specs.declared.call.Call.{Call}
 use Rattle.rss_base.specs.declared.answer.Reply.{Reply}
 use Rattle.rss_base.specs.declared.answer.CallError.{CallError}
-use Rattle.rss_base.specs.declared.answer.CallError.TheVariants.{Refused, NoMemory, Down}
+use Rattle.rss_base.specs.declared.answer.CallError.TheVariants.{Refused, NoMemory}
 use Rattle.rss_base.specs.declared.fault.PageFault.{PageFault}
 use Rattle.rss_base.specs.declared.fault.PageFault.TheVariants.{Device as PageDevice, Damaged as PageDamaged, NoMemory as PageNoMemory}
 use Rattle.rss_base.specs.declared.item.Item.{Item}
@@ -28,15 +28,20 @@ use Rattle.rss_model.specs.Locks.{Locks, held, granted, released}
 use Rattle.rss_model.specs.Machine.{State, now}
 use Rattle.rss_model.specs.Needs.{needs}
 use Rattle.rss_model.specs.ReplyText.{IsShort}
+use Rattle.rss_model.specs.Scans.{Scans}
 use Rattle.rss_model.specs.Steps.{Answer, Step, refusal, left_by, locked, locked_by, keeps_locks}
 use Rattle.rss_model.specs.Callers.{caller}
 use Rattle.rss_model.specs.Store.{OpensToEither}
 use Rattle.rss_model.specs.Tables.{Tables}
 use Rattle.rss_model.specs.Turns.{IsStopped}
-use Rattle.rss_model.proofs.Endings.{within_most, refused_by, comes_to, failed, was_down}
+use Rattle.rss_model.proofs.Endings.{within_most, refused_by, comes_to, failed}
 use Rattle.rss_model.proofs.Locking.{released_was}
 use Rattle.rss_model.proofs.OpenKeeping.{keeps_refused}
 use Rattle.rss_model.proofs.StepKeeping.{steps_keep}
+use Rattle.rss_scan.specs.Scans.{OpenScans, is_of, closed_for}
+use Rattle.rss_scan.specs.Scans.{told as scans_told}
+use Rattle.rss_scan.specs.Ties.{spelled, AreSpelled}
+use Rattle.rss_scan.specs.declared.cursor.Scan.{Scan}
 use Rattle.rss_trans.specs.Transactions.{Transaction, is_open, transaction_in}
 use Rattle.rss_session.specs.Parts.{view as session_view}
 use Rattle.rss_session.specs.declared.session.Session.{Session}
@@ -48,16 +53,16 @@ use Rattle.rss_session.specs.Shown.{Shows}
 use Rattle.rss_store.specs.Stores.{StoreView}
 use Rattle.rss_store.specs.Shown.{HoldsTables}
 use Rattle.rss_session.proofs.Steady.{shows_same}
-use Rattle.rss_rsi.specs.Views.{RssParts, IsIn, engine_view, IsReady}
+use Rattle.rss_rsi.specs.Views.{RssParts, spelling, IsIn, SameHeld, engine_view, GoesOverRelation, IsReady}
 
 -- ---- states that are shown
 
--- the session shows a state with other locks all the same
-pub shows_locked : {view : SessionView} {state : State} (locks : Locks) → Shows view state → Shows view (record state { locks = locks })
-shows_locked {state = state} locks shows =
+-- the session shows a state with other locks and scans all the same
+shows_with : {view : SessionView} {state : State} (locks : Locks) (scans : Scans) → Shows view state → Shows view (record state { locks = locks; scans = scans })
+shows_with {state = state} locks scans shows =
     let counted = shows.counted in
     let metered = counted.rooms.metered in record {
-      store = shows_same state.marks locks state.scans shows.store;
+      store = shows_same state.marks locks scans shows.store;
       listed = shows.listed;
       list = shows.list;
       told = shows.told;
@@ -73,10 +78,36 @@ shows_locked {state = state} locks shows =
       rested = shows.rested;
     }
 
-pub in_left : {old new : RssParts} {state : State} (call : Call) {why : Refusal} → IsIn old state → refusal state call ≡ Some why → Shows new.session state → (left_by state call why).locks ≡ new.locks.locks → IsIn new (left_by state call why)
-in_left {new = new} {state = state} call {why = why} is_in is shows locked = record {
+pub shows_locked : {view : SessionView} {state : State} (locks : Locks) → Shows view state → Shows view (record state { locks = locks })
+shows_locked {state = state} locks shows = shows_with locks state.scans shows
+
+pub shows_scanned : {view : SessionView} {state : State} (scans : Scans) → Shows view state → Shows view (record state { scans = scans })
+shows_scanned {state = state} scans shows = shows_with state.locks scans shows
+
+-- ---- what is held
+
+-- scans that are as they were spell those of a state that has them as they were
+pub still_scanned : {old new : OpenScans} {was next : Scans} → new ≡ old → next ≡ was → AreSpelled spelling was old → AreSpelled spelling next new
+still_scanned same as_was are number = ap (λ (s : OpenScans). get s number) same ∙ are number ∙ ap (λ (m : Scans). option_map (spelled spelling) (get m number)) (sym as_was)
+
+-- the engine is in the same state where all that is held is as it was
+pub in_held : {old new : RssParts} {state : State} → SameHeld old new → Shows new.session state → IsIn old state → IsIn new state
+in_held held shows is_in = record { shows = shows; locked = is_in.locked ∙ sym held.locks; scanned = still_scanned held.scans refl is_in.scanned; kept = is_in.kept }
+
+-- a refusal leaves the scans
+left_scans : (state : State) (call : Call) (why : Refusal) → (left_by state call why).scans ≡ state.scans
+left_scans state call why = by (keeps_locks why) (caller call)
+  where
+    by : (keeps : Bool) (by : Option ℕ) → (if keeps then locked_by by call state else state).scans ≡ state.scans
+    by false c = refl
+    by true None = refl
+    by true (Some t) = refl
+
+pub in_left : {old new : RssParts} {state : State} (call : Call) {why : Refusal} → IsIn old state → refusal state call ≡ Some why → Shows new.session state → (left_by state call why).locks ≡ new.locks.locks → new.scans ≡ old.scans → IsIn new (left_by state call why)
+in_left {new = new} {state = state} call {why = why} is_in is shows locked scans = record {
   shows = by (keeps_locks why) (caller call);
   locked = locked;
+  scanned = still_scanned scans (left_scans state call why) is_in.scanned;
   kept = keeps_refused is_in.kept call why is;
 }
   where
@@ -142,13 +173,14 @@ pub record Leads (old new : RssParts) (state : State) (call : Call) (answer : An
   pub step : Step state call answer next
   pub shows : Shows new.session next
   pub locked : next.locks ≡ new.locks.locks
+  pub scanned : AreSpelled spelling next.scans new.scans
   pub moments : Passes old.session.store.pages.disk new.session.store.pages.disk (OpensToEither state.size state.base next.base)
 
 abbrev pub LeadsAll : RssParts → RssParts → Call → Answer → Type 0
 LeadsAll old new call answer = IsTold old.session.store.pages.disk → (state : State) → IsIn old state → Leads old new state call answer
 
 pub leads_in : {old new : RssParts} {state : State} {call : Call} {answer : Answer} → IsIn old state → (leads : Leads old new state call answer) → IsIn new leads.next
-leads_in {state = state} {call = call} {answer = answer} is_in leads = record { shows = leads.shows; locked = leads.locked; kept = steps_keep state leads.next call answer leads.step is_in.kept }
+leads_in {state = state} {call = call} {answer = answer} is_in leads = record { shows = leads.shows; locked = leads.locked; scanned = leads.scanned; kept = steps_keep state leads.next call answer leads.step is_in.kept }
 
 pub answers : {old new : RssParts} {n m : ℕ} {up up_now : Type 0} {call : Call} {answer : Answer} → up_now → IsShort answer → (IsTold old.session.store.pages.disk → (state : State) → IsIn old state → GetsPlace (engine_view old n up) state call answer) → LeadsAll old new call answer → IsAnswer (engine_view old n up) (engine_view new m up_now) call answer
 answers is_up short placed leads = record {
@@ -177,14 +209,19 @@ stopped_by new {state = state} keeps told is_in may = record {
 }
 
 -- and one that made the step leads there
-pub leads_by : {old new : RssParts} {state : State} {call : Call} {answer : Answer} (next : State) → KeepsTables old.session new.session → IsTold old.session.store.pages.disk → IsIn old state → Step state call answer next → Shows new.session next → next.locks ≡ new.locks.locks → Leads old new state call answer
-leads_by {state = state} next keeps told is_in step shows locked = record {
+pub leads_by : {old new : RssParts} {state : State} {call : Call} {answer : Answer} (next : State) → KeepsTables old.session new.session → IsTold old.session.store.pages.disk → IsIn old state → Step state call answer next → Shows new.session next → next.locks ≡ new.locks.locks → AreSpelled spelling next.scans new.scans → Leads old new state call answer
+leads_by {state = state} next keeps told is_in step shows locked scanned = record {
   next = next;
   step = step;
   shows = shows;
   locked = locked;
+  scanned = scanned;
   moments = widened (keeps told state is_in.kept is_in.shows) (λ image opens. inl opens);
 }
+
+-- by a step that leaves all that is held
+pub leads_held : {old new : RssParts} {state : State} {call : Call} {answer : Answer} (next : State) → KeepsTables old.session new.session → IsTold old.session.store.pages.disk → IsIn old state → Step state call answer next → Shows new.session next → SameHeld old new → next.locks ≡ state.locks → next.scans ≡ state.scans → Leads old new state call answer
+leads_held next keeps told is_in step shows held locks scans = leads_by next keeps told is_in step shows (locks ∙ is_in.locked ∙ sym held.locks) (still_scanned held.scans scans is_in.scanned)
 
 -- where the store is as it was
 pub keeps_same : (old new : SessionView) → new.store ≡ old.store → KeepsTables old new
@@ -198,6 +235,7 @@ ready_counted fewer ready = record {
   session = ready.session;
   paced = omega (arith, ready.paced, fewer);
   saves = λ t. omega (arith, ready.saves t, fewer);
+  relations = ready.relations;
   holders = ready.holders;
 }
 
@@ -219,36 +257,46 @@ holders_gone old new t holders others same u item mode has =
     let was = released_was t u old.locks.locks item mode (ap (λ (locks : Locks). held locks u item) (sym same) ∙ has) in
     others u was.0 (holders u item mode was.1)
 
+-- the scans go over relations
+abbrev pub GoOverRelations : OpenScans → Type 0
+GoOverRelations scans = (number : ℕ) (scan : Scan) → get scans number ≡ Some scan → GoesOverRelation scan.cursor
+
+-- and those of other transactions do
+relations_left : (t : ℕ) (scans : OpenScans) → GoOverRelations scans → GoOverRelations (closed_for t scans)
+relations_left t scans over number scan has =
+    over number scan (by (not (is_of t (get scans number))) (sym (get-retain_keys scans (λ n. not (is_of t (get scans n))) number (λ x tie. ap (λ (n : ℕ). not (is_of t (get scans n))) (sym (nat_cmp-IsAntisymmetric number x tie)))) ∙ has))
+  where
+    by : (kept : Bool) → (if kept then get scans number else None) ≡ Some scan → get scans number ≡ Some scan
+    by true is = is
+    by false is = absurd (cc (is))
+
 -- from before the call on, the log has so many bytes more, and no transaction more than one save point more
 pub ready_then : {old new : RssParts} {calls more appended : ℕ} → IsReady old calls → more ≡ calls + 1 → appended ≤ 2 ^ 13 → IsSessionReady new.session → Appends appended old.session new.session
-    → ((t : ℕ) → length (transaction_in new.session.opened t).saves ≤ length (transaction_in old.session.opened t).saves + 1) → HoldersOpen new → IsReady new more
-ready_then ready counted few session appends saves holders = record {
+    → ((t : ℕ) → length (transaction_in new.session.opened t).saves ≤ length (transaction_in old.session.opened t).saves + 1) → HoldersOpen new → GoOverRelations new.scans → IsReady new more
+ready_then ready counted few session appends saves holders relations = record {
   session = session;
   paced = omega (arith, ready.paced, appends, few, counted);
   saves = λ t. omega (arith, ready.saves t, saves t, counted);
+  relations = relations;
   holders = holders;
 }
 
 -- a transaction is gone
 pub ready_gone : {old new : RssParts} {calls more appended : ℕ} (t : ℕ) → IsReady old calls → more ≡ calls + 1 → appended ≤ 2 ^ 13 → IsSessionReady new.session → Appends appended old.session new.session → NoMoreSaves old.session new.session
-    → OthersStayOpen t old.session new.session → new.locks.locks ≡ released t old.locks.locks → IsReady new more
-ready_gone {old = old} {new = new} t ready counted few session appends saves others gone =
+    → OthersStayOpen t old.session new.session → new.locks.locks ≡ released t old.locks.locks → new.scans ≡ closed_for t old.scans → IsReady new more
+ready_gone {old = old} {new = new} t ready counted few session appends saves others gone closed =
     ready_then ready counted few session appends (λ u. omega (arith, saves u)) (holders_gone old new t ready.holders others gone)
-
--- nothing is appended where the store is as it was
-pub ready_still : {old new : RssParts} {calls more : ℕ} → IsReady old calls → more ≡ calls + 1 → IsSessionReady new.session → new.session.store ≡ old.session.store
-    → ((t : ℕ) → length (transaction_in new.session.opened t).saves ≤ length (transaction_in old.session.opened t).saves + 1) → HoldersOpen new → IsReady new more
-ready_still ready counted session same saves holders = ready_then {appended = 0} ready counted (omega arith) session (omega (arith, ap (λ (s : StoreView). s.log.end) same)) saves holders
+    (subst GoOverRelations (sym closed) (relations_left t old.scans ready.relations))
 
 -- ---- whole calls
 
 -- Refused at once by a test of the session, with the locks that the refusal leaves.
-refused_alike : {parts : RssParts} {n m : ℕ} {up up_now : Type 0} {call : Call} {why : Refusal} (result : Result Reply CallError) → IsErrAnd result (λ e. e ≡ Refused why) → up → up_now → m ≤ n + 1 → IsShort (Err why)
+pub refused_alike : {parts : RssParts} {n m : ℕ} {up up_now : Type 0} {call : Call} {why : Refusal} (result : Result Reply CallError) → IsErrAnd result (λ e. e ≡ Refused why) → up → up_now → m ≤ n + 1 → IsShort (Err why)
     → (IsTold parts.session.store.pages.disk → (state : State) → IsIn parts state → (refusal state call ≡ Some why) × ((left_by state call why).locks ≡ parts.locks.locks)) → IsCallOf (engine_view parts n up) (engine_view parts m up_now) call result
 refused_alike {parts = parts} {n = n} {m = m} {up = up} {up_now = up_now} {call = call} {why = why} result is was_up is_up calls short refused =
     let so = err_from_is_err_and result is in
     subst (IsCallOf (engine_view parts n up) (engine_view parts m up_now) call) (sym (so.1 ∙ ap Err so.2))
-    (comes_to was_up (goes_nowhere call refl calls) (refused_by is_up short (λ told state is_in. let so = refused told state is_in in (so.0, in_left call is_in so.0 is_in.shows so.1, started _ _))))
+    (comes_to was_up (goes_nowhere call refl calls) (refused_by is_up short (λ told state is_in. let so = refused told state is_in in (so.0, in_left call is_in so.0 is_in.shows so.1 refl, started _ _))))
 
 -- The call needs no locks.
 pub refused_test : {parts : RssParts} {n m : ℕ} {up up_now : Type 0} {call : Call} {why : Refusal} (result : Result Reply CallError) → IsErrAnd result (λ e. e ≡ Refused why) → up → up_now → m ≤ n + 1 → IsShort (Err why) → NeedsNone call
@@ -262,46 +310,46 @@ pub refused_early : {parts : RssParts} {n m : ℕ} {up up_now : Type 0} {call : 
 refused_early {call = call} {why = why} result is was_up is_up calls short refused =
     refused_alike result is was_up is_up calls short (λ told state is_in. let so = refused told state is_in.shows in (so.0, left_same call why so.1 is_in))
 
--- since the store was down
-pub found_down : {old new : EngineView} {call : Call} {why : CallError} (result : Result Reply CallError) → IsErrAnd result (λ e. e ≡ why) → why ≡ Down → new ≡ old → (old.is_up → ⊥) → IsCallOf old new call result
-found_down {old = old} {new = new} {call = call} result is same stays not =
-    let so = err_from_is_err_and result is in
-    subst (λ (view : EngineView). IsCallOf old view call result) (sym stays)
-    (subst (IsCallOf old old call) (sym (so.1 ∙ ap Err (so.2 ∙ same))) (was_down call not))
+-- the table of the scans
+abbrev pub ScanTable : Type 0
+ScanTable = List (Option Scan)
 
--- the call was counted, and goes on from the session and the locks as they were
-pub asked : {S : Type 0} (pages_view : S → PagesView) {old mid : Session S} {locks now : LockTable} {n : ℕ} {up : Type 0} {new : EngineView} {call : Call} {result : Result Reply CallError} → mid ≡ old → now ≡ locks
-    → IsCallOf (engine_view (record { session = session_view pages_view mid; locks = told now }) n up) new call result → IsCallOf (engine_view (record { session = session_view pages_view old; locks = told locks }) n up) new call result
-asked pages_view {n = n} {up = up} {new = new} {call = call} {result = result} same same_locks =
-    let parts : (session : Session _) (locks : LockTable) → RssParts = λ session locks. record { session = session_view pages_view session; locks = told locks } in
-    subst (λ (parts : RssParts). IsCallOf (engine_view parts n up) new call result) (λ i. parts (same i) (same_locks i))
+-- an engine's parts, by what it has
+abbrev pub rss_parts : {S : Type 0} → (S → PagesView) → Session S → LockTable → ScanTable → RssParts
+rss_parts pages_view session locks scans = record { session = session_view pages_view session; locks = told locks; scans = scans_told scans }
 
--- Refused behind calls of the session that left the committed tables and its states, with the locks that the refusal leaves.
+-- the call was counted, and goes on from the session, the locks and the scans as they were
+pub asked : {S : Type 0} (pages_view : S → PagesView) {old mid : Session S} {locks now : LockTable} {scans scans_now : ScanTable} {n : ℕ} {up : Type 0} {new : EngineView} {call : Call} {result : Result Reply CallError} → mid ≡ old → now ≡ locks → scans_now ≡ scans
+    → IsCallOf (engine_view (rss_parts pages_view mid now scans_now) n up) new call result → IsCallOf (engine_view (rss_parts pages_view old locks scans) n up) new call result
+asked pages_view {n = n} {up = up} {new = new} {call = call} {result = result} same same_locks same_scans =
+    subst (λ (parts : RssParts). IsCallOf (engine_view parts n up) new call result) (λ i. rss_parts pages_view (same i) (same_locks i) (same_scans i))
+
+-- Refused behind calls of the session that left the committed tables and its states, with the locks that the refusal leaves. No scan has changed.
 pub refused_behind : {old new : RssParts} {n m : ℕ} {up up_now : Type 0} {call : Call} {why : Refusal} (result : Result Reply CallError) → IsErrAnd result (λ e. e ≡ Refused why) → up → up_now → IsShort (Err why)
-    → GoesOn (engine_view old n up) (engine_view new m up_now) call → KeepsTables old.session new.session
+    → GoesOn (engine_view old n up) (engine_view new m up_now) call → KeepsTables old.session new.session → new.scans ≡ old.scans
     → (IsTold old.session.store.pages.disk → (state : State) → IsIn old state → (refusal state call ≡ Some why) × Shows new.session state × ((left_by state call why).locks ≡ new.locks.locks)) → IsCallOf (engine_view old n up) (engine_view new m up_now) call result
-refused_behind {old = old} {new = new} {n = n} {m = m} {up = up} {up_now = up_now} {call = call} result is was_up is_up short goes keeps refused =
+refused_behind {old = old} {new = new} {n = n} {m = m} {up = up} {up_now = up_now} {call = call} result is was_up is_up short goes keeps scans refused =
     let why = err_from_is_err_and result is in
     subst (IsCallOf (engine_view old n up) (engine_view new m up_now) call) (sym (why.1 ∙ ap Err why.2))
     (comes_to was_up goes (refused_by is_up short (λ told state is_in.
     let so = refused told state is_in in
-    (so.0, in_left call is_in so.0 so.1 so.2, keeps told state is_in.kept is_in.shows))))
+    (so.0, in_left call is_in so.0 so.1 so.2 scans, keeps told state is_in.kept is_in.shows))))
 
--- Memory ran out behind calls of the session that left the committed tables and its states; no lock has changed.
+-- Memory ran out behind calls of the session that left the committed tables and its states; no lock has changed, and no scan.
 pub lacks_behind : {old new : RssParts} {n m : ℕ} {up up_now : Type 0} {call : Call} → may_lack_memory call ≡ true → up → up_now
     → GoesOn (engine_view old n up) (engine_view new m up_now) call → KeepsTables old.session new.session
-    → (IsTold old.session.store.pages.disk → (state : State) → Shows old.session state → Shows new.session state) → new.locks.locks ≡ old.locks.locks → IsCallOf (engine_view old n up) (engine_view new m up_now) call (Err NoMemory)
-lacks_behind may was_up is_up goes keeps shows same = comes_to was_up goes (record {
+    → (IsTold old.session.store.pages.disk → (state : State) → Shows old.session state → Shows new.session state) → SameHeld old new → IsCallOf (engine_view old n up) (engine_view new m up_now) call (Err NoMemory)
+lacks_behind may was_up is_up goes keeps shows held = comes_to was_up goes (record {
   may = may;
   unmade = λ told state is_in. keeps told state is_in.kept is_in.shows;
   up = is_up;
-  same = λ told state is_in. record { shows = shows told state is_in.shows; locked = is_in.locked ∙ sym same; kept = is_in.kept };
+  same = λ told state is_in. in_held held (shows told state is_in.shows) is_in;
 })
 
 -- It ran out before the store was touched.
 pub lacks_memory : {old new : RssParts} {n m : ℕ} {up up_now : Type 0} (call : Call) → may_lack_memory call ≡ true → up → up_now → new.session.store ≡ old.session.store → m ≤ n + 1
-    → ((state : State) → Shows old.session state → Shows new.session state) → new.locks.locks ≡ old.locks.locks → IsCallOf (engine_view old n up) (engine_view new m up_now) call (Err NoMemory)
-lacks_memory {old = old} {new = new} call may was_up is_up same calls shows locked = lacks_behind may was_up is_up (goes_nowhere call same calls) (keeps_same old.session new.session same) (λ told. shows) locked
+    → ((state : State) → Shows old.session state → Shows new.session state) → SameHeld old new → IsCallOf (engine_view old n up) (engine_view new m up_now) call (Err NoMemory)
+lacks_memory {old = old} {new = new} call may was_up is_up same calls shows held = lacks_behind may was_up is_up (goes_nowhere call same calls) (keeps_same old.session new.session same) (λ told. shows) held
 
 -- By a fault of a call of the session, within a step that was on its way.
 pub failed_within : {T : Type 0} {old new : RssParts} {n m : ℕ} {up up_now : Type 0} {call : Call} {fault : PageFault} (result : Result Reply CallError) → IsErrAnd result (λ e. e ≡ page_error fault) → up → (up_now → ⊥)

@@ -7,3 +7,4 @@ pub mod Definitions
 pub mod Locking
 pub mod Looking
 pub mod Placing
+pub mod Scanning

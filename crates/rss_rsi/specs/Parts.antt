@@ -5,6 +5,7 @@ use Rattle.rss_buffer.specs.declared.saving.Saving.{Ghosts}
 use Rattle.rss_model.specs.Calls.{EngineView}
 use Rattle.rss_store.specs.declared.store.DurableStore.{DurableStore}
 use Rattle.rss_lock.specs.Table.{told}
+use Rattle.rss_scan.specs.Scans.{told as scans_told}
 use Rattle.rss_session.specs.Sessions.{SessionView}
 use Rattle.rss_session.specs.Parts.{view as session_view}
 use Rattle.rss_rsi.specs.Views.{RssParts, engine_view}
@@ -23,9 +24,9 @@ module _ {S : Type 0} {g : Ghosts S} {h : PagesGhosts S} where
   abbrev pub session_of : Rss S g h → SessionView
   session_of store = session_view h.view store.session
 
-  -- with its locks
+  -- with its locks and scans
   abbrev pub parts_of : Rss S g h → RssParts
-  parts_of store = record { session = session_of store; locks = told store.locks }
+  parts_of store = record { session = session_of store; locks = told store.locks; scans = scans_told store.scans }
 
   -- what there is to see of it
   abbrev pub view : Rss S g h → EngineView

@@ -63,6 +63,7 @@ impl<S: Saving> Rss<S> {
         let Rss {
             session,
             locks: _,
+            scans: _,
             calls: _,
             down: _,
             alloc: _,

@@ -27,6 +27,7 @@ impl<S: Saving> Rss<S> {
             (self.new.down ≡ false) transaction change result }
         ensures stay { OnOk result (StayOpen (session_of self.old) (session_of self.new)) }
         ensures locks { self.new.locks ≡ self.old.locks }
+        ensures scans { self.new.scans ≡ self.old.scans }
         ensures calls { self.new.calls ≡ self.old.calls }
     {
         let saves_first = self.session.weigh_change(transaction, &change)?;

@@ -40,6 +40,7 @@ impl<S: Saving> Rss<S> {
         ensures up { OnOk result (self.new.down ≡ false) }
         ensures calls { OnOk result (self.new.calls ≡ self.old.calls) }
         ensures locks { self.new.locks ≡ self.old.locks }
+        ensures scans { self.new.scans ≡ self.old.scans }
         ensures looks { IfOk result (λ tid. LooksOn (session_of self.old) (session_of self.new)
             (Ok tid)) }
         ensures place { IfOk result (IsPlaceFor (parts_of self.old) transaction number length) }
@@ -76,6 +77,7 @@ impl<S: Saving> Rss<S> {
         ensures down { OnErr result (self.new.down ≡ true) }
         ensures calls { self.new.calls ≡ self.old.calls }
         ensures locks { self.new.locks ≡ self.old.locks }
+        ensures scans { self.new.scans ≡ self.old.scans }
         ensures looks { LooksAnyhow (session_of self.old) (session_of self.new) result }
         ensures pages { OnOk result (KeepsPages (session_of self.old) (session_of self.new)) }
         ensures finds { IfOk result (λ found.

@@ -5,6 +5,7 @@ ghost use Rattle.rss_base.specs.TupleTypes.{field_names};
 ghost use Rattle.rss_base.specs.declared.answer.CallError.TheVariants.{NoMemory};
 ghost use Rattle.rss_base.specs.declared.call.Call.TheVariants.{MakeSegment, MakeRelation, DropSegment, DropRelation};
 ghost use Rattle.rss_lock.specs.Table.{told};
+ghost use Rattle.rss_scan.specs.Scans.{told as scans_told};
 ghost use Rattle.rss_model.specs.Calls.{calls_most};
 
 use crate::Rss;
@@ -84,9 +85,11 @@ impl<S: Saving> Rss<S> {
     fn redefine(&mut self, made: Result<(), Refusal>) -> Result<Reply, CallError>
         requires down { self.old.down ≡ true }
         requires some { (to : Definition S)
-            × IsDefining S.view to self.old.session (told self.old.locks) self.old.calls made }
+            × IsDefining S.view to self.old.session (told self.old.locks) (scans_told self.old.scans)
+            self.old.calls made }
         ensures did { (to : Definition S)
-            → IsDefining S.view to self.old.session (told self.old.locks) self.old.calls made
+            → IsDefining S.view to self.old.session (told self.old.locks) (scans_told self.old.scans)
+            self.old.calls made
             → IsCallOf (view_of S.view to) (view self.new) to.call result }
         ensures memory { IsErrOf result NoMemory → ⊥ }
     {

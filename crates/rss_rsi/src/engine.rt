@@ -6,20 +6,23 @@ ghost use Rattle.std.specs.Prelude.{◌≡◌, ◌+◌, ◌<◌, false, true, If
 ghost use Rattle.rss_base.specs.declared.answer.CallError.TheVariants.{Down};
 ghost use Rattle.std.specs.FinMap.{empty};
 ghost use Rattle.rss_lock.specs.Table.{told};
+ghost use Rattle.rss_scan.specs.Scans.{told as scans_told};
 ghost use Rattle.rss_model.specs.Calls.{calls_most};
 ghost use Rattle.rss_session.proofs.Props.{AreRising-prop};
 ghost use Rattle.rss_session.specs.Parts.{view as session_view};
+ghost use Rattle.rss_rsi.specs.RsiLaws.{IsAlongRelation-prop};
 ghost use Rattle.rss_rsi.specs.Views.{IsReady};
 
 use rss_base::{Call, CallError, Reply};
 use rss_buffer::Saving;
 use rss_lock::Locks;
 use rss_model::Engine;
+use rss_scan::Scans;
 use rss_session::Session;
 use std::alloc::Global;
 
-/// A store that is open: its tables and its log, with the transactions that are open in it and the
-/// locks that they hold.
+/// A store that is open: its tables and its log, with the transactions that are open in it, the
+/// locks that they hold, and their scans.
 ///
 /// A transaction's changes go to the pages and to the log in memory at once, and are committed when
 /// it ends. Up to 32 are open at a time, and their calls come in any order: a call whose item another
@@ -31,13 +34,19 @@ pub struct Rss<S: Saving> {
     pub(crate) session: Session<S>,
     /// What its transactions hold.
     pub(crate) locks: Locks,
+    /// Their open scans.
+    pub(crate) scans: Scans,
     /// How many calls it was asked for while it was up.
     pub(crate) calls: u32,
     /// A call has met a fault, or is changing pages.
     pub(crate) down: bool,
     pub(crate) alloc: Global,
     ghost ready: { down ≡ false
-        → IsReady (record { session = session_view S.view session; locks = told locks }) calls } by { Prim.hlevel (props, system_or_heap-prop, AreHeaps-prop, AreRising-prop) },
+        → IsReady (record {
+          session = session_view S.view session;
+          locks = told locks;
+          scans = scans_told scans;
+        }) calls } by { Prim.hlevel (props, system_or_heap-prop, AreHeaps-prop, AreRising-prop, IsAlongRelation-prop) },
 }
 
 impl<S: Saving> Rss<S> {
@@ -45,19 +54,23 @@ impl<S: Saving> Rss<S> {
 
     /// The store of a session in which no transaction is open. It is up, and was asked for no call as
     /// yet.
-    pub(crate) fn new(alloc: Global, session: Session<S>) -> Self
+    pub(crate) fn new(alloc: Global, session: Session<S>, scans: Scans) -> Self
         requires ready { IsReady (record {
           session = session_view S.view session;
           locks = record { locks = empty; spare = 0 };
+          scans = empty;
         }) 0 }
+        requires none_scanned { scans_told scans ≡ empty }
         ensures session { result.session ≡ session }
         ensures none_locked { (told result.locks).locks ≡ empty }
+        ensures none_scanned { scans_told result.scans ≡ empty }
         ensures calls { result.calls ≡ 0 }
         ensures up { result.down ≡ false }
     {
         Rss {
             session,
             locks: Locks::new(alloc),
+            scans,
             calls: 0,
             down: false,
             alloc,
@@ -71,6 +84,7 @@ impl<S: Saving> Rss<S> {
         ensures counted { OnOk result (self.new.calls ≡ self.old.calls + 1) }
         ensures session { self.new.session ≡ self.old.session }
         ensures locks { self.new.locks ≡ self.old.locks }
+        ensures scans { self.new.scans ≡ self.old.scans }
         ensures ready { OnOk result (IsReady (parts_of self.new) self.old.calls) }
         ensures was_up { OnOk result (self.old.down ≡ false) }
         ensures down { IfErr result (λ why. (why ≡ Down) × (self.old.down ≡ true)
@@ -108,6 +122,9 @@ impl<S: Saving> Engine for Rss<S> {
                 self.update(*transaction, relation, *tid, tuple)
             }
             Call::Delete(transaction, relation, tid) => self.delete(*transaction, relation, *tid),
+            Call::OpenRelation(transaction, relation) => self.open_relation(*transaction, relation),
+            Call::Next(transaction, scan) => self.next(*transaction, *scan),
+            Call::CloseScan(transaction, scan) => self.close_scan(*transaction, *scan),
             Call::Lock(transaction, item, exclusive) => self.lock(*transaction, item, *exclusive),
             Call::Checkpoint => self.checkpoint(),
             Call::MakeSegment(name) => self.make_segment(name),

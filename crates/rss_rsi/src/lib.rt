@@ -13,6 +13,7 @@ mod inserting;
 mod locking;
 mod looking;
 mod opening;
+mod scanning;
 mod transactions;
 mod updating;
 mod values;

@@ -97,7 +97,7 @@ impl<S: Saving> Rss<S> {
     }
 
     /// The locks of a relation, which has this number, and of its segment before it.
-    fn relation_needs(
+    pub(crate) fn relation_needs(
         &self,
         number: u8,
         relation: &Name,
@@ -158,6 +158,7 @@ impl<S: Saving> Rss<S> {
         ensures same { IfOk result (λ claimed. claimed ≡ needs) }
         ensures locks { (told self.new.locks).locks ≡ (told self.old.locks).locks }
         ensures session { self.new.session ≡ self.old.session }
+        ensures scans { self.new.scans ≡ self.old.scans }
         ensures down { self.new.down ≡ self.old.down }
         ensures calls { self.new.calls ≡ self.old.calls }
     {
@@ -180,6 +181,7 @@ impl<S: Saving> Rss<S> {
         ensures locks { (told self.new.locks).locks
             ≡ granted transaction needs.items (told self.old.locks).locks }
         ensures session { self.new.session ≡ self.old.session }
+        ensures scans { self.new.scans ≡ self.old.scans }
         ensures down { self.new.down ≡ self.old.down }
         ensures calls { self.new.calls ≡ self.old.calls }
     {

@@ -45,6 +45,7 @@ impl<S: Saving> Rss<S> {
         ensures calls { OnOk result (self.new.calls ≡ self.old.calls) }
         ensures finds { IfOk result (λ found. FindsHeld (parts_of self.old) (parts_of self.new)
             transaction number relation.now tid access found.tuple found.needs.items) }
+        ensures scans { OnOk result (self.new.scans ≡ self.old.scans) }
         ensures fails { IfErr result (λ why. EndsEach
             (LooksFor (parts_of self.old) transaction relation.now tid access)
             (view self.old) (view self.new) (Err why)) }
@@ -72,6 +73,7 @@ impl<S: Saving> Rss<S> {
         ensures up { OnOk result (self.new.down ≡ false) }
         ensures calls { OnOk result (self.new.calls ≡ self.old.calls) }
         ensures locks { self.new.locks ≡ self.old.locks }
+        ensures scans { self.new.scans ≡ self.old.scans }
         ensures looks { IfOk result (LooksUp (session_of self.old) (session_of self.new)) }
         ensures finds { IfOk result (FindsAny (parts_of self.old) number tid) }
         ensures fails { IfErr result (λ why. EndsEach MayLook (view self.old) (view self.new)
@@ -101,7 +103,7 @@ impl<S: Saving> Rss<S> {
 
 /// The body at this identifier is that of a tuple. Only a device that doesn't tell its contents gives
 /// one that isn't.
-fn test_read(read: Option<Tuple>, segment: u8, tid: Tid) -> Result<Tuple, CallError>
+pub(crate) fn test_read(read: Option<Tuple>, segment: u8, tid: Tid) -> Result<Tuple, CallError>
     ensures some { IfOk result (λ tuple. read ≡ Some tuple) }
     ensures damaged { IfErr result (λ why. (why ≡ Damaged (TuplePlace segment tid))
         × (read ≡ None)) }

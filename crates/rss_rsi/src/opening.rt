@@ -6,8 +6,9 @@ ghost use Rattle.rss_rsi.specs.Parts.{pages_below, view};
 ghost use Rattle.rss_rsi.specs.Opening.{OpensOver};
 
 use crate::Rss;
-use rss_base::{Device, Pages, Unopened};
+use rss_base::{Device, OpenFault, Pages, Unopened};
 use rss_buffer::{Buffer, LEAST_FRAMES, MOST_FRAMES};
+use rss_scan::Scans;
 use rss_session::Session;
 use std::alloc::Global;
 
@@ -29,6 +30,12 @@ pub fn open<D: Device>(alloc: Global, device: D, frames: u32) -> Result<Rss<Buff
         HasFrames frames (⟦<Buffer<D> as Pages>⟧.view (pages_below store))) }
     ensures refused { IfErr result (λ e. IsHandedBack (D.view device) (D.view e.device) e.fault) }
 {
+    let Ok(scans) = Scans::new(alloc) else {
+        return Err(Unopened {
+            device,
+            fault: OpenFault::NoMemory,
+        });
+    };
     let store = rss_store::open(alloc, device, frames)?;
-    Ok(Rss::new(alloc, Session::new(alloc, store)))
+    Ok(Rss::new(alloc, Session::new(alloc, store), scans))
 }

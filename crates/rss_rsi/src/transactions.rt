@@ -80,6 +80,7 @@ impl<S: Saving> Rss<S> {
         self.down = true;
         self.session.commit(transaction)?;
         self.locks.release_all(transaction);
+        self.scans.close_all(transaction);
         self.down = false;
         Ok(Reply::Ok)
     }
@@ -96,6 +97,7 @@ impl<S: Saving> Rss<S> {
         self.down = true;
         self.session.abort(transaction)?;
         self.locks.release_all(transaction);
+        self.scans.close_all(transaction);
         self.down = false;
         Ok(Reply::Ok)
     }

@@ -1,6 +1,6 @@
 -- The map that a list of places is, and what becomes of it when a place changes.
-use Rattle.std.proofs.Common.{◌≡◌, inl, inr, ℕ, zero, suc, ◌+◌, ◌<◌, ◌≤◌, Bool, true, false, not, cond, T, ◌&&◌, List, [], ◌∷◌, length, map, get_or, set, refl, sym, ◌∙◌, ap, subst, arith, eqb-true, eq-eqb, get_or-set_same, get_or-set_other}
-use Rattle.std.specs.Prelude.{Option, Some, None, ◌==◌, is_some, IsSome, option_and_then}
+use Rattle.std.proofs.Common.{◌≡◌, ◌↔◌, inl, inr, ℕ, zero, suc, ◌+◌, ◌<◌, ◌≤◌, Bool, true, false, not, cond, T, ◌&&◌, List, [], ◌∷◌, length, map, get_or, set, refl, sym, ◌∙◌, ap, subst, arith, eqb-true, eq-eqb, get_or-set_same, get_or-set_other}
+use Rattle.std.specs.Prelude.{Option, Some, None, ◌==◌, is_some, IsSome, IsTrue, IfSome, IfNone, option_and_then}
 use Rattle.std.specs.Ordering.{is_lt, nat_cmp}
 use Rattle.std.specs.declared.cmp.Ordering.{Ordering}
 use Rattle.std.specs.declared.cmp.Ordering.TheVariants.{Less}
@@ -99,6 +99,14 @@ all_open scans all = count_told scans ∙ count_all 0 scans all
 
 pub some_free : (scans : List (Option Scan)) (k : ℕ) → k < length scans → get_or scans k None ≡ None → finite.len (told scans) < length scans
 some_free scans k below free = let count = count_told scans in let fewer = count_fewer 0 k scans below free in omega arith
+
+-- all places are taken exactly where there is no first one that isn't
+pub full_told : (scans : List (Option Scan)) (most : ℕ) (place : Option ℕ) (none : Bool) → length scans ≡ most → is_some place ≡ not none → IfSome place (λ p. p < length scans) → IfSome place (λ p. get_or scans p None ≡ None)
+    → IfNone place ((k : ℕ) → k < length scans → is_some (get_or scans k None) ≡ true) → IsTrue none ↔ (finite.len (told scans) ≡ most)
+full_told scans most None true long is within free full = (λ so. all_open scans full ∙ long, λ so. refl)
+full_told scans most None false long is within free full = absurd (cc (is))
+full_told scans most (Some p) true long is within free full = absurd (cc (is))
+full_told scans most (Some p) false long is within free full = (λ so. absurd (cc (so)), λ so. let fewer = some_free scans p within free in absurd (omega arith))
 
 -- ---- changes
 

@@ -1,4 +1,4 @@
--- The open scans are the relation machine's, spelled in numbers and in the bytes of keys.
+-- The open scans are the relation machine's, with their keys spelled in bytes.
 use Rattle.std.specs.Prelude.{◌≡◌, ℕ, List, Option, Some, None, option_map}
 use Rattle.std.specs.FinMap as map
 use Rattle.rss_base.specs.declared.tid.Tid.{Tid}
@@ -11,7 +11,7 @@ use Rattle.rss_scan.specs.declared.cursor.Cursor.{Cursor}
 use Rattle.rss_scan.specs.declared.cursor.Scan.{Scan}
 use Rattle.rss_scan.specs.Scans.{OpenScans, begun, given, cursor_of, closed_for}
 
--- how a place of the machine's, which has names and values, is spelled: along this path, with what was given last
+-- how a place of the machine's, which has values, is spelled: along this path, with what was given last
 abbrev pub Spelling : Type 0
 Spelling = MachinePath → Option Entry → Cursor
 

@@ -1,14 +1,14 @@
 // One open scan.
-use rss_base::{Key, Tid};
+use rss_base::{Key, Name, Tid};
 
-/// What a scan goes over. Relations, images and links are named by their numbers in the catalog.
+/// What a scan goes over.
 #[derive(Drop)]
 pub enum Path {
-    Relation(u8),
+    Relation(Name),
     /// The pairs of an image from this key on.
-    Image(u8, Key),
+    Image(Name, Key),
     /// The members of a chain, below this parent or in a unary link.
-    Link(u8, Option<Tid>),
+    Link(Name, Option<Tid>),
 }
 
 /// Where a scan is.

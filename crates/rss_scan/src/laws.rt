@@ -2,8 +2,8 @@
 ghost use Rattle.rss_scan.specs.Ties.{AddedSpelled, ClosedSpelled, CountedSpelled, FoundSpelled};
 ghost use Rattle.rss_scan.specs.Ties.{GivenSpelled, NoneSpelled, RemovedSpelled};
 
-/// What the calls make of the open scans is what the machine makes of its own, which have names and
-/// values where these have numbers and the bytes of keys, however the one is spelled as the other.
+/// What the calls make of the open scans is what the machine makes of its own, which have
+/// values where these have the bytes of keys, however the one is spelled as the other.
 pub fn scans_stay_spelled()
     ensures none { NoneSpelled }
     ensures added { AddedSpelled }

@@ -1,5 +1,5 @@
 // The table of open scans.
-ghost use Rattle.std.specs.Prelude.{◌≡◌, ◌<◌, ℕ, None, Some, IsSome, IfNone, IfOk, IfSome, length};
+ghost use Rattle.std.specs.Prelude.{◌≡◌, ◌↔◌, ◌<◌, ℕ, None, Some, IsSome, IsTrue, IfNone, IfOk, IfSome, length};
 ghost use Rattle.std.specs.Prelude.{option_copied, slice_index_or};
 ghost use Rattle.std.specs.FinMap.{empty, get, insert, len, remove};
 ghost use Rattle.rss_model.specs.Scans.{scans_most};
@@ -78,6 +78,13 @@ impl Scans {
             unreachable!()
         };
         open.cursor.last = Some((copy_of(key), tid));
+    }
+
+    /// Whether as many scans are open as may be.
+    pub fn is_full(&self) -> bool
+        ensures { IsTrue result ↔ (len (told self.now) ≡ scans_most) }
+    {
+        free_place(&self.scans).is_none()
     }
 
     pub fn close(&mut self, scan: u32)

@@ -3,6 +3,7 @@ pub mod Sums
 pub mod SavePoints
 pub mod StaysOpen
 pub mod Passing
+mod NextTuples
 pub mod Noted
 pub mod Changed
 pub mod Weighed

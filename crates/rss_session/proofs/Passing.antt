@@ -1,15 +1,16 @@
 -- What a call of the store passes on to the session.
 use Rattle.std.proofs.Common.{◌≡◌, ℕ, ◌≤◌, true, refl, sym, ◌∙◌, ap, subst, arith}
 use Rattle.std.specs.Prelude.{◌↔◌, Result, Ok, Err, IsErrOf, IsErrAnd, OnOk}
-use Rattle.std.proofs.lemmas.Result.{err_from_is_err_and}
+use Rattle.std.proofs.lemmas.Result.{err_from_is_err_and, on_ok_weaker}
 use Rattle.rss_base.specs.DiskRule.{IsTold, Passes, Continues}
 use Rattle.rss_base.specs.Faults.{Rises}
 use Rattle.rss_base.specs.Paged.{Backing}
-use Rattle.rss_base.specs.Steps.{PagesView, PassesOn}
+use Rattle.rss_base.specs.Steps.{PagesView, Keys, PassesOn, PagesCall, AreCounted}
 use Rattle.rss_base.specs.declared.fault.PageFault.{PageFault}
 use Rattle.rss_base.specs.declared.fault.PageFault.TheVariants.{Device as DeviceFailed, NoMemory}
 use Rattle.rss_base.specs.declared.root.Root.{Root}
 use Rattle.rss_base.proofs.Moments.{started, widened, continues, continues_then, rises_since}
+use Rattle.rss_tuple.specs.Heaps.{AreHeaps}
 use Rattle.rss_model.specs.Machine.{State, StoreSize}
 use Rattle.rss_model.specs.Store.{size_of}
 use Rattle.rss_store.specs.Stores.{StoreView}
@@ -21,7 +22,8 @@ use Rattle.rss_store.specs.Commits.{CommitsPages}
 use Rattle.rss_trans.specs.Transactions.{OpenView, Checkpoints}
 use Rattle.rss_session.specs.Sessions.{SessionView, IsReady}
 use Rattle.rss_session.specs.Calls.{NoMoreSaves, GoesOn, CountsAnew}
-use Rattle.rss_session.proofs.Looked.{with_pages}
+use Rattle.rss_session.specs.Looks.{LooksOn}
+use Rattle.rss_session.proofs.Looked.{with_pages, ready_looked, shows_looked, keeps_looked}
 use Rattle.rss_session.proofs.Shown.{with_opened}
 
 -- a step of pages leaves what is fixed, and so the committed tables
@@ -137,4 +139,18 @@ goes_called passes settled failed memory = record {
   log_pages = refl;
   frames = ap (λ (b : Backing). b.frames) passes.backing;
   saves = λ t. omega arith;
+}
+
+-- a look by which no page was mapped, and none holds anything else
+pub looks_on : {T : Type 0} {result : Result T PageFault} {touched : Keys} {asks outs : ℕ} {pages : PagesView} (old : SessionView) → IsReady old → AreCounted old.store.pages → AreCounted pages → PagesCall touched asks outs old.store.pages pages result → pages.mapped ≡ old.store.pages.mapped
+    → (IsTold old.store.pages.disk → pages.held ≡ old.store.pages.held) → OnOk result (IsTold old.store.pages.disk → AreHeaps pages) → LooksOn old (with_pages pages old) result
+looks_on {result = result} old ready counted_old counted did mapped held heaps = record {
+  ready = on_ok_weaker result (λ are. ready_looked old did.step.passes mapped counted_old counted ready (λ told. are (did.step.passes.leaves.told.1 told))) heaps;
+  shows = λ told state shows. shows_looked old did.step.passes mapped counted_old counted ready.store.settled_now told (held told) shows;
+  catalog = refl;
+  log = refl;
+  opened = refl;
+  sound = did.sound;
+  moments = keeps_looked did.step.passes ready.store.settled_now;
+  goes = goes_called did.step.passes ready.store.settled_now did.failed did.memory;
 }

@@ -1,5 +1,5 @@
 -- What a look at tuples finds, and what it passes on.
-use Rattle.std.specs.Prelude.{◌≡◌, ℕ, Bool, true, false, List, Option, Some, None, IfSome, Result, Err, OnOk, Contains}
+use Rattle.std.specs.Prelude.{◌≡◌, ℕ, Bool, true, false, List, [], Option, Some, None, option_map, IfSome, Result, Err, OnOk, Contains}
 use Rattle.rss_base.specs.DiskRule.{IsTold}
 use Rattle.rss_base.specs.Listings.{relation_at}
 use Rattle.rss_base.specs.TupleTypes.{kinds}
@@ -12,10 +12,12 @@ use Rattle.rss_base.specs.declared.relation.RelationEntry.{RelationEntry}
 use Rattle.rss_base.specs.declared.tid.Tid.{Tid}
 use Rattle.rss_base.specs.declared.value.Value.{Value}
 use Rattle.rss_tuple.specs.Placing.{IsNameable, IsChosen}
+use Rattle.rss_model.specs.Images.{entry}
 use Rattle.rss_model.specs.Items.{Values}
 use Rattle.rss_model.specs.Kept.{Kept}
 use Rattle.rss_model.specs.Locks.{held}
 use Rattle.rss_model.specs.Machine.{State, now}
+use Rattle.rss_model.specs.Scans.{RelationPath, next_along}
 use Rattle.rss_model.specs.Steps.{IsFree}
 use Rattle.rss_model.specs.Tables.{content, segment_of}
 use Rattle.rss_access.specs.Bodies.{IsBodyOf}
@@ -57,6 +59,14 @@ pub record FindsTuple (view : SessionView) (segment number : ℕ) (tid : Tid) (t
   pub none : there ≡ false → (state : State) (relation : RelationEntry) → Kept state → Shows view state
       → IsRelationIn view segment number relation
       → content (now state).contents (Tuple relation.name tid) ≡ None
+
+-- what a relation's list has next behind this identifier, or first, in each state; and its body
+abbrev pub FindsNextTuple : SessionView → ℕ → ℕ → Option Tid → Option Tid → List ℕ → Type 0
+FindsNextTuple view segment number after found body =
+    (state : State) (relation : RelationEntry) → Kept state → Shows view state
+    → IsRelationIn view segment number relation
+    → (next_along (now state) (RelationPath relation.name) (option_map (entry []) after) ≡ option_map (entry []) found)
+    × IfSome found (λ tid. HasTuple state number relation tid body)
 
 -- no other transaction holds a tuple of the relation's segment with this identifier
 abbrev pub IsAloneAt : State → ℕ → Name → Tid → Type 0

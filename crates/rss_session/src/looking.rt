@@ -5,11 +5,11 @@ ghost use Rattle.rss_base.specs.Listings.{relation_at};
 ghost use Rattle.rss_base.specs.Runs.{run_pages};
 ghost use Rattle.rss_base.specs.declared.relation.RelationEntry.{RelationEntry as AnyEntry};
 ghost use Rattle.rss_session.specs.Sessions.{IsReady};
-ghost use Rattle.rss_session.specs.Looks.{LooksOn, KeepsPages, FindsTuple, FindsPlace, HasNoPlace};
-ghost use Rattle.rss_tuple.specs.Calls.{MayPut};
+ghost use Rattle.rss_session.specs.Looks.{LooksOn, KeepsPages, FindsTuple, FindsNextTuple, FindsPlace, HasNoPlace};
+ghost use Rattle.rss_tuple.specs.Calls.{IsSegment, MayPut};
 
 use crate::Session;
-use rss_access::find;
+use rss_access::{find, find_next};
 use rss_base::{Body, PageFault, Tid};
 use rss_buffer::Saving;
 use rss_tuple::Tuples;
@@ -37,6 +37,24 @@ impl<S: Saving> Session<S> {
             → FindsTuple (view S.view self.old) segment number tid there into.new) }
     {
         find(&mut self.store.tuples, segment, number, tid, into)
+    }
+
+    /// The least identifier behind this one, or the least of all, that a tuple of the relation of this
+    /// number has, which stands in this segment. The tuple's body is put into `into`.
+    pub fn next_tuple(
+        &mut self,
+        segment: u8,
+        number: u8,
+        after: Option<Tid>,
+        into: &mut Body,
+    ) -> Result<Option<Tid>, PageFault>
+        requires ready { IsReady (view S.view self.old) }
+        requires segment { IsSegment segment }
+        ensures looks { LooksOn (view S.view self.old) (view S.view self.new) result }
+        ensures finds { IfOk result (λ found. IsTold (view S.view self.old).store.pages.disk
+            → FindsNextTuple (view S.view self.old) segment number after found into.new) }
+    {
+        find_next(&mut self.store.tuples, segment, number, after, into)
     }
 
     /// The identifier that a new tuple gets in a segment, with a body of this length: one that no tuple

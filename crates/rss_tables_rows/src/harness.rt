@@ -13,6 +13,13 @@ use std::test::Fail;
 /// How many transactions there are at most, numbered from 0.
 pub(crate) const TRANSACTIONS: u32 = 32;
 
+/// A name that begins with this byte, and has no other.
+pub(crate) fn name(first: u8) -> Name {
+    let mut bytes = [0u8; 16];
+    bytes[0] = first;
+    Name { bytes }
+}
+
 /// A lock table of these transactions.
 #[derive(Drop)]
 pub(crate) struct LockTable {

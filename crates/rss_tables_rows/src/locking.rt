@@ -1,5 +1,5 @@
 // Locks beside a table of modes and a plain list.
-use crate::harness::{LockTable, TRANSACTIONS};
+use crate::harness::{LockTable, TRANSACTIONS, name};
 use rss_asserts::{Draws, assert_same, assert_same_slices};
 use rss_base::{Item, Mode, Name, Need, Text, Tid, Tuple, Value};
 use std::alloc::Global;
@@ -22,12 +22,6 @@ fn disagree(held: usize, needed: usize) -> bool {
         Some(row) => row.get(needed) == Some(&true),
         None => false,
     }
-}
-
-fn name(letter: u8) -> Name {
-    let mut bytes = [0u8; 16];
-    bytes[0] = letter;
-    Name { bytes }
 }
 
 /// How many kinds of items there are. A chain may have a parent or none.

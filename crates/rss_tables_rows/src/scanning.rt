@@ -1,12 +1,12 @@
 // Scans beside a plain list.
-use crate::harness::{close, gave};
+use crate::harness::{close, gave, name};
 use rss_asserts::{Draws, assert_same};
 use rss_base::{Key, Tid};
 use rss_scan::{Path, SCANS_MOST, Scans};
 use std::alloc::Global;
 use std::test::Fail;
 
-/// A scan of the plain list: whose it is, its relation, and the page of what it gave last.
+/// A scan of the plain list: whose it is, the first byte of its relation's name, and the page of what it gave last.
 type Plain = Option<(u32, u8, Option<u32>)>;
 
 /// What a table has under a number, for a transaction.
@@ -14,9 +14,9 @@ fn found(scans: &Scans, transaction: u32, number: u32) -> Plain {
     let cursor = scans.get(transaction, number)?;
     match (&cursor.path, &cursor.last) {
         (Path::Relation(relation), Some((_, tid))) => {
-            Some((transaction, *relation, Some(tid.page)))
+            Some((transaction, relation.bytes[0], Some(tid.page)))
         }
-        (Path::Relation(relation), None) => Some((transaction, *relation, None)),
+        (Path::Relation(relation), None) => Some((transaction, relation.bytes[0], None)),
         _ => None,
     }
 }
@@ -78,7 +78,7 @@ fn least_numbers(rt: HostRuntime) -> Result<(), Fail> {
             _ => {
                 let relation = draws.below(256) as u8;
                 let free = plain.iter().position(|place| place.is_none());
-                let added = scans.add(transaction, Path::Relation(relation));
+                let added = scans.add(transaction, Path::Relation(name(relation)));
                 assert_same(&added.map(|number| number as usize), &free, (step, "added"))?;
                 if let Some(place) = free {
                     put(&mut plain, place, Some((transaction, relation, None)))?;

@@ -1,11 +1,11 @@
 // Tuples by their segments and identifiers.
-ghost use Rattle.std.specs.Prelude.{◌≡◌, ◌+◌, ◌<◌, length, None, IsTrue, IfOk, OnOk};
+ghost use Rattle.std.specs.Prelude.{◌≡◌, ◌+◌, ◌<◌, length, None, IsTrue, IfOk, IfSome, OnOk};
 ghost use Rattle.rss_base.specs.DiskRule.{IsTold};
 ghost use Rattle.rss_base.specs.Steps.{no_page};
 ghost use Rattle.rss_tuple.specs.Directory.{bodies_of, with_body};
 ghost use Rattle.rss_tuple.specs.Heaps.{AreHeaps};
 ghost use Rattle.rss_tuple.specs.TupleSteps.{TuplesView, TuplesCall, no_tuple, only_tuple, pages_for};
-ghost use Rattle.rss_tuple.specs.Finding.{IsFetched, FindsNext};
+ghost use Rattle.rss_tuple.specs.Finding.{IsFetched, IsAfter, FindsNext};
 ghost use Rattle.rss_tuple.specs.Placing.{TakesOnly};
 ghost use Rattle.rss_tuple.specs.Calls.{IsSegment, IsBodyLength, MayPut, MayInsert, HasTuple, MayReplace};
 ghost use Rattle.rss_tuple.specs.Calls.{IsNoLonger, IsNowhere, damaged_home};
@@ -77,12 +77,13 @@ pub trait Tuples {
             (view self.old) (view self.new) result };
 
     /// The least identifier behind this one at which a tuple stands, or the least of all where there
-    /// is none to stand behind.
+    /// is none to stand behind. On any device the answer stands behind it.
     fn next_live(&mut self, segment: u8, after: Option<Tid>) -> Result<Option<Tid>, PageFault>
         requires segment { IsSegment segment }
         requires heaps { IsTold (view self.old).pages.disk → AreHeaps (view self.old).pages }
         ensures next { IfOk result (λ found. IsTold (view self.old).pages.disk
             → FindsNext (view self.old) segment after found) }
+        ensures behind { IfOk result (λ found. IfSome found (IsAfter after)) }
         ensures did { TuplesCall no_page no_tuple (view self.old).pages.slots
             (view self.old) (view self.new) result };
 

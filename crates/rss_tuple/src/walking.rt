@@ -1,5 +1,5 @@
 // The next tuple of a segment.
-ghost use Rattle.std.specs.Prelude.{◌≡◌, ◌↔◌, ◌<◌, ◌≤◌, true, MatchOption, IfOk, IfErr, OnOk, OnErr};
+ghost use Rattle.std.specs.Prelude.{◌≡◌, ◌↔◌, ◌<◌, ◌≤◌, true, MatchOption, IfOk, IfSome, IfErr, OnOk, OnErr};
 ghost use Rattle.rss_base.specs.DiskRule.{IsTold};
 ghost use Rattle.rss_base.specs.Sizes.{page_entries};
 ghost use Rattle.rss_base.specs.Steps.{PagesCall, no_page};
@@ -71,6 +71,8 @@ fn taken_in<P: Pages>(pages: &mut P, key: PageKey, from: u8) -> Result<Option<u8
     ensures found { IfOk result (λ found. IsTold (P.view pages.old).disk
         → MatchOption found (NoneTaken (contents (P.view pages.old).held key) from)
         (IsFirstTaken (contents (P.view pages.old).held key) from)) }
+    ensures within { IfOk result (λ found.
+        IfSome found (λ slot. (from ≤ slot) × (slot < page_entries))) }
     ensures did { PagesCall no_page 1 1 (P.view pages.old) (P.view pages.new) result }
 {
     pages.load(key)?;
@@ -101,6 +103,7 @@ pub(crate) fn next_live<P: Pages>(
     requires heaps { IsTold (P.view pages.old).disk → AreHeaps (P.view pages.old) }
     ensures next { IfOk result (λ found. IsTold (P.view pages.old).disk
         → FindsNext (tuples_in (P.view pages.old)) segment after found) }
+    ensures behind { IfOk result (λ found. IfSome found (IsAfter after)) }
     ensures did { PagesCall no_page (P.view pages.old).slots (P.view pages.old).slots
         (P.view pages.old) (P.view pages.new) result }
 {

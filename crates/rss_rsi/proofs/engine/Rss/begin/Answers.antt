@@ -9,7 +9,7 @@ pub returns-in_err-test_begin-clause-did : goal.returns-in_err-test_begin-clause
 returns-in_err-test_begin-clause-did g c =
     let asked_so = c.in_ok-ask.ensures in
     let tests = c.in_err-test_begin.ensures.tests in
-    asked g.S.Pages.view asked_so.session asked_so.locks
+    asked g.S.Pages.view asked_so.session asked_so.locks asked_so.scans
     (refused_test _ c.from_residual-in_err-test_begin.ensures.1 asked_so.was_up asked_so.up (omega (arith, asked_so.counted)) tests.1 (λ tables. refl) tests.0)
 
 pub returns-clause-did : goal.returns-clause-did
@@ -17,13 +17,13 @@ returns-clause-did g c =
     let asked_so = c.in_ok-ask.ensures in
     let begun = c.in-Ok.ensures in
     let same = ap (store_view g.S.Pages.view) begun.store in
-    asked g.S.Pages.view asked_so.session asked_so.locks
+    asked g.S.Pages.view asked_so.session asked_so.locks asked_so.scans
     (comes_to asked_so.was_up (goes_nowhere _ same (omega (arith, asked_so.counted)))
-    (answers asked_so.up (omega arith) (λ told state is_in. tt) (begin_leads _ _ c.args.transaction same refl c.in_ok-test_begin.ensures.tests begun.begins)))
+    (answers asked_so.up (omega arith) (λ told state is_in. tt) (begin_leads _ _ c.args.transaction same (record { locks = refl; scans = refl }) c.in_ok-test_begin.ensures.tests begun.begins)))
 
 pub returns-in_default-clause-did : goal.returns-in_default-clause-did
 returns-in_default-clause-did g c =
     let asked_so = c.in_ok-ask.ensures in
     let lacks = c.in_default.ensures in
-    asked g.S.Pages.view asked_so.session asked_so.locks
-    (lacks_memory _ refl asked_so.was_up asked_so.up (ap (store_view g.S.Pages.view) lacks.store) (omega (arith, asked_so.counted)) lacks.same refl)
+    asked g.S.Pages.view asked_so.session asked_so.locks asked_so.scans
+    (lacks_memory _ refl asked_so.was_up asked_so.up (ap (store_view g.S.Pages.view) lacks.store) (omega (arith, asked_so.counted)) lacks.same (record { locks = refl; scans = refl }))

@@ -2,6 +2,7 @@ use Rattle.std.proofs.Common.{refl, arith}
 use Rattle.rss_model.proofs.Endings.{comes_to}
 use Rattle.rss_model.proofs.Tests.{refuses_at}
 use Rattle.rss_lock.specs.Table.{told}
+use Rattle.rss_scan.specs.Scans.{told as scans_told}
 use Rattle.rss_session.specs.Parts.{view as session_view}
 use Rattle.rss_rsi.proofs.TransactionSteps.{checkpoint_stops, checkpoint_leads}
 use Rattle.rss_rsi.proofs.Ways.{asked, answers, goes, refused_test, failed_within}
@@ -11,22 +12,22 @@ pub returns-in_err-test_checkpoint-clause-did : goal.returns-in_err-test_checkpo
 returns-in_err-test_checkpoint-clause-did g c =
     let asked_so = c.in_ok-ask.ensures in
     let tests = c.in_err-test_checkpoint.ensures.tests in
-    asked g.S.Pages.view asked_so.session asked_so.locks
+    asked g.S.Pages.view asked_so.session asked_so.locks asked_so.scans
     (refused_test _ c.from_residual-in_err-test_checkpoint.ensures.1 asked_so.was_up asked_so.up (omega (arith, asked_so.counted)) tests.1 (λ tables. refl) (λ told state shows. refuses_at _ (tests.0 told state shows)))
 
 pub returns-in_err-checkpoint-clause-did : goal.returns-in_err-checkpoint-clause-did
 returns-in_err-checkpoint-clause-did g c =
     let asked_so = c.in_ok-ask.ensures in
     let failed = c.in_err-checkpoint.ensures in
-    asked g.S.Pages.view asked_so.session asked_so.locks
+    asked g.S.Pages.view asked_so.session asked_so.locks asked_so.scans
     (failed_within _ c.from_residual-in_err-checkpoint.ensures.1 asked_so.was_up (λ up. absurd (cc (up))) failed.goes (goes _ failed.goes (omega (arith, asked_so.counted)) tt tt)
     (λ place is told state is_in. failed.sound place is told)
-    (checkpoint_stops _ (record { session = session_view g.S.Pages.view c.checkpoint.new.self; locks = told c.ask.new.self.locks }) c.in_ok-test_checkpoint.ensures.tests failed.moments))
+    (checkpoint_stops _ (record { session = session_view g.S.Pages.view c.checkpoint.new.self; locks = told c.ask.new.self.locks; scans = scans_told c.ask.new.self.scans }) c.in_ok-test_checkpoint.ensures.tests failed.moments))
 
 pub returns-clause-did : goal.returns-clause-did
 returns-clause-did g c =
     let asked_so = c.in_ok-ask.ensures in
     let saved = c.in_ok-checkpoint.ensures in
-    asked g.S.Pages.view asked_so.session asked_so.locks
+    asked g.S.Pages.view asked_so.session asked_so.locks asked_so.scans
     (comes_to asked_so.was_up (goes _ saved.goes (omega (arith, asked_so.counted)) tt tt)
-    (answers refl (omega arith) (λ told state is_in. tt) (checkpoint_leads _ _ c.in_ok-test_checkpoint.ensures.tests saved.moments refl saved.shows)))
+    (answers refl (omega arith) (λ told state is_in. tt) (checkpoint_leads _ _ c.in_ok-test_checkpoint.ensures.tests saved.moments (record { locks = refl; scans = refl }) saved.shows)))

@@ -5,6 +5,7 @@ use Rattle.rss_base.specs.declared.call.Call.TheVariants.{Delete}
 use Rattle.rss_catalog.specs.Catalogs.{CatalogView}
 use Rattle.rss_access.proofs.Numbered.{entry_at}
 use Rattle.rss_lock.specs.Table.{told}
+use Rattle.rss_scan.specs.Scans.{told as scans_told}
 use Rattle.rss_lock.specs.declared.locks.Locks.{Locks as LockTable}
 use Rattle.rss_model.specs.Locks.{first_bar, granted}
 use Rattle.rss_trans.specs.Transactions.{OpenView, is_open}
@@ -21,7 +22,7 @@ pub returns-in_err-number-clause-did : goal.returns-in_err-number-clause-did
 returns-in_err-number-clause-did g c =
     let counted = c.in_ok-ask.ensures in
     let tests = c.in_err-number.ensures.tests in
-    asked g.S.Pages.view counted.session counted.locks
+    asked g.S.Pages.view counted.session counted.locks counted.scans
     (refused_early c.from_residual-in_err-number.result c.from_residual-in_err-number.ensures.1 counted.was_up counted.up (omega (arith, counted.counted)) tests.1
     (λ told state shows. (
       delete_unfit state c.args.transaction c.args.relation.now c.args.tid (tests.0 told state shows),
@@ -31,7 +32,7 @@ returns-in_err-number-clause-did g c =
 pub returns-in_err-found-clause-did : goal.returns-in_err-found-clause-did
 returns-in_err-found-clause-did g c =
     let counted = c.in_ok-ask.ensures in
-    ends_so g.S.Pages.view c.from_residual-in_err-found.result c.from_residual-in_err-found.ensures.1 counted.session counted.locks (counted.up ∙ sym counted.was_up)
+    ends_so g.S.Pages.view c.from_residual-in_err-found.result c.from_residual-in_err-found.ensures.1 counted.session counted.locks counted.scans (counted.up ∙ sym counted.was_up)
     (c.in_err-found.ensures.fails c.args.self.now.calls (Delete c.args.transaction c.args.relation.now c.args.tid) (omega (arith, counted.counted))
     (delete_looks _ c.args.transaction c.args.relation.now c.args.tid c.in_ok-number.ensures.tests))
 
@@ -47,17 +48,17 @@ pub change-requires-clause-asked : goal.change-requires-clause-asked
 change-requires-clause-asked g c =
     let counted = c.in_ok-ask.ensures in
     let found = c.in_ok-found.ensures in
-    asked_looked (parts_of c.ask.new.self) (parts_of c.find.new.self) counted.ready found.finds.looked.looks found.finds.claimed.same (found.calls ∙ counted.counted)
+    asked_looked (parts_of c.ask.new.self) (parts_of c.find.new.self) counted.ready found.finds.looked.looks (record { locks = found.finds.claimed.same; scans = ap scans_told found.scans }) (found.calls ∙ counted.counted)
 
 pub returns-in_err-change-clause-did : goal.returns-in_err-change-clause-did
 returns-in_err-change-clause-did g c =
     let counted = c.in_ok-ask.ensures in
     let admitted = c.in_ok-number.ensures in
     let found = c.in_ok-found.ensures in
-    asked g.S.Pages.view counted.session counted.locks
+    asked g.S.Pages.view counted.session counted.locks counted.scans
     (ends_short found.finds.looked.looks
     (delete_ends _ c.args.transaction c.args.relation.now c.args.tid admitted.tests found.finds admitted.known c.relation-entry.ensures.is (omega arith) (omega arith) c.as_slice.ensures c.values_of.ensures.spelled c.values_of.ensures.short)
-    c.from_residual-in_err-change.result c.from_residual-in_err-change.ensures.1 (ap (λ (t : LockTable). (told t).locks) c.change.ensures.locks ∙ found.finds.claimed.same)
+    c.from_residual-in_err-change.result c.from_residual-in_err-change.ensures.1 (record { locks = ap (λ (t : LockTable). (told t).locks) c.change.ensures.locks ∙ found.finds.claimed.same; scans = ap scans_told (c.change.ensures.scans ∙ found.scans) })
     counted.was_up (omega (arith, counted.counted, found.calls, c.change.ensures.calls)) c.in_err-change.ensures.did)
 
 pub hold-requires-clause-open : goal.hold-requires-clause-open
@@ -78,8 +79,9 @@ returns-clause-did g c =
     let admitted = c.in_ok-number.ensures in
     let found = c.in_ok-found.ensures in
     let held = c.hold.ensures in
-    asked g.S.Pages.view counted.session counted.locks
+    asked g.S.Pages.view counted.session counted.locks counted.scans
     (ends_made found.finds.looked.looks
     (delete_ends _ c.args.transaction c.args.relation.now c.args.tid admitted.tests found.finds admitted.known c.relation-entry.ensures.is (omega arith) (omega arith) c.as_slice.ensures c.values_of.ensures.spelled c.values_of.ensures.short)
     (held.locks ∙ ap (λ (t : LockTable). granted c.args.transaction c.in_ok-found.found.needs.items (told t).locks) c.change.ensures.locks ∙ ap (granted c.args.transaction c.in_ok-found.found.needs.items) found.finds.claimed.same)
+    (ap scans_told (held.scans ∙ c.change.ensures.scans ∙ found.scans))
     counted.was_up (omega (arith, counted.counted, found.calls, c.change.ensures.calls, held.calls)) (λ told state is_in. tt) (still_made g.S.Pages.view held.session held.down c.in_ok-change.ensures.did))

@@ -8,6 +8,7 @@ use Rattle.rss_base.specs.declared.need.Need.{Need}
 use Rattle.rss_base.specs.declared.refusal.Kind.TheVariants.{Relation as RelationKind}
 use Rattle.rss_catalog.specs.Catalogs.{CatalogView}
 use Rattle.rss_lock.specs.Table.{told}
+use Rattle.rss_scan.specs.Scans.{told as scans_told}
 use Rattle.rss_lock.specs.declared.locks.Locks.{Locks as LockTable}
 use Rattle.rss_model.specs.Locks.{first_bar, granted}
 use Rattle.rss_model.specs.Needs.{tuple_changed}
@@ -31,7 +32,7 @@ pub returns-in_err-number-clause-did : goal.returns-in_err-number-clause-did
 returns-in_err-number-clause-did g c =
     let counted = c.in_ok-ask.ensures in
     let tests = c.in_err-number.ensures.tests in
-    asked g.S.Pages.view counted.session counted.locks
+    asked g.S.Pages.view counted.session counted.locks counted.scans
     (refused_early c.from_residual-in_err-number.result c.from_residual-in_err-number.ensures.1 counted.was_up counted.up (omega (arith, counted.counted)) tests.1
     (λ told state shows. (
       insert_unfit state c.args.transaction c.args.relation.now c.args.tuple.now (tests.0 told state shows),
@@ -47,7 +48,7 @@ returns-in_err-test_limit-clause-did g c =
     let admitted = c.in_ok-number.ensures in
     let has = entry_at c.ask.new.self.session.store.catalog.listing c.args.relation.now c.in_ok-number.number admitted.known in
     let tests = c.in_err-test_limit.ensures has.entry has.at in
-    asked g.S.Pages.view counted.session counted.locks
+    asked g.S.Pages.view counted.session counted.locks counted.scans
     (refused_early c.from_residual-in_err-test_limit.result c.from_residual-in_err-test_limit.ensures.1 counted.was_up counted.up (omega (arith, counted.counted)) tests.1
     (λ told state shows.
     let so = ap (if_used_up state) (sym has.named) ∙ tests.0 told state shows in (
@@ -62,7 +63,7 @@ pub returns-in_err-tid-clause-did : goal.returns-in_err-tid-clause-did
 returns-in_err-tid-clause-did g c =
     let counted = c.in_ok-ask.ensures in
     let admitted = is_admitted c.in_ok-number.ensures.known c.relation.ensures.is c.in_ok-number.ensures.tests (c.in_ok-test_limit.ensures c.relation.result.now c.relation.ensures.is) in
-    ends_so g.S.Pages.view c.from_residual-in_err-tid.result c.from_residual-in_err-tid.ensures.1 counted.session counted.locks (counted.up ∙ sym counted.was_up)
+    ends_so g.S.Pages.view c.from_residual-in_err-tid.result c.from_residual-in_err-tid.ensures.1 counted.session counted.locks counted.scans (counted.up ∙ sym counted.was_up)
     (c.in_err-tid.ensures.fails c.args.self.now.calls (Insert c.args.transaction c.args.relation.now c.args.tuple.now) (omega (arith, counted.counted)) (insert_places (parts_of c.ask.new.self) admitted))
 
 pub tuple_needs-requires : goal.tuple_needs-requires
@@ -72,9 +73,9 @@ pub returns-in_default-clause-did : goal.returns-in_default-clause-did
 returns-in_default-clause-did g c =
     let counted = c.in_ok-ask.ensures in
     let placed = c.in_ok-tid.ensures in
-    let admitted = is_admitted c.in_ok-number.ensures.known c.relation.ensures.is c.in_ok-number.ensures.tests (c.in_ok-test_limit.ensures c.relation.result.now c.relation.ensures.is) in
-    asked g.S.Pages.view counted.session counted.locks
-    (insert_no_needs (parts_of c.ask.new.self) admitted placed.looks (parts_of c.place_for.new.self) refl (ap (λ (t : LockTable). (told t).locks) c.in_ok-tid.ensures.locks) counted.was_up placed.up (omega (arith, counted.counted, placed.calls)))
+    let admitted = is_admitted {session = session_of c.ask.new.self} c.in_ok-number.ensures.known c.relation.ensures.is c.in_ok-number.ensures.tests (c.in_ok-test_limit.ensures c.relation.result.now c.relation.ensures.is) in
+    asked g.S.Pages.view counted.session counted.locks counted.scans
+    (insert_no_needs (parts_of c.ask.new.self) admitted placed.looks (parts_of c.place_for.new.self) refl (record { locks = ap (λ (t : LockTable). (told t).locks) c.in_ok-tid.ensures.locks; scans = ap scans_told c.in_ok-tid.ensures.scans }) counted.was_up placed.up (omega (arith, counted.counted, placed.calls)))
 
 pub returns-in_err-needs-clause-did : goal.returns-in_err-needs-clause-did
 returns-in_err-needs-clause-did g c =
@@ -83,10 +84,10 @@ returns-in_err-needs-clause-did g c =
     let claim = c.claim.ensures in
     let admitted = is_admitted c.in_ok-number.ensures.known c.relation.ensures.is c.in_ok-number.ensures.tests (c.in_ok-test_limit.ensures c.relation.result.now c.relation.ensures.is) in
     let same = ap (λ (t : LockTable). (told t).locks) c.in_ok-tid.ensures.locks in
-    asked g.S.Pages.view counted.session counted.locks
+    asked g.S.Pages.view counted.session counted.locks counted.scans
     (passed_call c.from_residual-in_err-needs.result c.from_residual-in_err-needs.ensures.1
-    (insert_lost (parts_of c.ask.new.self) admitted placed.looks placed.place (lists_before (parts_of c.ask.new.self) (parts_of c.place_for.new.self) (λ (tables : Tables). tuple_changed tables c.args.relation.now c.in_ok-tid.tid) c.in_ok-tid.ensures.looks same c.in-Ok.ensures.lists)
-    (parts_of c.claim.new.self) (Vec Need Global) (told c.place_for.new.self.locks) (told c.claim.new.self.locks) (ap (session_view g.S.Pages.view) claim.session) (claim.locks ∙ same) same counted.was_up (claim.down ∙ placed.up) (omega (arith, counted.counted, placed.calls, claim.calls)) c.in_err-needs.ensures.ends))
+    (insert_lost (parts_of c.ask.new.self) admitted placed.looks placed.place (lists_before (parts_of c.ask.new.self) (parts_of c.place_for.new.self) (λ (tables : Tables). tuple_changed tables c.args.relation.now c.in_ok-tid.tid) c.in_ok-tid.ensures.looks (record { locks = same; scans = ap scans_told c.in_ok-tid.ensures.scans }) c.in-Ok.ensures.lists)
+    (parts_of c.claim.new.self) (Vec Need Global) (told c.place_for.new.self.locks) (told c.claim.new.self.locks) (ap (session_view g.S.Pages.view) claim.session) (record { locks = claim.locks ∙ same; scans = ap scans_told (claim.scans ∙ placed.scans) }) same counted.was_up (claim.down ∙ placed.up) (omega (arith, counted.counted, placed.calls, claim.calls)) c.in_err-needs.ensures.ends))
 
 pub change-requires-clause-open : goal.change-requires-clause-open
 change-requires-clause-open g c =
@@ -100,7 +101,7 @@ change-requires-clause-asked g c =
     let claim = c.claim.ensures in
     asked_looked (parts_of c.ask.new.self) (parts_of c.claim.new.self) counted.ready
     (subst (λ (session : Session _). LooksOn (session_of c.ask.new.self) (session_view g.S.Pages.view session) (Ok c.in_ok-tid.tid)) (sym claim.session) placed.looks)
-    (claim.locks ∙ ap (λ (t : LockTable). (told t).locks) placed.locks) (claim.calls ∙ placed.calls ∙ counted.counted)
+    (record { locks = claim.locks ∙ ap (λ (t : LockTable). (told t).locks) placed.locks; scans = ap scans_told (claim.scans ∙ placed.scans) }) (claim.calls ∙ placed.calls ∙ counted.counted)
 
 pub change-requires-clause-bounded : goal.change-requires-clause-bounded
 change-requires-clause-bounded g c = (c.in_ok-tid.ensures.place.named.low, c.values_of-values.ensures.short)
@@ -113,11 +114,11 @@ returns-in_err-change-clause-did g c =
     let admitted = is_admitted c.in_ok-number.ensures.known c.relation.ensures.is c.in_ok-number.ensures.tests (c.in_ok-test_limit.ensures c.relation.result.now c.relation.ensures.is) in
     let same = ap (λ (t : LockTable). (told t).locks) c.in_ok-tid.ensures.locks in
     let spelled = subst (λ (fields : List FieldDef). Spells (kinds fields) c.values_of-values.result c.args.tuple.now) c.as_slice-fields.ensures c.values_of-values.ensures.spelled in
-    asked g.S.Pages.view counted.session counted.locks
+    asked g.S.Pages.view counted.session counted.locks counted.scans
     (ends_short (subst (λ (session : Session _). LooksOn (session_of c.ask.new.self) (session_view g.S.Pages.view session) (Ok c.in_ok-tid.tid)) (sym claim.session) placed.looks)
-    (insert_ends (parts_of c.ask.new.self) admitted placed.looks placed.place (lists_before (parts_of c.ask.new.self) (parts_of c.place_for.new.self) (λ (tables : Tables). tuple_changed tables c.args.relation.now c.in_ok-tid.tid) c.in_ok-tid.ensures.looks same c.in-Ok.ensures.lists)
+    (insert_ends (parts_of c.ask.new.self) admitted placed.looks placed.place (lists_before (parts_of c.ask.new.self) (parts_of c.place_for.new.self) (λ (tables : Tables). tuple_changed tables c.args.relation.now c.in_ok-tid.tid) c.in_ok-tid.ensures.looks (record { locks = same; scans = ap scans_told c.in_ok-tid.ensures.scans }) c.in-Ok.ensures.lists)
     (claimed_from (told c.ask.new.self.locks) (told c.place_for.new.self.locks) (told c.claim.new.self.locks) same claim.ends) spelled c.values_of-values.ensures.short (omega arith) (omega arith) (omega arith))
-    c.from_residual-in_err-change.result c.from_residual-in_err-change.ensures.1 (ap (λ (t : LockTable). (told t).locks) c.change.ensures.locks ∙ claim.locks ∙ same)
+    c.from_residual-in_err-change.result c.from_residual-in_err-change.ensures.1 (record { locks = ap (λ (t : LockTable). (told t).locks) c.change.ensures.locks ∙ claim.locks ∙ same; scans = ap scans_told (c.change.ensures.scans ∙ claim.scans ∙ placed.scans) })
     counted.was_up (omega (arith, counted.counted, placed.calls, claim.calls, c.change.ensures.calls)) c.in_err-change.ensures.did)
 
 pub hold-requires-clause-open : goal.hold-requires-clause-open
@@ -146,15 +147,16 @@ returns-clause-did g c =
     let admitted = is_admitted c.in_ok-number.ensures.known c.relation.ensures.is c.in_ok-number.ensures.tests (c.in_ok-test_limit.ensures c.relation.result.now c.relation.ensures.is) in
     let same = ap (λ (t : LockTable). (told t).locks) c.in_ok-tid.ensures.locks in
     let spelled = subst (λ (fields : List FieldDef). Spells (kinds fields) c.values_of-values.result c.args.tuple.now) c.as_slice-fields.ensures c.values_of-values.ensures.spelled in
-    let lists = lists_before (parts_of c.ask.new.self) (parts_of c.place_for.new.self) (λ (tables : Tables). tuple_changed tables c.args.relation.now c.in_ok-tid.tid) c.in_ok-tid.ensures.looks same c.in-Ok.ensures.lists in
+    let lists = lists_before (parts_of c.ask.new.self) (parts_of c.place_for.new.self) (λ (tables : Tables). tuple_changed tables c.args.relation.now c.in_ok-tid.tid) c.in_ok-tid.ensures.looks (record { locks = same; scans = ap scans_told c.in_ok-tid.ensures.scans }) c.in-Ok.ensures.lists in
     let claimed = claimed_from (told c.ask.new.self.locks) (told c.place_for.new.self.locks) (told c.claim.new.self.locks) same claim.ends in
-    asked g.S.Pages.view counted.session counted.locks
+    asked g.S.Pages.view counted.session counted.locks counted.scans
     (ends_made (subst (λ (session : Session _). LooksOn (session_of c.ask.new.self) (session_view g.S.Pages.view session) (Ok c.in_ok-tid.tid)) (sym claim.session) placed.looks)
     (insert_ends (parts_of c.ask.new.self) admitted placed.looks placed.place lists claimed spelled c.values_of-values.ensures.short (omega arith) (omega arith) (omega arith))
     (held.locks
     ∙ ap (λ (t : LockTable). granted c.args.transaction c.in_ok-needs.needs.items (told t).locks) c.change.ensures.locks
     ∙ ap (λ (needs : Vec Need Global). granted c.args.transaction needs.items (told c.claim.new.self.locks).locks) claim.same
     ∙ ap (granted c.args.transaction c.in-Ok.needs.items) claimed.same)
+    (ap scans_told (held.scans ∙ c.change.ensures.scans ∙ claim.scans ∙ placed.scans))
     counted.was_up (omega (arith, counted.counted, placed.calls, claim.calls, c.change.ensures.calls, held.calls))
     (gets_place (parts_of c.ask.new.self) admitted placed.looks placed.place lists claimed (omega (arith, ap length c.as_slice.ensures.bytes, ap length spelled.same)))
     (still_made g.S.Pages.view held.session held.down c.in_ok-change.ensures.did))

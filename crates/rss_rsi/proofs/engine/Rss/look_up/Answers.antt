@@ -1,9 +1,10 @@
-use Rattle.std.proofs.Common.{List, ◌≤◌, arith, sym, ap, subst, refl}
+use Rattle.std.proofs.Common.{List, ◌≤◌, arith, sym, subst, refl}
 use Rattle.std.specs.Prelude.{Ok, Some, None}
 use Rattle.rss_base.specs.TupleTypes.{kinds, width, most_width}
 use Rattle.rss_base.specs.declared.field.FieldDef.{FieldDef}
 use Rattle.rss_model.proofs.Lengths.{tuple_line}
-use Rattle.rss_rsi.proofs.Looks.{look_fails, lacks_looked, reads_none, none_past, none_there, some_there, none_spelled, looks_as, looks_nothing, body_as, body_fits}
+use Rattle.rss_rsi.specs.Parts.{parts_of}
+use Rattle.rss_rsi.proofs.Looks.{look_fails, lacks_looked, reads_none, none_past, none_there, some_there, none_spelled, looks_as, looks_nothing, ready_looked, body_as, body_fits}
 use Rattle.rss_rsi.proofs.engine.Rss.look_up.Goals as goal
 
 pub returns-then-from-ge-PAGE_ENTRIES-clause-looks : goal.returns-then-from-ge-PAGE_ENTRIES-clause-looks
@@ -30,7 +31,7 @@ returns-then-not-there-clause-finds g c = λ relation known.
 pub returns-in_default-clause-fails : goal.returns-in_default-clause-fails
 returns-in_default-clause-fails g c = λ calls call counted may.
     let look = c.in_ok-there.ensures in
-    lacks_looked {result = Ok c.in_ok-there.there} look.looks (record { asks_high = look.costs.0; writes_high = look.costs.1 }) may counted c.requires.up refl refl
+    lacks_looked {result = Ok c.in_ok-there.there} look.looks (record { asks_high = look.costs.0; writes_high = look.costs.1 }) may counted c.requires.up refl (record { locks = refl; scans = refl })
 
 pub returns-in_err-tuple-clause-fails : goal.returns-in_err-tuple-clause-fails
 returns-in_err-tuple-clause-fails g c =
@@ -59,3 +60,6 @@ returns-clause-finds g c = λ relation known.
       short = tuple_line (kinds c.as_slice.result.now) c.in_ok-tuple.tuple spelled.spelled.fit (subst (λ (f : List FieldDef). width (kinds f) ≤ most_width) (sym c.as_slice.ensures) c.relation-entry.ensures.safe.narrow) spelled.spelled.storable;
       slot = omega (arith, c.if-from-ge-PAGE_ENTRIES.false, c.from.ensures);
     }
+
+pub invariant_of-self-2 : goal.invariant_of-self-2
+invariant_of-self-2 g c = record { ready = λ up. ready_looked (parts_of c.args.self.now) _ {found = c.in_ok-there.there} (c.args.self.now.ready c.requires.up) c.in_ok-there.ensures.looks (record { locks = refl; scans = refl }) }

@@ -3,6 +3,7 @@ use Rattle.rss_base.specs.declared.call.Call.TheVariants.{MakeRelation}
 use Rattle.rss_base.specs.declared.field.FieldDef.{FieldDef}
 use Rattle.rss_session.specs.Definitions.{Defining}
 use Rattle.rss_lock.specs.Table.{told}
+use Rattle.rss_scan.specs.Scans.{told as scans_told}
 use Rattle.rss_rsi.proofs.Defining.{asks_for, is_defining, as_up}
 use Rattle.rss_rsi.proofs.engine.Rss.make_relation.Goals as goal
 
@@ -10,9 +11,9 @@ pub redefine-requires-clause-some : goal.redefine-requires-clause-some
 redefine-requires-clause-some g c =
     let store = c.args.self.now in
     let ask = c.in_ok-ask.ensures in
-    let to = asks_for g.S.Pages.view (MakeRelation c.args.name.now c.args.segment.now c.args.fields.now) store.session (told store.locks) store.calls in
+    let to = asks_for g.S.Pages.view (MakeRelation c.args.name.now c.args.segment.now c.args.fields.now) store.session (told store.locks) (scans_told store.scans) store.calls in
     let made = subst (λ (fields : List FieldDef). Defining g.S.Pages.view c.ask.new.self.session c.make_relation-made.new.self (MakeRelation c.args.name.now c.args.segment.now fields) c.make_relation-made.result) c.in-Ok.ensures c.make_relation-made.ensures in
-    (to, is_defining g.S.Pages.view to ask.session made (c.requires.name, c.requires.fields) (λ tables. refl) (store.ready ask.was_up) (ap told ask.locks) c.requires.few ask.counted)
+    (to, is_defining g.S.Pages.view to ask.session made (c.requires.name, c.requires.fields) (λ tables. refl) (store.ready ask.was_up) (ap told ask.locks) (ap scans_told ask.scans) c.requires.few ask.counted)
 
 pub returns-clause-did : goal.returns-clause-did
 unfolding redefine-requires-clause-some

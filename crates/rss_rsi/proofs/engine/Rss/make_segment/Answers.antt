@@ -1,6 +1,7 @@
 use Rattle.std.proofs.Common.{refl, ap}
 use Rattle.rss_base.specs.declared.call.Call.TheVariants.{MakeSegment}
 use Rattle.rss_lock.specs.Table.{told}
+use Rattle.rss_scan.specs.Scans.{told as scans_told}
 use Rattle.rss_rsi.proofs.Defining.{asks_for, is_defining, as_up}
 use Rattle.rss_rsi.proofs.engine.Rss.make_segment.Goals as goal
 
@@ -8,8 +9,8 @@ pub redefine-requires-clause-some : goal.redefine-requires-clause-some
 redefine-requires-clause-some g c =
     let store = c.args.self.now in
     let ask = c.in_ok-ask.ensures in
-    let to = asks_for g.S.Pages.view (MakeSegment c.args.name.now) store.session (told store.locks) store.calls in
-    (to, is_defining g.S.Pages.view to ask.session c.make_segment-made.ensures c.requires.name (λ tables. refl) (store.ready ask.was_up) (ap told ask.locks) c.requires.few ask.counted)
+    let to = asks_for g.S.Pages.view (MakeSegment c.args.name.now) store.session (told store.locks) (scans_told store.scans) store.calls in
+    (to, is_defining g.S.Pages.view to ask.session c.make_segment-made.ensures c.requires.name (λ tables. refl) (store.ready ask.was_up) (ap told ask.locks) (ap scans_told ask.scans) c.requires.few ask.counted)
 
 pub returns-clause-did : goal.returns-clause-did
 unfolding redefine-requires-clause-some

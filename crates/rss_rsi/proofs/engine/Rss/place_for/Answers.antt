@@ -1,10 +1,7 @@
-use Rattle.std.proofs.Common.{◌≡◌, ◌↔◌, ◌+◌, ◌≤◌, ◌∙◌, true, false, Bool, List, [], None, Some, refl, sym, ap, subst, arith, Contains}
+use Rattle.std.proofs.Common.{◌∙◌, [], sym, ap, subst, arith}
 use Rattle.std.proofs.lemmas.Bool.{false_from_ne_true}
-use Rattle.rss_base.specs.declared.name.Name.{Name}
-use Rattle.rss_base.specs.declared.tid.Tid.{Tid}
-use Rattle.rss_catalog.specs.Catalogs.{IsNamedIn}
-use Rattle.rss_lock.specs.Locks.{is_barred}
 use Rattle.rss_lock.specs.Table.{told}
+use Rattle.rss_scan.specs.Scans.{told as scans_told}
 use Rattle.rss_session.specs.Looks.{FindsPlace}
 use Rattle.rss_rsi.specs.Parts.{parts_of, session_of}
 use Rattle.rss_rsi.proofs.Looks.{looks_as}
@@ -20,7 +17,7 @@ returns-in_err-first-clause-fails g c =
 pub returns-in_default-2-clause-fails : goal.returns-in_default-2-clause-fails
 returns-in_default-2-clause-fails g c = λ calls call counted places.
     let choose = c.in_ok-first.ensures in
-    none_placed (parts_of c.args.self.now) (parts_of c.choose.new.self) choose.looks (omega (arith, counted, choose.calls)) (ap (λ l. (told l).locks) choose.locks) places c.requires.up choose.up c.relation.ensures.is c.none_free.result c.none_free.ensures
+    none_placed (parts_of c.args.self.now) (parts_of c.choose.new.self) choose.looks (omega (arith, counted, choose.calls)) (record { locks = ap (λ l. (told l).locks) choose.locks; scans = ap scans_told choose.scans }) places c.requires.up choose.up c.relation.ensures.is c.none_free.result c.none_free.ensures
     (none_is_free (parts_of c.args.self.now) c.args.transaction c.args.number c.relation.ensures.is c.in-Ok.names.items c.in-Ok.ensures [] (λ other has. absurd (omega (arith, has.1))) (choose.none c.in_default-2.is))
 
 pub returns-then-not-is_held-clause-place : goal.returns-then-not-is_held-clause-place
@@ -34,7 +31,7 @@ returns-then-not-is_held-clause-place g c =
 pub returns-in_default-barred-clause-fails : goal.returns-in_default-barred-clause-fails
 returns-in_default-barred-clause-fails g c = λ calls call counted places.
     let choose = c.in_ok-first.ensures in
-    lacks_placing (parts_of c.args.self.now) (parts_of c.choose.new.self) choose.looks (omega (arith, counted, choose.calls)) (ap (λ l. (told l).locks) choose.locks) places c.requires.up choose.up
+    lacks_placing (parts_of c.args.self.now) (parts_of c.choose.new.self) choose.looks (omega (arith, counted, choose.calls)) (record { locks = ap (λ l. (told l).locks) choose.locks; scans = ap scans_told choose.scans }) places c.requires.up choose.up
 
 pub returns-in_err-tid-clause-fails : goal.returns-in_err-tid-clause-fails
 returns-in_err-tid-clause-fails g c =
@@ -62,6 +59,6 @@ returns-clause-fails g c = λ calls call counted places.
     let second = c.in_ok-tid.ensures in
     let old = parts_of c.args.self.now in
     let exact = exact_same c.args.transaction (ap (λ l. (told l).locks) first.locks) c.deref-2.ensures.value c.deref-3.ensures.value c.in-Ok-barred.ensures.exact in
-    none_placed old (parts_of c.choose-2.new.self) (looks_then first.looks second.looks) (omega (arith, counted, first.calls, second.calls)) (ap (λ l. (told l).locks) (second.locks ∙ first.locks)) places c.requires.up second.up c.relation.ensures.is c.none_free-in-None.result c.none_free-in-None.ensures
+    none_placed old (parts_of c.choose-2.new.self) (looks_then first.looks second.looks) (omega (arith, counted, first.calls, second.calls)) (record { locks = ap (λ l. (told l).locks) (second.locks ∙ first.locks); scans = ap scans_told (second.scans ∙ first.scans) }) places c.requires.up second.up c.relation.ensures.is c.none_free-in-None.result c.none_free-in-None.ensures
     (none_is_free old c.args.transaction c.args.number c.relation.ensures.is c.in-Ok.names.items c.in-Ok.ensures c.deref-3.result.now (λ other has. (exact other).0 has)
     (no_place_before (c.args.self.now.ready c.requires.up).session first.looks first.pages c.relation.result.now.segment c.deref-3.result.now (second.none c.in-None.is)))

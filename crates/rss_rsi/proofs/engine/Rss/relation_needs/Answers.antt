@@ -1,4 +1,4 @@
-use Rattle.std.proofs.Common.{◌≡◌, ◌∙◌, ap, List, Vec, Global}
+use Rattle.std.proofs.Common.{◌≡◌, ◌∙◌, ap, Vec, Global}
 use Rattle.std.specs.Prelude.{None}
 use Rattle.rss_base.specs.declared.need.Need.{Need}
 use Rattle.rss_model.specs.Needs.{segment_needs}

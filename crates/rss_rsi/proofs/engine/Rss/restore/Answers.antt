@@ -2,6 +2,7 @@ use Rattle.std.proofs.Common.{◌∙◌, refl, arith}
 use Rattle.rss_model.proofs.Endings.{comes_to}
 use Rattle.rss_model.proofs.Tests.{goes_on, refuses_at}
 use Rattle.rss_lock.specs.Table.{told}
+use Rattle.rss_scan.specs.Scans.{told as scans_told}
 use Rattle.rss_session.specs.Parts.{view as session_view}
 use Rattle.rss_rsi.proofs.TransactionSteps.{restore_stops, restore_leads}
 use Rattle.rss_rsi.proofs.Ways.{asked, answers, goes, refused_test, failed_within}
@@ -11,14 +12,14 @@ pub returns-in_err-test_open-clause-did : goal.returns-in_err-test_open-clause-d
 returns-in_err-test_open-clause-did g c =
     let asked_so = c.in_ok-ask.ensures in
     let tests = c.in_err-test_open.ensures.tests in
-    asked g.S.Pages.view asked_so.session asked_so.locks
+    asked g.S.Pages.view asked_so.session asked_so.locks asked_so.scans
     (refused_test _ c.from_residual-in_err-test_open.ensures.1 asked_so.was_up asked_so.up (omega (arith, asked_so.counted)) tests.1 (λ tables. refl) (λ told state shows. refuses_at _ (tests.0 told state shows)))
 
 pub returns-in_err-test_save-clause-did : goal.returns-in_err-test_save-clause-did
 returns-in_err-test_save-clause-did g c =
     let asked_so = c.in_ok-ask.ensures in
     let tests = c.in_err-test_save.ensures.tests in
-    asked g.S.Pages.view asked_so.session asked_so.locks
+    asked g.S.Pages.view asked_so.session asked_so.locks asked_so.scans
     (refused_test _ c.from_residual-in_err-test_save.ensures.1 asked_so.was_up asked_so.up (omega (arith, asked_so.counted)) tests.1 (λ tables. refl)
     (λ told state shows. goes_on _ (c.in_ok-test_open.ensures.tests told state shows) ∙ refuses_at _ (tests.0 told state shows)))
 
@@ -26,15 +27,15 @@ pub returns-in_err-restore-clause-did : goal.returns-in_err-restore-clause-did
 returns-in_err-restore-clause-did g c =
     let asked_so = c.in_ok-ask.ensures in
     let failed = c.in_err-restore.ensures in
-    asked g.S.Pages.view asked_so.session asked_so.locks
+    asked g.S.Pages.view asked_so.session asked_so.locks asked_so.scans
     (failed_within _ c.from_residual-in_err-restore.ensures.1 asked_so.was_up (λ up. absurd (cc (up))) failed.goes (goes _ failed.goes (omega (arith, asked_so.counted)) tt tt)
     (λ place is told state is_in. failed.sound place is told state is_in.kept is_in.shows)
-    (restore_stops _ (record { session = session_view g.S.Pages.view c.restore.new.self; locks = told c.ask.new.self.locks }) c.args.transaction c.args.save c.in_ok-test_open.ensures.open c.in_ok-test_open.ensures.tests c.in_ok-test_save.ensures.tests failed.moments))
+    (restore_stops _ (record { session = session_view g.S.Pages.view c.restore.new.self; locks = told c.ask.new.self.locks; scans = scans_told c.ask.new.self.scans }) c.args.transaction c.args.save c.in_ok-test_open.ensures.open c.in_ok-test_open.ensures.tests c.in_ok-test_save.ensures.tests failed.moments))
 
 pub returns-clause-did : goal.returns-clause-did
 returns-clause-did g c =
     let asked_so = c.in_ok-ask.ensures in
     let back = c.in_ok-restore.ensures in
-    asked g.S.Pages.view asked_so.session asked_so.locks
+    asked g.S.Pages.view asked_so.session asked_so.locks asked_so.scans
     (comes_to asked_so.was_up (goes _ back.goes (omega (arith, asked_so.counted)) tt tt)
-    (answers refl (omega arith) (λ told state is_in. tt) (restore_leads _ _ c.args.transaction c.args.save c.in_ok-test_open.ensures.open c.in_ok-test_open.ensures.tests c.in_ok-test_save.ensures.tests back.moments refl back.shows)))
+    (answers refl (omega arith) (λ told state is_in. tt) (restore_leads _ _ c.args.transaction c.args.save c.in_ok-test_open.ensures.open c.in_ok-test_open.ensures.tests c.in_ok-test_save.ensures.tests back.moments (record { locks = refl; scans = refl }) back.shows)))

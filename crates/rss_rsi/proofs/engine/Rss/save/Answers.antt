@@ -10,7 +10,7 @@ pub returns-in_err-test_open-clause-did : goal.returns-in_err-test_open-clause-d
 returns-in_err-test_open-clause-did g c =
     let asked_so = c.in_ok-ask.ensures in
     let tests = c.in_err-test_open.ensures.tests in
-    asked g.S.Pages.view asked_so.session asked_so.locks
+    asked g.S.Pages.view asked_so.session asked_so.locks asked_so.scans
     (refused_test _ c.from_residual-in_err-test_open.ensures.1 asked_so.was_up asked_so.up (omega (arith, asked_so.counted)) tests.1 (λ tables. refl) (λ told state shows. refuses_at _ (tests.0 told state shows)))
 
 pub returns-clause-did : goal.returns-clause-did
@@ -18,13 +18,13 @@ returns-clause-did g c =
     let asked_so = c.in_ok-ask.ensures in
     let saved = c.in-Ok.ensures in
     let same = ap (store_view g.S.Pages.view) saved.store in
-    asked g.S.Pages.view asked_so.session asked_so.locks
+    asked g.S.Pages.view asked_so.session asked_so.locks asked_so.scans
     (comes_to asked_so.was_up (goes_nowhere _ same (omega (arith, asked_so.counted)))
-    (answers asked_so.up (number_line c.in-Ok.save (omega arith)) (λ told state is_in. tt) (save_leads _ _ c.args.transaction c.in-Ok.save c.in_ok-test_open.ensures.open same refl c.in_ok-test_open.ensures.tests saved.saves)))
+    (answers asked_so.up (number_line c.in-Ok.save (omega arith)) (λ told state is_in. tt) (save_leads _ _ c.args.transaction c.in-Ok.save c.in_ok-test_open.ensures.open same (record { locks = refl; scans = refl }) c.in_ok-test_open.ensures.tests saved.saves)))
 
 pub returns-in_default-clause-did : goal.returns-in_default-clause-did
 returns-in_default-clause-did g c =
     let asked_so = c.in_ok-ask.ensures in
     let lacks = c.in_default.ensures in
-    asked g.S.Pages.view asked_so.session asked_so.locks
-    (lacks_memory _ refl asked_so.was_up asked_so.up (ap (store_view g.S.Pages.view) lacks.store) (omega (arith, asked_so.counted)) lacks.same refl)
+    asked g.S.Pages.view asked_so.session asked_so.locks asked_so.scans
+    (lacks_memory _ refl asked_so.was_up asked_so.up (ap (store_view g.S.Pages.view) lacks.store) (omega (arith, asked_so.counted)) lacks.same (record { locks = refl; scans = refl }))

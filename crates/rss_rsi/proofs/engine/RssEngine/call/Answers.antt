@@ -55,6 +55,24 @@ returns-in-Delete-clause-done g c = rw c.in-Delete.is c.delete.ensures.did
 pub returns-in-Delete-clause-untouched : goal.returns-in-Delete-clause-untouched
 returns-in-Delete-clause-untouched g c = λ is. c.delete.ensures.untouched (λ up. never_down c.delete.ensures.did up is)
 
+pub returns-in-OpenRelation-clause-done : goal.returns-in-OpenRelation-clause-done
+returns-in-OpenRelation-clause-done g c = rw c.in-OpenRelation.is c.open_relation.ensures.did
+
+pub returns-in-OpenRelation-clause-untouched : goal.returns-in-OpenRelation-clause-untouched
+returns-in-OpenRelation-clause-untouched g c = λ is. c.open_relation.ensures.untouched (λ up. never_down c.open_relation.ensures.did up is)
+
+pub returns-in-Next-clause-done : goal.returns-in-Next-clause-done
+returns-in-Next-clause-done g c = rw c.in-Next.is c.next.ensures.did
+
+pub returns-in-Next-clause-untouched : goal.returns-in-Next-clause-untouched
+returns-in-Next-clause-untouched g c = λ is. c.next.ensures.untouched (λ up. never_down c.next.ensures.did up is)
+
+pub returns-in-CloseScan-clause-done : goal.returns-in-CloseScan-clause-done
+returns-in-CloseScan-clause-done g c = rw c.in-CloseScan.is c.close_scan.ensures.did
+
+pub returns-in-CloseScan-clause-untouched : goal.returns-in-CloseScan-clause-untouched
+returns-in-CloseScan-clause-untouched g c = λ is. c.close_scan.ensures.untouched (λ up. never_down c.close_scan.ensures.did up is)
+
 pub returns-in-Lock-clause-done : goal.returns-in-Lock-clause-done
 returns-in-Lock-clause-done g c = rw c.in-Lock.is c.lock.ensures.did
 

@@ -1,0 +1,37 @@
+use Rattle.std.proofs.Common.{List, ◌≤◌, arith, sym, subst, refl}
+use Rattle.std.specs.Prelude.{Ok}
+use Rattle.rss_base.specs.TupleTypes.{kinds, width, most_width}
+use Rattle.rss_base.specs.declared.field.FieldDef.{FieldDef}
+use Rattle.rss_model.proofs.Lengths.{row_line}
+use Rattle.rss_rsi.specs.Parts.{parts_of}
+use Rattle.rss_rsi.proofs.Looks.{body_as, costly_damaged, costly_fails, lacks_costly, passed_on}
+use Rattle.rss_rsi.proofs.Scans.{none_unread, row_behind}
+use Rattle.rss_rsi.proofs.engine.Rss.find_behind.Goals as goal
+
+pub returns-in_err-found-clause-fails : goal.returns-in_err-found-clause-fails
+returns-in_err-found-clause-fails g c =
+    passed_on c.from_residual.result c.from_residual.ensures.1
+    (costly_fails _ _ (record { fault = _; is = refl; looks = c.in_err-found.ensures.looks }) _ _ refl c.requires.up (λ up. absurd (cc (up))))
+
+pub returns-in_default-tuple_of-clause-fails : goal.returns-in_default-tuple_of-clause-fails
+returns-in_default-tuple_of-clause-fails g c = λ calls call counted may.
+    lacks_costly _ _ {result = Ok c.in_ok-found.found} c.in_ok-found.ensures.looks counted may c.requires.up refl (record { locks = refl; scans = refl })
+
+pub returns-in_err-tuple-clause-fails : goal.returns-in_err-tuple-clause-fails
+returns-in_err-tuple-clause-fails g c =
+    let look = c.in_ok-found.ensures in
+    let damaged = c.in_err-tuple.ensures.damaged in
+    passed_on c.from_residual-in_err-tuple.result c.from_residual-in_err-tuple.ensures.1
+    (costly_damaged _ _ {found = c.in_ok-found.found} look.looks _ _ refl c.requires.up (λ up. absurd (cc (up))) _ damaged.0 (λ told state is_in.
+    none_unread (parts_of c.args.self.now) c.args.number c.relation.ensures.is c.args.after c.in_ok-found.found _ look.finds c.in-Some.tid c.in-Some.is c.in-Ok.read
+    (λ values body. c.in-Ok.ensures.exact values (body_as look.looks.catalog c.relation.ensures.is c.relation-entry.ensures.is c.as_slice.ensures c.as_slice-2.ensures.bytes values body))
+    told state is_in damaged.1))
+
+pub returns-clause-finds : goal.returns-clause-finds
+returns-clause-finds g c =
+    let look = c.in_ok-found.ensures in
+    let spelled = rw c.in_ok-tuple.ensures.some at c.in-Ok.ensures.some in
+    row_behind (parts_of c.args.self.now) c.args.number c.relation.ensures.is c.args.after c.in_ok-found.found _ look.finds c.in-Some.tid c.in-Some.is c.in-Ok.read
+    (λ values body. c.in-Ok.ensures.exact values (body_as look.looks.catalog c.relation.ensures.is c.relation-entry.ensures.is c.as_slice.ensures c.as_slice-2.ensures.bytes values body))
+    c.in_ok-tuple.tuple c.in_ok-tuple.ensures.some
+    (row_line c.in-Some.tid (kinds c.as_slice.result.now) c.in_ok-tuple.tuple (omega arith) (omega arith) spelled.spelled.fit (subst (λ (f : List FieldDef). width (kinds f) ≤ most_width) (sym c.as_slice.ensures) c.relation-entry.ensures.safe.narrow) spelled.spelled.storable)

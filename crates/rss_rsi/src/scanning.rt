@@ -1,0 +1,148 @@
+// Scans.
+ghost use Rattle.std.specs.Prelude.{◌≡◌, ◌<◌, true, false, Some, None, Err, is_some, option_map, IfOk, IfErr, OnOk};
+ghost use Rattle.std.specs.Prelude.{IsErrOf};
+ghost use Rattle.rss_base.specs.Listings.{relation_at};
+ghost use Rattle.rss_base.specs.declared.answer.CallError.TheVariants.{Refused, NoMemory};
+ghost use Rattle.rss_base.specs.declared.call.Call.TheVariants.{OpenRelation, Next, CloseScan};
+ghost use Rattle.rss_base.specs.declared.refusal.Kind.TheVariants.{Scan as ScanKind};
+ghost use Rattle.rss_base.specs.declared.refusal.Refusal.TheVariants.{NoSuch};
+ghost use Rattle.rss_model.specs.Calls.{calls_most};
+ghost use Rattle.rss_rsi.specs.Looking.{EndsEach};
+ghost use Rattle.rss_rsi.specs.Placing.{MayCost};
+ghost use Rattle.rss_rsi.specs.Scanning.{FindsBehind, LooksBehind};
+
+use crate::Rss;
+use crate::looking::test_read;
+use rss_access::tuple_of;
+use rss_base::{Body, CallError, Key, Kind, LimitKind, Mode, Name, Refusal, Reply, Tid, Tuple};
+use rss_buffer::Saving;
+use rss_scan::{Cursor, Path};
+
+impl<S: Saving> Rss<S> {
+    ghost use Rattle.rss_model.specs.Calls.{IsCallOf};
+    ghost use Rattle.rss_rsi.specs.Parts.{parts_of, session_of, view};
+
+    /// Opens a scan of a relation, and answers its number: the least that isn't in use. The relation is
+    /// locked for reading until the transaction ends, and the scan ends with it.
+    pub fn open_relation(&mut self, transaction: u32, relation: &Name) -> Result<Reply, CallError>
+        requires few { (view self.old).calls < calls_most }
+        ensures did { IsCallOf (view self.old) (view self.new)
+            (OpenRelation transaction relation.now) result }
+        ensures untouched { ((view self.old).is_up → ⊥) → self.new ≡ self.old }
+    {
+        self.ask()?;
+        let number = self.session.admit(transaction, relation)?;
+        if self.scans.is_full() {
+            return Err(CallError::Refused(Refusal::Limit(LimitKind::Scans)));
+        }
+        let Ok(needs) = self.relation_needs(number, relation, Mode::IS, Mode::S) else {
+            return Err(CallError::NoMemory);
+        };
+        let needs = self.claim(transaction, needs)?;
+        self.hold(transaction, needs);
+        let Some(scan) = self.scans.add(transaction, Path::Relation(*relation)) else {
+            unreachable!()
+        };
+        Ok(Reply::Number(scan))
+    }
+
+    /// Gives the next tuple of a scan with its identifier, or tells that there is none: of a relation,
+    /// the tuple with the least identifier above the one that was given last, in the tables as they are
+    /// now. It locks nothing more.
+    pub fn next(&mut self, transaction: u32, scan: u32) -> Result<Reply, CallError>
+        requires few { (view self.old).calls < calls_most }
+        ensures did { IsCallOf (view self.old) (view self.new) (Next transaction scan) result }
+        ensures untouched { ((view self.old).is_up → ⊥) → self.new ≡ self.old }
+    {
+        self.ask()?;
+        self.session.test_open(transaction)?;
+        let Some(cursor) = self.scans.get(transaction, scan) else {
+            return Err(no_scan());
+        };
+        let Path::Relation(relation) = &cursor.path else {
+            unreachable!()
+        };
+        let after = last_of(cursor);
+        // A relation that isn't there has no tuples.
+        let Some(number) = self.session.store.catalog.find(Kind::Relation, relation) else {
+            return Ok(Reply::End);
+        };
+        match self.find_behind(number, after)? {
+            Some((tid, tuple)) => {
+                self.scans.gave(scan, &Key::new(), tid);
+                Ok(Reply::Row(tid, tuple))
+            }
+            None => Ok(Reply::End),
+        }
+    }
+
+    /// Closes a scan.
+    pub fn close_scan(&mut self, transaction: u32, scan: u32) -> Result<Reply, CallError>
+        requires few { (view self.old).calls < calls_most }
+        ensures did { IsCallOf (view self.old) (view self.new) (CloseScan transaction scan) result }
+        ensures untouched { ((view self.old).is_up → ⊥) → self.new ≡ self.old }
+        ensures memory { IsErrOf result NoMemory → ⊥ }
+    {
+        self.ask()?;
+        self.session.test_open(transaction)?;
+        if self.scans.get(transaction, scan).is_none() {
+            return Err(no_scan());
+        }
+        self.scans.close(scan);
+        Ok(Reply::Ok)
+    }
+
+    /// The tuple of the relation of this number with the least identifier behind this one, or the least
+    /// of all, if there is one. Nothing is changed.
+    fn find_behind(
+        &mut self,
+        number: u8,
+        after: Option<Tid>,
+    ) -> Result<Option<(Tid, Tuple)>, CallError>
+        requires up { self.old.down ≡ false }
+        requires known { is_some (relation_at (session_of self.old).store.catalog.listing number)
+            ≡ true }
+        ensures up { OnOk result (self.new.down ≡ false) }
+        ensures calls { OnOk result (self.new.calls ≡ self.old.calls) }
+        ensures locks { self.new.locks ≡ self.old.locks }
+        ensures scans { self.new.scans ≡ self.old.scans }
+        ensures looks { IfOk result (LooksBehind (session_of self.old) (session_of self.new)) }
+        ensures finds { IfOk result (FindsBehind (parts_of self.old) number after) }
+        ensures fails { IfErr result (λ why. EndsEach MayCost (view self.old) (view self.new)
+            (Err why)) }
+    {
+        let segment = self.session.store.catalog.relation(number).segment;
+        let mut body = Body::new();
+        self.down = true;
+        let found = self.session.next_tuple(segment, number, after, &mut body)?;
+        self.down = false;
+        let Some(tid) = found else {
+            return Ok(None);
+        };
+        let entry = self.session.store.catalog.relation(number);
+        let Ok(read) = tuple_of(self.alloc, number, entry.fields.as_slice(), body.as_slice()) else {
+            return Err(CallError::NoMemory);
+        };
+        self.down = true;
+        let tuple = test_read(read, segment, tid)?;
+        self.down = false;
+        Ok(Some((tid, tuple)))
+    }
+}
+
+/// The identifier that a scan gave last, if it gave any.
+fn last_of(cursor: &Cursor) -> Option<Tid>
+    ensures { result ≡ option_map (λ given. given.1) cursor.now.last }
+{
+    match &cursor.last {
+        Some((_, tid)) => Some(*tid),
+        None => None,
+    }
+}
+
+/// The transaction has no such scan.
+fn no_scan() -> CallError
+    ensures { result ≡ Refused (NoSuch ScanKind) }
+{
+    CallError::Refused(Refusal::NoSuch(Kind::Scan))
+}
