@@ -17,3 +17,4 @@ pub mod Giving
 pub mod Nested
 pub mod Rowed
 pub mod Numbered
+pub mod Others

@@ -372,7 +372,7 @@ rising width (e ∷ es) whole rises = (
   rising width es whole.1 rises.1,
 )
 
-items_rise : (row : Row) → Pairwise IsBefore (marks row) → Pairwise (λ a b. IsLess a.pair b.pair) (items row)
+pub items_rise : (row : Row) → Pairwise IsBefore (marks row) → Pairwise (λ a b. IsLess a.pair b.pair) (items row)
 items_rise [] all = tt
 items_rise (p ∷ row) all =
     let rest = pairwise_right IsBefore (map item p.items) (marks row) all.1 in

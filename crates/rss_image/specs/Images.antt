@@ -84,6 +84,19 @@ found_bytes (Some found) = Some (pair_bytes found.0 found.1)
 abbrev pub Finds : Bool → List ℕ → Image → PagesView → Option (List ℕ × Tid) → Type 0
 Finds beyond pair image view found = (pairs : List (List ℕ)) → ImageTree image view.held pairs → found_bytes found ≡ first_from beyond pair pairs
 
+-- the pair is that of this tuple, if there is one
+abbrev pub IsPairOf : List ℕ → Option Tid → List ℕ → Type 0
+IsPairOf key None pair = ⊥
+IsPairOf key (Some tuple) pair = pair ≡ pair_bytes key tuple
+
+-- A tuple has the key, and it isn't this one; or each pair of the key is this one's.
+abbrev pub IsAnother : List ℕ → Option Tid → List (List ℕ) → Option Tid → Type 0
+IsAnother key own pairs (Some tid) = Contains pairs (pair_bytes key tid) × (own ≡ Some tid → ⊥)
+IsAnother key own pairs None = (tid : Tid) → Contains pairs (pair_bytes key tid) → IsPairOf key own (pair_bytes key tid)
+
+abbrev pub FindsAnother : List ℕ → Option Tid → Image → PagesView → Option Tid → Type 0
+FindsAnother key own image view found = (pairs : List (List ℕ)) → ImageTree image view.held pairs → IsAnother key own pairs found
+
 -- An image of so many pairs has at most so many pages.
 abbrev pub page_bound : ℕ → ℕ → ℕ
 page_bound width count = count / (least width - 1) + 2

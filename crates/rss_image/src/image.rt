@@ -1,12 +1,12 @@
 // Images.
-ghost use Rattle.std.specs.Prelude.{◌≡◌, ◌+◌, ◌-◌, ◌*◌, ◌<◌, ◌≤◌, [], OnOk, OnErr, IfOk, IfSome, true, false, length};
+ghost use Rattle.std.specs.Prelude.{◌≡◌, ◌+◌, ◌-◌, ◌*◌, ◌<◌, ◌≤◌, [], OnOk, OnErr, IfOk, IfSome, Some, None, true, false, length};
 ghost use Rattle.rss_base.specs.DiskRule.{IsTold};
 ghost use Rattle.rss_base.specs.Steps.{PagesCall, no_page, pages_in};
 ghost use Rattle.rss_base.specs.declared.key.Space.TheVariants.{Image as ImageSpace};
 ghost use Rattle.rss_base.specs.Sizes.{page_entries};
 ghost use Rattle.rss_node.specs.Nodes.{AreNodes};
 ghost use Rattle.rss_node.specs.Pairs.{pair_bytes};
-ghost use Rattle.rss_image.specs.Images.{nodes_of, Becomes, MayPut, HasSpare, PutsPair, MayCut, CutsPair, HasImage, Finds, DestroysImage, least_tid, found_bytes};
+ghost use Rattle.rss_image.specs.Images.{nodes_of, Becomes, MayPut, HasSpare, PutsPair, MayCut, CutsPair, HasImage, Finds, FindsAnother, DestroysImage, least_tid, found_bytes};
 ghost use Rattle.rss_image.specs.Emptied.{inner_most};
 
 use crate::emptying::give_under;
@@ -17,6 +17,8 @@ use crate::seeking::seek_in;
 use crate::store::{damaged, take_page, write_node};
 use rss_base::{Key, PageFault, Pages, Tid};
 use rss_node::{Node, Nodes, Pair, pair_of, split_pair};
+use rss_value::compare_keys;
+use std::cmp::Ordering;
 
 /// How many levels an image has at most.
 const MOST_LEVELS: u8 = 5;
@@ -36,6 +38,7 @@ fn keyed(found: Option<Pair>, width: u8) -> Option<(Key, Tid)>
     requires narrow { width ≤ 120 }
     requires long { IfSome found (λ pair. length pair ≡ width + 6) }
     ensures found { found_bytes result ≡ found }
+    ensures wide { IfSome result (λ pair. length pair.0 ≡ width) }
 {
     match found {
         Some(pair) => Some(split_pair(&pair, width)),
@@ -179,6 +182,7 @@ impl Image {
             → HasImage self.now (P.view pages.old).held }
         ensures found { IfOk result (λ found. IsTold (P.view pages.old).disk
             → Finds false (pair_bytes key.now least_tid) self.now (P.view pages.old) found) }
+        ensures wide { IfOk result (λ found. IfSome found (λ pair. length pair.0 ≡ self.now.width)) }
         ensures did { PagesCall no_page (self.now.levels + 1) (self.now.levels + 1)
             (P.view pages.old) (P.view pages.new) result }
     {
@@ -206,6 +210,7 @@ impl Image {
             → HasImage self.now (P.view pages.old).held }
         ensures found { IfOk result (λ found. IsTold (P.view pages.old).disk
             → Finds true (pair_bytes key.now tid) self.now (P.view pages.old) found) }
+        ensures wide { IfOk result (λ found. IfSome found (λ pair. length pair.0 ≡ self.now.width)) }
         ensures did { PagesCall no_page (self.now.levels + 1) (self.now.levels + 1)
             (P.view pages.old) (P.view pages.new) result }
     {
@@ -217,5 +222,56 @@ impl Image {
         let pair = pair_of(key, tid);
         let found = seek_in(pages, of, self.levels - 1, self.root, &pair, true)?;
         Ok(keyed(found, self.width))
+    }
+
+    /// A tuple with this key that isn't this one, if there is one.
+    pub fn another<P: Pages>(
+        &self,
+        pages: &mut P,
+        key: &Key,
+        own: Option<Tid>,
+    ) -> Result<Option<Tid>, PageFault>
+        requires of { AreNodes (nodes_of self.now) }
+        requires low { 1 ≤ self.now.levels }
+        requires long { length key.now ≡ self.now.width }
+        requires there { IsTold (P.view pages.old).disk
+            → HasImage self.now (P.view pages.old).held }
+        ensures found { IfOk result (λ found. IsTold (P.view pages.old).disk
+            → FindsAnother key.now own self.now (P.view pages.old) found) }
+        ensures did { PagesCall no_page (2 * (self.now.levels + 1)) (2 * (self.now.levels + 1))
+            (P.view pages.old) (P.view pages.new) result }
+    {
+        let Some(first) = having(self.seek(pages, key)?, key) else {
+            return Ok(None);
+        };
+        if !is_own(own, first) {
+            return Ok(Some(first));
+        }
+        Ok(having(self.after(pages, key, first)?, key))
+    }
+}
+
+/// The identifier of a pair that was found, where it has this key.
+fn having(found: Option<(Key, Tid)>, key: &Key) -> Option<Tid>
+    ensures some { IfSome result (λ tid. found ≡ Some (key.now, tid)) }
+    ensures none { result ≡ None → (tid : Tid) → found ≡ Some (key.now, tid) → ⊥ }
+{
+    match found {
+        Some((has, tid)) => match compare_keys(&has, key) {
+            Ordering::Equal => Some(tid),
+            _ => None,
+        },
+        None => None,
+    }
+}
+
+/// Whether a tuple is this one.
+fn is_own(own: Option<Tid>, tid: Tid) -> bool
+    ensures yes { result ≡ true → own ≡ Some tid }
+    ensures no { result ≡ false → own ≡ Some tid → ⊥ }
+{
+    match own {
+        Some(tuple) => tuple.page == tid.page && tuple.slot == tid.slot,
+        None => false,
     }
 }
