@@ -224,7 +224,8 @@ impl Image {
         Ok(keyed(found, self.width))
     }
 
-    /// A tuple with this key that isn't this one, if there is one.
+    /// A tuple that has this key, if there is one, other than `own`, the tuple that the key is for; a
+    /// new one is none yet. In a unique image it is the one that stands in the way.
     pub fn another<P: Pages>(
         &self,
         pages: &mut P,
