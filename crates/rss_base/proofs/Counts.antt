@@ -1,6 +1,6 @@
 -- How many pages are mapped.
-use Rattle.std.proofs.Common.{◌≡◌, ◌≢◌, inl, inr, ℕ, zero, suc, ◌+◌, ◌<◌, ◌≤◌, Bool, true, false, cond, List, [], ◌∷◌, Option, Some, None, refl, sym, ◌∙◌, ap, arith}
-use Rattle.std.specs.Prelude.{sum_by, is_some}
+use Rattle.std.proofs.Common.{◌≡◌, ◌≢◌, ◌⊎◌, inl, inr, ℕ, zero, suc, ◌+◌, ◌<◌, ◌≤◌, Bool, true, false, cond, List, [], ◌∷◌, Option, Some, None, refl, sym, ◌∙◌, ap, arith}
+use Rattle.std.specs.Prelude.{sum_by, count_by, is_some}
 use Rattle.std.specs.List.{range_with_len}
 use Rattle.std.proofs.lemmas.Bool.{cases_eq, cond-true, cond-false, false_from_ne_true}
 use Rattle.std.proofs.lemmas.List.Sums.{sum_by-cons}
@@ -110,6 +110,20 @@ none_pages : (slots : ℕ) → mapped_pages slots (λ key. false) ≡ 0
 unfolding mapped_pages
 none_pages slots = omega (arith, none_of Home slots, none_of Overflow slots, none_of Image slots, none_in System 10 0)
 
+-- the first owner is none of the later ones, and is found before them
+first_free : (n : ℕ) (owner : PageKey) (owners : List (Option PageKey)) → AreDistinct (Some owner ∷ owners) → is_some (slot_from (n + 1) owners owner) ≡ false
+first_free n owner owners distinct = false_from_ne_true _ (λ is.
+    let at = the_number (slot_from (n + 1) owners owner) is in
+    let found = found_at (n + 1) owners owner at.0 at.1 in
+    let no : 0 ≡ suc found.0 = distinct 0 (suc found.0) owner refl found.2 in
+    omega arith)
+
+first_here : (n : ℕ) (owner : PageKey) (owners : List (Option PageKey)) → is_some (slot_from n (Some owner ∷ owners) owner) ≡ true
+first_here n owner owners = ap is_some (cond-true (is_same owner owner) (Some n) (slot_from (n + 1) owners owner) (is_same-itself owner))
+
+first_others : (n : ℕ) (owner : PageKey) (owners : List (Option PageKey)) (other : PageKey) → (other ≡ owner → ⊥) → is_some (slot_from n (Some owner ∷ owners) other) ≡ is_some (slot_from (n + 1) owners other)
+first_others n owner owners other off = ap is_some (cond-false (is_same owner other) (Some n) (slot_from (n + 1) owners other) (is_same-other owner other (λ at. off (sym at))))
+
 -- the pages of the owners of the slots from one on
 pages_from : (slots n : ℕ) (owners : List (Option PageKey)) → ((s : ℕ) (key : PageKey) → owner_of owners s ≡ Some key → IsKey slots key) → AreDistinct owners → mapped_pages slots (λ key. is_some (slot_from n owners key)) ≡ page_count owners
 pages_from slots n [] allowed distinct = none_pages slots
@@ -119,15 +133,51 @@ pages_from slots n (Some owner ∷ owners) allowed distinct =
     let rest = pages_from slots (n + 1) owners (λ s. allowed (suc s)) (λ s t key here there. omega (arith, distinct (suc s) (suc t) key here there)) in
     let old : Mapped = λ key. is_some (slot_from (n + 1) owners key) in
     let new : Mapped = λ key. is_some (slot_from n (Some owner ∷ owners) key) in
-    let free : old owner ≡ false = false_from_ne_true (old owner) (λ is.
-    let at = the_number (slot_from (n + 1) owners owner) is in
-    let found = found_at (n + 1) owners owner at.0 at.1 in
-    let no : 0 ≡ suc found.0 = distinct 0 (suc found.0) owner refl found.2 in
-    omega arith) in
-    let here : new owner ≡ true = ap is_some (cond-true (is_same owner owner) (Some n) (slot_from (n + 1) owners owner) (is_same-itself owner)) in
-    let one = one_more old new slots owner (allowed 0 owner refl) free here (λ other off. ap is_some (cond-false (is_same owner other) (Some n) (slot_from (n + 1) owners other) (is_same-other owner other (λ at. off (sym at))))) in
+    let one = one_more old new slots owner (allowed 0 owner refl) (first_free n owner owners distinct) (first_here n owner owners) (first_others n owner owners) in
     omega (arith, one, rest, sum_by-cons (λ o. cond (is_some o) 1 0) (Some owner) owners)
 
 -- A map has as many pages as are mapped by it.
 pub mapped_pages-owners : (slots : ℕ) (owners : List (Option PageKey)) (mapped : Mapped) → ((s : ℕ) (key : PageKey) → owner_of owners s ≡ Some key → IsKey slots key) → AreDistinct owners → ((key : PageKey) → mapped key ≡ mapped_by owners key) → mapped_pages slots mapped ≡ page_count owners
 mapped_pages-owners slots owners mapped allowed distinct same = mapped_pages-same (mapped_by owners) mapped slots same ∙ pages_from slots 0 owners allowed distinct
+
+-- ---- the pages of images
+
+image_at : (old new : Mapped) (slots : ℕ) (space : Space) (segment number : ℕ) → IsKey slots (page_key segment space number) → old (page_key segment space number) ≡ false → new (page_key segment space number) ≡ true
+    → ((other : PageKey) → (other ≡ page_key segment space number → ⊥) → new other ≡ old other) → space ≡ Image → mapped_of new Image slots ≡ mapped_of old Image slots + 1
+image_at old new slots Image segment number allowed free here others is = of-one old new Image segment number free here others slots allowed.number allowed.segment.0 allowed.segment.1
+image_at old new slots _ segment number allowed free here others is = absurd (cc)
+
+-- one page of images more
+one_image : (old new : Mapped) (slots : ℕ) (key : PageKey) → IsKey slots key → old key ≡ false → new key ≡ true → ((other : PageKey) → (other ≡ key → ⊥) → new other ≡ old other) → key.space ≡ Image → mapped_of new Image slots ≡ mapped_of old Image slots + 1
+one_image old new slots key allowed free here others is = image_at old new slots key.space key.segment key.number allowed free here others is
+
+-- a page of another space leaves them as many
+other_page : (old new : Mapped) (slots : ℕ) (key : PageKey) → ((other : PageKey) → (other ≡ key → ⊥) → new other ≡ old other) → key.space ≢ Image → mapped_of new Image slots ≡ mapped_of old Image slots
+other_page old new slots key others not = of-same old new Image slots (λ segment number. others (page_key segment Image number) (λ at. not (sym (ap (λ (k : PageKey). k.space) at))))
+
+cases_image : (space : Space) → (space ≡ Image) ⊎ (space ≢ Image)
+cases_image Image = inl refl
+cases_image Home = inr (λ is. cc)
+cases_image Overflow = inr (λ is. cc)
+cases_image System = inr (λ is. cc)
+
+-- what tells the owners that are pages of images
+module _ (is_image : Option PageKey → Bool) (no_owner : is_image None ≡ false) (an_image : (key : PageKey) → key.space ≡ Image → is_image (Some key) ≡ true) (no_image : (key : PageKey) → key.space ≢ Image → is_image (Some key) ≡ false) where
+  images_from : (slots n : ℕ) (owners : List (Option PageKey)) → ((s : ℕ) (key : PageKey) → owner_of owners s ≡ Some key → IsKey slots key) → AreDistinct owners → mapped_of (λ key. is_some (slot_from n owners key)) Image slots ≡ count_by is_image owners
+  images_from slots n [] allowed distinct = none_of Image slots
+  images_from slots n (None ∷ owners) allowed distinct =
+      let rest = images_from slots (n + 1) owners (λ s. allowed (suc s)) (λ s t key here there. omega (arith, distinct (suc s) (suc t) key here there)) in
+      omega (arith, rest, ap count_of no_owner, sum_by-cons (λ o. cond (is_image o) 1 0) None owners)
+  images_from slots n (Some owner ∷ owners) allowed distinct =
+      let rest = images_from slots (n + 1) owners (λ s. allowed (suc s)) (λ s t key here there. omega (arith, distinct (suc s) (suc t) key here there)) in
+      let old : Mapped = λ key. is_some (slot_from (n + 1) owners key) in
+      let new : Mapped = λ key. is_some (slot_from n (Some owner ∷ owners) key) in
+      let cons = sum_by-cons (λ o. cond (is_image o) 1 0) (Some owner) owners in
+      elim (cases_image owner.space) [
+        | inl is ↦ omega (arith, one_image old new slots owner (allowed 0 owner refl) (first_free n owner owners distinct) (first_here n owner owners) (first_others n owner owners) is, rest, cons, ap count_of (an_image owner is))
+        | inr not ↦ omega (arith, other_page old new slots owner (first_others n owner owners) not, rest, cons, ap count_of (no_image owner not))
+      ]
+
+  -- A map has as many pages of images as are mapped by it.
+  pub images-owners : (slots : ℕ) (owners : List (Option PageKey)) (mapped : Mapped) → ((s : ℕ) (key : PageKey) → owner_of owners s ≡ Some key → IsKey slots key) → AreDistinct owners → ((key : PageKey) → mapped key ≡ mapped_by owners key) → mapped_of mapped Image slots ≡ count_by is_image owners
+  images-owners slots owners mapped allowed distinct same = of-same (mapped_by owners) mapped Image slots (λ segment number. same (page_key segment Image number)) ∙ images_from slots 0 owners allowed distinct

@@ -115,10 +115,12 @@ pub record ImageFits (listing : Listing) (image : ImageEntry) : Type 0 where
   pub listed : relation_at listing image.relation ≡ Some relation
   pub some : 1 ≤ image.count
   pub few : image.count ≤ most_fields
+  pub long : length image.fields ≡ most_fields
   pub places : image.fields ≡ field_numbers image ++ replicate (most_fields - image.count) 0
   pub within : All (IsFieldNumber (length relation.fields)) (field_numbers image)
   pub different : AreDifferent (field_numbers image)
   pub narrow : key_width (kinds (chosen (field_numbers image) relation.fields)) ≤ most_key_width
+  pub some_levels : 1 ≤ image.levels
   pub levels : image.levels < 2 ^ 8
   pub root : image.root < 2 ^ 32
 
@@ -157,10 +159,14 @@ pub record PathsFit (listing : Listing) : Type 0 where
   pub links : (number : ℕ) (link : LinkEntry) → link_at listing number ≡ Some link → LinkFits listing link
   pub few_roles : (number : ℕ) → roles_of listing number ≤ roles_most
 
--- as yet there are none
+-- as yet there are no links
+abbrev pub HasNoLinks : Listing → Type 0
+HasNoLinks listing = listing.links ≡ replicate links_most None
+
+-- nor images in a store
 pub record IsPlain (listing : Listing) : Type 0 where
   pub no_images : listing.images ≡ replicate images_most None
-  pub no_links : listing.links ≡ replicate links_most None
+  pub no_links : HasNoLinks listing
 
 pub record ListingFits (listing : Listing) : Type 0 where
   pub segment_places : length listing.segments ≡ segments
@@ -170,7 +176,7 @@ pub record ListingFits (listing : Listing) : Type 0 where
   pub relations_once : AreListedOnce Relation listing
   pub relations : (number : ℕ) (relation : RelationEntry) → relation_at listing number ≡ Some relation → EntryFits listing relation
   pub paths : PathsFit listing
-  pub plain : IsPlain listing
+  pub no_links : HasNoLinks listing
 
 -- nothing is defined
 abbrev pub no_listing : Listing
@@ -201,6 +207,10 @@ with_link listing number link =
 -- the relation with another count of its tuples
 abbrev pub with_count : ℕ → RelationEntry → RelationEntry
 with_count live relation = record relation { live = live }
+
+-- the image with another root and other levels
+abbrev pub with_root : ℕ → ℕ → ImageEntry → ImageEntry
+with_root root levels image = record image { root = root; levels = levels }
 
 -- ---- bytes
 

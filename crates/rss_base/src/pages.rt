@@ -5,11 +5,11 @@ ghost use Rattle.rss_base.specs.Sizes.{segments, page_bytes};
 ghost use Rattle.rss_base.specs.DiskRule.{Pages as DevicePages, Told, IsTold, Leaves};
 ghost use Rattle.rss_base.specs.PageMap.{IsKey};
 ghost use Rattle.rss_base.specs.Notes.{is_noted_space, note_most, MayDo};
-ghost use Rattle.rss_base.specs.Paged.{page_key, IsLeastUnmapped, IsMappedAt, IsUnmappedAt, IsFirstFrom, NoneFrom, HasFixed};
+ghost use Rattle.rss_base.specs.Paged.{page_key, mapped_of, IsLeastUnmapped, IsMappedAt, IsUnmappedAt, IsFirstFrom, NoneFrom, HasFixed};
 ghost use Rattle.rss_base.specs.Devices.{OnlyReads};
 ghost use Rattle.rss_base.specs.Steps.{PagesView, AreCounted, PagesStep, PagesCall, NotesPage, no_page, only, only_on_ok, taken, WritesPage, CopiesBytes, TakesPage, GivesPage};
 ghost use Rattle.rss_base.specs.Steps.{NoneChanged, device_below};
-ghost use Rattle.rss_base.specs.declared.key.Space.TheVariants.{System};
+ghost use Rattle.rss_base.specs.declared.key.Space.TheVariants.{System, Image};
 ghost use Rattle.rss_base.specs.declared.key.PageKey.{PageKey as Key};
 
 use crate::{PAGE_BYTES, Page, PageFault, PageKey, Space, copy_bytes};
@@ -28,6 +28,10 @@ pub trait Pages {
 
     fn spare(&self) -> u32
         ensures { result ≡ (view self.now).spare };
+
+    /// How many pages of images are mapped.
+    fn image_pages(&self) -> u32
+        ensures { result ≡ mapped_of (view self.now).mapped Image (view self.now).slots };
 
     /// Whether the page is mapped.
     fn has(&self, key: PageKey) -> bool

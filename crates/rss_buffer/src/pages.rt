@@ -185,6 +185,10 @@ impl<D: Device> Pages for Buffer<D> {
         self.shadow.spare()
     }
 
+    fn image_pages(&self) -> u32 {
+        self.shadow.image_pages()
+    }
+
     fn has(&self, key: PageKey) -> bool {
         self.shadow.slot_of(key).is_some()
     }

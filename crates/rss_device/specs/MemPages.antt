@@ -1,10 +1,11 @@
 -- Pages in memory, each in a place of its own.
-use Rattle.std.specs.Prelude.{◌≡◌, ℕ, ◌≤◌, Bool, true, false, if◌then◌else◌, List, [], ◌∷◌, length, slice_index_or, count_by, Option, Some, None, option_map, is_some, is_none}
+use Rattle.std.specs.Prelude.{◌≡◌, ℕ, ◌≤◌, ◌==◌, Bool, true, false, if◌then◌else◌, List, [], ◌∷◌, length, slice_index_or, count_by, Option, Some, None, option_map, is_some, is_none}
 use Rattle.rss_base.specs.Sizes.{slots_least, slots_most}
 use Rattle.rss_base.specs.DiskRule.{Disk}
-use Rattle.rss_base.specs.PageMap.{IsKey}
+use Rattle.rss_base.specs.PageMap.{IsKey, space_code}
 use Rattle.rss_base.specs.Notes.{Noted}
 use Rattle.rss_base.specs.Paged.{Held, Mapped, Fixed, Backing, is_same}
+use Rattle.rss_base.specs.declared.key.Space.TheVariants.{Image}
 use Rattle.rss_base.specs.declared.key.PageKey.{PageKey}
 use Rattle.rss_device.specs.declared.stored.Stored.{Stored}
 
@@ -52,6 +53,14 @@ placed_in places key = is_some (stored_in places key)
 -- how many places are free
 abbrev pub free_in : List (Option Stored) → ℕ
 free_in places = count_by is_none places
+
+-- how many have a page of images
+abbrev pub has_image : Option Stored → Bool
+has_image None = false
+has_image (Some stored) = space_code stored.key.space == space_code Image
+
+abbrev pub images_in : List (Option Stored) → ℕ
+images_in places = count_by has_image places
 
 -- Each place is free or has a page that no other place has, and a map of so many slots may name it.
 pub record ArePlaces (places : List (Option Stored)) : Type 0 where

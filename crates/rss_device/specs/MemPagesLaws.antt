@@ -1,18 +1,18 @@
 -- The laws of pages, for those in memory.
 use Rattle.std.proofs.Common.{◌≡◌, ◌≢◌, ℕ, zero, suc, ◌+◌, ◌<◌, true, false, cond, List, [], ◌∷◌, length, map, inl, inr, Option, Some, None, refl, sym, ◌∙◌, ap, arith}
-use Rattle.std.specs.Prelude.{is_some, is_none, option_map}
+use Rattle.std.specs.Prelude.{Bool, ◌==◌, is_some, is_none, count_by, option_map}
 use Rattle.std.proofs.lemmas.Bool.{cases_Bool, cond-true, cond-false, true≢false}
 use Rattle.std.proofs.lemmas.List.Sums.{sum_by-cons}
 use Rattle.rss_base.specs.DiskRule.{Pages}
 use Rattle.rss_base.specs.Notes.{is_noted_space}
-use Rattle.rss_base.specs.PageMap.{IsKey, number_limit, owner_of, page_count}
-use Rattle.rss_base.specs.Paged.{HasFixed, is_same, page_key, mapped_pages}
+use Rattle.rss_base.specs.PageMap.{IsKey, space_code, number_limit, owner_of, page_count}
+use Rattle.rss_base.specs.Paged.{HasFixed, is_same, page_key, mapped_of, mapped_pages}
 use Rattle.rss_base.specs.StoredPages.{slot_from}
 use Rattle.rss_base.specs.declared.key.Space.{Space}
 use Rattle.rss_base.specs.declared.key.Space.TheVariants.{Home, Overflow, Image, System}
 use Rattle.rss_base.specs.declared.key.PageKey.{PageKey}
-use Rattle.rss_device.specs.MemPages.{has_key, place_at, stored_in, page_in, held_in, note_in, noted_in, placed_in, free_in, ArePlaces, none_fixed, no_backing}
-use Rattle.rss_base.proofs.Counts.{mapped_pages-owners}
+use Rattle.rss_device.specs.MemPages.{has_key, place_at, stored_in, page_in, held_in, note_in, noted_in, placed_in, free_in, has_image, images_in, ArePlaces, none_fixed, no_backing}
+use Rattle.rss_base.proofs.Counts.{mapped_pages-owners, images-owners}
 use Rattle.rss_base.proofs.Keys.{is_same-true, is_same-itself, is_same-other}
 use Rattle.rss_device.specs.declared.stored.Stored.{Stored}
 
@@ -89,6 +89,33 @@ counted_in {places} placed =
     (λ s t key here there. placed.distinct s t key (owner_at places s key here) (owner_at places t key there))
     (mapped_from 0 places) in
     omega (arith, pages, free_and_used places)
+
+-- ---- how many of them are of images
+
+abbrev is_image : Option PageKey → Bool
+is_image None = false
+is_image (Some key) = space_code key.space == space_code Image
+
+other_space : (space : Space) → space ≢ Image → (space_code space == space_code Image) ≡ false
+other_space Home not = refl
+other_space Overflow not = refl
+other_space System not = refl
+other_space Image not = absurd (not refl)
+
+images_of_owners : (places : List (Option Stored)) → images_in places ≡ count_by is_image (owners_of places)
+images_of_owners [] = refl
+images_of_owners (None ∷ places) = omega (arith, images_of_owners places, sum_by-cons (λ (o : Option Stored). cond (has_image o) 1 0) None places, sum_by-cons (λ (o : Option PageKey). cond (is_image o) 1 0) None (owners_of places))
+images_of_owners (Some stored ∷ places) = omega (arith, images_of_owners places, sum_by-cons (λ (o : Option Stored). cond (has_image o) 1 0) (Some stored) places, sum_by-cons (λ (o : Option PageKey). cond (is_image o) 1 0) (Some stored.key) (owners_of places))
+
+pub images_counted : {places : List (Option Stored)} → ArePlaces places → images_in places ≡ mapped_of (placed_in places) Image (length places)
+unfolding placed_in
+images_counted {places} placed =
+    let images = images-owners is_image refl (λ key is. ap (λ (space : Space). space_code space == space_code Image) is) (λ key not. other_space key.space not)
+    (length places) (owners_of places) (λ key. is_some (stored_in places key))
+    (λ s key is. placed.allowed s key (owner_at places s key is))
+    (λ s t key here there. placed.distinct s t key (owner_at places s key here) (owner_at places t key there))
+    (mapped_from 0 places) in
+    images_of_owners places ∙ sym images
 
 -- none was changed
 pub never : {P : Type 0} → false ≡ true → P

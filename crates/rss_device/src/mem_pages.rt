@@ -14,7 +14,7 @@ ghost use Rattle.rss_device.specs.MemPages.{placed_in, free_in, no_device, none_
 ghost use Rattle.rss_device.specs.MemPagesLaws.{none_left, none_stays, some_mapped, noted_mapped};
 ghost use Rattle.rss_device.specs.MemPagesLaws.{allowed_in, counted_in, never};
 
-use crate::stored::{Stored, free_place, free_places, place_of, stored_of};
+use crate::stored::{Stored, free_place, free_places, image_places, place_of, stored_of};
 use rss_base::{PAGE_BYTES, Page, PageFault, PageKey, Pages, Space};
 use std::alloc::{AllocError, Global};
 
@@ -137,6 +137,10 @@ impl Pages for MemPages {
 
     fn spare(&self) -> u32 {
         free_places(self.places.as_slice()) as u32
+    }
+
+    fn image_pages(&self) -> u32 {
+        image_places(self.places.as_slice()) as u32
     }
 
     #[tactic(auto, unfolding(crate::specs::MemPages::placed_in))]

@@ -3,8 +3,9 @@ ghost use Rattle.std.specs.Prelude.{◌≡◌, ◌<◌, length, true, false, Non
 ghost use Rattle.std.specs.Prelude.{All};
 ghost use Rattle.std.specs.Option.{option_copied};
 ghost use Rattle.rss_device.specs.MemPages.{has_key, place_at, stored_in, free_in};
+ghost use Rattle.rss_device.specs.MemPages.{has_image, images_in};
 
-use rss_base::{Page, PageKey};
+use rss_base::{Page, PageKey, Space};
 
 /// A page and its key, and what was noted on it.
 #[derive(Clone, Copy)]
@@ -20,6 +21,16 @@ fn has_page(place: &Option<Stored>, key: PageKey) -> bool
 {
     match place {
         Some(stored) => key == stored.key,
+        None => false,
+    }
+}
+
+/// Whether the place has a page of images.
+fn has_image(place: &Option<Stored>) -> bool
+    ensures { result ≡ has_image place.now }
+{
+    match place {
+        Some(stored) => stored.key.space == Space::Image,
         None => false,
     }
 }
@@ -61,4 +72,11 @@ pub(crate) fn free_places(places: &[Option<Stored>]) -> usize
     ensures { result ≡ free_in places.now }
 {
     places.iter().filter(|place| place.is_none()).count()
+}
+
+/// How many places have a page of images.
+pub(crate) fn image_places(places: &[Option<Stored>]) -> usize
+    ensures { result ≡ images_in places.now }
+{
+    places.iter().filter(|place| has_image(place)).count()
 }

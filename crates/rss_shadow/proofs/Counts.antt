@@ -6,7 +6,7 @@ use Rattle.std.proofs.lemmas.List.{get_or_past}
 use Rattle.std.proofs.lemmas.List.Sums.{sum_by-set, sum_by-cons, sum_by_more}
 use Rattle.rss_base.specs.PageMap.{owner_of, page_count}
 use Rattle.rss_base.specs.declared.key.PageKey.{PageKey}
-use Rattle.rss_shadow.specs.Maps.{heap_pages_of, is_heap}
+use Rattle.rss_shadow.specs.Maps.{heap_pages_of, is_heap, image_pages_of, is_image}
 
 abbrev pub Owners : Type 0
 Owners = List (Option PageKey)
@@ -14,15 +14,21 @@ Owners = List (Option PageKey)
 abbrev pub no_owner : Option PageKey
 no_owner = None
 
--- 1 for an owner, or for one that is counted as heap
+-- 1 for an owner, for one that is counted as heap, or for one that is a page of images
 abbrev pub one_page : Option PageKey → ℕ
 one_page owner = cond (is_some owner) 1 0
 
 abbrev pub one_heap_page : Option PageKey → ℕ
 one_heap_page owner = cond (is_heap owner) 1 0
 
+abbrev pub one_image_page : Option PageKey → ℕ
+one_image_page owner = cond (is_image owner) 1 0
+
 pub one_heap_page-le : (owner : Option PageKey) → one_heap_page owner ≤ 1
 one_heap_page-le owner = cond_both (is_heap owner) 1 0 (λ (n : ℕ). n ≤ 1) (λ yes. omega arith) (λ no. omega arith)
+
+pub one_image_page-le : (owner : Option PageKey) → one_image_page owner ≤ 1
+one_image_page-le owner = cond_both (is_image owner) 1 0 (λ (n : ℕ). n ≤ 1) (λ yes. omega arith) (λ no. omega arith)
 
 -- a slot's owner is another, and each other slot has the one that it had
 pub record Assigns (old new : Owners) (slot : ℕ) (owner : Option PageKey) : Type 0 where
@@ -30,6 +36,7 @@ pub record Assigns (old new : Owners) (slot : ℕ) (owner : Option PageKey) : Ty
   pub others : (s : ℕ) → s ≢ slot → owner_of new s ≡ owner_of old s
   pub pages : page_count new + one_page (owner_of old slot) ≡ page_count old + one_page owner
   pub heap : heap_pages_of new + one_heap_page (owner_of old slot) ≡ heap_pages_of old + one_heap_page owner
+  pub images : image_pages_of new + one_image_page (owner_of old slot) ≡ image_pages_of old + one_image_page owner
 
 pub Assigns-set : (owners : Owners) (slot : ℕ) (owner : Option PageKey) → slot < length owners → Assigns owners (set owners slot owner) slot owner
 Assigns-set owners slot owner within = record {
@@ -37,6 +44,7 @@ Assigns-set owners slot owner within = record {
   others = λ s apart. get_or-set_other owners slot s owner None apart;
   pages = sum_by-set one_page owners slot owner None within;
   heap = sum_by-set one_heap_page owners slot owner None within;
+  images = sum_by-set one_image_page owners slot owner None within;
 }
 
 pub take-past : (owners : Owners) (n s : ℕ) → n ≤ s → owner_of (take n owners) s ≡ None
@@ -54,6 +62,7 @@ Assigns-take owners slot within =
       ];
       pages = omega (arith, sum_by_more one_page owners slot None within, ap one_page free);
       heap = omega (arith, sum_by_more one_heap_page owners slot None within, ap one_heap_page free);
+      images = omega (arith, sum_by_more one_image_page owners slot None within, ap one_image_page free);
     }
 
 pub owned_within : (owners : Owners) (slot : ℕ) (key : PageKey) → owner_of owners slot ≡ Some key → slot < length owners

@@ -9,9 +9,10 @@ use Rattle.rss_base.specs.PageMap.{IsKey, IsSegmentOf, number_limit, owner_of}
 use Rattle.rss_base.specs.declared.key.Space.{Space}
 use Rattle.rss_base.specs.declared.key.Space.TheVariants.{Home, Overflow, Image, System}
 use Rattle.rss_base.specs.declared.key.PageKey.{PageKey}
-use Rattle.rss_base.specs.Paged.{page_key, IsMappedAt, IsUnmappedAt, IsFirstFrom, NoneFrom}
+use Rattle.rss_base.specs.Paged.{page_key, mapped_of, IsMappedAt, IsUnmappedAt, IsFirstFrom, NoneFrom}
 use Rattle.rss_base.specs.StoredPages.{mapped_by}
-use Rattle.rss_shadow.specs.Maps.{Maps, IsFree, spare, HasPage, LacksPage, IsLeastLacking}
+use Rattle.rss_base.proofs.Counts.{images-owners}
+use Rattle.rss_shadow.specs.Maps.{Maps, is_image, is_image_space, IsFree, spare, HasPage, LacksPage, IsLeastLacking}
 use Rattle.rss_shadow.specs.Index.{Columns, slot_in, numbers_of, IsIndexed, IsUnindexed}
 use Rattle.rss_shadow.specs.Numbers.{IsAbsent}
 use Rattle.rss_shadow.specs.Shadow.{IsShadow}
@@ -32,6 +33,13 @@ some_from : {T : Type 0} (o : Option T) → is_some o ≡ true → (x : T) × (o
 some_from None is = absurd (cc)
 some_from (Some x) is = (x, refl)
 
+-- a page of another space is none of images
+no_image : (space : Space) → space ≢ Image → is_image_space space ≡ false
+no_image Home not = refl
+no_image Overflow not = refl
+no_image System not = refl
+no_image Image not = absurd (not refl)
+
 -- what was read of the shadow map at a page's slot
 module _ {maps : Maps} {used : List Bool} {key : PageKey} {slot : ℕ} (there : IsThere maps used key slot) where
   shadow_read : (n : ℕ) (was : Option PageKey) → n ≡ slot → was ≡ slice_index_or maps.shadow n was → owner_of maps.shadow slot ≡ was
@@ -43,7 +51,7 @@ module _ {maps : Maps} {used : List Bool} {key : PageKey} {slot : ℕ} (there : 
   pub shadow_uses : {n : ℕ} {was : Option PageKey} → n ≡ slot → was ≡ slice_index_or maps.shadow n was → is_some was ≡ true → (other : PageKey) × (owner_of maps.shadow slot ≡ Some other)
   shadow_uses {n = n} {was = was} same read is = let some = some_from was is in (some.0, shadow_read n was same read ∙ some.1)
 
-module _ {maps : Maps} {index : Columns} {used : List Bool} {pages heap shadow_pages : ℕ} (holds : IsShadow maps index used pages heap shadow_pages) where
+module _ {maps : Maps} {index : Columns} {used : List Bool} {pages heap images shadow_pages : ℕ} (holds : IsShadow maps index used pages heap images shadow_pages) where
   -- now: the maps as callers see them
   pub IsKey-mapped : {now : Maps} {key : PageKey} → maps ≡ now → HasPage now.current key → IsKey (numbers_of index) key
   IsKey-mapped {key = key} view has =
@@ -62,6 +70,14 @@ module _ {maps : Maps} {index : Columns} {used : List Bool} {pages heap shadow_p
       let inside : slot < length maps.current = omega (arith, holds.used_hold.count) in
       let neither = unused (length maps.current) maps.current maps.shadow used slot holds.used_hold inside is in
       record { within = inside; current = neither.0; shadow = neither.1 }
+
+  -- the pages of images are counted
+  pub images_told : {now : Maps} → maps ≡ now → images ≡ mapped_of (mapped_by now.current) Image (length now.current)
+  images_told view =
+      let table = holds.maps_hold.current in
+      let same = images-owners is_image refl (λ key is. ap is_image_space is) (λ key not. no_image key.space not)
+      (length maps.current) maps.current (mapped_by maps.current) table.allowed table.distinct (λ key. refl) in
+      holds.images_counted ∙ sym same ∙ ap (λ (m : Maps). mapped_of (mapped_by m.current) Image (length m.current)) view
 
   all_used : NoneFrom (IsAbsent used) 0 → All (λ (u : Bool). u ≡ true) used
   all_used none = All-from_get_or (λ (u : Bool). u ≡ true) used true (λ slot within. true_from_ne_false _ (none slot (omega arith)))

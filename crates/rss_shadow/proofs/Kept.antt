@@ -9,7 +9,7 @@ use Rattle.rss_pagemap.proofs.Owners.{table_set}
 use Rattle.rss_shadow.specs.Maps.{Maps, AreMaps, IsFree, spare, LacksPage, MovesPage}
 use Rattle.rss_shadow.specs.Index.{Columns, PutsSlot}
 use Rattle.rss_shadow.specs.Shadow.{IsIndexOf, AreUsedBy, IsShadow}
-use Rattle.rss_shadow.proofs.Counts.{Owners, no_owner, one_page, one_heap_page, Assigns-set, owned_within}
+use Rattle.rss_shadow.proofs.Counts.{Owners, no_owner, one_page, one_heap_page, one_image_page, Assigns-set, owned_within}
 use Rattle.rss_shadow.proofs.Slots.{Changes, Changes-then, Changes-gains, Changes-loses, IsIndexOf-puts, AreUsedBy-set, AreUsedBy-stays, unindexed, one_slot}
 
 -- the maps with one owner of the current map changed
@@ -110,8 +110,8 @@ MovesPage-moves maps from slot key other owned shadowed free = record {
 
 -- ---- the whole
 
-module _ {maps : Maps} {index : Columns} {used : List Bool} {pages heap shadow_pages : ℕ} (holds : IsShadow maps index used pages heap shadow_pages) where
-  pub IsShadow-gains : {after : Columns} {slot : ℕ} {key : PageKey} → IsFree maps slot → IsKey (length maps.current) key → LacksPage maps.current key → 0 < spare maps → PutsSlot index after key (Some slot) → IsShadow (assigned maps slot (Some key)) after (set used slot true) (pages + 1) (heap + one_heap_page (Some key)) shadow_pages
+module _ {maps : Maps} {index : Columns} {used : List Bool} {pages heap images shadow_pages : ℕ} (holds : IsShadow maps index used pages heap images shadow_pages) where
+  pub IsShadow-gains : {after : Columns} {slot : ℕ} {key : PageKey} → IsFree maps slot → IsKey (length maps.current) key → LacksPage maps.current key → 0 < spare maps → PutsSlot index after key (Some slot) → IsShadow (assigned maps slot (Some key)) after (set used slot true) (pages + 1) (heap + one_heap_page (Some key)) (images + one_image_page (Some key)) shadow_pages
   IsShadow-gains {after = after} {slot = slot} {key = key} free is lacks room puts =
       let current : Owners = set maps.current slot (Some key) in
       let one = Assigns-set maps.current slot (Some key) free.within in
@@ -126,11 +126,12 @@ module _ {maps : Maps} {index : Columns} {used : List Bool} {pages heap shadow_p
             (AreUsedBy-set (length maps.current) maps.current current maps.shadow used slot (Some key) true free.within one refl holds.used_hold);
         counted = omega (arith, holds.counted, one.pages, ap one_page free.current);
         heap_counted = omega (arith, holds.heap_counted, one.heap, ap one_heap_page free.current);
+        images_counted = omega (arith, holds.images_counted, one.images, ap one_image_page free.current);
         shadow_counted = holds.shadow_counted;
       }
 
   -- a page is unmapped, and these slots are in use then
-  IsShadow-loses : (after : Columns) (left : List Bool) (slot : ℕ) (key : PageKey) → owner_of maps.current slot ≡ Some key → PutsSlot index after key None → AreUsedBy (length maps.current) (set maps.current slot None) maps.shadow left → IsShadow (assigned maps slot None) after left (pages - 1) (heap - one_heap_page (Some key)) shadow_pages
+  IsShadow-loses : (after : Columns) (left : List Bool) (slot : ℕ) (key : PageKey) → owner_of maps.current slot ≡ Some key → PutsSlot index after key None → AreUsedBy (length maps.current) (set maps.current slot None) maps.shadow left → IsShadow (assigned maps slot None) after left (pages - 1) (heap - one_heap_page (Some key)) (images - one_image_page (Some key)) shadow_pages
   IsShadow-loses after left slot key owned puts uses =
       let current : Owners = set maps.current slot None in
       let one = Assigns-set maps.current slot None (owned_within maps.current slot key owned) in
@@ -145,25 +146,26 @@ module _ {maps : Maps} {index : Columns} {used : List Bool} {pages heap shadow_p
         used_hold = subst (λ (n : ℕ). AreUsedBy n current maps.shadow left) long uses;
         counted = omega (arith, holds.counted, one.pages, ap one_page owned);
         heap_counted = omega (arith, holds.heap_counted, one.heap, ap one_heap_page owned);
+        images_counted = omega (arith, holds.images_counted, one.images, ap one_image_page owned);
         shadow_counted = holds.shadow_counted;
       }
 
   -- its slot is free then
-  pub IsShadow-frees : (slot : ℕ) {after : Columns} {key : PageKey} → owner_of maps.current slot ≡ Some key → owner_of maps.shadow slot ≡ None → PutsSlot index after key None → IsShadow (assigned maps slot None) after (set used slot false) (pages - 1) (heap - one_heap_page (Some key)) shadow_pages
+  pub IsShadow-frees : (slot : ℕ) {after : Columns} {key : PageKey} → owner_of maps.current slot ≡ Some key → owner_of maps.shadow slot ≡ None → PutsSlot index after key None → IsShadow (assigned maps slot None) after (set used slot false) (pages - 1) (heap - one_heap_page (Some key)) (images - one_image_page (Some key)) shadow_pages
   IsShadow-frees slot {after = after} {key = key} owned free puts =
       let within = owned_within maps.current slot key owned in
       IsShadow-loses after (set used slot false) slot key owned puts
       (AreUsedBy-set (length maps.current) maps.current (set maps.current slot None) maps.shadow used slot None false within (Assigns-set maps.current slot None within) (sym (ap (λ (o : Option PageKey). is_some o) free)) holds.used_hold)
 
   -- the shadow map uses its slot
-  pub IsShadow-leaves : (slot : ℕ) {after : Columns} {key other : PageKey} → owner_of maps.current slot ≡ Some key → owner_of maps.shadow slot ≡ Some other → PutsSlot index after key None → IsShadow (assigned maps slot None) after used (pages - 1) (heap - one_heap_page (Some key)) shadow_pages
+  pub IsShadow-leaves : (slot : ℕ) {after : Columns} {key other : PageKey} → owner_of maps.current slot ≡ Some key → owner_of maps.shadow slot ≡ Some other → PutsSlot index after key None → IsShadow (assigned maps slot None) after used (pages - 1) (heap - one_heap_page (Some key)) (images - one_image_page (Some key)) shadow_pages
   IsShadow-leaves slot {after = after} {key = key} owned shadowed puts =
       let within = owned_within maps.current slot key owned in
       IsShadow-loses after used slot key owned puts
       (AreUsedBy-stays (length maps.current) maps.current (set maps.current slot None) maps.shadow used slot None (Assigns-set maps.current slot None within) (cc) holds.used_hold)
 
   -- a page moves from a slot that the shadow map uses
-  pub IsShadow-moves : (from : ℕ) {after : Columns} {slot : ℕ} {key other : PageKey} → owner_of maps.current from ≡ Some key → owner_of maps.shadow from ≡ Some other → IsFree maps slot → PutsSlot index after key (Some slot) → IsShadow (assigned (assigned maps from None) slot (Some key)) after (set used slot true) pages heap shadow_pages
+  pub IsShadow-moves : (from : ℕ) {after : Columns} {slot : ℕ} {key other : PageKey} → owner_of maps.current from ≡ Some key → owner_of maps.shadow from ≡ Some other → IsFree maps slot → PutsSlot index after key (Some slot) → IsShadow (assigned (assigned maps from None) slot (Some key)) after (set used slot true) pages heap images shadow_pages
   IsShadow-moves from {after = after} {slot = slot} {key = key} owned shadowed free puts =
       let middle : Owners = set maps.current from None in
       let last : Owners = set middle slot (Some key) in
@@ -186,5 +188,6 @@ module _ {maps : Maps} {index : Columns} {used : List Bool} {pages heap shadow_p
             (AreUsedBy-stays (length maps.current) maps.current middle maps.shadow used from None one (cc) holds.used_hold));
         counted = omega (arith, holds.counted, one.pages, two.pages, ap one_page owned, ap one_page then_free.current);
         heap_counted = omega (arith, holds.heap_counted, one.heap, two.heap, ap one_heap_page owned, ap one_heap_page then_free.current);
+        images_counted = omega (arith, holds.images_counted, one.images, two.images, ap one_image_page owned, ap one_image_page then_free.current);
         shadow_counted = holds.shadow_counted;
       }

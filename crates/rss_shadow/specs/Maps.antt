@@ -24,6 +24,20 @@ is_heap (Some key) = is_heap_space key.space
 abbrev pub heap_pages_of : List (Option PageKey) → ℕ
 heap_pages_of owners = count_by is_heap owners
 
+-- how many are pages of images
+abbrev pub is_image_space : Space → Bool
+is_image_space Home = false
+is_image_space Overflow = false
+is_image_space Image = true
+is_image_space System = false
+
+abbrev pub is_image : Option PageKey → Bool
+is_image None = false
+is_image (Some key) = is_image_space key.space
+
+abbrev pub image_pages_of : List (Option PageKey) → ℕ
+image_pages_of owners = count_by is_image owners
+
 -- the slots that are left where each page of either map has one of its own
 abbrev pub spare : Maps → ℕ
 spare maps = length maps.current - page_count maps.shadow - page_count maps.current

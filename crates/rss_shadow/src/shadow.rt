@@ -4,11 +4,11 @@ ghost use Rattle.std.specs.Prelude.{slice_index_or, true, None, Some, is_some, I
 ghost use Rattle.std.specs.Prelude.{IfNone};
 ghost use Rattle.rss_base.specs.Sizes.{slots_most, segments};
 ghost use Rattle.rss_base.specs.PageMap.{IsKey, owner_of, page_count};
-ghost use Rattle.rss_base.specs.declared.key.Space.TheVariants.{System};
-ghost use Rattle.rss_base.specs.Paged.{page_key, IsMappedAt, IsUnmappedAt, IsFirstFrom, NoneFrom};
+ghost use Rattle.rss_base.specs.declared.key.Space.TheVariants.{System, Image};
+ghost use Rattle.rss_base.specs.Paged.{page_key, mapped_of, IsMappedAt, IsUnmappedAt, IsFirstFrom, NoneFrom};
 ghost use Rattle.rss_base.specs.StoredPages.{mapped_by};
-ghost use Rattle.rss_shadow.specs.Maps.{AreMaps, is_heap_space, heap_pages_of, spare, HasPage};
-ghost use Rattle.rss_shadow.specs.Maps.{LacksPage, GainsPage, LosesPage, MovesPage, IsLeastLacking};
+ghost use Rattle.rss_shadow.specs.Maps.{AreMaps, is_heap_space, is_image_space, heap_pages_of, spare};
+ghost use Rattle.rss_shadow.specs.Maps.{HasPage, LacksPage, GainsPage, LosesPage, MovesPage, IsLeastLacking};
 
 use crate::index::PageIndex;
 use crate::numbers::NumberSet;
@@ -37,6 +37,8 @@ pub struct Shadow {
     pages: u32,
     /// How many of them are home and overflow pages.
     heap: u32,
+    /// How many of them are pages of images.
+    images: u32,
     /// How many pages the shadow map has.
     shadow_pages: u32,
 }
@@ -50,7 +52,7 @@ impl Model for Shadow {
     ghost view = { λ s. record { current = s.current; shadow = s.shadow.items } };
 
     ghost invariant = { λ s. IsShadow (record { current = s.current; shadow = s.shadow.items })
-        s.index s.used s.pages s.heap s.shadow_pages };
+        s.index s.used s.pages s.heap s.images s.shadow_pages };
 }
 
 impl Shadow {
@@ -65,12 +67,14 @@ impl Shadow {
         let mut used = NumberSet::new(alloc, slots)?;
         let mut pages = 0;
         let mut heap = 0;
+        let mut images = 0;
         for (slot, owner) in table.as_slice().iter().enumerate() {
             if let Some(key) = owner {
                 index.put(*key, slot as u16);
                 used.insert(slot as u32);
                 pages += 1;
                 heap += heap_pages(key.space);
+                images += image_pages(key.space);
             }
         }
         Ok(Shadow {
@@ -80,6 +84,7 @@ impl Shadow {
             used,
             pages,
             heap,
+            images,
             shadow_pages: pages,
         })
     }
@@ -185,6 +190,7 @@ impl Shadow {
         self.used.insert(slot);
         self.pages += 1;
         self.heap += heap_pages(key.space);
+        self.images += image_pages(key.space);
     }
 
     /// Unmaps a page. Its slot is free from now on, but where the shadow map uses it.
@@ -200,6 +206,7 @@ impl Shadow {
         self.index.clear(key);
         self.pages -= 1;
         self.heap -= heap_pages(key.space);
+        self.images -= image_pages(key.space);
         if self.shadow[usize::from(slot)].is_none() {
             self.used.remove(u32::from(slot));
         }
@@ -247,6 +254,13 @@ impl Shadow {
     {
         self.heap
     }
+
+    /// How many pages of images the current map has.
+    pub fn image_pages(&self) -> u32
+        ensures { result ≡ mapped_of (mapped_by self.now.current) Image (length self.now.current) }
+    {
+        self.images
+    }
 }
 
 /// Takes each slot out of the set that has no owner.
@@ -272,5 +286,15 @@ fn heap_pages(space: Space) -> u32
     match space {
         Space::Home | Space::Overflow => 1,
         Space::Image | Space::System => 0,
+    }
+}
+
+/// 1 for the space of images, else 0.
+fn image_pages(space: Space) -> u32
+    ensures { result ≡ (if is_image_space space then 1 else 0) }
+{
+    match space {
+        Space::Image => 1,
+        Space::Home | Space::Overflow | Space::System => 0,
     }
 }

@@ -12,7 +12,7 @@ pub invariant_of-self : goal.invariant_of-self
 invariant_of-self c =
     let back = sym c.self.view_is in
     let free = IsFree-unused c.self.invariant c.in-Some.ensures.within c.in-Some.ensures.some.has in
-    rw (c.set.ensures, c.insert.ensures, c.heap_pages.ensures)
+    rw (c.set.ensures, c.insert.ensures, c.heap_pages.ensures, c.image_pages.ensures)
     (IsShadow-gains c.self.invariant free
     (subst (λ (m : Maps). IsKey (length m.current) c.args.key) back c.requires.allowed)
     (subst (λ (m : Maps). LacksPage m.current c.args.key) back c.requires.lacking)
