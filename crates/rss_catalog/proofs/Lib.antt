@@ -4,8 +4,10 @@ pub mod Listed
 pub mod NamesIn
 pub mod Pieces
 pub mod Spelled
+pub mod Imaged
 pub mod Read
 pub mod Loaded
 pub mod Stored
 pub mod Tested
+pub mod Keyed
 pub mod Same

@@ -1,23 +1,24 @@
 -- What changes of a listing leave of it: it fits a store as before.
-use Rattle.std.proofs.Common.{◌≡◌, ◌⊎◌, ℕ, ◌+◌, ◌-◌, ◌<◌, ◌≤◌, ◌^◌, Bool, true, get_or, set, List, length, Option, Some, None, refl, sym, ◌∙◌, ap, subst, inl, inr, arith}
-use Rattle.std.specs.Prelude.{is_some, option_map, IfSome, nat_le, ◌&&◌}
+use Rattle.std.proofs.Common.{◌≡◌, ℕ, ◌-◌, ◌<◌, ◌≤◌, ◌^◌, Bool, true, get_or, set, List, length, Option, Some, None, refl, sym, ◌∙◌, ap, subst, inl, inr, arith}
+use Rattle.std.specs.Prelude.{is_some, map, max, All, option_map, IfSome, nat_le, ◌&&◌}
 use Rattle.std.proofs.lemmas.Bool.{cases_eq, and_parts, leb-true}
 use Rattle.std.proofs.lemmas.Option.{none-some, same_Some}
 use Rattle.std.proofs.lemmas.List.{length-set, length-map, map-set, get_or_default}
-use Rattle.rss_base.specs.Sizes.{segments, relations_most}
+use Rattle.rss_base.specs.Sizes.{segments}
 use Rattle.rss_base.specs.Names.{IsName}
-use Rattle.rss_base.specs.TupleTypes.{AreFields, kinds, is_kind, most_fields}
+use Rattle.rss_base.specs.TupleTypes.{AreFields, kinds, is_kind, most_fields, chosen, key_width, most_key_width}
 use Rattle.std.specs.List.{list_all}
 use Rattle.rss_base.specs.declared.field.FieldDef.{FieldDef}
 use Rattle.rss_base.specs.declared.value.FieldKind.{FieldKind}
-use Rattle.rss_base.specs.Listings.{Listing, numbered, with_number, segment_at, relation_at, names_of, IsNumberOf, IsUnlisted, IsLeastUnused, EntryFits, ListingFits, with_segment, with_relation, with_count}
+use Rattle.rss_base.specs.Listings.{Listing, numbered, with_number, segment_at, relation_at, image_at, names_of, IsNumberOf, IsUnlisted, IsLeastUnused, EntryFits, ImageFits, IsFieldNumber, field_numbers, PathsFit, HasNoLinks, ListingFits, with_segment, with_relation, with_image, with_count, with_root}
 use Rattle.rss_base.specs.declared.name.Name.{Name}
 use Rattle.rss_base.specs.declared.relation.RelationEntry.{RelationEntry}
+use Rattle.rss_base.specs.declared.image.ImageEntry.{ImageEntry}
 use Rattle.rss_base.specs.declared.refusal.Kind.{Kind}
-use Rattle.rss_base.specs.declared.refusal.Kind.TheVariants.{Segment, Relation}
-use Rattle.rss_catalog.specs.Catalogs.{CatalogView, HasRelationIn, IsSafe, Lists}
-use Rattle.rss_catalog.specs.Checking.{AreOnce, relation_names, listing_of}
-use Rattle.rss_catalog.proofs.Plain.{plain_paths}
+use Rattle.rss_base.specs.declared.refusal.Kind.TheVariants.{Segment, Relation, Image}
+use Rattle.rss_catalog.specs.Catalogs.{CatalogView, HasRelationIn, HasImageOf, IsSafe, IsSafeImage, Lists}
+use Rattle.rss_catalog.specs.Checking.{AreOnce, AreSafeIn, relation_names, image_names, listing_of}
+use Rattle.rss_catalog.proofs.Plain.{paths_of}
 use Rattle.rss_catalog.proofs.Numbered.{numbered_at, numbered_within, with_same, with_other, with_cases, used_has, numbered_map}
 
 -- ---- names
@@ -25,6 +26,9 @@ use Rattle.rss_catalog.proofs.Numbered.{numbered_at, numbered_within, with_same,
 -- the name of a listed relation
 pub name_listed : (listing : Listing) (number : ℕ) (relation : RelationEntry) → relation_at listing number ≡ Some relation → IsNumberOf Relation listing relation.name number
 name_listed listing number relation is = numbered_map (λ (entry : RelationEntry). entry.name) listing.relations number ∙ ap (option_map (λ (entry : RelationEntry). entry.name)) is
+
+pub image_named : (listing : Listing) (number : ℕ) (image : ImageEntry) → image_at listing number ≡ Some image → IsNumberOf Image listing image.name number
+image_named listing number image is = numbered_map (λ (entry : ImageEntry). entry.name) listing.images number ∙ ap (option_map (λ (entry : ImageEntry). entry.name)) is
 
 -- a name of one number still stands once
 pub once_put : (items : List (Option Name)) (number : ℕ) (name : Name) → 1 ≤ number → number ≤ length items → AreOnce items → ((k : ℕ) → numbered items k ≡ Some name → k ≡ number) → AreOnce (with_number items number (Some name))
@@ -50,9 +54,76 @@ once_dropped items number low high once one other found is_one is_other =
       ]
     ]
 
--- the names after a relation was put at a place
-names_put : (items : List (Option RelationEntry)) (number : ℕ) (item : Option RelationEntry) → relation_names (with_number items number item) ≡ with_number (relation_names items) number (option_map (λ (entry : RelationEntry). entry.name) item)
-names_put items number item = map-set (option_map (λ (entry : RelationEntry). entry.name)) items (number - 1) item
+-- the names after an entry was put at a place
+names_put : {X : Type 0} (name : X → Name) (items : List (Option X)) (number : ℕ) (item : Option X) → map (option_map name) (with_number items number item) ≡ with_number (map (option_map name) items) number (option_map name item)
+names_put name items number item = map-set (option_map name) items (number - 1) item
+
+-- ---- what stays of a listing
+
+-- a relation fits where the segments are the same
+pub entry_moves : (old new : Listing) (entry : RelationEntry) → new.segments ≡ old.segments → EntryFits old entry → EntryFits new entry
+entry_moves old new entry same fit = record {
+  name = fit.name;
+  segment = ap (λ (l : List (Option Name)). is_some (numbered l entry.segment)) same ∙ fit.segment;
+  fields = fit.fields;
+  live = fit.live;
+}
+
+-- a relation of these fields has this number
+pub record HasFields (listing : Listing) (number : ℕ) (fields : List FieldDef) : Type 0 where
+  pub relation : RelationEntry
+  pub listed : relation_at listing number ≡ Some relation
+  pub same : relation.fields ≡ fields
+
+-- an image fits where its relation has the same fields
+pub image_moves : (old new : Listing) (image : ImageEntry) (fit : ImageFits old image) → HasFields new image.relation fit.relation.fields → ImageFits new image
+image_moves old new image fit has = record {
+  name = fit.name;
+  relation = has.relation;
+  listed = has.listed;
+  some = fit.some;
+  few = fit.few;
+  long = fit.long;
+  places = fit.places;
+  within = subst (λ (fields : List FieldDef). All (IsFieldNumber (length fields)) (field_numbers image)) (sym has.same) fit.within;
+  different = fit.different;
+  narrow = subst (λ (fields : List FieldDef). key_width (kinds (chosen (field_numbers image) fields)) ≤ most_key_width) (sym has.same) fit.narrow;
+  some_levels = fit.some_levels;
+  levels = fit.levels;
+  root = fit.root;
+}
+
+-- and it is safe there
+safe_moves : (old new : Listing) (image : ImageEntry) (safe : IsSafeImage old image) → HasFields new image.relation safe.relation.fields → IsSafeImage new image
+safe_moves old new image safe has = record {
+  relation = has.relation;
+  listed = has.listed;
+  some = safe.some;
+  few = safe.few;
+  within = subst (λ (fields : List FieldDef). All (IsFieldNumber (length fields)) (field_numbers image)) (sym has.same) safe.within;
+  narrow = subst (λ (fields : List FieldDef). key_width (kinds (chosen (field_numbers image) fields)) ≤ most_key_width) (sym has.same) safe.narrow;
+  low = safe.low;
+}
+
+-- what an image says of its relation's fields
+abbrev KeepsFields : Listing → Listing → Type 0
+KeepsFields old new =
+    (number : ℕ) (image : ImageEntry) → image_at old number ≡ Some image → (relation : RelationEntry) → relation_at old image.relation ≡ Some relation
+    → HasFields new image.relation relation.fields
+
+paths_move : (old new : Listing) → PathsFit old → HasNoLinks new → new.images ≡ old.images → KeepsFields old new → PathsFit new
+paths_move old new paths no_links same keeps = paths_of new no_links (ap length same ∙ paths.image_places) (subst (λ (l : List (Option ImageEntry)). AreOnce (image_names l)) (sym same) paths.images_once) (λ number image is.
+    let there : image_at old number ≡ Some image = ap (λ (l : List (Option ImageEntry)). numbered l number) (sym same) ∙ is in
+    let fit = paths.images number image there in
+    image_moves old new image fit (keeps number image there fit.relation fit.listed))
+
+-- where the relations are the same, so are their fields
+same_relations : (old new : Listing) → new.relations ≡ old.relations → KeepsFields old new
+same_relations old new same number image at relation listed = record {
+  relation = relation;
+  listed = ap (λ (l : List (Option RelationEntry)). numbered l image.relation) same ∙ listed;
+  same = refl;
+}
 
 -- ---- segments
 
@@ -60,8 +131,8 @@ pub fits_with_segment : (listing : Listing) (number : ℕ) (name : Name) → Lis
 fits_with_segment listing number name fits low high is_name unlisted = record {
   segment_places = length-set listing.segments (number - 1) (Some name) ∙ fits.segment_places;
   relation_places = fits.relation_places;
-  paths = plain_paths _ (record { no_images = fits.plain.no_images; no_links = fits.plain.no_links });
-  plain = record { no_images = fits.plain.no_images; no_links = fits.plain.no_links };
+  paths = paths_move listing _ fits.paths fits.no_links refl (same_relations listing _ refl);
+  no_links = fits.no_links;
   segment_names = λ k found is. elim (with_cases listing.segments number k (Some name) found low high is) [
     | inl here ↦ subst IsName (same_Some name found here.1) is_name
     | inr off ↦ fits.segment_names k found off.1
@@ -84,8 +155,8 @@ pub fits_without_segment : (listing : Listing) (number : ℕ) → ListingFits li
 fits_without_segment listing number fits low high none = record {
   segment_places = length-set listing.segments (number - 1) None ∙ fits.segment_places;
   relation_places = fits.relation_places;
-  paths = plain_paths _ (record { no_images = fits.plain.no_images; no_links = fits.plain.no_links });
-  plain = record { no_images = fits.plain.no_images; no_links = fits.plain.no_links };
+  paths = paths_move listing _ fits.paths fits.no_links refl (same_relations listing _ refl);
+  no_links = fits.no_links;
   segment_names = λ k found is. elim (with_cases listing.segments number k None found low high is) [
     | inl here ↦ absurd (none-some found here.1)
     | inr off ↦ fits.segment_names k found off.1
@@ -103,35 +174,55 @@ fits_without_segment listing number fits low high none = record {
 
 -- ---- relations
 
-pub fits_with_relation : (listing : Listing) (number : ℕ) (relation : RelationEntry) → ListingFits listing → 1 ≤ number → number ≤ length listing.relations → EntryFits listing relation → ((k : ℕ) → IsNumberOf Relation listing relation.name k → k ≡ number) → ListingFits (with_relation listing number (Some relation))
-fits_with_relation listing number relation fits low high entry_fits only = record {
+-- a relation that an image may be of is put at a place, or the place has none
+keeps_with : (listing : Listing) (number : ℕ) (relation : RelationEntry) → 1 ≤ number → number ≤ length listing.relations → ((was : RelationEntry) → relation_at listing number ≡ Some was → relation.fields ≡ was.fields) → KeepsFields listing (with_relation listing number (Some relation))
+keeps_with listing number relation low high kept k image at was listed = elim (cases_eq image.relation number) [
+  | inl here ↦ record {
+    relation = relation;
+    listed = ap (λ (n : ℕ). numbered (with_number listing.relations number (Some relation)) n) here ∙ with_same listing.relations number (Some relation) low high;
+    same = kept was (ap (λ (n : ℕ). numbered listing.relations n) (sym here) ∙ listed);
+  }
+  | inr off ↦ record { relation = was; listed = with_other listing.relations number image.relation (Some relation) low off ∙ listed; same = refl }
+]
+
+-- whatever is put at the place of a relation that no image is of
+keeps_off : (listing : Listing) (number : ℕ) (item : Option RelationEntry) → 1 ≤ number → (HasImageOf listing number → ⊥) → KeepsFields listing (with_relation listing number item)
+keeps_off listing number item low none k image at was listed = record {
+  relation = was;
+  listed = with_other listing.relations number image.relation item low (λ here. none (record { number = k; image = image; at = at; of = here })) ∙ listed;
+  same = refl;
+}
+
+pub fits_with_relation : (listing : Listing) (number : ℕ) (relation : RelationEntry) → ListingFits listing → 1 ≤ number → number ≤ length listing.relations → EntryFits listing relation → ((k : ℕ) → IsNumberOf Relation listing relation.name k → k ≡ number)
+    → ((was : RelationEntry) → relation_at listing number ≡ Some was → relation.fields ≡ was.fields) → ListingFits (with_relation listing number (Some relation))
+fits_with_relation listing number relation fits low high entry_fits only kept = record {
   segment_places = fits.segment_places;
   relation_places = length-set listing.relations (number - 1) (Some relation) ∙ fits.relation_places;
-  paths = plain_paths _ (record { no_images = fits.plain.no_images; no_links = fits.plain.no_links });
-  plain = record { no_images = fits.plain.no_images; no_links = fits.plain.no_links };
+  paths = paths_move listing _ fits.paths fits.no_links refl (keeps_with listing number relation low high kept);
+  no_links = fits.no_links;
   segment_names = fits.segment_names;
   segments_once = fits.segments_once;
-  relations_once = subst AreOnce (sym (names_put listing.relations number (Some relation)))
+  relations_once = subst AreOnce (sym (names_put (λ (entry : RelationEntry). entry.name) listing.relations number (Some relation)))
       (once_put (relation_names listing.relations) number relation.name low (omega (arith, length-map listing.relations (option_map (λ (entry : RelationEntry). entry.name)))) fits.relations_once only);
   relations = λ k found is. elim (with_cases listing.relations number k (Some relation) found low high is) [
-    | inl here ↦ let fit = subst (EntryFits listing) (same_Some relation found here.1) entry_fits in record { name = fit.name; segment = fit.segment; fields = fit.fields; live = fit.live }
-    | inr off ↦ let fit = fits.relations k found off.1 in record { name = fit.name; segment = fit.segment; fields = fit.fields; live = fit.live }
+    | inl here ↦ entry_moves listing _ found refl (subst (EntryFits listing) (same_Some relation found here.1) entry_fits)
+    | inr off ↦ entry_moves listing _ found refl (fits.relations k found off.1)
   ];
 }
 
-pub fits_without_relation : (listing : Listing) (number : ℕ) → ListingFits listing → 1 ≤ number → number ≤ length listing.relations → ListingFits (with_relation listing number None)
-fits_without_relation listing number fits low high = record {
+pub fits_without_relation : (listing : Listing) (number : ℕ) → ListingFits listing → 1 ≤ number → number ≤ length listing.relations → (HasImageOf listing number → ⊥) → ListingFits (with_relation listing number None)
+fits_without_relation listing number fits low high none = record {
   segment_places = fits.segment_places;
   relation_places = length-set listing.relations (number - 1) None ∙ fits.relation_places;
-  paths = plain_paths _ (record { no_images = fits.plain.no_images; no_links = fits.plain.no_links });
-  plain = record { no_images = fits.plain.no_images; no_links = fits.plain.no_links };
+  paths = paths_move listing _ fits.paths fits.no_links refl (keeps_off listing number None low none);
+  no_links = fits.no_links;
   segment_names = fits.segment_names;
   segments_once = fits.segments_once;
-  relations_once = subst AreOnce (sym (names_put listing.relations number None))
+  relations_once = subst AreOnce (sym (names_put (λ (entry : RelationEntry). entry.name) listing.relations number None))
       (once_dropped (relation_names listing.relations) number low (omega (arith, length-map listing.relations (option_map (λ (entry : RelationEntry). entry.name)))) fits.relations_once);
   relations = λ k found is. elim (with_cases listing.relations number k None found low high is) [
     | inl here ↦ absurd (none-some found here.1)
-    | inr off ↦ let fit = fits.relations k found off.1 in record { name = fit.name; segment = fit.segment; fields = fit.fields; live = fit.live }
+    | inr off ↦ entry_moves listing _ found refl (fits.relations k found off.1)
   ];
 }
 
@@ -141,6 +232,139 @@ fits_with_count listing number live relation fits is low =
     let fit = fits.relations number relation is in
     fits_with_relation listing number (with_count live relation) fits within.0 within.1 (record { name = fit.name; segment = fit.segment; fields = fit.fields; live = low })
     (λ k named. fits.relations_once k number relation.name named (name_listed listing number relation is))
+    (λ was at. ap (λ (entry : RelationEntry). entry.fields) (same_Some relation was (sym is ∙ at)))
+
+-- ---- images
+
+-- the segments and the relations are the same
+fits_again : (old new : Listing) → new.segments ≡ old.segments → new.relations ≡ old.relations → ListingFits old → PathsFit new → HasNoLinks new → ListingFits new
+fits_again old new same_segments same_relations fits paths no_links = record {
+  segment_places = ap length same_segments ∙ fits.segment_places;
+  relation_places = ap length same_relations ∙ fits.relation_places;
+  segment_names = λ number name is. fits.segment_names number name (ap (λ (l : List (Option Name)). numbered l number) (sym same_segments) ∙ is);
+  segments_once = subst AreOnce (sym same_segments) fits.segments_once;
+  relations_once = subst (λ (l : List (Option RelationEntry)). AreOnce (relation_names l)) (sym same_relations) fits.relations_once;
+  relations = λ number entry is. entry_moves old new entry same_segments (fits.relations number entry (ap (λ (l : List (Option RelationEntry)). numbered l number) (sym same_relations) ∙ is));
+  paths = paths;
+  no_links = no_links;
+}
+
+-- an image fits a listing whatever its images are
+image_stays : (listing : Listing) (images : List (Option ImageEntry)) (image : ImageEntry) → ImageFits listing image → ImageFits (record listing { images = images }) image
+image_stays listing images image fit = image_moves listing (record listing { images = images }) image fit (record { relation = fit.relation; listed = fit.listed; same = refl })
+
+pub fits_with_image : (listing : Listing) (number : ℕ) (image : ImageEntry) → ListingFits listing → 1 ≤ number → number ≤ length listing.images → ImageFits listing image → ((k : ℕ) → IsNumberOf Image listing image.name k → k ≡ number) → ListingFits (with_image listing number (Some image))
+fits_with_image listing number image fits low high image_fits only =
+    let images = with_number listing.images number (Some image) in
+    fits_again listing (record listing { images = images }) refl refl fits
+    (paths_of (record listing { images = images }) fits.no_links (length-set listing.images (number - 1) (Some image) ∙ fits.paths.image_places)
+    (subst AreOnce (sym (names_put (λ (entry : ImageEntry). entry.name) listing.images number (Some image)))
+    (once_put (image_names listing.images) number image.name low (omega (arith, length-map listing.images (option_map (λ (entry : ImageEntry). entry.name)))) fits.paths.images_once only))
+    (λ k found is. elim (with_cases listing.images number k (Some image) found low high is) [
+      | inl here ↦ image_stays listing images found (subst (ImageFits listing) (same_Some image found here.1) image_fits)
+      | inr off ↦ image_stays listing images found (fits.paths.images k found off.1)
+    ])) fits.no_links
+
+pub fits_without_image : (listing : Listing) (number : ℕ) → ListingFits listing → 1 ≤ number → number ≤ length listing.images → ListingFits (with_image listing number None)
+fits_without_image listing number fits low high =
+    let images = with_number listing.images number None in
+    fits_again listing (record listing { images = images }) refl refl fits
+    (paths_of (record listing { images = images }) fits.no_links (length-set listing.images (number - 1) None ∙ fits.paths.image_places)
+    (subst AreOnce (sym (names_put (λ (entry : ImageEntry). entry.name) listing.images number None))
+    (once_dropped (image_names listing.images) number low (omega (arith, length-map listing.images (option_map (λ (entry : ImageEntry). entry.name)))) fits.paths.images_once))
+    (λ k found is. elim (with_cases listing.images number k None found low high is) [
+      | inl here ↦ absurd (none-some found here.1)
+      | inr off ↦ image_stays listing images found (fits.paths.images k found off.1)
+    ])) fits.no_links
+
+pub fits_with_root : (listing : Listing) (number root levels : ℕ) (image : ImageEntry) → ListingFits listing → image_at listing number ≡ Some image → root < 2 ^ 32 → 1 ≤ levels → levels < 2 ^ 8 → ListingFits (with_image listing number (Some (with_root root levels image)))
+fits_with_root listing number root levels image fits is low_root some_levels low_levels =
+    let within = numbered_within listing.images number image is in
+    let fit = fits.paths.images number image is in
+    fits_with_image listing number (with_root root levels image) fits within.0 within.1 (record {
+      name = fit.name;
+      relation = fit.relation;
+      listed = fit.listed;
+      some = fit.some;
+      few = fit.few;
+      long = fit.long;
+      places = fit.places;
+      within = fit.within;
+      different = fit.different;
+      narrow = fit.narrow;
+      some_levels = some_levels;
+      levels = low_levels;
+      root = low_root;
+    })
+    (λ k named. fits.paths.images_once k number image.name named (image_named listing number image is))
+
+-- ---- safe images
+
+-- each image of a listing is safe
+abbrev pub AreSafeImages : Listing → Type 0
+AreSafeImages listing = (number : ℕ) (image : ImageEntry) → image_at listing number ≡ Some image → IsSafeImage listing image
+
+-- an image that fits a listing is safe
+pub safe_image : (listing : Listing) (image : ImageEntry) → ImageFits listing image → IsSafeImage listing image
+safe_image listing image fit = record { relation = fit.relation; listed = fit.listed; some = fit.some; few = fit.few; within = fit.within; narrow = fit.narrow; low = fit.some_levels }
+
+-- it is with another root, too
+pub safe_root : (listing : Listing) (root levels : ℕ) (image : ImageEntry) → 1 ≤ levels → IsSafeImage listing image → IsSafeImage listing (with_root root levels image)
+safe_root listing root levels image low safe = record { relation = safe.relation; listed = safe.listed; some = safe.some; few = safe.few; within = safe.within; narrow = safe.narrow; low = low }
+
+safe_images_keep : (old new : Listing) → new.images ≡ old.images → KeepsFields old new → AreSafeImages old → AreSafeImages new
+safe_images_keep old new same keeps safe number image is =
+    let there : image_at old number ≡ Some image = ap (λ (l : List (Option ImageEntry)). numbered l number) (sym same) ∙ is in
+    let was = safe number image there in
+    safe_moves old new image was (keeps number image there was.relation was.listed)
+
+pub safe_off_relation : (listing : Listing) (number : ℕ) (item : Option RelationEntry) → 1 ≤ number → (HasImageOf listing number → ⊥) → AreSafeImages listing → AreSafeImages (with_relation listing number item)
+safe_off_relation listing number item low none safe = safe_images_keep listing (with_relation listing number item) refl (keeps_off listing number item low none) safe
+
+pub safe_with_count : (listing : Listing) (number live : ℕ) (relation : RelationEntry) → relation_at listing number ≡ Some relation → AreSafeImages listing → AreSafeImages (with_relation listing number (Some (with_count live relation)))
+safe_with_count listing number live relation is safe =
+    let within = numbered_within listing.relations number relation is in
+    safe_images_keep listing (with_relation listing number (Some (with_count live relation))) refl
+    (keeps_with listing number (with_count live relation) within.0 within.1 (λ was at. ap (λ (entry : RelationEntry). entry.fields) (same_Some relation was (sym is ∙ at)))) safe
+
+pub safe_with_image : (listing : Listing) (number : ℕ) (item : Option ImageEntry) → 1 ≤ number → number ≤ length listing.images → IfSome item (IsSafeImage listing) → AreSafeImages listing → AreSafeImages (with_image listing number item)
+safe_with_image listing number item low high fine safe k image is =
+    let was : IsSafeImage listing image = elim (with_cases listing.images number k item image low high is) [
+      | inl here ↦ subst (λ (o : Option ImageEntry). IfSome o (IsSafeImage listing)) here.1 fine
+      | inr off ↦ safe k image off.1
+    ] in
+    safe_moves listing (with_image listing number item) image was (record { relation = was.relation; listed = was.listed; same = refl })
+
+-- no image is of a relation that isn't listed
+pub no_image_of : (listing now : Listing) (number n : ℕ) → listing ≡ now → n ≡ number → AreSafeImages listing → (is_some (relation_at now number) ≡ true → HasImageOf now number → ⊥) → HasImageOf listing n → ⊥
+no_image_of listing now number n same same_number safe none has =
+    let listed = (safe has.number has.image has.at).listed in
+    let of : has.image.relation ≡ number = has.of ∙ same_number in
+    none (ap (λ (l : Listing). is_some (relation_at l number)) (sym same) ∙ ap (λ (k : ℕ). is_some (relation_at listing k)) (sym of) ∙ ap is_some listed)
+    (record { number = has.number; image = has.image; at = ap (λ (l : Listing). image_at l has.number) (sym same) ∙ has.at; of = of })
+
+-- so is each image that is kept beside its relations
+pub safe_all : (listing : Listing) → AreSafeIn listing.relations listing.images → AreSafeImages listing
+safe_all listing safe number image is =
+    let here = safe number image is in
+    let has = used_has (relation_at listing image.relation) here.listed in
+    record { relation = has.0; listed = has.1; some = here.some; few = here.few; within = here.within has.0 has.1; narrow = here.narrow has.0 has.1; low = here.low }
+
+pub safe_kept : (listing : Listing) → AreSafeImages listing → AreSafeIn listing.relations listing.images
+safe_kept listing safe number image is =
+    let here = safe number image is in
+    record {
+      listed = ap is_some here.listed;
+      some = here.some;
+      few = here.few;
+      within = λ relation at. subst (λ (r : RelationEntry). All (IsFieldNumber (length r.fields)) (field_numbers image)) (same_Some here.relation relation (sym here.listed ∙ at)) here.within;
+      narrow = λ relation at. subst (λ (r : RelationEntry). key_width (kinds (chosen (field_numbers image) r.fields)) ≤ most_key_width) (same_Some here.relation relation (sym here.listed ∙ at)) here.narrow;
+      low = here.low;
+    }
+
+-- no image stands behind the last one, or behind the place of one that was put
+pub none_behind_put : (images : List (Option ImageEntry)) (last number : ℕ) (item : Option ImageEntry) → 1 ≤ number → ((k : ℕ) → last < k → numbered images k ≡ None) → (k : ℕ) → max last number < k → numbered (with_number images number item) k ≡ None
+none_behind_put images last number item low none k past = with_other images number k item low (λ same. omega (arith, past, same)) ∙ none k (omega (arith, past))
 
 -- ---- what a listed relation is
 
@@ -183,14 +407,15 @@ safe_fit listing relation places fit =
       segment_high = within.1;
       few = few_of relation.fields fit.fields;
       narrow = fit.fields.narrow;
+      formed = fit.fields.formed;
     }
 
 -- the count of a relation was changed in its place
-pub counted_in_place : (names : List (Option Name)) (items : List (Option RelationEntry)) (pending : List Bool) (old : CatalogView) (number n page p live : ℕ) (read : RelationEntry) (d : Option RelationEntry) → record { listing = listing_of names items; pending = pending } ≡ old
+pub counted_in_place : (names : List (Option Name)) (items : List (Option RelationEntry)) (images : List (Option ImageEntry)) (pending : List Bool) (old : CatalogView) (number n page p live : ℕ) (read : RelationEntry) (d : Option RelationEntry) → record { listing = listing_of names items images; pending = pending } ≡ old
     → n ≡ number → p ≡ page → d ≡ get_or items (n - 1) d → d ≡ Some read → (relation : RelationEntry) → relation_at old.listing number ≡ Some relation
     → Lists (with_relation old.listing number (Some (with_count live relation))) page old
-    (record { listing = listing_of names (set items (n - 1) (Some (with_count live read))); pending = set pending p true })
-counted_in_place names items pending old number n page p live read d was same_number same_page found is relation at =
+    (record { listing = listing_of names (set items (n - 1) (Some (with_count live read))) images; pending = set pending p true })
+counted_in_place names items images pending old number n page p live read d was same_number same_page found is relation at =
     let there : numbered items number ≡ Some relation = ap (λ (v : CatalogView). numbered v.listing.relations number) was ∙ at in
     let within = numbered_within items number relation there in
     let same : relation ≡ read = same_Some relation read (sym there ∙ numbered_at items number within.0 within.1 ∙ ap (λ (k : ℕ). get_or items (k - 1) None) (sym same_number) ∙ get_or_default items (n - 1) None d (omega (arith, within, same_number)) ∙ sym found ∙ is) in
@@ -215,25 +440,16 @@ used_within listing kind same number is used =
     numbered_within (names_of same listing) number has.0 has.1
 
 -- a relation was taken away
-pub removed_relation : (old new : Listing) (kind : Kind) (number : ℕ) → kind ≡ Relation → is_some (numbered (names_of kind old) number) ≡ true → new ≡ with_relation old number None → ListingFits old → ListingFits new
-removed_relation old new kind number is used now fits =
+pub removed_relation : (old new : Listing) (kind : Kind) (number : ℕ) → kind ≡ Relation → is_some (numbered (names_of kind old) number) ≡ true → new ≡ with_relation old number None → (HasImageOf old number → ⊥) → ListingFits old → ListingFits new
+removed_relation old new kind number is used now none fits =
     let within = used_within old kind Relation number is used in
-    subst ListingFits (sym now) (fits_without_relation old number fits within.0 (omega (arith, within.1, length-map old.relations (option_map (λ (entry : RelationEntry). entry.name)))))
+    subst ListingFits (sym now) (fits_without_relation old number fits within.0 (omega (arith, within.1, length-map old.relations (option_map (λ (entry : RelationEntry). entry.name)))) none)
 
--- a relation of the segment was found at a place
-pub found_in : (listing : Listing) (items : List (Option RelationEntry)) (index segment : ℕ) (read : Option RelationEntry) (entry : RelationEntry) → items ≡ listing.relations → index < length items → read ≡ get_or items index read → read ≡ Some entry → entry.segment ≡ segment → HasRelationIn listing segment
-found_in listing items index segment read entry same low at is within = record {
-  number = index + 1;
-  relation = entry;
-  at = ap (λ (l : List (Option RelationEntry)). numbered l (index + 1)) (sym same) ∙ numbered_at items (index + 1) (omega arith) (omega arith) ∙ ap (λ (n : ℕ). get_or items n None) (omega arith) ∙ get_or_default items index None read low ∙ sym at ∙ is;
-  within = within;
-}
-
--- at none of the places
-pub none_in : (listing : Listing) (items : List (Option RelationEntry)) (index segment : ℕ) → items ≡ listing.relations → length items ≤ index → ((k : ℕ) (entry : RelationEntry) → k < index → get_or listing.relations k None ≡ Some entry → entry.segment ≡ segment → ⊥) → HasRelationIn listing segment → ⊥
-none_in listing items index segment same all none has =
-    let within = numbered_within listing.relations has.number has.relation has.at in
-    none (has.number - 1) has.relation (omega (arith, within, ap (λ (l : List (Option RelationEntry)). length l) same)) (sym (numbered_at listing.relations has.number within.0 within.1) ∙ has.at) has.within
+-- an image was taken away
+pub removed_image : (old new : Listing) (kind : Kind) (number : ℕ) → kind ≡ Image → is_some (numbered (names_of kind old) number) ≡ true → new ≡ with_image old number None → ListingFits old → ListingFits new
+removed_image old new kind number is used now fits =
+    let within = used_within old kind Image number is used in
+    subst ListingFits (sym now) (fits_without_image old number fits within.0 (omega (arith, within.1, length-map old.images (option_map (λ (entry : ImageEntry). entry.name)))))
 
 -- a number in use, by the parts of the catalog
 pub within_listed : (inside_listing : Listing) (pending : List Bool) (old : CatalogView) (number : ℕ) → record { listing = inside_listing; pending = pending } ≡ old → is_some (relation_at old.listing number) ≡ true → (1 ≤ number) × (number ≤ length inside_listing.relations)
@@ -248,7 +464,7 @@ is_listed items number n read entry same within at is =
 
 -- the count has no part in it
 pub safe_count : {live : ℕ} {relation : RelationEntry} → IsSafe relation → IsSafe (with_count live relation)
-safe_count safe = record { segment_low = safe.segment_low; segment_high = safe.segment_high; few = safe.few; narrow = safe.narrow }
+safe_count safe = record { segment_low = safe.segment_low; segment_high = safe.segment_high; few = safe.few; narrow = safe.narrow; formed = safe.formed }
 
 -- a segment was added, by the least number that was free
 pub added_segment : (old new : Listing) (name : Name) (number : ℕ) (least : Option ℕ) → IfSome least (IsLeastUnused Segment old) → least ≡ Some number → IsName name → IsUnlisted Segment old name → new ≡ with_segment old number (Some name) → ListingFits old → ListingFits new
@@ -256,8 +472,24 @@ added_segment old new name number least is found is_name unlisted now fits =
     let free = subst (λ (o : Option ℕ). IfSome o (IsLeastUnused Segment old)) found is in
     subst ListingFits (sym now) (fits_with_segment old number name fits free.low free.high is_name unlisted)
 
+-- no relation has a number that has no name
+free_relation : (listing : Listing) (number : ℕ) (relation : RelationEntry) → numbered (names_of Relation listing) number ≡ None → relation_at listing number ≡ Some relation → ⊥
+free_relation listing number relation free is = none-some relation.name (sym free ∙ name_listed listing number relation is)
+
 -- a relation was added, by the least number that was free
 pub added_relation : (old new : Listing) (relation : RelationEntry) (number : ℕ) (least : Option ℕ) → IfSome least (IsLeastUnused Relation old) → least ≡ Some number → EntryFits old relation → IsUnlisted Relation old relation.name → new ≡ with_relation old number (Some relation) → ListingFits old → ListingFits new
 added_relation old new relation number least is found entry unlisted now fits =
     let free = subst (λ (o : Option ℕ). IfSome o (IsLeastUnused Relation old)) found is in
-    subst ListingFits (sym now) (fits_with_relation old number relation fits free.low (omega (arith, free.high, length-map old.relations (option_map (λ (entry : RelationEntry). entry.name)))) entry (λ k named. absurd (unlisted k named)))
+    subst ListingFits (sym now) (fits_with_relation old number relation fits free.low (omega (arith, free.high, length-map old.relations (option_map (λ (entry : RelationEntry). entry.name)))) entry (λ k named. absurd (unlisted k named)) (λ was at. absurd (free_relation old number was free.free at)))
+
+pub unused_relation : (listing : Listing) (number : ℕ) (least : Option ℕ) → IfSome least (IsLeastUnused Relation listing) → least ≡ Some number → is_some (relation_at listing number) ≡ true → ⊥
+unused_relation listing number least is found used =
+    let free = subst (λ (o : Option ℕ). IfSome o (IsLeastUnused Relation listing)) found is in
+    let has = used_has (relation_at listing number) used in
+    free_relation listing number has.0 free.free has.1
+
+-- an image was added, by the least number that was free
+pub added_image : (old new : Listing) (image : ImageEntry) (number : ℕ) (least : Option ℕ) → IfSome least (IsLeastUnused Image old) → least ≡ Some number → ImageFits old image → IsUnlisted Image old image.name → new ≡ with_image old number (Some image) → ListingFits old → ListingFits new
+added_image old new image number least is found fit unlisted now fits =
+    let free = subst (λ (o : Option ℕ). IfSome o (IsLeastUnused Image old)) found is in
+    subst ListingFits (sym now) (fits_with_image old number image fits free.low (omega (arith, free.high, length-map old.images (option_map (λ (entry : ImageEntry). entry.name)))) fit (λ k named. absurd (unlisted k named)))

@@ -1,10 +1,11 @@
 -- What the pages of the system space are found to hold, one page after another.
-use Rattle.std.proofs.Common.{◌≡◌, ◌↔◌, ℕ, ◌+◌, ◌-◌, ◌*◌, ◌<◌, ◌≤◌, suc, zero, Bool, true, false, not, cond, List, [], ◌∷◌, ◌++◌, length, take, drop, get_or, replicate, Option, Some, None, All, refl, sym, ◌∙◌, ap, subst, inl, inr, arith, length-append}
-use Rattle.std.specs.Prelude.{Result, Ok, Err, map, flat_map, min, ◌==◌}
+use Rattle.std.proofs.Common.{◌≡◌, ◌↔◌, ℕ, ◌+◌, ◌-◌, ◌*◌, ◌<◌, ◌≤◌, Bool, true, false, not, cond, List, [], ◌++◌, length, take, drop, get_or, replicate, Option, Some, None, All, refl, sym, ◌∙◌, ap, subst, inl, inr, arith, add-one, mul-zero, mul-suc, length-append}
+use Rattle.std.specs.Prelude.{IsTrue, Result, Ok, Err, map, flat_map, min, ◌==◌}
 use Rattle.std.proofs.lemmas.Bool.{cases_eq, cases_lt}
 use Rattle.std.proofs.lemmas.Option.{none-some, same_Some}
-use Rattle.std.proofs.lemmas.List.{length-map, length-drop, take_all, take_rest, drop_at, drop_all, take-append-le, drop-append-le}
-use Rattle.std.proofs.lemmas.List.Elements.{All-append, All-map}
+use Rattle.std.proofs.lemmas.List.{length-map, length-drop, take_all, take_rest, drop_at, take-append-le, drop-append-le}
+use Rattle.std.proofs.lemmas.List.Elements.{All-map}
+use Rattle.std.proofs.Math.Nat.{mul-le-mul_left}
 use Rattle.std.proofs.Math.Seq.{take-add}
 use Rattle.std.specs.Str.{bytes_eq}
 use Rattle.std.proofs.lemmas.Slice.Eq.{bytes_eq-Decides}
@@ -12,10 +13,11 @@ use Rattle.rss_base.specs.Sizes.{page_bytes, zero_page, system_pages}
 use Rattle.rss_base.specs.DiskRule.{IsTold}
 use Rattle.rss_base.specs.Paged.{Mapped, Held, page_key}
 use Rattle.rss_base.specs.Steps.{PagesView, no_page}
-use Rattle.rss_base.specs.Looking.{LooksStep, ChecksPages}
-use Rattle.rss_base.specs.Listings.{Listing, ListingFits, IsPlain, HoldsListing, catalog_page, padded, segment_spelled, relation_spelled, relations_on}
+use Rattle.rss_base.specs.Looking.{ChecksPages}
+use Rattle.rss_base.specs.Listings.{Listing, ListingFits, HoldsListing, catalog_page, padded, segment_spelled}
 use Rattle.rss_base.specs.declared.name.Name.{Name}
 use Rattle.rss_base.specs.declared.relation.RelationEntry.{RelationEntry}
+use Rattle.rss_base.specs.declared.image.ImageEntry.{ImageEntry}
 use Rattle.rss_base.specs.declared.place.Place.{Place}
 use Rattle.rss_base.specs.declared.place.Place.TheVariants.{Catalog as CatalogPlace}
 use Rattle.rss_base.specs.declared.fault.PageFault.{PageFault}
@@ -23,13 +25,13 @@ use Rattle.rss_base.specs.declared.fault.PageFault.TheVariants.{Damaged, Device 
 use Rattle.rss_base.specs.declared.key.PageKey.{PageKey}
 use Rattle.rss_base.specs.declared.key.Space.TheVariants.{System}
 use Rattle.rss_base.proofs.Looking.{checks_then, checks_as, checks_within}
-use Rattle.rss_catalog.specs.Catalogs.{CatalogView, IsCatalogPlace, HasSystemPages, Loads, none_pending}
+use Rattle.rss_catalog.specs.Catalogs.{IsCatalogPlace, Loads, none_pending}
 use Rattle.rss_catalog.specs.Reading.{pieces, segment_of, relation_of, entry_of, fields_of, HasFewFields}
-use Rattle.rss_catalog.specs.Loading.{SpellsNone, IsFlawed, HasPage, LoadsSegments, LoadsRelations, on_page}
+use Rattle.rss_catalog.specs.Loading.{SpellsNone, IsFlawed, HasPage, LoadsSegments, Form, relation_form, image_form, page_with, part, IsFormed, HasForm, AddsPage, LoadsEntries}
 use Rattle.rss_catalog.specs.Checking.{listing_of}
-use Rattle.rss_catalog.proofs.Plain.{zeros_past}
+use Rattle.rss_catalog.proofs.Plain.{links_page_is, images_page_is}
 use Rattle.rss_catalog.proofs.Pieces.{length-pieces}
-use Rattle.rss_catalog.proofs.Read.{segments_back, relations_back, relations_page_is}
+use Rattle.rss_catalog.proofs.Read.{segments_back, relations_page_is}
 
 -- ---- a page
 
@@ -61,24 +63,31 @@ both false found is it = absurd (cc)
 pub same_bytes : (one other : List ℕ) (found : Bool) → found ≡ not (bytes_eq one other) → found ≡ false → one ≡ other
 same_bytes one other found is it = (bytes_eq-Decides one other).0 (both (bytes_eq one other) found is it)
 
+-- a page that was compared with what it is spelled as
+pub is_page : (page spelled target : List ℕ) (same : Bool) → same ≡ bytes_eq page spelled → spelled ≡ target → IsTrue same ↔ (page ≡ target)
+is_page page spelled target same is form = (
+  λ yes. (bytes_eq-Decides page spelled).0 (sym is ∙ yes) ∙ form,
+  λ here. is ∙ (bytes_eq-Decides page spelled).1 (here ∙ sym form),
+)
+
 -- ---- the segments
 
 pub loads_segments : (old : PagesView) (items now : List (Option Name)) (page spelled : List ℕ) → HasPage old 0 page → items ≡ map segment_of (pieces 16 8 page) → now ≡ items → page ≡ spelled → spelled ≡ padded page_bytes (flat_map segment_spelled now) → LoadsSegments old items
 loads_segments old items now page spelled has is same equal form = record {
   places = ap length is ∙ length-map (pieces 16 8 page) segment_of ∙ length-pieces 16 8 page;
   has = subst (λ (bytes : List ℕ). HasPage old 0 bytes) (equal ∙ form ∙ ap (λ (l : List (Option Name)). padded page_bytes (flat_map segment_spelled l)) same) has;
-  only = λ told listing fits holds. is ∙ ap (λ (bytes : List ℕ). map segment_of (pieces 16 8 bytes)) (spelled_so old 0 page listing has (omega arith) told holds) ∙ segments_back listing fits;
+  only = λ told listing fits plain holds. is ∙ ap (λ (bytes : List ℕ). map segment_of (pieces 16 8 bytes)) (spelled_so old 0 page listing has (omega arith) told holds) ∙ segments_back listing fits;
 }
 
 pub no_segments : (old : PagesView) (items now : List (Option Name)) (page spelled : List ℕ) → HasPage old 0 page → items ≡ map segment_of (pieces 16 8 page) → now ≡ items → (page ≡ spelled → ⊥) → spelled ≡ padded page_bytes (flat_map segment_spelled now) → SpellsNone old
-no_segments old items now page spelled has is same other form = λ told listing fits holds.
+no_segments old items now page spelled has is same other form = λ told listing fits plain holds.
     let so = spelled_so old 0 page listing has (omega arith) told holds in
     let it : now ≡ listing.segments = same ∙ is ∙ ap (λ (bytes : List ℕ). map segment_of (pieces 16 8 bytes)) so ∙ segments_back listing fits in
     other (so ∙ sym (form ∙ ap (λ (l : List (Option Name)). padded page_bytes (flat_map segment_spelled l)) it))
 
--- ---- the relations
+-- ---- entries
 
--- what is read has no more fields than a relation may have
+-- the relations of a page have no more fields than a relation may have
 read_entry : (b : Bool) (read entry : RelationEntry) → cond b None (Some read) ≡ Some entry → read ≡ entry
 read_entry true read entry is = absurd (none-some entry is)
 read_entry false read entry is = same_Some read entry is
@@ -93,49 +102,49 @@ few_read bytes entry is =
 pub few_eight : (page : List ℕ) → All HasFewFields (map relation_of (pieces 512 8 page))
 few_eight page = All-map HasFewFields relation_of (pieces 512 8 page) (λ k d low. few_read (get_or (pieces 512 8 page) k d))
 
-pub long_eight : (page : List ℕ) → length (map relation_of (pieces 512 8 page)) ≡ 8
-long_eight page = length-map (pieces 512 8 page) relation_of ∙ length-pieces 512 8 page
+-- the entries that were read last
+pub last_read : {X : Type 0} (items read now new : List (Option X)) (first : ℕ) → new ≡ items ++ read → now ≡ new → first ≡ length items → take (length now - first) (drop first now) ≡ read
+last_read items read now new first is same here =
+    take_rest now first ∙ ap (drop first) (same ∙ is) ∙ drop_at items read first (sym here)
 
--- the relations that were read last
-pub last_read : (items eight now new : List (Option RelationEntry)) (first : ℕ) → new ≡ items ++ eight → now ≡ new → first ≡ length items → take (length now - first) (drop first now) ≡ eight
-last_read items eight now new first is same here =
-    take_rest now first ∙ ap (drop first) (same ∙ is) ∙ drop_at items eight first (sym here)
+-- a page that isn't what its entries are spelled by is no listing's
+pub misspelled : {X : Type 0} (form : Form X) (old : PagesView) (number : ℕ) (page : List ℕ) → IsFormed form number → HasPage old number page → number < system_pages → (page ≡ page_with form (form.read page) → ⊥) → SpellsNone old
+misspelled form old number page formed has low other = λ told listing fits plain holds.
+    let so = spelled_so old number page listing has low told holds in
+    other (so ∙ formed listing fits plain ∙ ap (λ (bytes : List ℕ). page_with form (form.read bytes)) (sym so))
 
--- the relations of the pages before stay, and those of the next page stand behind them
-page_before : (items eight : List (Option RelationEntry)) (page count : ℕ) → length items ≡ 8 * count → 1 ≤ page → page ≤ count → on_page page (items ++ eight) ≡ on_page page items
-page_before items eight page count long low high =
-    ap (take 8) (drop-append-le (8 * (page - 1)) items eight (omega arith)) ∙ take-append-le 8 (drop (8 * (page - 1)) items) eight (omega (arith, length-drop (8 * (page - 1)) items))
+-- one page more of a width
+width_more : (n k : ℕ) → n * (k + 1) ≡ n * k + n
+width_more n k = ap (λ (m : ℕ). n * m) (add-one k) ∙ mul-suc n k ∙ omega arith
 
-page_next : (items eight : List (Option RelationEntry)) (page count : ℕ) → length items ≡ 8 * count → length eight ≡ 8 → page ≡ count + 1 → on_page page (items ++ eight) ≡ eight
-page_next items eight page count long eight_long is =
-    ap (take 8) (drop_at items eight (8 * (page - 1)) (omega arith)) ∙ take_all 8 eight (omega arith)
+-- the entries of the pages before stay, and those of the next page stand behind them
+part_before : {X : Type 0} (form : Form X) (items read : List (Option X)) (page count : ℕ) → length items ≡ form.count * count → page < count → part form page (items ++ read) ≡ part form page items
+part_before form items read page count long low =
+    let room : form.count * (page + 1) ≤ form.count * count = mul-le-mul_left form.count (omega arith) in
+    let more = width_more form.count page in
+    ap (take form.count) (drop-append-le (form.count * page) items read (omega (arith, room, more, long))) ∙ take-append-le form.count (drop (form.count * page) items) read (omega (arith, room, more, long, length-drop (form.count * page) items))
 
-pub loads_more : (old : PagesView) (before : ℕ) (items new now : List (Option RelationEntry)) (first : ℕ) (page spelled : List ℕ) → LoadsRelations old before items → before < 6 → HasPage old (before + 1) page → new ≡ items ++ map relation_of (pieces 512 8 page) → now ≡ new → first ≡ length items → page ≡ spelled
-    → spelled ≡ padded page_bytes (flat_map relation_spelled (take (length now - first) (drop first now))) → LoadsRelations old (before + 1) new
-loads_more old before items new now first page spelled so low has is same here equal form =
-    let eight = map relation_of (pieces 512 8 page) in
-    let long = long_eight page in
-    let last = last_read items eight now new first is same here in
+part_next : {X : Type 0} (form : Form X) (items read : List (Option X)) (count : ℕ) → length items ≡ form.count * count → length read ≡ form.count → part form count (items ++ read) ≡ read
+part_next form items read count long read_long =
+    ap (take form.count) (drop_at items read (form.count * count) long) ∙ take_all form.count read (omega (arith, read_long))
+
+pub loads_more : {X : Type 0} (form : Form X) (first count before : ℕ) (old : PagesView) (items new : List (Option X)) → HasForm form first count → before < count → LoadsEntries form first before old items → AddsPage form old (first + before) items new → LoadsEntries form first (before + 1) old new
+loads_more form first count before old items new has low so adds =
+    let read = form.read adds.bytes in
+    let long = has.long adds.bytes in
+    let more = width_more form.count before in
     record {
-      places = ap length is ∙ length-append items eight ∙ omega (arith, so.places, long);
-      few = subst (λ (l : List (Option RelationEntry)). All HasFewFields l) (sym is) (All-append HasFewFields items eight so.few (few_eight page));
-      has = λ number least most. elim (cases_eq number (before + 1)) [
-        | inl there ↦ subst (λ (n : ℕ). HasPage old n (padded page_bytes (flat_map relation_spelled (on_page number new)))) (sym there)
-            (subst (λ (bytes : List ℕ). HasPage old (before + 1) bytes) (equal ∙ form ∙ ap (λ (l : List (Option RelationEntry)). padded page_bytes (flat_map relation_spelled l)) (last ∙ sym (ap (on_page number) is ∙ page_next items eight number before so.places long there))) has)
-        | inr off ↦ subst (λ (l : List (Option RelationEntry)). HasPage old number (padded page_bytes (flat_map relation_spelled l))) (sym (ap (on_page number) is ∙ page_before items eight number before so.places least (omega (arith, off)))) (so.has number least (omega (arith, off)))
+      places = ap length adds.added ∙ length-append items read ∙ omega (arith, so.places, long, more);
+      has = λ page less. elim (cases_eq page before) [
+        | inl there ↦ subst (λ (n : ℕ). HasPage old (first + n) (page_with form (part form n new))) (sym there)
+            (subst (λ (bytes : List ℕ). HasPage old (first + before) bytes) (adds.formed ∙ ap (page_with form) (sym (ap (part form before) adds.added ∙ part_next form items read before so.places long))) adds.has)
+        | inr off ↦ subst (λ (l : List (Option _)). HasPage old (first + page) (page_with form l)) (sym (ap (part form page) adds.added ∙ part_before form items read page before so.places (omega (arith, less, off)))) (so.has page (omega (arith, less, off)))
       ];
-      only = λ told listing fits holds.
-          let next : eight ≡ take 8 (drop (8 * before) listing.relations) = ap (λ (bytes : List ℕ). map relation_of (pieces 512 8 bytes)) (spelled_so old (before + 1) page listing has (omega arith) told holds) ∙ relations_back listing (before + 1) fits (omega arith) (omega arith) ∙ ap (λ (n : ℕ). take 8 (drop (8 * n) listing.relations)) (omega arith) in
-          is ∙ (λ i. so.only told listing fits holds i ++ next i) ∙ sym (take-add (8 * before) 8 listing.relations) ∙ ap (λ (n : ℕ). take n listing.relations) (omega arith);
+      only = λ told listing fits plain holds.
+          let here = spelled_so old (first + before) adds.bytes listing adds.has (omega (arith, has.within, low)) told holds in
+          let next : read ≡ part form before (form.listed listing) = ap form.read here ∙ has.back before low listing fits plain in
+          adds.added ∙ (λ i. so.only told listing fits plain holds i ++ next i) ∙ sym (take-add (form.count * before) form.count (form.listed listing)) ∙ ap (λ (n : ℕ). take n (form.listed listing)) (sym more);
     }
-
-pub no_relations : (old : PagesView) (before : ℕ) (items new now : List (Option RelationEntry)) (first : ℕ) (page spelled : List ℕ) → before < 6 → HasPage old (before + 1) page → new ≡ items ++ map relation_of (pieces 512 8 page) → now ≡ new → first ≡ length items → (page ≡ spelled → ⊥)
-    → spelled ≡ padded page_bytes (flat_map relation_spelled (take (length now - first) (drop first now))) → SpellsNone old
-no_relations old before items new now first page spelled low has is same here other form = λ told listing fits holds.
-    let eight = map relation_of (pieces 512 8 page) in
-    let so = spelled_so old (before + 1) page listing has (omega arith) told holds in
-    let it : take (length now - first) (drop first now) ≡ relations_on listing (before + 1) = last_read items eight now new first is same here ∙ ap (λ (bytes : List ℕ). map relation_of (pieces 512 8 bytes)) so ∙ relations_back listing (before + 1) fits (omega arith) (omega arith) in
-    other (so ∙ relations_page_is listing (before + 1) (omega arith) (omega arith) ∙ sym (form ∙ ap (λ (l : List (Option RelationEntry)). padded page_bytes (flat_map relation_spelled l)) it))
 
 -- ---- the same pages, before and after a look
 
@@ -157,25 +166,26 @@ has_after {number = number} same has = record {
 }
 
 pub spells_after : {old new : PagesView} → SamePages old new → SpellsNone old → SpellsNone new
-spells_after same none = λ told listing fits holds. none (same.told.1 told) listing fits (subst (λ (h : Held). HoldsListing h listing) (same.held (same.told.1 told)) holds)
+spells_after same none = λ told listing fits plain holds. none (same.told.1 told) listing fits plain (subst (λ (h : Held). HoldsListing h listing) (same.held (same.told.1 told)) holds)
 
 pub flawed_after : {old new : PagesView} {place : Place} → SamePages old new → IsFlawed old place → IsFlawed new place
 flawed_after same flawed = record { named = flawed.named; none = spells_after same flawed.none }
 
-pub relations_after : {old new : PagesView} {count : ℕ} {items : List (Option RelationEntry)} → SamePages old new → LoadsRelations old count items → LoadsRelations new count items
-relations_after same so = record {
+pub adds_after : {X : Type 0} {form : Form X} {number : ℕ} {items more : List (Option X)} {old new : PagesView} → SamePages old new → AddsPage form old number items more → AddsPage form new number items more
+adds_after same adds = record { bytes = adds.bytes; has = has_after same adds.has; formed = adds.formed; added = adds.added }
+
+pub entries_after : {X : Type 0} {form : Form X} {first count : ℕ} {items : List (Option X)} {old new : PagesView} → SamePages old new → LoadsEntries form first count old items → LoadsEntries form first count new items
+entries_after same so = record {
   places = so.places;
-  few = so.few;
-  has = λ page low high. has_after same (so.has page low high);
-  only = λ told listing fits holds. so.only (same.told.1 told) listing fits (subst (λ (h : Held). HoldsListing h listing) (same.held (same.told.1 told)) holds);
+  has = λ page low. has_after same (so.has page low);
+  only = λ told listing fits plain holds. so.only (same.told.1 told) listing fits plain (subst (λ (h : Held). HoldsListing h listing) (same.held (same.told.1 told)) holds);
 }
 
-pub relations_none : (view : PagesView) → LoadsRelations view 0 []
-relations_none view = record {
-  places = refl;
-  few = λ k d low. absurd (omega arith);
-  has = λ page low high. absurd (omega arith);
-  only = λ told listing fits holds. refl;
+pub entries_none : {X : Type 0} (form : Form X) (first : ℕ) (view : PagesView) (items : List (Option X)) → items ≡ [] → LoadsEntries form first 0 view items
+entries_none form first view items none = record {
+  places = ap length none ∙ sym (mul-zero form.count);
+  has = λ page low. absurd (omega arith);
+  only = λ told listing fits plain holds. none ∙ ap (λ (n : ℕ). take n (form.listed listing)) (sym (mul-zero form.count));
 }
 
 -- ---- looks in a row
@@ -196,21 +206,11 @@ checks_ends result few is one two = checks_within (λ key same. same) few (check
 pub no_device : {T U : Type 0} {fault : PageFault} {place : Place} {result : Result T PageFault} → fault ≡ Damaged place → ◌≡◌ {A = Result U PageFault} (Err fault) (Err DeviceFailed) → result ≡ Err DeviceFailed
 no_device {fault = fault} {place = place} is error = let same : Damaged place ≡ DeviceFailed = cc in absurd (cc)
 
--- ---- the other pages
+-- ---- the last page
 
--- behind the pages of the relations there are zeros
-pub zeros_behind : (listing : Listing) → IsPlain listing → (page : ℕ) → 6 < page → zero_page ≡ catalog_page listing page
-zeros_behind listing plain page past = sym (zeros_past listing plain page past)
-
-pub no_zeros : (old : PagesView) (number : ℕ) (page : List ℕ) → HasPage old number page → 7 ≤ number → number < system_pages → (page ≡ zero_page → ⊥) → SpellsNone old
-no_zeros old number page has low high other = λ told listing fits holds.
-    other (spelled_so old number page listing has high told holds ∙ sym (zeros_behind listing fits.plain number (omega arith)))
-
-pub zeros_more : {old mid : PagesView} (number : ℕ) → SamePages old mid → ((page : ℕ) → 7 ≤ page → page < number → HasPage old page zero_page) → HasPage mid number zero_page → (page : ℕ) → 7 ≤ page → page < number + 1 → HasPage old page zero_page
-zeros_more {old = old} number same before has page low high = elim (cases_eq page number) [
-  | inl here ↦ subst (λ (n : ℕ). HasPage old n zero_page) (sym here) (has_after (looked_back same) has)
-  | inr off ↦ before page low (omega (arith, off))
-]
+pub no_zeros : (old : PagesView) (page : List ℕ) → HasPage old 9 page → (page ≡ zero_page → ⊥) → SpellsNone old
+no_zeros old page has other = λ told listing fits plain holds.
+    other (spelled_so old 9 page listing has (omega arith) told holds ∙ links_page_is listing 9 fits.no_links (omega arith))
 
 -- ---- the whole catalog
 
@@ -218,36 +218,62 @@ pub segments_after : {old new : PagesView} {items : List (Option Name)} → Same
 segments_after same so = record {
   places = so.places;
   has = has_after same so.has;
-  only = λ told listing fits holds. so.only (same.told.1 told) listing fits (subst (λ (h : Held). HoldsListing h listing) (same.held (same.told.1 told)) holds);
+  only = λ told listing fits plain holds. so.only (same.told.1 told) listing fits plain (subst (λ (h : Held). HoldsListing h listing) (same.held (same.told.1 told)) holds);
 }
 
 -- all pages of a listing were found
-pub holds_all : (old : PagesView) (names : List (Option Name)) (items : List (Option RelationEntry)) → length items ≡ 48 → LoadsSegments old names → LoadsRelations old 6 items → ((page : ℕ) → 6 < page → page < system_pages → HasPage old page zero_page)
-    → (page : ℕ) → page < system_pages → HasPage old page (catalog_page (listing_of names items) page)
-holds_all old names items long segments relations zeros page low =
-    let listing : Listing = listing_of names items in
+pub record LoadsAll (pages : PagesView) (names : List (Option Name)) (entries : List (Option RelationEntry)) (shown : List (Option ImageEntry)) : Type 0 where
+  pub segments : LoadsSegments pages names
+  pub relations : LoadsEntries relation_form 1 6 pages entries
+  pub images : LoadsEntries image_form 7 2 pages shown
+
+holds_all : (old : PagesView) (names : List (Option Name)) (items : List (Option RelationEntry)) (images : List (Option ImageEntry)) → LoadsAll old names items images → HasPage old 9 zero_page
+    → (page : ℕ) → page < system_pages → HasPage old page (catalog_page (listing_of names items images) page)
+holds_all old names items images all zeros page low =
+    let listing : Listing = listing_of names items images in
     elim (cases_eq page 0) [
-      | inl here ↦ subst (λ (n : ℕ). HasPage old n (catalog_page listing n)) (sym here) segments.has
+      | inl here ↦ subst (λ (n : ℕ). HasPage old n (catalog_page listing n)) (sym here) all.segments.has
       | inr off ↦ elim (cases_lt 6 page) [
-        | inl past ↦ subst (λ (bytes : List ℕ). HasPage old page bytes) (zeros_behind listing (record { no_images = refl; no_links = refl }) page past) (zeros page past low)
-        | inr few ↦ subst (λ (bytes : List ℕ). HasPage old page bytes) (sym (relations_page_is listing page (omega (arith, off)) few)) (relations.has page (omega (arith, off)) few)
+        | inr few ↦
+            let before = page - 1 in
+            let number : 1 + before ≡ page = omega (arith, off) in
+            subst (λ (n : ℕ). HasPage old n (catalog_page listing page)) number (subst (λ (bytes : List ℕ). HasPage old (1 + before) bytes) (sym (relations_page_is listing page (omega (arith, off)) few)) (all.relations.has before (omega (arith, off, few))))
+        | inl past ↦ elim (cases_lt 8 page) [
+          | inr few ↦
+              let before = page - 1 - 6 in
+              let number : 7 + before ≡ page = omega (arith, past) in
+              subst (λ (n : ℕ). HasPage old n (catalog_page listing page)) number (subst (λ (bytes : List ℕ). HasPage old (7 + before) bytes) (sym (images_page_is listing page past few)) (all.images.has before (omega (arith, past, few))))
+          | inl links ↦
+              let number : 9 ≡ page = omega (arith, low, links) in
+              subst (λ (bytes : List ℕ). HasPage old page bytes) (sym (links_page_is listing page refl links)) (subst (λ (n : ℕ). HasPage old n zero_page) number zeros)
+        ]
       ]
     ]
 
-pub loads_all : (old : PagesView) (names : List (Option Name)) (items : List (Option RelationEntry)) → LoadsSegments old names → LoadsRelations old 6 items → ((page : ℕ) → 6 < page → page < system_pages → HasPage old page zero_page) → ListingFits (listing_of names items)
-    → Loads old (record { listing = listing_of names items; pending = none_pending })
-loads_all old names items segments relations zeros fits =
-    let has = holds_all old names items relations.places segments relations zeros in
+pub loads_all : (old : PagesView) (names : List (Option Name)) (items : List (Option RelationEntry)) (images : List (Option ImageEntry)) → LoadsAll old names items images → HasPage old 9 zero_page → ListingFits (listing_of names items images) → images ≡ replicate 128 None
+    → Loads old (record { listing = listing_of names items images; pending = none_pending })
+loads_all old names items images all zeros fits none =
+    let has = holds_all old names items images all zeros in
     record {
       mapped = λ page low. (has page low).mapped;
       fits = fits;
+      plain = record { no_images = none; no_links = refl };
       holds = λ told page low. (has page low).holds told;
       written = refl;
     }
 
--- a listing that doesn't fit was found, so that none that fits is spelled
-pub no_listing_fits : (old : PagesView) (names : List (Option Name)) (items : List (Option RelationEntry)) → LoadsSegments old names → LoadsRelations old 6 items → (ListingFits (listing_of names items) → ⊥) → SpellsNone old
-no_listing_fits old names items segments relations other = λ told listing fits holds.
-    let same_names = segments.only told listing fits holds in
-    let same_items : items ≡ listing.relations = relations.only told listing fits holds ∙ take_all 48 listing.relations (omega (arith, fits.relation_places)) in
-    other (subst ListingFits (sym (λ i. record { segments = same_names i; relations = same_items i; images = sym fits.plain.no_images i; links = sym fits.plain.no_links i })) fits)
+-- a listing that doesn't fit, or has images, was found, so that none that fits is spelled
+pub no_listing_fits : (old : PagesView) (names : List (Option Name)) (items : List (Option RelationEntry)) (images : List (Option ImageEntry)) → LoadsAll old names items images → (ListingFits (listing_of names items images) → images ≡ replicate 128 None → ⊥) → SpellsNone old
+no_listing_fits old names items images all other = λ told listing fits plain holds.
+    let same_names = all.segments.only told listing fits plain holds in
+    let same_items : items ≡ listing.relations = all.relations.only told listing fits plain holds ∙ take_all 48 listing.relations (omega (arith, fits.relation_places)) in
+    let same_images : images ≡ listing.images = all.images.only told listing fits plain holds ∙ take_all 128 listing.images (omega (arith, fits.paths.image_places)) in
+    other (subst ListingFits (sym (λ i. record { segments = same_names i; relations = same_items i; images = same_images i; links = sym fits.no_links i })) fits) (same_images ∙ plain.no_images)
+
+-- what was loaded in a row was there before
+pub all_after : {T U : Type 0} {asks asks_relations : ℕ} {old mid next : PagesView} {names : List (Option Name)} {entries : List (Option RelationEntry)} {images : List (Option ImageEntry)} {first : Result T PageFault} {second : Result U PageFault} → LoadsSegments old names → ChecksPages no_page asks old mid first → LoadsEntries relation_form 1 6 mid entries → ChecksPages no_page asks_relations mid next second → LoadsEntries image_form 7 2 next images → LoadsAll old names entries images
+all_after segments one relations two images = record {
+  segments = segments;
+  relations = entries_after (looked_back (looked one)) relations;
+  images = entries_after (looked_back (looked (checks_then one two))) images;
+}

@@ -1,5 +1,5 @@
 -- What has which number.
-use Rattle.std.proofs.Common.{◌≡◌, ◌⊎◌, ℕ, ◌+◌, ◌-◌, ◌<◌, ◌≤◌, suc, zero, true, false, List, length, replicate, Option, Some, None, refl, sym, ◌∙◌, ap, inl, inr, arith, get_or}
+use Rattle.std.proofs.Common.{◌≡◌, ◌⊎◌, ℕ, ◌-◌, ◌<◌, ◌≤◌, suc, zero, true, false, List, length, replicate, Option, Some, None, refl, sym, ◌∙◌, ap, inl, inr, arith, get_or}
 use Rattle.std.specs.Prelude.{is_some, map, option_map, option_and_then, slice_get, ◌==◌}
 use Rattle.std.proofs.lemmas.Bool.{cases_eq, cases_lt, cond-false, ne_eqb}
 use Rattle.std.proofs.lemmas.Option.{none-some, slice_get-get_or, slice_get_past, slice_get-map}

@@ -1,8 +1,8 @@
--- A listing without images and links.
-use Rattle.std.proofs.Common.{◌≡◌, ◌⊎◌, ℕ, zero, suc, ◌+◌, ◌-◌, ◌*◌, ◌<◌, ◌≤◌, Bool, true, false, List, [], ◌∷◌, ◌++◌, length, take, drop, map, replicate, zero-mul, inl, inr, refl, sym, ◌∙◌, ap, subst, arith}
-use Rattle.std.specs.Prelude.{Option, Some, None, option_map, count_by, flat_map, min, nat_le, ◌==◌, if◌then◌else◌}
-use Rattle.std.proofs.lemmas.List.{length-replicate, take-replicate, drop-replicate, replicate-append-replicate, take_all}
-use Rattle.std.proofs.lemmas.Bool.{cases_lt, cond-false, ne_eqb, lt-leb}
+-- A listing without links, and one without images too.
+use Rattle.std.proofs.Common.{◌≡◌, ◌⊎◌, ℕ, zero, suc, ◌+◌, ◌-◌, ◌*◌, ◌<◌, ◌≤◌, true, List, ◌++◌, length, take, drop, get_or, map, replicate, zero-mul, inl, inr, refl, sym, ◌∙◌, ap, subst, arith}
+use Rattle.std.specs.Prelude.{Option, Some, None, is_some, option_map, count_by, flat_map, min, nat_le, ◌==◌, if◌then◌else◌}
+use Rattle.std.proofs.lemmas.List.{length-replicate, take-replicate, drop-replicate, replicate-append-replicate, take_all, same_lists, get_or_default, get_or-replicate}
+use Rattle.std.proofs.lemmas.Bool.{false≢true, cases_lt, cond-true, cond-false, ne_eqb, lt-leb, le-leb}
 use Rattle.std.proofs.lemmas.Option.{none-some}
 use Rattle.rss_base.specs.declared.name.Name.{Name}
 use Rattle.rss_base.specs.declared.link.LinkEntry.{LinkEntry}
@@ -10,47 +10,63 @@ use Rattle.rss_base.specs.declared.refusal.Kind.{Kind}
 use Rattle.rss_base.specs.declared.refusal.Kind.TheVariants.{Image, Link, Field, Scan}
 use Rattle.rss_base.specs.Sizes.{images_most, links_most, page_bytes, zero_page}
 use Rattle.rss_base.specs.declared.image.ImageEntry.{ImageEntry}
-use Rattle.rss_base.specs.Listings.{Listing, PathsFit, IsPlain, numbered, names_of, has_role, padded, catalog_page, image_spelled, link_spelled, images_on}
+use Rattle.rss_base.specs.Listings.{Listing, PathsFit, IsPlain, HasNoLinks, ImageFits, AreListedOnce, image_at, numbered, names_of, has_role, padded, catalog_page, image_spelled, link_spelled, images_on}
 use Rattle.rss_catalog.proofs.Numbered.{numbered_map, none_numbered}
 
 -- nothing has a number
-none_of : {A : Type 0} (items : List (Option A)) (count number : ℕ) (item : A) → items ≡ replicate count None → numbered items number ≡ Some item → ⊥
+pub none_of : {A : Type 0} (items : List (Option A)) (count number : ℕ) (item : A) → items ≡ replicate count None → numbered items number ≡ Some item → ⊥
 none_of {A = A} items count number item none is =
     none-some item (sym (none_numbered count number) ∙ (sym (ap (λ (l : List (Option A)). numbered l number) none) ∙ is))
+
+pub none_at : {A : Type 0} (items : List (Option A)) (count number : ℕ) → items ≡ replicate count None → numbered items number ≡ None
+none_at {A = A} items count number none = ap (λ (l : List (Option A)). numbered l number) none ∙ none_numbered count number
 
 none_named : {A B : Type 0} (f : A → B) (items : List (Option A)) (count number : ℕ) (name : B) → items ≡ replicate count None → numbered (map (option_map f) items) number ≡ Some name → ⊥
 none_named {A = A} f items count number name none is =
     none-some name (sym (numbered_map f items number ∙ ap (λ (l : List (Option A)). option_map f (numbered l number)) none ∙ ap (option_map f) (none_numbered count number)) ∙ is)
 
+-- where each place has none
+pub all_none : {A : Type 0} (items : List (Option A)) (count : ℕ) → length items ≡ count → ((k : ℕ) → k < count → get_or items k None ≡ None) → items ≡ replicate count None
+all_none {A = A} items count long none = same_lists items (replicate count None) (long ∙ sym (length-replicate {A = Option A} count None)) (λ k d low. get_or_default items k d None low ∙ none k (omega (arith, low, long)) ∙ sym (get_or-replicate count k None d (omega (arith, low, long))))
+
+-- one place that has something
+pub some_there : {A : Type 0} (items : List (Option A)) (count place : ℕ) → place < count → is_some (get_or items place None) ≡ true → items ≡ replicate count None → ⊥
+some_there {A = A} items count place low some none =
+    let here : get_or items place None ≡ None = ap (λ (l : List (Option A)). get_or l place None) none ∙ get_or-replicate count place None None low in
+    false≢true (ap is_some (sym here) ∙ some)
+
 no_roles : (number count : ℕ) → count_by (has_role number) (replicate count None) ≡ 0
 no_roles number zero = refl
 no_roles number (suc count) = no_roles number count
 
-pub plain_paths : (listing : Listing) → IsPlain listing → PathsFit listing
-plain_paths listing plain = record {
-  image_places = ap length plain.no_images ∙ length-replicate {A = Option ImageEntry} images_most None;
-  link_places = ap length plain.no_links ∙ length-replicate {A = Option LinkEntry} links_most None;
-  images_once = λ one other name is_one is_other. absurd (none_named (λ (image : ImageEntry). image.name) listing.images images_most one name plain.no_images is_one);
-  links_once = λ one other name is_one is_other. absurd (none_named (λ (link : LinkEntry). link.name) listing.links links_most one name plain.no_links is_one);
-  images = λ number image is. absurd (none_of listing.images images_most number image plain.no_images is);
-  links = λ number link is. absurd (none_of listing.links links_most number link plain.no_links is);
-  few_roles = λ number. let none = ap (count_by (has_role number)) plain.no_links ∙ no_roles number links_most in omega (arith, none);
+-- the links have no part in it
+pub paths_of : (listing : Listing) → HasNoLinks listing → length listing.images ≡ images_most → AreListedOnce Image listing → ((number : ℕ) (image : ImageEntry) → image_at listing number ≡ Some image → ImageFits listing image) → PathsFit listing
+paths_of listing no_links places once each = record {
+  image_places = places;
+  link_places = ap length no_links ∙ length-replicate {A = Option LinkEntry} links_most None;
+  images_once = once;
+  links_once = λ one other name is_one is_other. absurd (none_named (λ (link : LinkEntry). link.name) listing.links links_most one name no_links is_one);
+  images = each;
+  links = λ number link is. absurd (none_of listing.links links_most number link no_links is);
+  few_roles = λ number. let none = ap (count_by (has_role number)) no_links ∙ no_roles number links_most in omega (arith, none);
 }
+
+pub plain_paths : (listing : Listing) → IsPlain listing → PathsFit listing
+plain_paths listing plain = paths_of listing plain.no_links (ap length plain.no_images ∙ length-replicate {A = Option ImageEntry} images_most None)
+    (λ one other name is_one is_other. absurd (none_named (λ (image : ImageEntry). image.name) listing.images images_most one name plain.no_images is_one))
+    (λ number image is. absurd (none_of listing.images images_most number image plain.no_images is))
 
 -- no name of these kinds has a number
 unnamed : {A : Type 0} (f : A → Name) (items : List (Option A)) (count number : ℕ) → items ≡ replicate count None → None ≡ numbered (map (option_map f) items) number
 unnamed {A = A} f items count number none =
     sym (numbered_map f items number ∙ ap (λ (l : List (Option A)). option_map f (numbered l number)) none ∙ ap (option_map f) (none_numbered count number))
 
-pub unnamed_kind : (listing : Listing) → IsPlain listing → (kind : Kind) (number : ℕ) → (kind ≡ Image) ⊎ ((kind ≡ Link) ⊎ ((kind ≡ Field) ⊎ (kind ≡ Scan))) → None ≡ numbered (names_of kind listing) number
-unnamed_kind listing plain kind number is = elim is [
-  | inl image ↦ subst (λ (k : Kind). None ≡ numbered (names_of k listing) number) (sym image) (unnamed (λ (entry : ImageEntry). entry.name) listing.images images_most number plain.no_images)
-  | inr others ↦ elim others [
-    | inl link ↦ subst (λ (k : Kind). None ≡ numbered (names_of k listing) number) (sym link) (unnamed (λ (entry : LinkEntry). entry.name) listing.links links_most number plain.no_links)
-    | inr rest ↦ elim rest [
-      | inl field ↦ subst (λ (k : Kind). None ≡ numbered (names_of k listing) number) (sym field) (sym (none_numbered {A = Name} 0 number))
-      | inr scan ↦ subst (λ (k : Kind). None ≡ numbered (names_of k listing) number) (sym scan) (sym (none_numbered {A = Name} 0 number))
-    ]
+pub unnamed_kind : (listing : Listing) → HasNoLinks listing → (kind : Kind) (number : ℕ) → (kind ≡ Link) ⊎ ((kind ≡ Field) ⊎ (kind ≡ Scan)) → None ≡ numbered (names_of kind listing) number
+unnamed_kind listing no_links kind number is = elim is [
+  | inl link ↦ subst (λ (k : Kind). None ≡ numbered (names_of k listing) number) (sym link) (unnamed (λ (entry : LinkEntry). entry.name) listing.links links_most number no_links)
+  | inr rest ↦ elim rest [
+    | inl field ↦ subst (λ (k : Kind). None ≡ numbered (names_of k listing) number) (sym field) (sym (none_numbered {A = Name} 0 number))
+    | inr scan ↦ subst (λ (k : Kind). None ≡ numbered (names_of k listing) number) (sym scan) (sym (none_numbered {A = Name} 0 number))
   ]
 ]
 
@@ -79,22 +95,36 @@ take_some {A = A} n count = elim (cases_lt n count) [
   | inr few ↦ take_all n (replicate count None) (omega (arith, length-replicate {A = Option A} count None)) ∙ ap (λ (k : ℕ). replicate {A = Option A} k None) (sym (least_right n count few))
 ]
 
--- the images of a page, and the links
+-- a page of images where there are none
+pub no_images_on : (listing : Listing) → IsPlain listing → (page : ℕ) → images_on listing page ≡ replicate (min 64 (128 - 64 * (page - 1 - 6))) None
+no_images_on listing plain page =
+    let from = 64 * (page - 1 - 6) in
+    ap (λ (l : List (Option ImageEntry)). take 64 (drop from l)) plain.no_images ∙ (ap (take 64) (drop-replicate from 128 None) ∙ take_some 64 (128 - from))
+
 images_zero : (listing : Listing) → IsPlain listing → (page : ℕ) → padded page_bytes (flat_map image_spelled (images_on listing page)) ≡ zero_page
 images_zero listing plain page =
-    let from = 64 * (page - 1 - 6) in
-    let rest : images_on listing page ≡ replicate (min 64 (128 - from)) None = ap (λ (l : List (Option ImageEntry)). take 64 (drop from l)) plain.no_images ∙ (ap (take 64) (drop-replicate from 128 None) ∙ take_some 64 (128 - from)) in
-    padded_zeros (flat_map image_spelled (images_on listing page)) (min 64 (128 - from) * 64) (ap (flat_map image_spelled) rest ∙ nones_spelled image_spelled 64 refl (min 64 (128 - from))) (omega arith)
+    let count = min 64 (128 - 64 * (page - 1 - 6)) in
+    padded_zeros (flat_map image_spelled (images_on listing page)) (count * 64) (ap (flat_map image_spelled) (no_images_on listing plain page) ∙ nones_spelled image_spelled 64 refl count) (omega arith)
 
-links_zero : (listing : Listing) → IsPlain listing → padded page_bytes (flat_map link_spelled listing.links) ≡ zero_page
-links_zero listing plain =
-    padded_zeros (flat_map link_spelled listing.links) (64 * 64) (ap (flat_map link_spelled) plain.no_links ∙ nones_spelled link_spelled 64 refl 64) (omega arith)
+links_zero : (listing : Listing) → HasNoLinks listing → padded page_bytes (flat_map link_spelled listing.links) ≡ zero_page
+links_zero listing no_links =
+    padded_zeros (flat_map link_spelled listing.links) (64 * 64) (ap (flat_map link_spelled) no_links ∙ nones_spelled link_spelled 64 refl 64) (omega arith)
 
-either_zero : (b : Bool) (one other : List ℕ) → padded page_bytes one ≡ zero_page → padded page_bytes other ≡ zero_page → padded page_bytes (if b then one else other) ≡ zero_page
-either_zero true one other zero_one zero_other = zero_one
-either_zero false one other zero_one zero_other = zero_other
+-- the page of a number behind the relations
+past_relations : (listing : Listing) (page : ℕ) → 6 < page → catalog_page listing page ≡ padded page_bytes (if nat_le page 8 then flat_map image_spelled (images_on listing page) else flat_map link_spelled listing.links)
+past_relations listing page past =
+    ap (padded page_bytes) (cond-false (page == 0) _ _ (ne_eqb page 0 (λ is. omega arith)) ∙ cond-false (nat_le page 6) _ _ (lt-leb page 6 past))
+
+pub images_page_is : (listing : Listing) (page : ℕ) → 6 < page → page ≤ 8 → catalog_page listing page ≡ padded page_bytes (flat_map image_spelled (images_on listing page))
+images_page_is listing page low high = past_relations listing page low ∙ ap (padded page_bytes) (cond-true (nat_le page 8) _ _ (le-leb page 8 high))
+
+-- the page of the links is zeros
+pub links_page_is : (listing : Listing) (page : ℕ) → HasNoLinks listing → 8 < page → catalog_page listing page ≡ zero_page
+links_page_is listing page no_links past =
+    past_relations listing page (omega arith) ∙ ap (padded page_bytes) (cond-false (nat_le page 8) _ _ (lt-leb page 8 past)) ∙ links_zero listing no_links
 
 pub zeros_past : (listing : Listing) → IsPlain listing → (page : ℕ) → 6 < page → catalog_page listing page ≡ zero_page
-zeros_past listing plain page past =
-    ap (padded page_bytes) (cond-false (page == 0) _ _ (ne_eqb page 0 (λ is. omega arith)) ∙ cond-false (nat_le page 6) _ _ (lt-leb page 6 past))
-    ∙ either_zero (nat_le page 8) (flat_map image_spelled (images_on listing page)) (flat_map link_spelled listing.links) (images_zero listing plain page) (links_zero listing plain)
+zeros_past listing plain page past = elim (cases_lt 8 page) [
+  | inl links ↦ links_page_is listing page plain.no_links links
+  | inr images ↦ images_page_is listing page past images ∙ images_zero listing plain page
+]

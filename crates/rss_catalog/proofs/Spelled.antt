@@ -1,21 +1,21 @@
 -- How many bytes each part of the catalog has, and what those bytes read as.
-use Rattle.std.proofs.Common.{◌≡◌, ℕ, ◌+◌, ◌-◌, ◌*◌, ◌<◌, ◌≤◌, ◌^◌, suc, zero, Bool, true, false, cond, List, [], ◌∷◌, ◌++◌, length, take, drop, get_or, replicate, Option, Some, None, All, refl, sym, ◌∙◌, ap, subst, arith, length-append}
+use Rattle.std.proofs.Common.{◌≡◌, ℕ, ◌+◌, ◌-◌, ◌*◌, ◌<◌, ◌≤◌, ◌^◌, false, List, [], ◌∷◌, ◌++◌, length, take, drop, get_or, replicate, Option, Some, None, All, refl, ◌∙◌, ap, subst, arith, length-append}
 use Rattle.std.specs.Prelude.{map, flat_map, min, ◌==◌}
 use Rattle.std.specs.Int.{w32, to_be_bytes, from_be_bytes}
 use Rattle.std.proofs.lemmas.Nat.{from_be_bytes-to_be_bytes_4}
 use Rattle.std.proofs.lemmas.Bool.{cond-false, ne_eqb}
-use Rattle.std.proofs.lemmas.List.{take_at, drop_at, append_assoc, length-replicate, length-map, get_or-append-add, get_or-map, take_all, get_or_append_left, take-replicate}
+use Rattle.std.proofs.lemmas.List.{take_at, append_assoc, length-replicate, length-map, get_or-append-add, get_or-map, take_all, get_or_append_left, take-replicate}
 use Rattle.std.proofs.lemmas.List.Elements.{All-head, All-tail}
 use Rattle.std.proofs.Math.Seq.{drop-append-add}
 use Rattle.rss_base.specs.Names.{IsName}
-use Rattle.rss_base.specs.TupleTypes.{AreFields, field_names, most_fields}
-use Rattle.rss_base.specs.Listings.{segment_spelled, kind_spelled, field_spelled, relation_spelled, padded, relation_bytes}
+use Rattle.rss_base.specs.TupleTypes.{field_names, most_fields}
+use Rattle.rss_base.specs.Listings.{segment_spelled, kind_spelled, field_spelled, relation_spelled, padded}
 use Rattle.rss_base.specs.declared.name.Name.{Name}
 use Rattle.rss_base.specs.declared.value.FieldKind.{FieldKind}
 use Rattle.rss_base.specs.declared.value.FieldKind.TheVariants.{Int, Text}
 use Rattle.rss_base.specs.declared.field.FieldDef.{FieldDef}
 use Rattle.rss_base.specs.declared.relation.RelationEntry.{RelationEntry}
-use Rattle.rss_catalog.specs.Reading.{pieces, segment_of, kind_of, field_of, fields_of, entry_of, relation_of, definition_spelled, definition_bytes}
+use Rattle.rss_catalog.specs.Reading.{segment_of, kind_of, field_of, fields_of, entry_of, relation_of, definition_spelled, definition_bytes}
 use Rattle.rss_catalog.proofs.Pieces.{long_pieces, pieces_of, pieces_none}
 
 -- ---- names
@@ -25,7 +25,7 @@ name_long name is =
     ap length is.bytes ∙ length-append (is.first ∷ is.rest) (replicate (15 - length is.rest) 0) ∙ omega (arith, length-replicate {A = ℕ} (15 - length is.rest) 0, is.few)
 
 -- a name begins with no zero
-name_begins : (name : Name) → IsName name → (get_or name.bytes 0 0 == 0) ≡ false
+pub name_begins : (name : Name) → IsName name → (get_or name.bytes 0 0 == 0) ≡ false
 name_begins name is =
     let first : get_or name.bytes 0 0 ≡ is.first = ap (λ (l : List ℕ). get_or l 0 0) is.bytes in
     ne_eqb (get_or name.bytes 0 0) 0 (λ none. omega (arith, first, none, is.letter.0))
@@ -58,7 +58,7 @@ kind_back Int = refl
 kind_back (Text n) = refl
 
 -- a byte behind the name
-behind : (name rest : List ℕ) (at k : ℕ) → length name ≡ 16 → at ≡ 16 + k → get_or (name ++ rest) at 0 ≡ get_or rest k 0
+pub behind : (name rest : List ℕ) (at k : ℕ) → length name ≡ 16 → at ≡ 16 + k → get_or (name ++ rest) at 0 ≡ get_or rest k 0
 behind name rest at k long is = ap (λ (n : ℕ). get_or (name ++ rest) n 0) (omega (arith, long, is)) ∙ get_or-append-add name rest k 0
 
 pub field_back : (field : FieldDef) → length field.name.bytes ≡ 16 → field_of (field_spelled field) ≡ field
@@ -133,7 +133,7 @@ regroup : (a b c d e f : List ℕ) → ((((a ++ b) ++ c) ++ d) ++ e) ++ f ≡ a 
 regroup a b c d e f = simp append_assoc
 
 -- what stands behind the name
-drop_behind : (name rest : List ℕ) (at k : ℕ) → length name ≡ 16 → at ≡ 16 + k → drop at (name ++ rest) ≡ drop k rest
+pub drop_behind : (name rest : List ℕ) (at k : ℕ) → length name ≡ 16 → at ≡ 16 + k → drop at (name ++ rest) ≡ drop k rest
 drop_behind name rest at k long is =
     let here : at ≡ length name + k = omega (arith, long, is) in
     ap (λ (n : ℕ). drop n (name ++ rest)) here ∙ drop-append-add name rest k

@@ -1,15 +1,14 @@
 -- How the pages of a listing are written, one after another.
 use Rattle.std.proofs.Common.{◌≡◌, ℕ, ◌+◌, ◌-◌, ◌*◌, ◌<◌, ◌≤◌, Bool, true, false, cond, List, length, take, drop, get_or, Option, Some, None, All, refl, sym, ◌∙◌, ap, subst, inl, inr, arith}
-use Rattle.std.specs.Prelude.{Result, Ok, Err, IsErrAnd, count_by, flat_map}
+use Rattle.std.specs.Prelude.{Result, Ok, Err, IsErrAnd, count_by}
 use Rattle.std.proofs.lemmas.Bool.{cases_eq, cases_lt}
 use Rattle.std.proofs.lemmas.List.{get_or_default, get_or_past, take_all, take-append-drop}
 use Rattle.std.proofs.lemmas.List.Elements.{All-take, All-drop}
 use Rattle.std.proofs.lemmas.List.Sums.{count_by_more_yes, count_by_more_no, sum_by-append}
-use Rattle.rss_base.specs.Sizes.{page_bytes, system_pages}
 use Rattle.rss_base.specs.DiskRule.{IsTold}
-use Rattle.rss_base.specs.Paged.{Mapped, Held, page_key}
+use Rattle.rss_base.specs.Paged.{page_key}
 use Rattle.rss_base.specs.Steps.{PagesView, PagesStep, PagesCall, WritesPage, only, no_page}
-use Rattle.rss_base.specs.Listings.{Listing, catalog_page, padded, relation_spelled, numbered}
+use Rattle.rss_base.specs.Listings.{catalog_page, numbered}
 use Rattle.rss_base.specs.declared.relation.RelationEntry.{RelationEntry}
 use Rattle.rss_base.specs.declared.fault.PageFault.{PageFault}
 use Rattle.rss_base.specs.declared.key.PageKey.{PageKey}
@@ -18,7 +17,7 @@ use Rattle.rss_base.proofs.Steps.{rests, then, among, done, fails, then_call, un
 use Rattle.rss_catalog.specs.Catalogs.{CatalogView, IsPending, IsSafe, pending_pages, StoresListing}
 use Rattle.rss_catalog.specs.Reading.{HasFewFields}
 use Rattle.rss_catalog.proofs.Numbered.{numbered_at}
-use Rattle.rss_catalog.proofs.Read.{relations_page_is}
+use Rattle.rss_catalog.specs.Loading.{Form, page_with, part}
 
 -- ---- the bytes of a page
 
@@ -33,11 +32,11 @@ few_all items safe k d low entry is = (safe (k + 1) entry (at_number items k d e
 pub few_part : (items now : List (Option RelationEntry)) (from count : ℕ) → ((number : ℕ) (entry : RelationEntry) → numbered items number ≡ Some entry → IsSafe entry) → now ≡ items → All HasFewFields (take count (drop from now))
 few_part items now from count safe same = All-take HasFewFields count (drop from now) (All-drop HasFewFields from now (subst (λ (l : List (Option RelationEntry)). All HasFewFields l) (sym same) (few_all items safe)))
 
--- the page of relations as it was put together
-pub page_is : (listing : Listing) (items now : List (Option RelationEntry)) (number first eight : ℕ) (page : List ℕ) → page ≡ padded page_bytes (flat_map relation_spelled (take (first + eight - first) (drop first now))) → now ≡ items → items ≡ listing.relations → first ≡ 8 * (number - 1) → eight ≡ 8 → 1 ≤ number → number ≤ 6 → page ≡ catalog_page listing number
-page_is listing items now number first eight page is same those here many low high =
-    let count : first + eight - first ≡ 8 = omega (arith, many) in
-    is ∙ (λ i. padded page_bytes (flat_map relation_spelled (take (count i) (drop (here i) ((same ∙ those) i))))) ∙ sym (relations_page_is listing number low high)
+-- a page of entries as it was put together
+pub page_is : {X : Type 0} (form : Form X) (items now listed : List (Option X)) (before first many : ℕ) (page : List ℕ) → page ≡ page_with form (take (first + many - first) (drop first now)) → now ≡ items → items ≡ listed → first ≡ form.count * before → many ≡ form.count → page ≡ page_with form (part form before listed)
+page_is form items now listed before first many page is same those here count =
+    let long : first + many - first ≡ form.count = omega (arith, count) in
+    is ∙ (λ i. page_with form (take (long i) (drop (here i) ((same ∙ those) i))))
 
 -- ---- the pages that were written
 

@@ -1,26 +1,28 @@
 -- What the tests of a listing find.
-use Rattle.std.proofs.Common.{◌≡◌, ◌⊎◌, ℕ, ◌+◌, ◌-◌, ◌<◌, ◌≤◌, ◌^◌, suc, zero, Bool, true, false, List, [], ◌∷◌, ◌++◌, length, take, drop, get_or, set, replicate, Option, Some, None, All, refl, sym, ◌∙◌, ap, subst, inl, inr, arith, length-append}
-use Rattle.std.specs.Prelude.{map, Contains, nat_le, ◌&&◌}
+use Rattle.std.proofs.Common.{◌≡◌, ℕ, ◌+◌, ◌-◌, ◌<◌, ◌≤◌, true, List, [], ◌∷◌, ◌++◌, length, take, drop, get_or, set, replicate, Option, Some, None, All, refl, sym, ◌∙◌, ap, subst, inl, inr, arith, length-append}
+use Rattle.std.specs.Prelude.{map, IfNone, nat_le, ◌&&◌}
 use Rattle.std.proofs.lemmas.Bool.{cases_eq, cases_lt, and_parts, leb-true, le-leb}
-use Rattle.std.proofs.lemmas.Option.{none-some, same_Some}
-use Rattle.std.proofs.lemmas.List.{length-map, length-take, length-replicate, take-append-drop, take_at, drop_at, get_or-map, get_or-take, get_or_default, get_or_append_left, get_or-append-add, get_or-replicate, get_or_past, take_more, take_more_set}
+use Rattle.std.proofs.lemmas.Option.{same_Some}
+use Rattle.std.proofs.lemmas.List.{length-map, length-take, length-replicate, take_at, drop_at, get_or-map, get_or-take, get_or_default, get_or_append_left, get_or-append-add, get_or-replicate, get_or_past, take_more, take_more_set}
 use Rattle.std.proofs.lemmas.List.Elements.{All-head, All-tail, All-cons, All-weaker, All-replicate, All-map}
-use Rattle.rss_base.specs.Names.{IsName, IsLetter, IsNameByte, IsNameText, AreApart}
+use Rattle.rss_base.specs.Names.{IsName, IsNameByte, IsNameText, AreApart}
 use Rattle.std.specs.List.{list_all}
 use Rattle.rss_base.specs.TupleTypes.{AreFields, field_names, kinds, is_kind, width, most_fields, most_width}
 use Rattle.rss_base.specs.declared.value.FieldKind.TheVariants.{Int}
-use Rattle.rss_base.specs.Sizes.{segments, relations_most}
-use Rattle.rss_base.specs.Listings.{numbered, ListingFits}
+use Rattle.rss_base.specs.Sizes.{segments, relations_most, images_most}
+use Rattle.rss_base.specs.Listings.{Listing, numbered, ListingFits}
 use Rattle.rss_base.specs.declared.relation.RelationEntry.{RelationEntry}
+use Rattle.rss_base.specs.declared.image.ImageEntry.{ImageEntry}
 use Rattle.rss_base.specs.declared.name.Name.{Name}
 use Rattle.rss_base.specs.declared.field.FieldDef.{FieldDef}
-use Rattle.rss_catalog.specs.Checking.{AreNames, AreOnce, IsTaken, FitsIn, MayStand, listing_of, relation_names}
-use Rattle.rss_catalog.proofs.Plain.{plain_paths}
+use Rattle.rss_catalog.specs.Checking.{AreNames, AreOnce, IsTaken, TablesFit, ImagesFit, HasEntryOf, listing_of}
+use Rattle.rss_catalog.proofs.Plain.{paths_of}
+use Rattle.rss_catalog.proofs.Listed.{entry_moves, image_moves}
 use Rattle.rss_catalog.proofs.Numbered.{numbered_at, numbered_within}
 
 -- ---- one name
 
-zeros_all : (bytes : List ℕ) → All (λ byte. byte ≡ 0) bytes → bytes ≡ replicate (length bytes) 0
+pub zeros_all : (bytes : List ℕ) → All (λ byte. byte ≡ 0) bytes → bytes ≡ replicate (length bytes) 0
 zeros_all [] all = refl
 zeros_all (x ∷ xs) all =
     let here = All-head (λ byte. byte ≡ 0) x xs all in
@@ -185,6 +187,7 @@ all_kinds (field ∷ fields) is =
 -- what fields of a relation are, as it is tested
 pub record AreTested (fields : List FieldDef) : Type 0 where
   pub some : 1 ≤ length fields
+  pub few : length fields ≤ most_fields
   pub kinds_fit : All (λ field. is_kind field.kind ≡ true) fields
   pub narrow : width (kinds fields) ≤ most_width
   pub names : All (λ field. IsName field.name) fields
@@ -199,17 +202,18 @@ fields_tested fields are =
     let few = and_parts (nat_le 1 count) (nat_le count most_fields) parts.0 in
     record {
       some = omega (arith, leb-true 1 count few.0, long);
+      few = omega (arith, leb-true count most_fields few.1, long);
       kinds_fit = all_kinds fields parts.1;
       narrow = are.narrow;
       names = λ k d low. subst IsName (get_or-map (λ (field : FieldDef). field.name) fields k d d.name low) (are.names k d.name (omega (arith, low, names_long)));
       apart = are.apart;
     }
 
-pub tested_fields : (fields : List FieldDef) → length fields ≤ most_fields → AreTested fields → AreFields fields
-tested_fields fields few are =
+pub tested_fields : (fields : List FieldDef) → AreTested fields → AreFields fields
+tested_fields fields are =
     let long = length-map fields (λ (field : FieldDef). field.kind) in
     let low = le-leb 1 (length (kinds fields)) (omega (arith, are.some, long)) in
-    let high = le-leb (length (kinds fields)) most_fields (omega (arith, few, long)) in
+    let high = le-leb (length (kinds fields)) most_fields (omega (arith, are.few, long)) in
     let all = kinds_all fields are.kinds_fit in
     record {
       formed = λ i. low i && high i && all i;
@@ -218,35 +222,79 @@ tested_fields fields few are =
       apart = are.apart;
     }
 
+-- ---- what belongs to a number
+
+-- an entry of the number was found at a place
+pub found_entry : {X : Type 0} (owner : X → ℕ) (items : List (Option X)) (index number : ℕ) (read : Option X) (entry : X) → index < length items → read ≡ get_or items index read → read ≡ Some entry → owner entry ≡ number → HasEntryOf owner items number
+found_entry owner items index number read entry low at is of = record {
+  place = index + 1;
+  entry = entry;
+  at = has_number items index read entry low (sym at ∙ is);
+  of = of;
+}
+
+-- at none of the places
+pub no_entry : {X : Type 0} (owner : X → ℕ) (items : List (Option X)) (index number : ℕ) → length items ≤ index → ((k : ℕ) (entry : X) → k < index → get_or items k None ≡ Some entry → owner entry ≡ number → ⊥) → HasEntryOf owner items number → ⊥
+no_entry owner items index number all none has =
+    let within = numbered_within items has.place has.entry has.at in
+    none (has.place - 1) has.entry (omega (arith, within, all)) (place_has items has.place has.entry has.at) has.of
+
 -- ---- the listing
 
--- a relation of a listing that fits may stand beside its segments
-pub fits_in : (names : List (Option Name)) (items : List (Option RelationEntry)) → ListingFits (listing_of names items) → (k : ℕ) (d : Option RelationEntry) (entry : RelationEntry) → k < length items → get_or items k d ≡ Some entry → FitsIn names entry
-fits_in names items fits k d entry low is =
-    let fit = fits.relations (k + 1) entry (has_number items k d entry low is) in
-    record { name = fit.name; segment = fit.segment; fields = fit.fields; live = fit.live }
+-- what is said where nothing was found
+pub if_none : {X P : Type 0} (found : Option X) → ((x : X) → found ≡ Some x → ⊥) → IfNone found P → P
+if_none None not none = none
+if_none (Some x) not none = absurd (not x refl)
 
--- one relation more may stand
-pub stand_more : (names : List (Option Name)) (items : List (Option RelationEntry)) (place : ℕ) (read : Option RelationEntry) → place < length items → read ≡ get_or items place read → MayStand names read → ((k : ℕ) (entry : RelationEntry) → k < place → get_or items k None ≡ Some entry → FitsIn names entry)
-    → (k : ℕ) (entry : RelationEntry) → k < place + 1 → get_or items k None ≡ Some entry → FitsIn names entry
-stand_more names items place read low at may before k entry less is = elim (cases_eq k place) [
-  | inl here ↦ may entry (at ∙ get_or_default items place read None low ∙ ap (λ (n : ℕ). get_or items n None) (sym here) ∙ is)
-  | inr off ↦ before k entry (omega (arith, off)) is
+-- what follows where nothing was found
+pub if_none_then : {X P Q : Type 0} (found : Option X) → (P → Q) → IfNone found P → IfNone found Q
+if_none_then None then none = then none
+if_none_then (Some x) then none = none
+
+-- what is said of the item at a place is said of the items below the next one
+pub each_more : {X : Type 0} (Fits : X → Type 0) (items : List (Option X)) (place : ℕ) (read : Option X) → read ≡ get_or items place None → ((item : X) → read ≡ Some item → Fits item) → ((k : ℕ) (item : X) → k < place → get_or items k None ≡ Some item → Fits item)
+    → (k : ℕ) (item : X) → k < place + 1 → get_or items k None ≡ Some item → Fits item
+each_more Fits items place read at may before k item less is = elim (cases_eq k place) [
+  | inl here ↦ may item (at ∙ ap (λ (n : ℕ). get_or items n None) (sym here) ∙ is)
+  | inr off ↦ before k item (omega (arith, off)) is
 ]
 
--- all may
-pub listing_fits : (names : List (Option Name)) (items : List (Option RelationEntry)) (count : ℕ) → length names ≡ segments → length items ≡ relations_most → AreNames names → AreOnce names → AreOnce (relation_names items) → length items ≤ count
-    → ((k : ℕ) (entry : RelationEntry) → k < count → get_or items k None ≡ Some entry → FitsIn names entry) → ListingFits (listing_of names items)
-listing_fits names items count many most are_names once once_relations all each = record {
-  segment_places = many;
-  relation_places = most;
-  paths = plain_paths _ (record { no_images = refl; no_links = refl });
-  plain = record { no_images = refl; no_links = refl };
-  segment_names = are_names;
-  segments_once = once;
-  relations_once = once_relations;
-  relations = λ number entry is.
-      let within = numbered_within items number entry is in
-      let fit = each (number - 1) entry (omega (arith, within, all)) (place_has items number entry is) in
-      record { name = fit.name; segment = fit.segment; fields = fit.fields; live = fit.live };
+-- and then of those of all numbers
+pub each_all : {X : Type 0} (Fits : X → Type 0) (items : List (Option X)) (count : ℕ) → length items ≤ count → ((k : ℕ) (item : X) → k < count → get_or items k None ≡ Some item → Fits item) → (number : ℕ) (item : X) → numbered items number ≡ Some item → Fits item
+each_all Fits items count all each number item is =
+    let within = numbered_within items number item is in
+    each (number - 1) item (omega (arith, within, all)) (place_has items number item is)
+
+-- the parts of a listing that fits
+pub tables_of : (names : List (Option Name)) (entries : List (Option RelationEntry)) (images : List (Option ImageEntry)) → ListingFits (listing_of names entries images) → TablesFit names entries
+tables_of names entries images fits = record {
+  names_fit = fits.segment_names;
+  names_once = fits.segments_once;
+  relations_once = fits.relations_once;
+  relations = λ number entry is. entry_moves (listing_of names entries images) (listing_of names [] []) entry refl (fits.relations number entry is);
 }
+
+pub images_of : (names : List (Option Name)) (entries : List (Option RelationEntry)) (images : List (Option ImageEntry)) → ListingFits (listing_of names entries images) → ImagesFit entries images
+images_of names entries images fits = record {
+  once = fits.paths.images_once;
+  each = λ number image is.
+      let fit = fits.paths.images number image is in
+      image_moves (listing_of names entries images) (listing_of [] entries []) image fit (record { relation = fit.relation; listed = fit.listed; same = refl });
+}
+
+-- and a listing of such parts
+pub listing_fits : (names : List (Option Name)) (entries : List (Option RelationEntry)) (images : List (Option ImageEntry)) → length names ≡ segments → length entries ≡ relations_most → length images ≡ images_most → TablesFit names entries → ImagesFit entries images → ListingFits (listing_of names entries images)
+listing_fits names entries images many most places tables drawn =
+    let listing : Listing = listing_of names entries images in
+    record {
+      segment_places = many;
+      relation_places = most;
+      paths = paths_of listing refl places drawn.once (λ number image is.
+          let fit = drawn.each number image is in
+          image_moves (listing_of [] entries []) listing image fit (record { relation = fit.relation; listed = fit.listed; same = refl }));
+      no_links = refl;
+      segment_names = tables.names_fit;
+      segments_once = tables.names_once;
+      relations_once = tables.relations_once;
+      relations = λ number entry is. entry_moves (listing_of names [] []) listing entry refl (tables.relations number entry is);
+    }

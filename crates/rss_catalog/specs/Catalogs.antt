@@ -1,12 +1,13 @@
 -- What there is to see of a catalog, and what the calls on it do.
-use Rattle.std.specs.Prelude.{◌≡◌, ℕ, ◌+◌, ◌-◌, ◌/◌, ◌<◌, ◌≤◌, Bool, true, false, List, length, replicate, slice_set, slice_index_or, Option, Some, None}
+use Rattle.std.specs.Prelude.{◌≡◌, ℕ, ◌+◌, ◌-◌, ◌/◌, ◌<◌, ◌≤◌, Bool, true, false, List, length, All, replicate, slice_set, slice_index_or, Some, None}
 use Rattle.rss_base.specs.Sizes.{segments, system_pages}
 use Rattle.rss_base.specs.DiskRule.{IsTold}
 use Rattle.rss_base.specs.Paged.{Mapped, page_key}
-use Rattle.rss_base.specs.Steps.{PagesView, Keys}
-use Rattle.rss_base.specs.TupleTypes.{kinds, width, most_fields, most_width}
-use Rattle.rss_base.specs.Listings.{Listing, ListingFits, HoldsListing, catalog_page, relation_at, with_segment, with_relation, relations_of_page}
+use Rattle.rss_base.specs.Steps.{PagesView}
+use Rattle.rss_base.specs.TupleTypes.{kinds, width, key_width, chosen, most_fields, most_width, most_key_width, are_kinds}
+use Rattle.rss_base.specs.Listings.{Listing, ListingFits, IsPlain, IsFieldNumber, HoldsListing, catalog_page, relation_at, image_at, field_numbers, with_segment, with_relation, with_image, relations_of_page, relation_pages, images_of_page}
 use Rattle.rss_base.specs.declared.relation.RelationEntry.{RelationEntry}
+use Rattle.rss_base.specs.declared.image.ImageEntry.{ImageEntry}
 use Rattle.rss_base.specs.declared.refusal.Kind.{Kind}
 use Rattle.rss_base.specs.declared.refusal.Kind.TheVariants.{Segment, Relation, Image, Link, Field, Scan}
 use Rattle.rss_base.specs.declared.name.Name.{Name}
@@ -44,6 +45,7 @@ HasSystemPages mapped = (page : ℕ) → page < system_pages → mapped (page_ke
 pub record Loads (pages : PagesView) (catalog : CatalogView) : Type 0 where
   pub mapped : HasSystemPages pages.mapped
   pub fits : ListingFits catalog.listing
+  pub plain : IsPlain catalog.listing
   pub holds : IsTold pages.disk → HoldsListing pages.held catalog.listing
   pub written : catalog.pending ≡ none_pending
 
@@ -65,7 +67,7 @@ pub record StoresListing (catalog : CatalogView) (old new : PagesView) : Type 0 
 abbrev pub page_of : Kind → ℕ → ℕ
 page_of Segment number = 0
 page_of Relation number = 1 + (number - 1) / relations_of_page
-page_of Image number = 0
+page_of Image number = 1 + relation_pages + (number - 1) / images_of_page
 page_of Link number = 0
 page_of Field number = 0
 page_of Scan number = 0
@@ -79,7 +81,7 @@ pub record Lists (listing : Listing) (page : ℕ) (old new : CatalogView) : Type
 abbrev pub without : Kind → Listing → ℕ → Listing
 without Segment listing number = with_segment listing number None
 without Relation listing number = with_relation listing number None
-without Image listing number = listing
+without Image listing number = with_image listing number None
 without Link listing number = listing
 without Field listing number = listing
 without Scan listing number = listing
@@ -90,6 +92,13 @@ pub record HasRelationIn (listing : Listing) (segment : ℕ) : Type 0 where
   pub relation : RelationEntry
   pub at : relation_at listing number ≡ Some relation
   pub within : relation.segment ≡ segment
+
+-- an image of this relation is listed
+pub record HasImageOf (listing : Listing) (relation : ℕ) : Type 0 where
+  pub number : ℕ
+  pub image : ImageEntry
+  pub at : image_at listing number ≡ Some image
+  pub of : image.relation ≡ relation
 
 -- a relation of this segment has this name
 pub record IsNamedIn (listing : Listing) (segment : ℕ) (name : Name) : Type 0 where
@@ -105,3 +114,14 @@ pub record IsSafe (relation : RelationEntry) : Type 0 where
   pub segment_high : relation.segment ≤ segments
   pub few : length relation.fields ≤ most_fields
   pub narrow : width (kinds relation.fields) ≤ most_width
+  pub formed : are_kinds (kinds relation.fields) ≡ true
+
+-- an image that a listing may have, as far as its numbers go
+pub record IsSafeImage (listing : Listing) (image : ImageEntry) : Type 0 where
+  pub relation : RelationEntry
+  pub listed : relation_at listing image.relation ≡ Some relation
+  pub some : 1 ≤ image.count
+  pub few : image.count ≤ most_fields
+  pub within : All (IsFieldNumber (length relation.fields)) (field_numbers image)
+  pub narrow : key_width (kinds (chosen (field_numbers image) relation.fields)) ≤ most_key_width
+  pub low : 1 ≤ image.levels

@@ -1,22 +1,28 @@
 -- What is asked of a listing, by parts.
-use Rattle.std.specs.Prelude.{◌≡◌, ℕ, List, [], Contains, map, replicate, option_map, Option, Some, None}
-use Rattle.rss_base.specs.Sizes.{images_most, links_most}
+use Rattle.std.specs.Prelude.{◌≡◌, ℕ, ◌-◌, ◌≤◌, ◌++◌, List, [], length, Contains, All, map, replicate, option_map, Option, Some, None, is_some, true}
+use Rattle.rss_base.specs.Sizes.{links_most}
 use Rattle.rss_base.specs.Names.{IsName}
-use Rattle.rss_base.specs.Listings.{Listing, numbered, EntryFits}
+use Rattle.rss_base.specs.TupleTypes.{kinds, chosen, key_width, most_key_width, most_fields}
+use Rattle.rss_base.specs.Listings.{Listing, numbered, EntryFits, ImageFits, IsFieldNumber, AreDifferent, field_numbers}
 use Rattle.rss_base.specs.declared.name.Name.{Name}
+use Rattle.rss_base.specs.declared.field.FieldDef.{FieldDef}
 use Rattle.rss_base.specs.declared.relation.RelationEntry.{RelationEntry}
+use Rattle.rss_base.specs.declared.image.ImageEntry.{ImageEntry}
 
 -- these are listed
-abbrev pub listing_of : List (Option Name) → List (Option RelationEntry) → Listing
-listing_of names entries = record {
+abbrev pub listing_of : List (Option Name) → List (Option RelationEntry) → List (Option ImageEntry) → Listing
+listing_of names entries images = record {
   segments = names;
   relations = entries;
-  images = replicate images_most None;
+  images = images;
   links = replicate links_most None;
 }
 
 abbrev pub relation_names : List (Option RelationEntry) → List (Option Name)
 relation_names entries = map (option_map (λ entry. entry.name)) entries
+
+abbrev pub image_names : List (Option ImageEntry) → List (Option Name)
+image_names images = map (option_map (λ image. image.name)) images
 
 -- each name has the bytes of one
 abbrev pub AreNames : List (Option Name) → Type 0
@@ -32,8 +38,61 @@ IsTaken items item = (name : Name) × (item ≡ Some name) × Contains items (So
 
 -- the relation fits a listing of these segments
 abbrev pub FitsIn : List (Option Name) → RelationEntry → Type 0
-FitsIn names entry = EntryFits (listing_of names []) entry
+FitsIn names entry = EntryFits (listing_of names [] []) entry
 
 -- so does the relation at a place, if there is one
 abbrev pub MayStand : List (Option Name) → Option RelationEntry → Type 0
 MayStand names relation = (entry : RelationEntry) → relation ≡ Some entry → FitsIn names entry
+
+-- the image fits a listing of these relations
+abbrev pub ImageFitsIn : List (Option RelationEntry) → ImageEntry → Type 0
+ImageFitsIn entries image = ImageFits (listing_of [] entries []) image
+
+-- so does the image at a place, if there is one
+abbrev pub MayIndex : List (Option RelationEntry) → Option ImageEntry → Type 0
+MayIndex entries image = (entry : ImageEntry) → image ≡ Some entry → ImageFitsIn entries entry
+
+-- the numbers of some of these fields, none of them twice, and their key is not too wide
+pub record IsKeyOf (fields : List FieldDef) (numbers : List ℕ) : Type 0 where
+  pub within : All (IsFieldNumber (length fields)) numbers
+  pub different : AreDifferent numbers
+  pub narrow : key_width (kinds (chosen numbers fields)) ≤ most_key_width
+
+-- the image has at least one of these fields, and zeros behind their numbers
+pub record HasKeyOf (fields : List FieldDef) (image : ImageEntry) : Type 0 where
+  pub some : 1 ≤ image.count
+  pub few : image.count ≤ most_fields
+  pub places : image.fields ≡ field_numbers image ++ replicate (most_fields - image.count) 0
+  pub key : IsKeyOf fields (field_numbers image)
+
+-- the segments and the relations of a listing
+pub record TablesFit (names : List (Option Name)) (entries : List (Option RelationEntry)) : Type 0 where
+  pub names_fit : AreNames names
+  pub names_once : AreOnce names
+  pub relations_once : AreOnce (relation_names entries)
+  pub relations : (number : ℕ) (entry : RelationEntry) → numbered entries number ≡ Some entry → FitsIn names entry
+
+-- the images of a listing
+pub record ImagesFit (entries : List (Option RelationEntry)) (images : List (Option ImageEntry)) : Type 0 where
+  pub once : AreOnce (image_names images)
+  pub each : (number : ℕ) (image : ImageEntry) → numbered images number ≡ Some image → ImageFitsIn entries image
+
+-- one of these entries belongs to this number
+pub record HasEntryOf {X : Type 0} (owner : X → ℕ) (entries : List (Option X)) (number : ℕ) : Type 0 where
+  pub place : ℕ
+  pub entry : X
+  pub at : numbered entries place ≡ Some entry
+  pub of : owner entry ≡ number
+
+-- an image that may stand beside these relations, as far as its numbers go: what IsSafeImage says of it, without a relation as a part
+pub record IsSafeIn (entries : List (Option RelationEntry)) (image : ImageEntry) : Type 0 where
+  pub listed : is_some (numbered entries image.relation) ≡ true
+  pub some : 1 ≤ image.count
+  pub few : image.count ≤ most_fields
+  pub within : (relation : RelationEntry) → numbered entries image.relation ≡ Some relation → All (IsFieldNumber (length relation.fields)) (field_numbers image)
+  pub narrow : (relation : RelationEntry) → numbered entries image.relation ≡ Some relation → key_width (kinds (chosen (field_numbers image) relation.fields)) ≤ most_key_width
+  pub low : 1 ≤ image.levels
+
+-- so may all of these images
+abbrev pub AreSafeIn : List (Option RelationEntry) → List (Option ImageEntry) → Type 0
+AreSafeIn entries images = (number : ℕ) (image : ImageEntry) → numbered images number ≡ Some image → IsSafeIn entries image

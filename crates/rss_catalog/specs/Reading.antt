@@ -1,5 +1,5 @@
 -- What bytes of the catalog read as, whether or not they are in form: what was read is in form where it is spelled by the same bytes.
-use Rattle.std.specs.Prelude.{◌≡◌, ℕ, ◌+◌, ◌-◌, ◌*◌, ◌≤◌, ◌==◌, zero, suc, min, if◌then◌else◌, List, [], ◌∷◌, ◌++◌, length, replicate, map, flat_map, take, drop, slice_index, Option, Some, None, IfSome}
+use Rattle.std.specs.Prelude.{◌≡◌, ℕ, ◌+◌, ◌*◌, ◌≤◌, ◌==◌, zero, suc, min, if◌then◌else◌, List, [], ◌∷◌, ◌++◌, length, replicate, map, flat_map, take, drop, slice_index, Option, Some, None}
 use Rattle.std.specs.Int.{w32, to_be_bytes, from_be_bytes}
 use Rattle.rss_base.specs.Names.{name_bytes}
 use Rattle.rss_base.specs.TupleTypes.{most_fields}
@@ -9,6 +9,7 @@ use Rattle.rss_base.specs.declared.value.FieldKind.{FieldKind}
 use Rattle.rss_base.specs.declared.value.FieldKind.TheVariants.{Int, Text}
 use Rattle.rss_base.specs.declared.field.FieldDef.{FieldDef}
 use Rattle.rss_base.specs.declared.relation.RelationEntry.{RelationEntry}
+use Rattle.rss_base.specs.declared.image.ImageEntry.{ImageEntry}
 
 -- ---- what is spelled in front of the zeros of a relation
 
@@ -61,3 +62,17 @@ entry_of bytes = record {
 
 abbrev pub relation_of : List ℕ → Option RelationEntry
 relation_of bytes = if slice_index bytes 0 == 0 then None else Some (entry_of bytes)
+
+abbrev pub image_entry_of : List ℕ → ImageEntry
+image_entry_of bytes = record {
+  name = name_of (take name_bytes bytes);
+  relation = slice_index bytes 16;
+  is_unique = slice_index bytes 17 == 1;
+  count = slice_index bytes 18;
+  fields = take most_fields (drop 24 bytes);
+  levels = slice_index bytes 19;
+  root = from_be_bytes w32 (take 4 (drop 20 bytes));
+}
+
+abbrev pub image_of : List ℕ → Option ImageEntry
+image_of bytes = if slice_index bytes 0 == 0 then None else Some (image_entry_of bytes)

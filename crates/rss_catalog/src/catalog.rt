@@ -5,23 +5,31 @@ ghost use Rattle.rss_base.specs.Looking.{ChecksPages};
 ghost use Rattle.rss_base.specs.Names.{IsName};
 ghost use Rattle.rss_base.specs.Sizes.{segments as segments_most, relations_most, images_most, system_pages};
 ghost use Rattle.rss_base.specs.Steps.{PagesCall, no_page};
-ghost use Rattle.rss_base.specs.Listings.{Listing, numbered, names_of, segment_at, relation_at, IsNumberOf, IsUnlisted};
-ghost use Rattle.rss_base.specs.Listings.{IsLeastUnused, AreAllUsed, EntryFits, ListingFits, HoldsListing};
-ghost use Rattle.rss_base.specs.Listings.{no_listing, with_segment, with_relation, with_count, catalog_page};
-ghost use Rattle.rss_base.specs.declared.fault.PageFault.TheVariants.{Damaged as PageDamaged};
+ghost use Rattle.rss_base.specs.Listings.{Listing, numbered, names_of, segment_at, relation_at, image_at, IsNumberOf, IsUnlisted};
+ghost use Rattle.rss_base.specs.Listings.{IsLeastUnused, AreAllUsed, EntryFits, ImageFits, ListingFits, IsPlain, HoldsListing};
+ghost use Rattle.rss_base.specs.Listings.{no_listing, with_segment, with_relation, with_image, with_count, with_root, catalog_page};
+ghost use Rattle.rss_base.specs.declared.fault.PageFault.TheVariants.{Damaged as PageDamaged, Device as PageDevice};
 ghost use Rattle.rss_base.specs.declared.name.Name.{Name as AnyName};
 ghost use Rattle.rss_base.specs.declared.place.Place.{Place as AnyPlace};
 ghost use Rattle.rss_base.specs.declared.relation.RelationEntry.{RelationEntry as Entry};
-ghost use Rattle.rss_base.specs.declared.refusal.Kind.TheVariants.{Segment, Relation};
+ghost use Rattle.rss_base.specs.declared.image.ImageEntry.{ImageEntry as AnImage};
+ghost use Rattle.rss_base.specs.declared.refusal.Kind.TheVariants.{Segment, Relation, Image};
 ghost use Rattle.rss_catalog.specs.Catalogs.{none_pending, pending_pages, page_of, Loads, IsCatalogPlace};
-ghost use Rattle.rss_catalog.specs.Catalogs.{StoresListing, HasSystemPages, Lists, without, HasRelationIn, IsNamedIn, IsSafe};
+ghost use Rattle.rss_catalog.specs.Catalogs.{StoresListing, HasSystemPages, Lists, without, HasRelationIn, HasImageOf, IsNamedIn};
+ghost use Rattle.rss_catalog.specs.Catalogs.{IsSafe, IsSafeImage};
+ghost use Rattle.rss_catalog.specs.Checking.{AreSafeIn};
 
 use crate::checking::flaw;
-use crate::encoding::{RELATIONS_OF_PAGE, relations_page, segments_page};
-use crate::loading::{check_zeros, damaged, key_of, load_relations, load_segments};
+use crate::encoding::{
+    IMAGES_OF_PAGE, RELATIONS_OF_PAGE, images_page, relations_page, segments_page,
+};
+use crate::entries::has_entry_of;
+use crate::loading::{
+    IMAGE_PAGES, RELATION_PAGES, check_zeros, damaged, key_of, load_entries, load_segments,
+};
 use rss_base::{
-    IMAGES_MOST, Kind, LINKS_MOST, Name, PAGE_BYTES, Page, PageFault, Pages, RELATIONS_MOST,
-    RelationEntry, SEGMENTS, SYSTEM_PAGES,
+    IMAGES_MOST, ImageEntry, Kind, LINKS_MOST, Name, PAGE_BYTES, Page, PageFault, Pages,
+    RELATIONS_MOST, RelationEntry, SEGMENTS, SYSTEM_PAGES,
 };
 use std::alloc::{AllocError, Global};
 use std::marker::Model;
@@ -37,6 +45,34 @@ pub(crate) fn page_of(number: u8) -> u8
     ensures within { result < system_pages }
 {
     1 + (number - 1) / RELATIONS_OF_PAGE
+}
+
+/// The page that spells an image.
+pub(crate) fn image_page_of(number: u8) -> u8
+    requires low { 1 ≤ number }
+    requires high { number ≤ images_most }
+    ensures page { result ≡ page_of Image number }
+    ensures within { result < system_pages }
+{
+    1 + RELATION_PAGES + (number - 1) / IMAGES_OF_PAGE
+}
+
+/// As yet a store has no images, so that one is damage.
+fn refuse_images(images: &[Option<ImageEntry>]) -> Result<(), PageFault>
+    requires { length images.now ≡ images_most }
+    ensures none { OnOk result (images.now ≡ replicate images_most None) }
+    ensures some { (place : AnyPlace) → result ≡ Err (PageDamaged place)
+        → images.now ≡ replicate images_most None → ⊥ }
+    ensures named { (place : AnyPlace) → result ≡ Err (PageDamaged place)
+        → IsCatalogPlace place }
+    ensures no_device { result ≡ Err PageDevice → ⊥ }
+{
+    for (place, image) in images.iter().enumerate() {
+        if image.is_some() {
+            return Err(damaged(image_page_of(place as u8 + 1)));
+        }
+    }
+    Ok(())
 }
 
 /// So many places, with nothing at any of them.
@@ -70,12 +106,20 @@ pub(crate) fn at<T>(items: &[Option<T>], number: u8) -> Option<&T>
 pub struct Catalog {
     segments: Vec<Option<Name>>,
     relations: Vec<Option<RelationEntry>>,
+    images: Vec<Option<ImageEntry>>,
+    /// No image has a number above this one.
+    last_image: u8,
     /// Which pages have changed since they were written.
     pending: [bool; PAGES],
     ghost segment_places: { length segments.items ≡ segments_most },
     ghost relation_places: { length relations.items ≡ relations_most },
     ghost safe: { (number : ℕ) (relation : Entry) → numbered relations.items number ≡ Some relation
         → IsSafe relation },
+    ghost image_places: { length images.items ≡ images_most },
+    ghost safe_images: { AreSafeIn relations.items images.items },
+    ghost none_behind: { (number : ℕ) → last_image < number
+        → numbered images.items number ≡ None },
+    ghost few_images: { last_image ≤ images_most },
 }
 
 impl Model for Catalog {
@@ -85,7 +129,7 @@ impl Model for Catalog {
     ghost Value = { CatalogView };
 
     ghost view = { λ c. record {
-      listing = listing_of c.segments.items c.relations.items;
+      listing = listing_of c.segments.items c.relations.items c.images.items;
       pending = c.pending;
     } };
 }
@@ -99,34 +143,40 @@ impl Catalog {
         Ok(Catalog {
             segments: free_places(alloc, SEGMENTS)?,
             relations: free_places(alloc, RELATIONS_MOST)?,
+            images: free_places(alloc, IMAGES_MOST)?,
+            last_image: 0,
             pending: [false; PAGES],
         })
     }
 
     /// The catalog in the pages of the system space. `Damaged` names one of them that isn't there or
     /// isn't in form: an entry that isn't spelled as `docs/CATALOG.md` says, a name that stands twice,
-    /// a relation of no segment or with fields that no relation has.
+    /// a relation of no segment or with fields that no relation has; or that has an image.
     pub fn load<P: Pages>(alloc: Global, pages: &mut P) -> Result<Self, PageFault>
         ensures loaded { IfOk result (λ catalog. Loads (P.view pages.old) catalog) }
         ensures flawed { (place : AnyPlace) → result ≡ Err (PageDamaged place)
             → IsTold (P.view pages.old).disk → (listing : Listing) → ListingFits listing
-            → HoldsListing (P.view pages.old).held listing → ⊥ }
+            → IsPlain listing → HoldsListing (P.view pages.old).held listing → ⊥ }
         ensures named { (place : AnyPlace) → result ≡ Err (PageDamaged place)
             → IsCatalogPlace place }
         ensures did { ChecksPages no_page system_pages
             (P.view pages.old) (P.view pages.new) result }
     {
         let segments = load_segments(alloc, pages)?;
-        let relations = load_relations(alloc, pages)?;
+        let relations = load_entries::<RelationEntry, P>(alloc, pages, 1, RELATION_PAGES)?;
+        let images = load_entries::<ImageEntry, P>(alloc, pages, 1 + RELATION_PAGES, IMAGE_PAGES)?;
         check_zeros(pages)?;
-        match flaw(&segments, &relations) {
-            Some(page) => Err(damaged(page)),
-            None => Ok(Catalog {
-                segments,
-                relations,
-                pending: [false; PAGES],
-            }),
+        if let Some(page) = flaw(&segments, &relations, &images) {
+            return Err(damaged(page));
         }
+        refuse_images(&images)?;
+        Ok(Catalog {
+            segments,
+            relations,
+            images,
+            last_image: 0,
+            pending: [false; PAGES],
+        })
     }
 
     /// Writes the pages of the system space that have changed since they were written, and no other.
@@ -198,18 +248,37 @@ impl Catalog {
         }
     }
 
+    pub fn image(&self, number: u8) -> &ImageEntry
+        requires { is_some (image_at self.now.listing number) ≡ true }
+        ensures is { image_at self.now.listing number ≡ Some result.now }
+        ensures safe { IsSafeImage self.now.listing result.now }
+    {
+        match at(&self.images, number) {
+            Some(image) => image,
+            None => unreachable!(),
+        }
+    }
+
+    /// No image has a number above this one.
+    pub fn last_image(&self) -> u8
+        ensures none { (number : ℕ) → result < number → image_at self.now.listing number ≡ None }
+        ensures few { result ≤ images_most }
+    {
+        self.last_image
+    }
+
     /// Whether a relation of this segment is defined.
     pub fn has_relation_in(&self, segment: u8) -> bool
         ensures { IsTrue result ↔ HasRelationIn self.now.listing segment }
     {
-        for relation in &self.relations {
-            if let Some(relation) = relation
-                && relation.segment == segment
-            {
-                return true;
-            }
-        }
-        false
+        has_entry_of(&self.relations, segment)
+    }
+
+    /// Whether an image of this relation is defined.
+    pub fn has_image_of(&self, relation: u8) -> bool
+        ensures { IsTrue result ↔ HasImageOf self.now.listing relation }
+    {
+        has_entry_of(&self.images, relation)
     }
 
     /// The names of the relations of a segment, by their numbers.
@@ -258,10 +327,26 @@ impl Catalog {
         number
     }
 
+    /// Defines an image by the least number that is not in use, and answers this.
+    pub fn add_image(&mut self, image: ImageEntry) -> u8
+        requires entry { ImageFits self.old.listing image }
+        requires fresh { IsUnlisted Image self.old.listing image.name }
+        requires room { AreAllUsed Image self.old.listing → ⊥ }
+        ensures least { IsLeastUnused Image self.old.listing result }
+        ensures lists { Lists (with_image self.old.listing result (Some image))
+            (page_of Image result) self.old self.new }
+        ensures fits { ListingFits self.old.listing → ListingFits self.new.listing }
+    {
+        let number = self.first_unused(Kind::Image).unwrap();
+        self.set_image(number, Some(image));
+        number
+    }
+
     /// Takes a definition away.
     pub fn remove(&mut self, kind: Kind, number: u8)
-        requires kind { (kind ≡ Segment) ⊎ (kind ≡ Relation) }
+        requires kind { (kind ≡ Segment) ⊎ ((kind ≡ Relation) ⊎ (kind ≡ Image)) }
         requires used { is_some (numbered (names_of kind self.old.listing) number) ≡ true }
+        requires no_image { kind ≡ Relation → HasImageOf self.old.listing number → ⊥ }
         ensures lists { Lists (without kind self.old.listing number) (page_of kind number)
             self.old self.new }
         ensures fits { (kind ≡ Segment → HasRelationIn self.old.listing number → ⊥)
@@ -270,8 +355,24 @@ impl Catalog {
         match kind {
             Kind::Segment => self.set_segment(number, None),
             Kind::Relation => self.set_relation(number, None),
-            Kind::Image | Kind::Link | Kind::Field | Kind::Scan => unreachable!(),
+            Kind::Image => self.set_image(number, None),
+            Kind::Link | Kind::Field | Kind::Scan => unreachable!(),
         }
+    }
+
+    /// Sets where the tree of an image begins, and how many levels it has.
+    pub fn set_root(&mut self, number: u8, root: u32, levels: u8)
+        requires there { is_some (image_at self.old.listing number) ≡ true }
+        requires low { 1 ≤ levels }
+        ensures lists { (image : AnImage) → image_at self.old.listing number ≡ Some image
+            → Lists (with_image self.old.listing number (Some (with_root root levels image)))
+            (page_of Image number) self.old self.new }
+        ensures fits { ListingFits self.old.listing → ListingFits self.new.listing }
+    {
+        let mut image = *self.image(number);
+        image.root = root;
+        image.levels = levels;
+        self.set_image(number, Some(image));
     }
 
     /// Sets how many tuples a relation has.
@@ -297,11 +398,15 @@ impl Catalog {
         if number == 0 {
             return segments_page(&self.segments);
         }
-        let first = usize::from((number - 1) * RELATIONS_OF_PAGE);
-        if first >= self.relations.len() {
-            return [0; PAGE_BYTES];
+        if number <= RELATION_PAGES {
+            let first = usize::from((number - 1) * RELATIONS_OF_PAGE);
+            return relations_page(&self.relations[first..first + usize::from(RELATIONS_OF_PAGE)]);
         }
-        relations_page(&self.relations[first..first + usize::from(RELATIONS_OF_PAGE)])
+        if number <= RELATION_PAGES + IMAGE_PAGES {
+            let first = usize::from((number - 1 - RELATION_PAGES) * IMAGES_OF_PAGE);
+            return images_page(&self.images[first..first + usize::from(IMAGES_OF_PAGE)]);
+        }
+        [0; PAGE_BYTES]
     }
 
     /// How many places a kind has.
@@ -312,7 +417,7 @@ impl Catalog {
         match kind {
             Kind::Segment => self.segments.len() as u8,
             Kind::Relation => self.relations.len() as u8,
-            Kind::Image => IMAGES_MOST,
+            Kind::Image => self.images.len() as u8,
             Kind::Link => LINKS_MOST,
             Kind::Field | Kind::Scan => 0,
         }
@@ -325,7 +430,8 @@ impl Catalog {
         match kind {
             Kind::Segment => at(&self.segments, number).copied(),
             Kind::Relation => at(&self.relations, number).map(|relation| relation.name),
-            Kind::Image | Kind::Link | Kind::Field | Kind::Scan => None,
+            Kind::Image => at(&self.images, number).map(|image| image.name),
+            Kind::Link | Kind::Field | Kind::Scan => None,
         }
     }
 
@@ -352,15 +458,30 @@ impl Catalog {
         self.pending[0] = true;
     }
 
-    /// Puts this at the place of a relation.
+    /// Puts this at the place of a relation, in place of one that no image is of.
     fn set_relation(&mut self, number: u8, relation: Option<RelationEntry>)
         requires low { 1 ≤ number }
         requires high { number ≤ length self.old.listing.relations }
         requires fits { IfSome relation (EntryFits self.old.listing) }
+        requires no_image { is_some (relation_at self.old.listing number) ≡ true
+            → HasImageOf self.old.listing number → ⊥ }
         ensures { Lists (with_relation self.old.listing number relation) (page_of Relation number)
             self.old self.new }
     {
         self.relations[usize::from(number) - 1] = relation;
         self.pending[usize::from(page_of(number))] = true;
+    }
+
+    /// Puts this at the place of an image.
+    fn set_image(&mut self, number: u8, image: Option<ImageEntry>)
+        requires low { 1 ≤ number }
+        requires high { number ≤ length self.old.listing.images }
+        requires safe { IfSome image (IsSafeImage self.old.listing) }
+        ensures { Lists (with_image self.old.listing number image) (page_of Image number)
+            self.old self.new }
+    {
+        self.images[usize::from(number) - 1] = image;
+        self.last_image = self.last_image.max(number);
+        self.pending[usize::from(image_page_of(number))] = true;
     }
 }

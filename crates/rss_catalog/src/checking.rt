@@ -1,44 +1,84 @@
 // Whether a listing may stand in a store.
-ghost use Rattle.std.specs.Prelude.{◌≡◌, ◌≢◌, ◌↔◌, ◌<◌, ◌≤◌, ℕ, true, length, slice_index, All, Contains, Some, option_map, IsTrue};
+ghost use Rattle.std.specs.Prelude.{◌≡◌, ◌≢◌, ◌↔◌, ◌<◌, ◌≤◌, ℕ, true, length, slice_index, All, Contains, Some, map, option_map, IsTrue};
 ghost use Rattle.std.specs.Prelude.{IfSome, IfNone};
 ghost use Rattle.rss_base.specs.Names.{IsName, AreApart};
-ghost use Rattle.rss_base.specs.Sizes.{segments, relations_most, system_pages};
+ghost use Rattle.rss_base.specs.Sizes.{segments, relations_most, images_most, system_pages};
 ghost use Rattle.rss_base.specs.TupleTypes.{AreFields, field_names, is_kind, most_fields};
-ghost use Rattle.rss_base.specs.Listings.{ListingFits};
-ghost use Rattle.rss_catalog.specs.Reading.{HasFewFields};
-ghost use Rattle.rss_catalog.specs.Checking.{listing_of, relation_names, AreNames, AreOnce, IsTaken, FitsIn, MayStand};
+ghost use Rattle.rss_base.specs.Listings.{ListingFits, IsFieldNumber, AreDifferent};
+ghost use Rattle.rss_catalog.specs.Checking.{listing_of, AreNames, AreOnce, IsTaken, FitsIn, MayStand, TablesFit};
+ghost use Rattle.rss_catalog.specs.Checking.{ImageFitsIn, MayIndex, HasKeyOf, IsKeyOf, ImagesFit};
 
-use crate::catalog::{at, page_of};
+use crate::catalog::{at, image_page_of, page_of};
+use crate::entries::Entry;
 use rss_base::{
-    FieldDef, MOST_FIELDS, MOST_WIDTH, Name, RELATIONS_MOST, RelationEntry, is_name_text,
+    FieldDef, IMAGES_MOST, ImageEntry, KEY_BYTES, MOST_FIELDS, MOST_WIDTH, Name, RELATIONS_MOST,
+    RelationEntry, is_name_text,
 };
-use rss_value::width;
+use rss_value::{key_width, width};
 
 /// How many relations there may be.
 const RELATIONS: usize = RELATIONS_MOST as usize;
+
+/// How many images there may be.
+const IMAGES: usize = IMAGES_MOST as usize;
 
 /// A page that makes a listing one that may not stand in a store.
 pub(crate) fn flaw(
     segment_names: &[Option<Name>],
     relations: &[Option<RelationEntry>],
+    images: &[Option<ImageEntry>],
 ) -> Option<u8>
     requires segment_places { length segment_names.now ≡ segments }
     requires relation_places { length relations.now ≡ relations_most }
-    requires few { All HasFewFields relations.now }
-    ensures none { IfNone result (ListingFits (listing_of segment_names.now relations.now)) }
+    requires image_places { length images.now ≡ images_most }
+    ensures none { IfNone result
+        (ListingFits (listing_of segment_names.now relations.now images.now)) }
     ensures some { IfSome result (λ page.
-        ListingFits (listing_of segment_names.now relations.now) → ⊥) }
+        ListingFits (listing_of segment_names.now relations.now images.now) → ⊥) }
+    ensures within { IfSome result (λ page. page < system_pages) }
+{
+    match table_flaw(segment_names, relations) {
+        Some(page) => Some(page),
+        None => image_flaw(relations, images),
+    }
+}
+
+/// A page of segments or of relations that makes them such as a store may not have.
+fn table_flaw(segment_names: &[Option<Name>], relations: &[Option<RelationEntry>]) -> Option<u8>
+    requires { length relations.now ≡ relations_most }
+    ensures none { IfNone result (TablesFit segment_names.now relations.now) }
+    ensures some { IfSome result (λ page. TablesFit segment_names.now relations.now → ⊥) }
     ensures within { IfSome result (λ page. page < system_pages) }
 {
     if !are_names(segment_names) || !are_once(segment_names) {
         return Some(0);
     }
-    if !are_once(&names_of(relations)) {
+    if !are_once(&names_of::<RelationEntry, RELATIONS>(relations)) {
         return Some(1);
     }
     for (place, relation) in relations.iter().enumerate() {
         if !may_stand(segment_names, relation) {
             return Some(page_of(place as u8 + 1));
+        }
+    }
+    None
+}
+
+/// A page of images that makes them such as a store with these relations may not have.
+fn image_flaw(relations: &[Option<RelationEntry>], images: &[Option<ImageEntry>]) -> Option<u8>
+    requires { length images.now ≡ images_most }
+    ensures none { IfNone result (ImagesFit relations.now images.now) }
+    ensures some { IfSome result (λ page. ImagesFit relations.now images.now → ⊥) }
+    ensures within { IfSome result (λ page. page < system_pages) }
+{
+    let names = names_of::<ImageEntry, IMAGES>(images);
+    for (place, image) in images.iter().enumerate() {
+        let page = image_page_of(place as u8 + 1);
+        if is_taken(&names[..place], &names[place]) {
+            return Some(page);
+        }
+        if !may_index(relations, image) {
+            return Some(page);
         }
     }
     None
@@ -93,22 +133,25 @@ fn stands_in(items: &[Option<Name>], name: &Name) -> bool
     false
 }
 
-/// The names of the relations, at their places.
-fn names_of(relations: &[Option<RelationEntry>]) -> [Option<Name>; RELATIONS]
-    requires { length relations.now ≡ relations_most }
-    ensures { result ≡ relation_names relations.now }
+/// The names of the entries, at their places.
+fn names_of<E: Entry, const N: usize>(entries: &[Option<E>]) -> [Option<Name>; N]
+    requires { length entries.now ≡ N }
+    ensures { result ≡ map (option_map E.named) entries.now }
 {
-    let mut names = [None; RELATIONS];
-    for (place, relation) in relations.iter().enumerate() {
-        names[place] = name_of(relation);
+    let mut names = [None; N];
+    for (place, entry) in entries.iter().enumerate() {
+        names[place] = name_of(entry);
     }
     names
 }
 
-fn name_of(relation: &Option<RelationEntry>) -> Option<Name>
-    ensures { result ≡ option_map (λ entry. entry.name) relation.now }
+fn name_of<E: Entry>(entry: &Option<E>) -> Option<Name>
+    ensures { result ≡ option_map E.named entry.now }
 {
-    relation.as_ref().map(|relation| relation.name)
+    match entry {
+        Some(entry) => Some(entry.name()),
+        None => None,
+    }
 }
 
 /// Whether these are a letter, bytes of a name, and zeros.
@@ -144,7 +187,6 @@ fn are_zeros(bytes: &[u8]) -> bool
 
 /// Whether the relation at a place, if there is one, may stand beside these segments.
 fn may_stand(segment_names: &[Option<Name>], relation: &Option<RelationEntry>) -> bool
-    requires { HasFewFields relation.now }
     ensures { IsTrue result ↔ MayStand segment_names.now relation.now }
 {
     match relation {
@@ -155,7 +197,6 @@ fn may_stand(segment_names: &[Option<Name>], relation: &Option<RelationEntry>) -
 
 /// Whether a relation may stand beside these segments.
 fn is_entry(segment_names: &[Option<Name>], relation: &RelationEntry) -> bool
-    requires { length relation.now.fields ≤ most_fields }
     ensures { IsTrue result ↔ FitsIn segment_names.now relation.now }
 {
     let _live = relation.live;
@@ -170,10 +211,12 @@ fn is_entry(segment_names: &[Option<Name>], relation: &RelationEntry) -> bool
 
 /// Whether a relation may have these fields.
 fn are_fields(fields: &[FieldDef]) -> bool
-    requires { length fields.now ≤ most_fields }
     ensures { IsTrue result ↔ AreFields fields.now }
 {
     if fields.is_empty() {
+        return false;
+    }
+    if fields.len() > MOST_FIELDS {
         return false;
     }
     if !are_kinds(fields) {
@@ -215,4 +258,88 @@ fn are_apart(fields: &[FieldDef]) -> bool
         names[place] = Some(field.name);
     }
     are_once(&names[..fields.len()])
+}
+
+// ---- images
+
+/// Whether the image at a place, if there is one, may stand beside these relations.
+fn may_index(relations: &[Option<RelationEntry>], image: &Option<ImageEntry>) -> bool
+    ensures { IsTrue result ↔ MayIndex relations.now image.now }
+{
+    match image {
+        Some(image) => is_image(relations, image),
+        None => true,
+    }
+}
+
+/// Whether an image may stand beside these relations.
+fn is_image(relations: &[Option<RelationEntry>], image: &ImageEntry) -> bool
+    ensures { IsTrue result ↔ ImageFitsIn relations.now image.now }
+{
+    let _root = image.root;
+    if !is_name(&image.name) || image.levels == 0 {
+        return false;
+    }
+    match at(relations, image.relation) {
+        Some(relation) => has_key_of(relation.fields.as_slice(), image),
+        None => false,
+    }
+}
+
+/// Whether an image has a key of some of these fields.
+fn has_key_of(fields: &[FieldDef], image: &ImageEntry) -> bool
+    ensures { IsTrue result ↔ HasKeyOf fields.now image.now }
+{
+    let count = usize::from(image.count);
+    if count == 0 || count > MOST_FIELDS {
+        return false;
+    }
+    if !are_zeros(&image.fields[count..]) {
+        return false;
+    }
+    is_key(fields, &image.fields[..count])
+}
+
+/// Whether these are numbers of some of these fields, none of them twice, and their key isn't too wide.
+fn is_key(fields: &[FieldDef], numbers: &[u8]) -> bool
+    requires { length numbers.now ≤ most_fields }
+    ensures { IsTrue result ↔ IsKeyOf fields.now numbers.now }
+{
+    if !are_numbers(fields, numbers) {
+        return false;
+    }
+    if !are_different(numbers) {
+        return false;
+    }
+    key_width(fields, numbers) <= KEY_BYTES
+}
+
+/// Whether each of these is the number of a field, counted from 1.
+fn are_numbers(fields: &[FieldDef], numbers: &[u8]) -> bool
+    ensures { IsTrue result ↔ All (IsFieldNumber (length fields.now)) numbers.now }
+{
+    for number in numbers {
+        if !is_number(fields, *number) {
+            return false;
+        }
+    }
+    true
+}
+
+fn is_number(fields: &[FieldDef], number: u8) -> bool
+    ensures { IsTrue result ↔ IsFieldNumber (length fields.now) number }
+{
+    number >= 1 && usize::from(number) <= fields.len()
+}
+
+/// Whether no number stands twice.
+fn are_different(numbers: &[u8]) -> bool
+    ensures { IsTrue result ↔ AreDifferent numbers.now }
+{
+    for (place, number) in numbers.iter().enumerate() {
+        if numbers[..place].contains(number) {
+            return false;
+        }
+    }
+    true
 }

@@ -3,13 +3,17 @@ ghost use Rattle.std.specs.Prelude.{◌≡◌, ◌+◌, ◌*◌, ◌<◌, ◌≤
 ghost use Rattle.rss_base.specs.Sizes.{page_bytes, segments};
 ghost use Rattle.rss_base.specs.Names.{name_bytes};
 ghost use Rattle.rss_base.specs.TupleTypes.{most_fields};
-ghost use Rattle.rss_base.specs.Listings.{field_bytes, relation_bytes, relations_of_page};
+ghost use Rattle.rss_base.specs.Listings.{field_bytes, relation_bytes, relations_of_page, image_bytes, images_of_page};
+ghost use Rattle.std.specs.Int.{w32, from_be_bytes};
 ghost use Rattle.rss_catalog.specs.Reading.{pieces, segment_of, kind_of, field_of, fields_of};
-ghost use Rattle.rss_catalog.specs.Reading.{relation_of, HasFewFields};
+ghost use Rattle.rss_catalog.specs.Reading.{relation_of, image_of};
 
-use crate::encoding::{FIELD_BYTES, RELATION_BYTES, RELATIONS_OF_PAGE};
+use crate::encoding::{
+    FIELD_BYTES, IMAGE_BYTES, IMAGES_OF_PAGE, RELATION_BYTES, RELATIONS_OF_PAGE,
+};
 use rss_base::{
-    FieldDef, FieldKind, Fields, MOST_FIELDS, NAME_BYTES, Name, Page, RelationEntry, SEGMENTS,
+    FieldDef, FieldKind, Fields, ImageEntry, MOST_FIELDS, NAME_BYTES, Name, Page, RelationEntry,
+    SEGMENTS,
 };
 use std::alloc::{AllocError, Global};
 
@@ -41,6 +45,21 @@ pub(crate) fn read_relations(
     Ok(())
 }
 
+/// Puts the images of a page behind those that are there.
+pub(crate) fn read_images(
+    page: &Page,
+    images: &mut Vec<Option<ImageEntry>>,
+) -> Result<(), AllocError>
+    ensures read { OnOk result (images.new.items ≡ images.old.items
+        ++ map image_of (pieces image_bytes images_of_page page.now)) }
+{
+    for place in 0..usize::from(IMAGES_OF_PAGE) {
+        let at = IMAGE_BYTES * place;
+        images.push(read_image(&page[at..at + IMAGE_BYTES]))?;
+    }
+    Ok(())
+}
+
 fn read_segment(bytes: &[u8]) -> Option<Name>
     requires { length bytes.now ≡ name_bytes }
     ensures { result ≡ segment_of bytes.now }
@@ -59,13 +78,11 @@ fn read_relation(alloc: Global, bytes: &[u8]) -> Result<Option<RelationEntry>, A
         return Ok(None);
     }
     let count = usize::from(bytes[17]).min(MOST_FIELDS);
-    let mut live = [0u8; 4];
-    live.copy_from_slice(&bytes[20..24]);
     Ok(Some(RelationEntry {
         name: read_name(&bytes[..NAME_BYTES]),
         segment: bytes[16],
         fields: read_fields(alloc, count, &bytes[32..])?,
-        live: u32::from_be_bytes(live),
+        live: read_number(&bytes[20..24]),
     }))
 }
 
@@ -109,4 +126,33 @@ fn read_name(bytes: &[u8]) -> Name
     let mut name = [0; NAME_BYTES];
     name.copy_from_slice(bytes);
     Name { bytes: name }
+}
+
+fn read_image(bytes: &[u8]) -> Option<ImageEntry>
+    requires { length bytes.now ≡ image_bytes }
+    ensures { result ≡ image_of bytes.now }
+{
+    if bytes[0] == 0 {
+        return None;
+    }
+    let mut fields = [0; MOST_FIELDS];
+    fields.copy_from_slice(&bytes[24..24 + MOST_FIELDS]);
+    Some(ImageEntry {
+        name: read_name(&bytes[..NAME_BYTES]),
+        relation: bytes[16],
+        is_unique: bytes[17] == 1,
+        count: bytes[18],
+        fields,
+        levels: bytes[19],
+        root: read_number(&bytes[20..24]),
+    })
+}
+
+fn read_number(bytes: &[u8]) -> u32
+    requires { length bytes.now ≡ 4 }
+    ensures { result ≡ from_be_bytes w32 bytes.now }
+{
+    let mut number = [0u8; 4];
+    number.copy_from_slice(bytes);
+    u32::from_be_bytes(number)
 }

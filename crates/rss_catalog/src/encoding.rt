@@ -1,15 +1,16 @@
 // The bytes of the catalog's pages.
-ghost use Rattle.std.specs.Prelude.{◌≡◌, ◌+◌, ◌*◌, ◌<◌, ◌≤◌, ◌++◌, length, flat_map, IfSome, All};
+ghost use Rattle.std.specs.Prelude.{◌≡◌, ◌+◌, ◌*◌, ◌<◌, ◌≤◌, ◌++◌, length, flat_map, IfSome, Some, All};
 ghost use Rattle.rss_base.specs.Sizes.{page_bytes};
 ghost use Rattle.rss_base.specs.TupleTypes.{most_fields};
 ghost use Rattle.rss_base.specs.Listings.{padded, relation_bytes, relations_of_page, field_bytes};
 ghost use Rattle.rss_base.specs.Listings.{segment_spelled, kind_spelled, field_spelled};
-ghost use Rattle.rss_base.specs.Listings.{relation_spelled};
+ghost use Rattle.rss_base.specs.Listings.{relation_spelled, image_bytes, images_of_page, image_spelled};
 ghost use Rattle.rss_base.specs.Sizes.{segments};
 ghost use Rattle.rss_catalog.specs.Reading.{definition_bytes, definition_spelled, HasFewFields};
 
 use rss_base::{
-    BoundedBytes, FieldDef, FieldKind, NAME_BYTES, Name, PAGE_BYTES, Page, RelationEntry, put_bytes,
+    BoundedBytes, FieldDef, FieldKind, ImageEntry, NAME_BYTES, Name, PAGE_BYTES, Page,
+    RelationEntry, put_bytes,
 };
 
 /// How many bytes a field and a relation have.
@@ -19,6 +20,12 @@ pub(crate) const RELATION_BYTES: usize = 512;
 
 /// How many relations a page has.
 pub(crate) const RELATIONS_OF_PAGE: u8 = 8;
+
+/// How many bytes an image has.
+pub(crate) const IMAGE_BYTES: usize = 64;
+
+/// How many images a page has.
+pub(crate) const IMAGES_OF_PAGE: u8 = 64;
 
 /// The bytes of a page, as far as they are written.
 type PageBytes = BoundedBytes<PAGE_BYTES>;
@@ -44,6 +51,18 @@ pub(crate) fn relations_page(items: &[Option<RelationEntry>]) -> Page
     let mut bytes = PageBytes::new();
     for item in items {
         put_relation(&mut bytes, item);
+    }
+    page_of(&bytes)
+}
+
+/// A page of images.
+pub(crate) fn images_page(items: &[Option<ImageEntry>]) -> Page
+    requires { length items.now ≤ images_of_page }
+    ensures { result ≡ padded page_bytes (flat_map image_spelled items.now) }
+{
+    let mut bytes = PageBytes::new();
+    for item in items {
+        put_image(&mut bytes, item);
     }
     page_of(&bytes)
 }
@@ -133,4 +152,32 @@ fn kind_bytes(kind: FieldKind) -> [u8; 2]
         FieldKind::Int => [1, 0],
         FieldKind::Text(most) => [2, most],
     }
+}
+
+fn put_image(bytes: &mut PageBytes, image: &Option<ImageEntry>)
+    requires { length bytes.old + image_bytes ≤ page_bytes }
+    ensures put { bytes.new ≡ bytes.old ++ image_spelled image.now }
+    ensures long { length bytes.new ≡ length bytes.old + image_bytes }
+{
+    match image {
+        Some(image) => put_image_entry(bytes, image),
+        None => bytes.extend_from_slice(&[0; IMAGE_BYTES]),
+    }
+}
+
+fn put_image_entry(bytes: &mut PageBytes, image: &ImageEntry)
+    requires { length bytes.old + image_bytes ≤ page_bytes }
+    ensures put { bytes.new ≡ bytes.old ++ image_spelled (Some image.now) }
+    ensures long { length bytes.new ≡ length bytes.old + image_bytes }
+{
+    bytes.extend_from_slice(&image.name.bytes);
+    bytes.extend_from_slice(&[
+        image.relation,
+        u8::from(image.is_unique),
+        image.count,
+        image.levels,
+    ]);
+    bytes.extend_from_slice(&image.root.to_be_bytes());
+    bytes.extend_from_slice(&image.fields);
+    bytes.extend_from_slice(&[0; 24]);
 }

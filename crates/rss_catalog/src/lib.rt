@@ -5,6 +5,7 @@ mod catalog;
 mod checking;
 mod decoding;
 mod encoding;
+mod entries;
 mod loading;
 
 pub use catalog::Catalog;

@@ -5,24 +5,29 @@ ghost use Rattle.rss_base.specs.Looking.{ChecksPages};
 ghost use Rattle.rss_base.specs.Paged.{page_key};
 ghost use Rattle.rss_base.specs.Sizes.{system_pages, zero_page};
 ghost use Rattle.rss_base.specs.Steps.{no_page};
-ghost use Rattle.rss_base.specs.Listings.{relation_pages};
 ghost use Rattle.rss_base.specs.declared.fault.PageFault.TheVariants.{Damaged as PageDamaged, Device as PageDevice};
 ghost use Rattle.rss_base.specs.declared.key.Space.TheVariants.{System};
 ghost use Rattle.rss_base.specs.declared.place.Place.{Place as AnyPlace};
 ghost use Rattle.rss_base.specs.declared.place.Place.TheVariants.{Catalog as CatalogPlace};
 ghost use Rattle.rss_catalog.specs.Catalogs.{IsCatalogPlace};
-ghost use Rattle.rss_catalog.specs.Loading.{IsFlawed, HasPage, LoadsSegments, LoadsRelations};
+ghost use Rattle.rss_catalog.specs.Loading.{IsFlawed, HasPage, link_page, LoadsSegments, HasForm, IsFormed, AddsPage, LoadsEntries};
 
-use crate::decoding::{read_relations, read_segments};
-use crate::encoding::{RELATIONS_OF_PAGE, relations_page, segments_page};
+use crate::decoding::read_segments;
+use crate::encoding::{IMAGES_OF_PAGE, RELATIONS_OF_PAGE, segments_page};
+use crate::entries::Entry;
 use rss_base::{
-    Name, PAGE_BYTES, PageFault, PageKey, Pages, Place, RELATIONS_MOST, RelationEntry,
-    SYSTEM_PAGES, Space,
+    IMAGES_MOST, Name, PAGE_BYTES, PageFault, PageKey, Pages, Place, RELATIONS_MOST, Space,
 };
 use std::alloc::Global;
 
 /// How many pages have relations: those from 1 on.
-const RELATION_PAGES: u8 = RELATIONS_MOST / RELATIONS_OF_PAGE;
+pub(crate) const RELATION_PAGES: u8 = RELATIONS_MOST / RELATIONS_OF_PAGE;
+
+/// How many pages have images: those behind the relations.
+pub(crate) const IMAGE_PAGES: u8 = IMAGES_MOST / IMAGES_OF_PAGE;
+
+/// The page of the links.
+const LINK_PAGE: u8 = 1 + RELATION_PAGES + IMAGE_PAGES;
 
 /// The page of this number of the system space.
 pub(crate) fn key_of(number: u8) -> PageKey
@@ -56,68 +61,62 @@ pub(crate) fn load_segments<P: Pages>(
     Ok(segments)
 }
 
-/// The relations, from their pages.
-pub(crate) fn load_relations<P: Pages>(
+/// The entries of so many pages, from this one on.
+pub(crate) fn load_entries<E: Entry, P: Pages>(
     alloc: Global,
     pages: &mut P,
-) -> Result<Vec<Option<RelationEntry>>, PageFault>
-    ensures loads { IfOk result (λ relations.
-        LoadsRelations (P.view pages.old) relation_pages relations.items) }
+    first: u8,
+    count: u8,
+) -> Result<Vec<Option<E>>, PageFault>
+    requires { HasForm E.form first count }
+    ensures loads { IfOk result (λ entries.
+        LoadsEntries E.form first count (P.view pages.old) entries.items) }
     ensures flawed { (place : AnyPlace) → result ≡ Err (PageDamaged place)
         → IsFlawed (P.view pages.old) place }
-    ensures did { ChecksPages no_page relation_pages
-        (P.view pages.old) (P.view pages.new) result }
+    ensures did { ChecksPages no_page count (P.view pages.old) (P.view pages.new) result }
 {
-    let Ok(mut relations) = Vec::with_capacity(alloc, usize::from(RELATIONS_MOST)) else {
+    let Ok(mut entries) = Vec::with_capacity(alloc, usize::from(E::MOST)) else {
         return Err(PageFault::NoMemory);
     };
-    for before in 0..RELATION_PAGES {
-        load_relation_page(alloc, pages, before, &mut relations)?;
+    for before in 0..count {
+        load_entry_page(alloc, pages, first + before, &mut entries)?;
     }
-    Ok(relations)
+    Ok(entries)
 }
 
-/// The relations of the next page, where those of so many pages were read.
-fn load_relation_page<P: Pages>(
+/// Puts the entries of a page behind those that are there.
+fn load_entry_page<E: Entry, P: Pages>(
     alloc: Global,
     pages: &mut P,
-    before: u8,
-    relations: &mut Vec<Option<RelationEntry>>,
+    number: u8,
+    entries: &mut Vec<Option<E>>,
 ) -> Result<(), PageFault>
-    requires within { before < relation_pages }
-    requires loaded { LoadsRelations (P.view pages.old) before relations.old.items }
+    requires within { number < system_pages }
+    requires formed { IsFormed E.form number }
     ensures loads { OnOk result
-        (LoadsRelations (P.view pages.old) (before + 1) relations.new.items) }
+        (AddsPage E.form (P.view pages.old) number entries.old.items entries.new.items) }
     ensures flawed { (place : AnyPlace) → result ≡ Err (PageDamaged place)
         → IsFlawed (P.view pages.old) place }
     ensures did { ChecksPages no_page 1 (P.view pages.old) (P.view pages.new) result }
 {
-    let number = before + 1;
     load_page(pages, number)?;
-    let first = relations.len();
-    let page = pages.loaded(key_of(number));
-    if read_relations(alloc, page, relations).is_err() {
-        return Err(PageFault::NoMemory);
+    match E::read_page(alloc, pages.loaded(key_of(number)), entries) {
+        Ok(true) => Ok(()),
+        Ok(false) => Err(damaged(number)),
+        Err(_) => Err(PageFault::NoMemory),
     }
-    if *page != relations_page(&relations[first..]) {
-        return Err(damaged(number));
-    }
-    Ok(())
 }
 
-/// The other pages, which are zeros as yet.
+/// The last page, which is zeros as yet.
 pub(crate) fn check_zeros<P: Pages>(pages: &mut P) -> Result<(), PageFault>
-    ensures zeros { OnOk result ((page : ℕ) → relation_pages < page → page < system_pages
-        → HasPage (P.view pages.old) page zero_page) }
+    ensures zeros { OnOk result (HasPage (P.view pages.old) link_page zero_page) }
     ensures flawed { (place : AnyPlace) → result ≡ Err (PageDamaged place)
         → IsFlawed (P.view pages.old) place }
-    ensures did { ChecksPages no_page 3 (P.view pages.old) (P.view pages.new) result }
+    ensures did { ChecksPages no_page 1 (P.view pages.old) (P.view pages.new) result }
 {
-    for number in RELATION_PAGES + 1..SYSTEM_PAGES as u8 {
-        load_page(pages, number)?;
-        if *pages.loaded(key_of(number)) != [0; PAGE_BYTES] {
-            return Err(damaged(number));
-        }
+    load_page(pages, LINK_PAGE)?;
+    if *pages.loaded(key_of(LINK_PAGE)) != [0; PAGE_BYTES] {
+        return Err(damaged(LINK_PAGE));
     }
     Ok(())
 }

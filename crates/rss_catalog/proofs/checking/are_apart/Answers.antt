@@ -1,6 +1,5 @@
-use Rattle.std.proofs.Common.{◌≡◌, ◌∙◌, ℕ, List, [], take, length, Some, None, sym, subst, arith}
+use Rattle.std.proofs.Common.{◌≡◌, ◌∙◌, ℕ, [], take, length, Some, None, sym, subst, arith}
 use Rattle.std.proofs.lemmas.List.{length-set, length-map, take_all, get_or-map}
-use Rattle.rss_base.specs.declared.name.Name.{Name}
 use Rattle.rss_base.specs.declared.field.FieldDef.{FieldDef}
 use Rattle.rss_base.specs.declared.value.FieldKind.TheVariants.{Int}
 use Rattle.rss_catalog.specs.Checking.{AreOnce}

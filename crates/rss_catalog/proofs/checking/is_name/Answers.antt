@@ -1,4 +1,4 @@
-use Rattle.std.proofs.Common.{◌≡◌, ◌∙◌, ℕ, List, All, sym, ap, subst, arith, take, drop}
+use Rattle.std.proofs.Common.{◌≡◌, ◌∙◌, ℕ, List, All, sym, subst, arith, take, drop}
 use Rattle.std.proofs.lemmas.List.{take-append-drop, take_rest}
 use Rattle.rss_catalog.proofs.Tested.{name_of_text, text_long, text_of_name}
 use Rattle.rss_catalog.proofs.checking.is_name.Goals as goal

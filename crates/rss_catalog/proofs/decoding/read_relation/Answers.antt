@@ -9,7 +9,7 @@ use Rattle.rss_catalog.proofs.decoding.read_relation.Goals as goal
 pub returns : goal.returns
 returns c =
     let bytes = c.args.bytes.now in
-    let live : c.from_be_bytes.result ≡ from_be_bytes w32 (take 4 (drop 20 bytes)) = search rules in
+    let live : c.read_number.result ≡ from_be_bytes w32 (take 4 (drop 20 bytes)) = search rules in
     let fields = c.in_ok-read_fields.ensures ∙ ap (λ (l : List ℕ). fields_of c.min-count.result l) (take_rest bytes 32) ∙ ap (λ (n : ℕ). fields_of n (drop 32 bytes)) (c.min-count.ensures ∙ ap (λ (n : ℕ). min n 16) c.from.ensures) in
     ap Some (λ i. record { name = record { bytes = c.read_name.ensures i }; segment = get_or bytes 16 0; fields = fields i; live = live i })
     ∙ sym (cond-false (get_or bytes 0 0 == 0) None (Some (entry_of bytes)) (ne_eqb (get_or bytes 0 0) 0 c.if-bytes-eq0.false))

@@ -1,4 +1,4 @@
-use Rattle.std.proofs.Common.{◌∙◌, ◌*◌, ◌++◌, ap, sym, refl, ℕ, List}
+use Rattle.std.proofs.Common.{◌∙◌, ◌++◌, ap, sym, refl, ℕ, List}
 use Rattle.std.proofs.lemmas.List.{append-nil}
 use Rattle.std.specs.Prelude.{map}
 use Rattle.rss_catalog.specs.Reading.{relation_of}

@@ -1,4 +1,4 @@
-use Rattle.std.proofs.Common.{◌∙◌, ◌*◌, ap, sym, refl}
+use Rattle.std.proofs.Common.{◌∙◌, ap, sym, refl}
 use Rattle.std.specs.Prelude.{map}
 use Rattle.rss_catalog.specs.Reading.{segment_of}
 use Rattle.rss_catalog.proofs.Pieces.{pieces_none, piece_read}

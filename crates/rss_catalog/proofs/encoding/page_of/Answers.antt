@@ -1,4 +1,4 @@
-use Rattle.std.proofs.Common.{◌∙◌, ◌+◌, ap, List, ℕ, ◌++◌, take, drop, length, replicate, zero-add}
+use Rattle.std.proofs.Common.{◌∙◌, ◌+◌, ap, List, ℕ, ◌++◌, drop, length, replicate, zero-add}
 use Rattle.std.proofs.lemmas.List.{drop-replicate}
 use Rattle.rss_catalog.proofs.encoding.page_of.Goals as goal
 

@@ -1,4 +1,4 @@
-use Rattle.std.proofs.Common.{◌≡◌, ◌∙◌, ap, sym, length, arith, rules}
+use Rattle.std.proofs.Common.{◌≡◌, ap, length, arith, rules}
 use Rattle.std.specs.Cmp.Lexicographic.{other_text}
 use Rattle.rss_base.proofs.Looking.{passed_on}
 use Rattle.std.proofs.lemmas.List.{length-map}

@@ -1,16 +1,14 @@
-use Rattle.std.proofs.Common.{◌∙◌, ap, refl}
+-- A relation of the segment is an entry that belongs to it.
+use Rattle.std.proofs.Common.{◌∙◌, ap, sym, subst, List, Option}
+use Rattle.rss_base.specs.declared.relation.RelationEntry.{RelationEntry}
 use Rattle.rss_catalog.specs.Catalogs.{CatalogView}
-use Rattle.rss_catalog.proofs.Listed.{found_in, none_in}
+use Rattle.rss_catalog.specs.Checking.{HasEntryOf}
 use Rattle.rss_catalog.proofs.catalog.Catalog.has_relation_in.Goals as goal
 
-pub returns-in-loop-relation : goal.returns-in-loop-relation
-returns-in-loop-relation c = (
-  λ yes. found_in c.args.self.now.listing _ c.loop-relation.relation-index _ _ _ (c.deref-relation-items.ensures.value ∙ ap (λ (v : CatalogView). v.listing.relations) c.self.view_is) c.loop-relation-test.true c.relation-item.is c.in-Some.is c.if-relation-segment.true,
-  λ has. refl,
-)
-
 pub returns : goal.returns
-returns c = (
-  λ no. absurd (cc),
-  λ has. absurd (none_in c.args.self.now.listing _ c.loop-relation.relation-index _ (c.deref-relation-items.ensures.value ∙ ap (λ (v : CatalogView). v.listing.relations) c.self.view_is) c.loop-relation-test.false c.loop-relation.invariant has),
-)
+returns c =
+    let owner = λ (relation : RelationEntry). relation.segment in
+    let same = c.deref.ensures.value ∙ ap (λ (v : CatalogView). v.listing.relations) c.self.view_is in (
+      λ yes. let has = subst (λ (l : List (Option RelationEntry)). HasEntryOf owner l c.args.segment) same (c.has_entry_of.ensures.0 yes) in record { number = has.place; relation = has.entry; at = has.at; within = has.of },
+      λ has. c.has_entry_of.ensures.1 (subst (λ (l : List (Option RelationEntry)). HasEntryOf owner l c.args.segment) (sym same) (record { place = has.number; entry = has.relation; at = has.at; of = has.within })),
+    )

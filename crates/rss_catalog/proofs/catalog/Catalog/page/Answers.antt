@@ -1,18 +1,24 @@
-use Rattle.std.proofs.Common.{◌≡◌, ◌≤◌, ◌∙◌, length, ap, sym, arith, rules}
-use Rattle.rss_base.specs.Listings.{IsPlain}
+-- Each page is put together of the places that it spells.
+use Rattle.std.proofs.Common.{◌∙◌, ◌-◌, ap, sym, arith}
 use Rattle.rss_catalog.specs.Catalogs.{CatalogView}
-use Rattle.rss_catalog.proofs.Loaded.{zeros_behind}
+use Rattle.rss_catalog.specs.Loading.{relation_form, image_form}
+use Rattle.rss_catalog.proofs.Plain.{images_page_is, links_page_is}
+use Rattle.rss_catalog.proofs.Read.{relations_page_is}
 use Rattle.rss_catalog.proofs.Stored.{few_part, page_is}
 use Rattle.rss_catalog.proofs.catalog.Catalog.page.Goals as goal
 
-pub returns-then-first-len : goal.returns-then-first-len
-returns-then-first-len c =
-    let long : length c.self.inside.relations.items ≤ c.from-first.result = search rules in
-    let plain : IsPlain c.args.self.now.listing = record { no_images = sym (ap (λ (v : CatalogView). v.listing.images) c.self.view_is); no_links = sym (ap (λ (v : CatalogView). v.listing.links) c.self.view_is) } in
-    zeros_behind c.args.self.now.listing plain c.args.number (omega (arith, long, c.self.inside.relation_places))
-
 pub relations_page-requires-clause-few : goal.relations_page-requires-clause-few
-relations_page-requires-clause-few c = few_part c.self.inside.relations.items c.deref-2.result.now _ _ c.self.inside.safe c.deref-2.ensures.value
+relations_page-requires-clause-few c = few_part c.self.inside.relations.items c.deref-then-number-le-RELATION_PAGES.result.now _ _ c.self.inside.safe c.deref-then-number-le-RELATION_PAGES.ensures.value
+
+pub returns-then-number-le-RELATION_PAGES : goal.returns-then-number-le-RELATION_PAGES
+returns-then-number-le-RELATION_PAGES c =
+    page_is relation_form c.self.inside.relations.items _ c.args.self.now.listing.relations (c.args.number - 1) c.from-first.result c.from.result _ c.relations_page.ensures c.deref-then-number-le-RELATION_PAGES.ensures.value (ap (λ (v : CatalogView). v.listing.relations) c.self.view_is) (omega arith) c.from.ensures
+    ∙ sym (relations_page_is c.args.self.now.listing c.args.number (omega arith) (omega arith))
+
+pub returns-then-number : goal.returns-then-number
+returns-then-number c =
+    page_is image_form c.self.inside.images.items _ c.args.self.now.listing.images (c.args.number - 1 - 6) c.from-first-then-number.result c.from-then-number.result _ c.images_page.ensures c.deref-then-number.ensures.value (ap (λ (v : CatalogView). v.listing.images) c.self.view_is) (omega arith) c.from-then-number.ensures
+    ∙ sym (images_page_is c.args.self.now.listing c.args.number (omega arith) (omega arith))
 
 pub returns : goal.returns
-returns c = page_is c.args.self.now.listing c.self.inside.relations.items _ c.args.number c.from-first.result c.from.result _ c.relations_page.ensures c.deref-2.ensures.value (ap (λ (v : CatalogView). v.listing.relations) c.self.view_is) (omega arith) c.from.ensures (omega arith) (omega arith)
+returns c = sym (links_page_is c.args.self.now.listing c.args.number (sym (ap (λ (v : CatalogView). v.listing.links) c.self.view_is)) (omega arith))

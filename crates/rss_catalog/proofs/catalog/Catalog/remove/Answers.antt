@@ -1,8 +1,12 @@
-use Rattle.rss_catalog.proofs.Listed.{removed_segment, removed_relation}
+-- What was taken away is a segment, a relation or an image.
+use Rattle.rss_catalog.proofs.Listed.{removed_segment, removed_relation, removed_image}
 use Rattle.rss_catalog.proofs.catalog.Catalog.remove.Goals as goal
 
 pub returns-in-Segment-clause-fits : goal.returns-in-Segment-clause-fits
 returns-in-Segment-clause-fits c = removed_segment _ _ c.args.kind c.args.number c.in-Segment.is c.requires.used c.set_segment.ensures.is
 
 pub returns-in-Relation-clause-fits : goal.returns-in-Relation-clause-fits
-returns-in-Relation-clause-fits c = λ none. removed_relation _ _ c.args.kind c.args.number c.in-Relation.is c.requires.used c.set_relation.ensures.is
+returns-in-Relation-clause-fits c = λ none. removed_relation _ _ c.args.kind c.args.number c.in-Relation.is c.requires.used c.set_relation.ensures.is (c.requires.no_image c.in-Relation.is)
+
+pub returns-in-Image-clause-fits : goal.returns-in-Image-clause-fits
+returns-in-Image-clause-fits c = λ none. removed_image _ _ c.args.kind c.args.number c.in-Image.is c.requires.used c.set_image.ensures.is

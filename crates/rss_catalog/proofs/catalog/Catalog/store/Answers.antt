@@ -2,7 +2,7 @@ use Rattle.std.proofs.Common.{◌<◌, ◌∙◌, ap, sym, length, get_or, false
 use Rattle.rss_base.specs.Paged.{Mapped, page_key}
 use Rattle.rss_base.specs.declared.key.Space.TheVariants.{System}
 use Rattle.rss_catalog.specs.Catalogs.{CatalogView}
-use Rattle.rss_catalog.proofs.Stored.{StoresBelow, stored_skip, stored_one, stored_all, stored_listing, store_fails}
+use Rattle.rss_catalog.proofs.Stored.{stored_skip, stored_one, stored_all, stored_listing, store_fails}
 use Rattle.rss_catalog.proofs.catalog.Catalog.store.Goals as goal
 use Rattle.rss_catalog.proofs.catalog.Catalog.store.Goals.{then-self-number+in_ok-write, else-self-number}
 

@@ -1,0 +1,16 @@
+-- An entry was found at its place, or at none of the places.
+use Rattle.std.proofs.Common.{◌∙◌, sym, refl}
+use Rattle.rss_catalog.proofs.Tested.{found_entry, no_entry}
+use Rattle.rss_catalog.proofs.entries.has_entry_of.Goals as goal
+
+pub returns-in-loop-entry : goal.returns-in-loop-entry
+returns-in-loop-entry g c = (
+  λ yes. found_entry g.E.Entry.owner c.args.entries.now c.loop-entry.entry-index c.args.owner _ _ c.loop-entry-test.true c.entry-item.is c.in-Some.is (sym c.owner.ensures ∙ c.if-owner.true),
+  λ has. refl,
+)
+
+pub returns : goal.returns
+returns g c = (
+  λ no. absurd (cc),
+  λ has. absurd (no_entry g.E.Entry.owner c.args.entries.now c.loop-entry.entry-index c.args.owner c.loop-entry-test.false c.loop-entry.invariant has),
+)
