@@ -59,7 +59,7 @@ module _ (image : Image) (old : PagesView) (pair : List ℕ) (pairs : List (List
   }
 
   -- what the root holds
-  root_holds : (mid : PagesView) (count : ℕ) (rem : Removes (spot_of image old.held pair pairs tree long) (cells_of (nodes_of image) mid.held) count) → HoldsNode (nodes_of image) mid.held (image.levels - 1) image.root (link (length rem.rest) [] no_page) (stored image.width (image.levels - 1) rem.head.items)
+  pub root_holds : (mid : PagesView) (count : ℕ) (rem : Removes (spot_of image old.held pair pairs tree long) (cells_of (nodes_of image) mid.held) count) → HoldsNode (nodes_of image) mid.held (image.levels - 1) image.root (link (length rem.rest) [] no_page) (stored image.width (image.levels - 1) rem.head.items)
   root_holds mid count rem =
       let row = stack_row (spells (nodes_of image)) (cells_of (nodes_of image) mid.held) image.width (without_pair pair pairs) (rem.head ∷ []) rem.rest rem.stack_now in
       let held = here_of (spells (nodes_of image)) (cells_of (nodes_of image) mid.held) image.width (length rem.rest) [] rem.head [] row.held in
@@ -68,7 +68,7 @@ module _ (image : Image) (old : PagesView) (pair : List ℕ) (pairs : List (List
       subst (λ (l : ℕ). HoldsNode (nodes_of image) mid.held l image.root (link (length rem.rest) [] no_page) (stored image.width l rem.head.items)) level
       (subst (λ (n : ℕ). HoldsNode (nodes_of image) mid.held (length rem.rest) n (link (length rem.rest) [] no_page) (stored image.width (length rem.rest) rem.head.items)) number held)
 
-  still_one : (mid : PagesView) (count : ℕ) → Removes (spot_of image old.held pair pairs tree long) (cells_of (nodes_of image) mid.held) count → 1 < image.levels → 1 ≤ count
+  pub still_one : (mid : PagesView) (count : ℕ) → Removes (spot_of image old.held pair pairs tree long) (cells_of (nodes_of image) mid.held) count → 1 < image.levels → 1 ≤ count
   still_one mid count rem high = let two = tree.tree.branches (omega (arith, high, tree.tree.high)) in omega (arith, two, rem.lacks_one, rem.count_is)
 
   pub has_root : (mid : PagesView) (count : ℕ) → Removes (spot_of image old.held pair pairs tree long) (cells_of (nodes_of image) mid.held) count → 1 < image.levels → HasRoot (nodes_of image) mid.held (image.levels - 1) image.root

@@ -18,3 +18,12 @@ pub mod Nested
 pub mod Rowed
 pub mod Numbered
 pub mod Others
+pub mod Tested
+pub mod Sighted
+pub mod Ordered
+pub mod Alike
+pub mod Walked
+pub mod Once
+pub mod Laid
+pub mod Standing
+pub mod Kept

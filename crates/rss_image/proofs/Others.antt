@@ -199,3 +199,22 @@ module _ (key : List ℕ) (width : ℕ) (long : length key ≡ width) (pairs : L
     another_is own found None mine is wide some none = λ tid has.
         subst (λ (o : Option Tid). IsPairOf key o (pair_bytes key tid)) (sym mine)
         (⊎_elim (λ (same : pair_bytes key tid ≡ pair_bytes key first). same) (λ (above : IsLess (pair_bytes key first) (pair_bytes key tid)). absurd (none_above found is wide (none refl) tid has above)) (first_or_above tid has))
+
+-- ---- a pair that is there
+
+-- the first pair at or above one of them is that one
+pub found_is : (target : List ℕ) (pairs : List (List ℕ)) → Pairwise IsLess pairs → Contains pairs target → first_from false target pairs ≡ Some target
+found_is target pairs rises has = by (first_from false target pairs) refl
+  where
+    at_first : (q : List ℕ) → IsFirst false target pairs q → q ≡ target
+    at_first q first = ⊎_elim
+        (λ (passed : is_passed false target target ≡ true). absurd (less_never (passed_less target target passed)))
+        (λ (rest : (target ≡ q) ⊎ IsLess q target). ⊎_elim
+        (λ (same : target ≡ q). sym same)
+        (λ (less : IsLess q target). absurd (stops_not q target first.stops less))
+        rest)
+        (each_contained (λ p. (is_passed false p target ≡ true) ⊎ ((p ≡ q) ⊎ IsLess q p)) pairs target first.others has)
+
+    by : (found : Option (List ℕ)) → first_from false target pairs ≡ found → first_from false target pairs ≡ Some target
+    by None is = absurd (less_never (passed_less target target (each_contained (λ p. is_passed false p target ≡ true) pairs target (all_passed false target pairs is) has)))
+    by (Some q) is = is ∙ ap (λ (p : List ℕ). Some p) (at_first q (is_first false target pairs q rises is))

@@ -28,7 +28,7 @@ rising (e ∷ es) all = (of_one es all.0, rising es all.1)
     of_one [] all = tt
     of_one (d ∷ ds) all = (less_item e d all.0, of_one ds all.1)
 
-rising_at : (es : List Entry) → Pairwise IsLesser es → (k j : ℕ) → k < j → j < length es → IsLess (at_place es k).pair (at_place es j).pair
+pub rising_at : (es : List Entry) → Pairwise IsLesser es → (k j : ℕ) → k < j → j < length es → IsLess (at_place es k).pair (at_place es j).pair
 rising_at [] all k j lt low = absurd (omega arith)
 rising_at (e ∷ es) all k zero lt low = absurd (omega arith)
 rising_at (e ∷ es) all zero (suc j) lt low = first es j all.0 (omega arith)

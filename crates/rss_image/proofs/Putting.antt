@@ -8,7 +8,7 @@ use Rattle.rss_levels.specs.Rows.{Part, Row, IsTree, AreDistinct, name, names, p
 use Rattle.rss_levels.specs.Spots.{IsOwn, LosesNone, Inserts, AreMade, with_pair}
 use Rattle.rss_levels.proofs.Pages.{IsHeld, own_back, keeps_then, loses_both, stack_held}
 use Rattle.rss_levels.proofs.Counts.{tree_pages, TreeRoom, tree_room, tree_levels}
-use Rattle.rss_levels.proofs.Once.{tree_one}
+use Rattle.rss_levels.proofs.Once.{AreSame, tree_one}
 use Rattle.rss_levels.proofs.Made.{made_names}
 use Rattle.rss_levels.proofs.Lists.{each_left}
 use Rattle.rss_levels.specs.Spots.{IsMade}
@@ -84,7 +84,7 @@ slot_pair width key tid pair is long low =
     lt_is : (n m : ℕ) → n < m → is_lt (nat_cmp n m) ≡ true
     lt_is n m lt = ap is_lt (sym (nat_cmp_is n m Less lt))
 
-no_extra : (extra : Row) → names extra ≡ [] → extra ≡ []
+pub no_extra : (extra : Row) → names extra ≡ [] → extra ≡ []
 no_extra [] is = refl
 no_extra (p ∷ extra) is = absurd (cc)
 
@@ -144,8 +144,14 @@ few_pages image held many pairs tree = tree_pages (spells (nodes_of image)) (cel
 pub few_levels : (image : Image) (held : Held) → 31 ≤ capacity image.width → HasFewLevels image held
 few_levels image held many pairs tree few = tree_levels (spells (nodes_of image)) (cells_of (nodes_of image) held) image.width image.root image.levels pairs tree.top tree.lower tree.tree (omega arith) (omega (arith, few))
 
--- the pages spell one list
+-- the pages spell one tree
+pub same_rows : (image : Image) (held : Held) (pairs others : List (List ℕ)) (top other : Part) (lower rest : List Row) → IsTree (spells (nodes_of image)) (cells_of (nodes_of image) held) image.width image.root image.levels pairs top lower → IsTree (spells (nodes_of image)) (cells_of (nodes_of image) held) image.width image.root image.levels others other rest
+    → AreSame ((top ∷ []) ∷ lower) ((other ∷ []) ∷ rest) pairs others
+same_rows image held pairs others top other lower rest =
+    tree_one (spells (nodes_of image)) (cells_of (nodes_of image) held) image.width (λ bytes level number next after es ds one two. ap (λ (n : NodeView). n.entries) (same_node (nodes_of image) (λ n. Some bytes) level number next after es ds (record { bytes = bytes; held = refl; spells = one }) (record { bytes = bytes; held = refl; spells = two }))) image.root image.levels pairs others top other lower rest
+
+-- and one list
 pub spell_one : (image : Image) (held : Held) → SpellOne image held
 spell_one image held pairs others tree other =
-    let same = tree_one (spells (nodes_of image)) (cells_of (nodes_of image) held) image.width (λ bytes level number next after es ds one two. ap (λ (n : NodeView). n.entries) (same_node (nodes_of image) (λ n. Some bytes) level number next after es ds (record { bytes = bytes; held = refl; spells = one }) (record { bytes = bytes; held = refl; spells = two }))) image.root image.levels pairs others tree.top other.top tree.lower other.lower tree.tree other.tree in
+    let same = same_rows image held pairs others tree.top other.top tree.lower other.lower tree.tree other.tree in
     record { pairs_are = same.pairs_are; pages_are = ap pages same.rows_are }

@@ -1,6 +1,6 @@
 -- Results, and what a spot says of its node.
-use Rattle.std.proofs.Common.{ℕ, List, []}
-use Rattle.std.specs.Prelude.{Result, Ok, Err, IfOk, OnOk}
+use Rattle.std.proofs.Common.{◌≡◌, ℕ, List, [], subst}
+use Rattle.std.specs.Prelude.{Option, Some, Result, Ok, Err, IfOk, IfSome, OnOk}
 use Rattle.rss_base.specs.Paged.{Held}
 use Rattle.rss_levels.specs.Rows.{first, link, no_page, stored}
 use Rattle.rss_levels.proofs.Spotted.{spot_holds}
@@ -11,6 +11,9 @@ use Rattle.rss_image.specs.Inserted.{MayInsert}
 pub on_ok : {T E : Type 0} {P Q : T → Type 0} (r : Result T E) → ((x : T) → P x → Q x) → IfOk r P → IfOk r Q
 on_ok (Ok x) gives is = gives x is
 on_ok (Err e) gives is = tt
+
+pub on_some : {T : Type 0} (P : T → Type 0) (o : Option T) (x : T) → o ≡ Some x → IfSome o P → P x
+on_some {T = T} P o x is all = subst (λ (p : Option T). IfSome p P) is all
 
 pub on_both : {T E : Type 0} {P Q R : Type 0} (r : Result T E) → (P → Q → R) → OnOk r P → OnOk r Q → OnOk r R
 on_both (Ok x) gives one two = gives one two

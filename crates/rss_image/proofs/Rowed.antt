@@ -34,29 +34,29 @@ use Rattle.rss_image.proofs.Nested.{StartsAt, starts_append}
 -- ---- rows side by side
 
 -- two lists of rows of one height, side by side
-abbrev join : List Row → List Row → List Row
+abbrev pub join : List Row → List Row → List Row
 join [] ys = ys
 join (x ∷ xs) [] = x ∷ xs
 join (x ∷ xs) (y ∷ ys) = (x ++ y) ∷ join xs ys
 
 -- the last of some rows
-abbrev leaf_at : Row → List Row → Row
+abbrev pub leaf_at : Row → List Row → Row
 leaf_at row [] = row
 leaf_at row (l ∷ rows) = leaf_at l rows
 
-join_length : (xs ys : List Row) (n : ℕ) → length xs ≡ n → length ys ≡ n → length (join xs ys) ≡ n
+pub join_length : (xs ys : List Row) (n : ℕ) → length xs ≡ n → length ys ≡ n → length (join xs ys) ≡ n
 join_length [] ys n one two = two
 join_length (x ∷ xs) [] n one two = one
 join_length (x ∷ xs) (y ∷ ys) zero one two = absurd (omega (arith, one))
 join_length (x ∷ xs) (y ∷ ys) (suc n) one two = ap (λ (k : ℕ). suc k) (join_length xs ys n (omega (arith, one)) (omega (arith, two)))
 
-leaf_join : (x y : Row) (xs ys : List Row) → length xs ≡ length ys → leaf_at (x ++ y) (join xs ys) ≡ leaf_at x xs ++ leaf_at y ys
+pub leaf_join : (x y : Row) (xs ys : List Row) → length xs ≡ length ys → leaf_at (x ++ y) (join xs ys) ≡ leaf_at x xs ++ leaf_at y ys
 leaf_join x y [] [] same = refl
 leaf_join x y [] (m ∷ ys) same = absurd (omega (arith, same))
 leaf_join x y (l ∷ xs) [] same = absurd (omega (arith, same))
 leaf_join x y (l ∷ xs) (m ∷ ys) same = leaf_join l m xs ys (omega (arith, same))
 
-pages_join : (x y : Row) (xs ys : List Row) → length xs ≡ length ys → AreSameNumbers (pages ((x ++ y) ∷ join xs ys)) (pages (x ∷ xs) ++ pages (y ∷ ys))
+pub pages_join : (x y : Row) (xs ys : List Row) → length xs ≡ length ys → AreSameNumbers (pages ((x ++ y) ∷ join xs ys)) (pages (x ∷ xs) ++ pages (y ∷ ys))
 pages_join x y xs ys same =
     let split : numbers (x ++ y) ≡ numbers x ++ numbers y = map-append (λ (p : Part). p.number) x y in
     subst (λ (l : List ℕ). AreSameNumbers (l ++ pages (join xs ys)) (pages (x ∷ xs) ++ pages (y ∷ ys))) (sym split)
@@ -75,7 +75,7 @@ pages_join x y xs ys same =
         (same_append (numbers l ++ numbers m) (numbers l ++ numbers m) (pages (join xs ys)) (pages xs ++ pages ys) (same_refl (numbers l ++ numbers m)) (rest xs ys (omega (arith, same))))
         (same_swap (numbers l) (numbers m) (pages xs) (pages ys)))
 
-made_join : (good : List ℕ → Bool) (xs ys : List Row) → AreMade good xs → AreMade good ys → AreMade good (join xs ys)
+pub made_join : (good : List ℕ → Bool) (xs ys : List Row) → AreMade good xs → AreMade good ys → AreMade good (join xs ys)
 made_join good [] ys one two = two
 made_join good (x ∷ xs) [] one two = one
 made_join good (x ∷ xs) (y ∷ ys) one two = (each_append (IsMade good) x y one.0 two.0, made_join good xs ys one.1 two.1)
@@ -223,7 +223,7 @@ module _ (held : Held) (of : Nodes) (fit : AreNodes of) (numbered : AreNumbered 
   }
 
   -- the rows of a tree of a level, but for the order of leaves
-  abbrev IsPile : ℕ → ℕ → Row → List Row → Type 0
+  abbrev pub IsPile : ℕ → ℕ → Row → List Row → Type 0
   IsPile zero end row [] = HoldsRow (spells of) cells of.width 0 row end × Each (λ p. length p.items ≤ capacity of.width) row
   IsPile zero end row (l ∷ rows) = ⊥
   IsPile (suc level) end row [] = ⊥
@@ -240,7 +240,7 @@ module _ (held : Held) (of : Nodes) (fit : AreNodes of) (numbered : AreNumbered 
     full = each_append (λ p. least of.width ≤ length p.items) l m one.full two.full;
   }
 
-  pile_join : (level end : ℕ) (x y : Row) (xs ys : List Row) → IsPile level (first (leaf_at y ys) end) x xs → IsPile level end y ys → IsPile level end (x ++ y) (join xs ys)
+  pub pile_join : (level end : ℕ) (x y : Row) (xs ys : List Row) → IsPile level (first (leaf_at y ys) end) x xs → IsPile level end y ys → IsPile level end (x ++ y) (join xs ys)
   pile_join zero end x y [] [] one two = (held_append (spells of) of.width 0 cells x y end one.0 two.0, each_append (λ p. length p.items ≤ capacity of.width) x y one.1 two.1)
   pile_join zero end x y [] (m ∷ ys) one two = absurd two
   pile_join zero end x y (l ∷ xs) [] one two = absurd one
@@ -256,15 +256,15 @@ module _ (held : Held) (of : Nodes) (fit : AreNodes of) (numbered : AreNumbered 
   )
 
   -- no rows at all
-  none_pile : (level end : ℕ) → IsPile level end [] (replicate level [])
+  pub none_pile : (level end : ℕ) → IsPile level end [] (replicate level [])
   none_pile zero end = (tt, tt)
   none_pile (suc level) end = (tt, tt, record { heads = tt; names_are = refl; full = tt }, none_pile level end)
 
-  none_leaf : (level : ℕ) → leaf_at [] (replicate level []) ≡ []
+  pub none_leaf : (level : ℕ) → leaf_at [] (replicate level []) ≡ []
   none_leaf zero = refl
   none_leaf (suc level) = none_leaf level
 
-  none_pages : (level : ℕ) → pages (replicate level []) ≡ []
+  pub none_pages : (level : ℕ) → pages (replicate level []) ≡ []
   none_pages zero = refl
   none_pages (suc level) = none_pages level
 

@@ -1,6 +1,6 @@
 -- An image: a sorted list of pairs, spelled by a tree of pages.
-use Rattle.std.specs.Prelude.{◌≡◌, ◌≢◌, ℕ, ◌+◌, ◌-◌, ◌/◌, ◌≤◌, Bool, List, [], ◌∷◌, length, drop, Contains, Option, Some, None}
-use Rattle.std.specs.Int.{w16, from_be_bytes}
+use Rattle.std.specs.Prelude.{◌≡◌, ◌≢◌, ◌↔◌, ℕ, ◌+◌, ◌-◌, ◌/◌, ◌≤◌, Bool, true, List, [], ◌∷◌, length, take, drop, Contains, Option, Some, None}
+use Rattle.std.specs.Int.{w16, w32, from_be_bytes}
 use Rattle.std.specs.Ordering.{nat_cmp, is_lt}
 use Rattle.rss_base.specs.Paged.{Held}
 use Rattle.rss_base.specs.Sizes.{page_entries}
@@ -28,6 +28,10 @@ pairs_most = 1048576
 abbrev pub has_slot : ℕ → List ℕ → Bool
 has_slot width pair = is_lt (nat_cmp (from_be_bytes w16 (drop (width + 4) pair)) page_entries)
 
+-- the identifier behind a key of this width names a page that a store of so many slots may have
+abbrev pub has_page : ℕ → ℕ → List ℕ → Bool
+has_page width slots pair = is_lt (nat_cmp (from_be_bytes w32 (take 4 (drop width pair))) slots)
+
 -- the pages spell these pairs, in a tree of these rows
 pub record ImageTree (image : Image) (held : Held) (pairs : List (List ℕ)) : Type 0 where
   pub top : Part
@@ -38,6 +42,25 @@ pub record ImageTree (image : Image) (held : Held) (pairs : List (List ℕ)) : T
 -- the image's own pages
 abbrev pub pages_of : {image : Image} {held : Held} {pairs : List (List ℕ)} → ImageTree image held pairs → List ℕ
 pages_of tree = pages ((tree.top ∷ []) ∷ tree.lower)
+
+-- each bound and pair of the trees that the pages spell passes a test
+abbrev pub AreAllMade : (List ℕ → Bool) → Image → Held → Type 0
+AreAllMade good image held = (pairs : List (List ℕ)) (tree : ImageTree image held pairs) → AreMade good ((tree.top ∷ []) ∷ tree.lower)
+
+-- those of a new image pass what zeros pass
+abbrev pub StartsMade : Image → PagesView → Type 0
+StartsMade image view = (good : List ℕ → Bool) → good (zeros image.width) ≡ true → AreAllMade good image view.held
+
+-- those of a tree pass still what they passed
+abbrev pub KeepsMade : (List ℕ → Bool) → Image → Image → PagesView → PagesView → Type 0
+KeepsMade good old_image new_image old new = (pairs : List (List ℕ)) (tree : ImageTree old_image old.held pairs) → AreMade good ((tree.top ∷ []) ∷ tree.lower) → AreAllMade good new_image new.held
+
+-- they do so for each test that the new pair passes too
+abbrev pub PutsMade : List ℕ → Image → Image → PagesView → PagesView → Type 0
+PutsMade pair old_image new_image old new = (good : List ℕ → Bool) → good pair ≡ true → KeepsMade good old_image new_image old new
+
+abbrev pub CutsMade : Image → Image → PagesView → PagesView → Type 0
+CutsMade old_image new_image old new = (good : List ℕ → Bool) → KeepsMade good old_image new_image old new
 
 -- a new root names two nodes
 pub record Rooted (of : Nodes) (levels root : ℕ) (e : Entry) (number : ℕ) (old new : PagesView) : Type 0 where
@@ -96,6 +119,10 @@ IsAnother key own pairs None = (tid : Tid) → Contains pairs (pair_bytes key ti
 
 abbrev pub FindsAnother : List ℕ → Option Tid → Image → PagesView → Option Tid → Type 0
 FindsAnother key own image view found = (pairs : List (List ℕ)) → ImageTree image view.held pairs → IsAnother key own pairs found
+
+-- the answer says whether the pair is one of those that the pages spell
+abbrev pub Has : List ℕ → Image → PagesView → Bool → Type 0
+Has pair image view has = (pairs : List (List ℕ)) → ImageTree image view.held pairs → (has ≡ true) ↔ Contains pairs pair
 
 -- An image of so many pairs has at most so many pages.
 abbrev pub page_bound : ℕ → ℕ → ℕ

@@ -5,4 +5,6 @@ pub mod Images
 pub mod Seeking
 pub mod Removed
 pub mod Emptied
+pub mod Fitting
+pub mod Checking
 pub mod Agreement

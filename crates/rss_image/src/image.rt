@@ -1,17 +1,17 @@
 // Images.
-ghost use Rattle.std.specs.Prelude.{◌≡◌, ◌+◌, ◌-◌, ◌*◌, ◌<◌, ◌≤◌, [], OnOk, OnErr, IfOk, IfSome, Some, None, true, false, length};
+ghost use Rattle.std.specs.Prelude.{◌≡◌, ◌↔◌, IsTrue, ◌+◌, ◌-◌, ◌*◌, ◌<◌, ◌≤◌, [], OnOk, OnErr, IfOk, IfSome, Some, None, true, false, length};
 ghost use Rattle.rss_base.specs.DiskRule.{IsTold};
 ghost use Rattle.rss_base.specs.Steps.{PagesCall, no_page, pages_in};
 ghost use Rattle.rss_base.specs.declared.key.Space.TheVariants.{Image as ImageSpace};
 ghost use Rattle.rss_base.specs.Sizes.{page_entries};
 ghost use Rattle.rss_node.specs.Nodes.{AreNodes};
 ghost use Rattle.rss_node.specs.Pairs.{pair_bytes};
-ghost use Rattle.rss_image.specs.Images.{nodes_of, Becomes, MayPut, HasSpare, PutsPair, MayCut, CutsPair, HasImage, Finds, FindsAnother, DestroysImage, least_tid, found_bytes};
+ghost use Rattle.rss_image.specs.Images.{nodes_of, Becomes, StartsMade, MayPut, HasSpare, PutsPair, PutsMade, MayCut, CutsPair, CutsMade, HasImage, Finds, FindsAnother, Has, DestroysImage, least_tid, found_bytes};
 ghost use Rattle.rss_image.specs.Emptied.{inner_most};
 
 use crate::emptying::give_under;
 use crate::inserting::insert_in;
-use crate::removing::remove_in;
+use crate::removing::{is_same, remove_in};
 use crate::rooting::{add_root, drop_root};
 use crate::seeking::seek_in;
 use crate::store::{damaged, take_page, write_node};
@@ -60,6 +60,8 @@ impl Image {
             ≡ record { segment = segment; image = number; width = width }) }
         ensures created { IfOk result (λ image. IsTold (P.view pages.old).disk
             → Becomes image image (P.view pages.old) (P.view pages.new) [] []) }
+        ensures made { IfOk result (λ image. IsTold (P.view pages.old).disk
+            → StartsMade image (P.view pages.new)) }
         ensures did { PagesCall (pages_in segment ImageSpace) 0 2
             (P.view pages.old) (P.view pages.new) result }
     {
@@ -115,6 +117,9 @@ impl Image {
         ensures puts { OnOk result (IsTold (P.view pages.old).disk
             → PutsPair (pair_bytes key.now tid) self.old self.new
             (P.view pages.old) (P.view pages.new)) }
+        ensures made { OnOk result (IsTold (P.view pages.old).disk
+            → PutsMade (pair_bytes key.now tid) self.old self.new
+            (P.view pages.old) (P.view pages.new)) }
         ensures did { PagesCall (pages_in self.old.segment ImageSpace) self.old.levels
             (4 * self.old.levels + 2) (P.view pages.old) (P.view pages.new) result }
     {
@@ -151,6 +156,8 @@ impl Image {
         ensures cuts { OnOk result (IsTold (P.view pages.old).disk
             → CutsPair (pair_bytes key.now tid) self.old self.new
             (P.view pages.old) (P.view pages.new)) }
+        ensures made { OnOk result (IsTold (P.view pages.old).disk
+            → CutsMade self.old self.new (P.view pages.old) (P.view pages.new)) }
         ensures did { PagesCall (pages_in self.old.segment ImageSpace) (3 * self.old.levels)
             (6 * self.old.levels) (P.view pages.old) (P.view pages.new) result }
     {
@@ -249,6 +256,38 @@ impl Image {
             return Ok(Some(first));
         }
         Ok(having(self.after(pages, key, first)?, key))
+    }
+
+    /// Whether a tuple has this key.
+    pub fn has<P: Pages>(&self, pages: &mut P, key: &Key, tid: Tid) -> Result<bool, PageFault>
+        requires of { AreNodes (nodes_of self.now) }
+        requires low { 1 ≤ self.now.levels }
+        requires long { length key.now ≡ self.now.width }
+        requires there { IsTold (P.view pages.old).disk
+            → HasImage self.now (P.view pages.old).held }
+        ensures found { IfOk result (λ has. IsTold (P.view pages.old).disk
+            → Has (pair_bytes key.now tid) self.now (P.view pages.old) has) }
+        ensures did { PagesCall no_page (self.now.levels + 1) (self.now.levels + 1)
+            (P.view pages.old) (P.view pages.new) result }
+    {
+        let of = Nodes {
+            segment: self.segment,
+            image: self.number,
+            width: self.width,
+        };
+        let pair = pair_of(key, tid);
+        let found = seek_in(pages, of, self.levels - 1, self.root, &pair, false)?;
+        Ok(is_found(&found, &pair))
+    }
+}
+
+/// Whether this pair was found.
+fn is_found(found: &Option<Pair>, pair: &Pair) -> bool
+    ensures { IsTrue result ↔ (found.now ≡ Some pair.now) }
+{
+    match found {
+        Some(other) => is_same(other, pair),
+        None => false,
     }
 }
 

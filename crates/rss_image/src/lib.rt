@@ -1,8 +1,10 @@
 //! Ordered images: trees of nodes over pages.
 #![tactic(auto)]
 
+mod checking;
 mod emptying;
 mod evening;
+mod fitting;
 mod growing;
 mod halving;
 mod image;
@@ -13,4 +15,5 @@ mod rooting;
 mod seeking;
 mod store;
 
+pub use checking::Census;
 pub use image::Image;

@@ -14,7 +14,7 @@ use rss_levels::capacity;
 use rss_node::{Node, Nodes, Pair};
 
 /// Whether two pairs are the same.
-fn is_same(a: &Pair, b: &Pair) -> bool
+pub(crate) fn is_same(a: &Pair, b: &Pair) -> bool
     ensures { IsTrue result ↔ (a.now ≡ b.now) }
 {
     a.as_slice() == b.as_slice()

@@ -58,14 +58,14 @@ same_nested number row one rest more same = record {
 -- ---- nodes side by side
 
 -- a row in two parts, by the names of its nodes
-record SplitsNames (row : Row) (xs ys : List Entry) : Type 0 where
-  one : Row
-  two : Row
-  is : row ≡ one ++ two
-  one_is : names one ≡ xs
-  two_is : names two ≡ ys
+pub record SplitsNames (row : Row) (xs ys : List Entry) : Type 0 where
+  pub one : Row
+  pub two : Row
+  pub is : row ≡ one ++ two
+  pub one_is : names one ≡ xs
+  pub two_is : names two ≡ ys
 
-split_names : (xs ys : List Entry) (row : Row) → names row ≡ xs ++ ys → SplitsNames row xs ys
+pub split_names : (xs ys : List Entry) (row : Row) → names row ≡ xs ++ ys → SplitsNames row xs ys
 split_names [] ys row is = record { one = []; two = row; is = refl; one_is = refl; two_is = is }
 split_names (x ∷ xs) ys [] is = absurd (cc)
 split_names (x ∷ xs) ys (p ∷ row) is =
@@ -74,17 +74,17 @@ split_names (x ∷ xs) ys (p ∷ row) is =
     record { one = p ∷ rest.one; two = rest.two; is = λ i. p ∷ rest.is i; one_is = λ i. here i ∷ rest.one_is i; two_is = rest.two_is }
 
 module _ (spell : Spell) (cells : Cells) (width : ℕ) where
-  record SplitsUnder (level : ℕ) (one two : Row) (ns : List ℕ) (leaves : Row) (end : ℕ) : Type 0 where
-    ns_one : List ℕ
-    ns_two : List ℕ
-    leaves_one : Row
-    leaves_two : Row
-    ns_is : ns ≡ ns_one ++ ns_two
-    leaves_is : leaves ≡ leaves_one ++ leaves_two
-    under_one : AreUnder spell cells width level one ns_one leaves_one (first leaves_two end)
-    under_two : AreUnder spell cells width level two ns_two leaves_two end
+  pub record SplitsUnder (level : ℕ) (one two : Row) (ns : List ℕ) (leaves : Row) (end : ℕ) : Type 0 where
+    pub ns_one : List ℕ
+    pub ns_two : List ℕ
+    pub leaves_one : Row
+    pub leaves_two : Row
+    pub ns_is : ns ≡ ns_one ++ ns_two
+    pub leaves_is : leaves ≡ leaves_one ++ leaves_two
+    pub under_one : AreUnder spell cells width level one ns_one leaves_one (first leaves_two end)
+    pub under_two : AreUnder spell cells width level two ns_two leaves_two end
 
-  split_under : (level : ℕ) (one two : Row) (ns : List ℕ) (leaves : Row) (end : ℕ) → AreUnder spell cells width level (one ++ two) ns leaves end → SplitsUnder level one two ns leaves end
+  pub split_under : (level : ℕ) (one two : Row) (ns : List ℕ) (leaves : Row) (end : ℕ) → AreUnder spell cells width level (one ++ two) ns leaves end → SplitsUnder level one two ns leaves end
   split_under level [] two ns leaves end under = record { ns_one = []; ns_two = ns; leaves_one = []; leaves_two = leaves; ns_is = refl; leaves_is = refl; under_one = none_under; under_two = under }
   split_under level (p ∷ one) two _ _ end (more_under {ns = ns} {ms = ms} {leaves = leaves} {more = more} here rest) =
       let parts = split_under level one two ms more end rest in

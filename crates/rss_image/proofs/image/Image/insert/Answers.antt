@@ -1,4 +1,4 @@
-use Rattle.std.proofs.Common.{◌+◌, ℕ, List, sym, ◌-◌, subst, arith, Option, Some, None}
+use Rattle.std.proofs.Common.{◌∙◌, ap, ◌+◌, ℕ, List, sym, ◌-◌, subst, arith, Option, Some, None}
 use Rattle.rss_image.proofs.Calls.{damage}
 use Rattle.rss_base.proofs.Steps.{rests, then, then_call, done, fails, widens}
 use Rattle.rss_levels.specs.Entries.{Entry}
@@ -7,6 +7,7 @@ use Rattle.rss_image.specs.Inserted.{Inserted}
 use Rattle.rss_image.specs.declared.halving.Split.{Split}
 use Rattle.rss_image.proofs.Counted.{counts}
 use Rattle.rss_image.proofs.Halves.{many}
+use Rattle.rss_image.proofs.Kept.{one_made, whole_made, split_made}
 use Rattle.rss_image.proofs.Putting.{long_pair, slot_pair, spot_of, may_insert, root_room, became_whole, became_split, few_levels}
 use Rattle.rss_image.proofs.image.Image.insert.Goals as goal
 
@@ -65,3 +66,28 @@ returns-in-None-clause-puts g c = λ told. subst (λ (p : List ℕ). PutsPair p 
     let ins = does pairs (spot_of image old.held c.pair_of-pair.result pairs tree (long_pair c.args.self.now.width c.args.key.now c.args.tid c.pair_of-pair.result c.pair_of-pair.ensures c.requires.long)) absent in
     let counted = counts image old new pairs tree told c.in_ok-insert_in.ensures.did.step (g.met.P.Pages.holds c.args.pages.now told) (g.met.P.Pages.holds c.insert_in.new.pages (c.in_ok-insert_in.ensures.did.step.passes.leaves.told.0 told)) (g.met.P.Pages.are_counted c.args.pages.now) (g.met.P.Pages.are_counted c.insert_in.new.pages) (g.met.P.Pages.allowed c.args.pages.now) (g.met.P.Pages.allowed c.insert_in.new.pages) in
     became_whole image old c.pair_of-pair.result pairs tree (long_pair c.args.self.now.width c.args.key.now c.args.tid c.pair_of-pair.result c.pair_of-pair.ensures c.requires.long) room (slot_pair c.args.self.now.width c.args.key.now c.args.tid c.pair_of-pair.result c.pair_of-pair.ensures c.requires.long c.requires.slot) new ins counted)
+
+pub returns-in_ok-root-in-Some-clause-made : goal.returns-in_ok-root-in-Some-clause-made
+returns-in_ok-root-in-Some-clause-made g c = λ told good fine pairs tree made.
+    let image = c.args.self.now in
+    let old = g.P.Pages.view c.args.pages.now in
+    let mid = g.P.Pages.view c.insert_in.new.pages in
+    let split = c.in-Some.split in
+    let e : Entry = record { pair = split.pair; child = split.number } in
+    let long = (long_pair c.args.self.now.width c.args.key.now c.args.tid c.pair_of-pair.result c.pair_of-pair.ensures c.requires.long) in
+    let may = subst (MayPut image old.held) (sym c.pair_of-pair.ensures) (c.requires.may told) in
+    let does : Inserted (nodes_of image) (image.levels - 1) image.root c.pair_of-pair.result old mid (Some split) = subst (λ (b : Option Split). Inserted (nodes_of image) (image.levels - 1) image.root c.pair_of-pair.result old mid b) c.in-Some.is (c.in_ok-insert_in.ensures.inserted told) in
+    let ins = does may.pairs (spot_of image old.held c.pair_of-pair.result may.pairs may.tree long) may.absent in
+    let told_mid = c.in_ok-insert_in.ensures.did.step.passes.leaves.told.0 told in
+    split_made image old c.pair_of-pair.result may.pairs may.tree long (many image.width c.requires.of.narrow) good (one_made image old.held good pairs tree made may.pairs may.tree) mid (g.P.Pages.view c.add_root.new.pages) e c.in_ok-root-in-Some.root (ap good c.pair_of-pair.ensures ∙ fine) ins (c.in_ok-root-in-Some.ensures.rooted told_mid)
+
+pub returns-in-None-clause-made : goal.returns-in-None-clause-made
+returns-in-None-clause-made g c = λ told good fine pairs tree made.
+    let image = c.args.self.now in
+    let old = g.P.Pages.view c.args.pages.now in
+    let new = g.P.Pages.view c.insert_in.new.pages in
+    let long = (long_pair c.args.self.now.width c.args.key.now c.args.tid c.pair_of-pair.result c.pair_of-pair.ensures c.requires.long) in
+    let may = subst (MayPut image old.held) (sym c.pair_of-pair.ensures) (c.requires.may told) in
+    let does : Inserted (nodes_of image) (image.levels - 1) image.root c.pair_of-pair.result old new None = subst (λ (b : Option Split). Inserted (nodes_of image) (image.levels - 1) image.root c.pair_of-pair.result old new b) c.in-None.is (c.in_ok-insert_in.ensures.inserted told) in
+    let ins = does may.pairs (spot_of image old.held c.pair_of-pair.result may.pairs may.tree long) may.absent in
+    whole_made image old c.pair_of-pair.result may.pairs may.tree long (many image.width c.requires.of.narrow) good (one_made image old.held good pairs tree made may.pairs may.tree) new (ap good c.pair_of-pair.ensures ∙ fine) ins

@@ -2,6 +2,7 @@ use Rattle.std.proofs.Common.{◌-◌, ℕ, List, subst, sym, arith}
 use Rattle.rss_base.proofs.Steps.{then, then_call, done, fails, widens}
 use Rattle.rss_image.proofs.Counted.{counts}
 use Rattle.rss_image.proofs.Halves.{many}
+use Rattle.rss_image.proofs.Kept.{one_made, cut_made, lower_made}
 use Rattle.rss_image.proofs.Putting.{long_pair, spot_of}
 use Rattle.rss_image.specs.Images.{MayCut, CutsPair}
 use Rattle.rss_image.proofs.Cut.{may_remove, became_cut, became_lower, has_root}
@@ -51,3 +52,32 @@ returns-clause-cuts g c = λ told. subst (λ (p : List ℕ). CutsPair p c.args.s
 
 pub returns-clause-did : goal.returns-clause-did
 returns-clause-did g c = widens (λ key there. there) (omega (arith, c.if-self-eq1.false, c.requires.low)) (omega (arith, c.if-self-eq1.false, c.requires.low)) (done _ (then c.in_ok-left.ensures.did.step c.in_ok-root.ensures.did.step))
+
+pub returns-then-self-eq1-clause-made : goal.returns-then-self-eq1-clause-made
+returns-then-self-eq1-clause-made g c = λ told good pairs tree made.
+    let image = c.args.self.now in
+    let old = g.P.Pages.view c.args.pages.now in
+    let long = (long_pair c.args.self.now.width c.args.key.now c.args.tid c.pair_of-pair.result c.pair_of-pair.ensures c.requires.long) in
+    let may = subst (MayCut image old.held) (sym c.pair_of-pair.ensures) (c.requires.may told) in
+    let rem = c.in_ok-left.ensures.removed told may.pairs (spot_of image old.held c.pair_of-pair.result may.pairs may.tree long) in
+    cut_made image old c.pair_of-pair.result may.pairs may.tree long (many image.width c.requires.of.narrow) good (one_made image old.held good pairs tree made may.pairs may.tree) (g.P.Pages.view c.remove_in.new.pages) c.in_ok-left.left rem (λ high. absurd (omega (arith, high, c.if-self-eq1.true)))
+
+pub returns-then-left-gt1-clause-made : goal.returns-then-left-gt1-clause-made
+returns-then-left-gt1-clause-made g c = λ told good pairs tree made.
+    let image = c.args.self.now in
+    let old = g.P.Pages.view c.args.pages.now in
+    let long = (long_pair c.args.self.now.width c.args.key.now c.args.tid c.pair_of-pair.result c.pair_of-pair.ensures c.requires.long) in
+    let may = subst (MayCut image old.held) (sym c.pair_of-pair.ensures) (c.requires.may told) in
+    let rem = c.in_ok-left.ensures.removed told may.pairs (spot_of image old.held c.pair_of-pair.result may.pairs may.tree long) in
+    cut_made image old c.pair_of-pair.result may.pairs may.tree long (many image.width c.requires.of.narrow) good (one_made image old.held good pairs tree made may.pairs may.tree) (g.P.Pages.view c.remove_in.new.pages) c.in_ok-left.left rem (λ high. omega (arith, c.if-left-gt1.true))
+
+pub returns-clause-made : goal.returns-clause-made
+returns-clause-made g c = λ told good pairs tree made.
+    let image = c.args.self.now in
+    let old = g.P.Pages.view c.args.pages.now in
+    let mid = g.P.Pages.view c.remove_in.new.pages in
+    let long = (long_pair c.args.self.now.width c.args.key.now c.args.tid c.pair_of-pair.result c.pair_of-pair.ensures c.requires.long) in
+    let may = subst (MayCut image old.held) (sym c.pair_of-pair.ensures) (c.requires.may told) in
+    let rem = c.in_ok-left.ensures.removed told may.pairs (spot_of image old.held c.pair_of-pair.result may.pairs may.tree long) in
+    let told_mid = c.in_ok-left.ensures.did.step.passes.leaves.told.0 told in
+    lower_made image old c.pair_of-pair.result may.pairs may.tree long (many image.width c.requires.of.narrow) good (one_made image old.held good pairs tree made may.pairs may.tree) mid (g.P.Pages.view c.drop_root.new.pages) c.in_ok-left.left c.in_ok-root.root rem (omega (arith, c.if-self-eq1.false, c.requires.low)) (omega (arith, c.if-left-gt1.false)) (c.in_ok-root.ensures.dropped told_mid)
