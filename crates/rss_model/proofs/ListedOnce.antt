@@ -12,7 +12,7 @@ use Rattle.rss_base.specs.Sizes.{page_bytes, system_pages}
 use Rattle.rss_base.specs.Paged.{Held}
 use Rattle.rss_base.specs.Names.{IsName}
 use Rattle.rss_base.specs.TupleTypes.{kinds, most_fields, is_kind, AreFields}
-use Rattle.rss_base.specs.Listings.{Listing, ListingFits, HoldsListing, catalog_page, padded, segment_spelled, kind_spelled, field_spelled, relation_spelled, relations_on, relation_bytes, relation_pages}
+use Rattle.rss_base.specs.Listings.{Listing, ListingFits, IsPlain, HoldsListing, catalog_page, padded, segment_spelled, kind_spelled, field_spelled, relation_spelled, relations_on, relation_bytes, relation_pages}
 use Rattle.rss_base.specs.declared.name.Name.{Name}
 use Rattle.rss_base.specs.declared.field.FieldDef.{FieldDef}
 use Rattle.rss_base.specs.declared.value.FieldKind.{FieldKind}
@@ -207,7 +207,7 @@ page_is listing j low = ap (padded page_bytes) (cond-false (suc j == 0) (flat_ma
     less : (j : ℕ) → suc j - 1 ≡ j
     less j = omega arith
 
-module _ (held : Held) {a b : Listing} (fit : ListingFits a) (fits : ListingFits b) (one : HoldsListing held a) (other : HoldsListing held b) where
+module _ (held : Held) {a b : Listing} (fit : ListingFits a) (fits : ListingFits b) (plain : IsPlain a) (other_plain : IsPlain b) (one : HoldsListing held a) (other : HoldsListing held b) where
   page_same : (page : ℕ) → page < system_pages → catalog_page a page ≡ catalog_page b page
   page_same page low = same_Some _ _ (sym (one page low) ∙ other page low)
 
@@ -233,6 +233,6 @@ module _ (held : Held) {a b : Listing} (fit : ListingFits a) (fits : ListingFits
   listing_once =
       let segments = same_segments in
       let relations = same_relations in
-      let images : a.images ≡ b.images = fit.plain.no_images ∙ sym fits.plain.no_images in
-      let links : a.links ≡ b.links = fit.plain.no_links ∙ sym fits.plain.no_links in
+      let images : a.images ≡ b.images = plain.no_images ∙ sym other_plain.no_images in
+      let links : a.links ≡ b.links = fit.no_links ∙ sym fits.no_links in
       λ i. record { segments = segments i; relations = relations i; images = images i; links = links i }

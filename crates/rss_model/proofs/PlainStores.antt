@@ -188,14 +188,18 @@ plain_images plain none = record {
 
 -- of a store
 module _ {held : Held} {listing : Listing} {tables : Tables} (spells : SpellsTables held listing tables) where
+  -- where other definitions are listed
+  pub still_plain : {relisted : Listing} → relisted.images ≡ listing.images → relisted.links ≡ listing.links → IsPlain relisted
+  still_plain images links = record { no_images = images ∙ spells.plain.no_images; no_links = links ∙ spells.plain.no_links }
+
   pub contents_spelled : PlainContents listing (bodies_of held) tables.contents
-  contents_spelled = plain_contents spells.listed.plain spells.contents
+  contents_spelled = plain_contents spells.plain spells.contents
 
   pub tables_plain : ArePlain tables.definitions
-  tables_plain = plain_defined spells.listed.plain spells.defines
+  tables_plain = plain_defined spells.plain spells.defines
 
   pub none_imaged : NoImages held
-  none_imaged = no_image_pages spells.listed.plain spells.images
+  none_imaged = no_image_pages spells.plain spells.images
 
 pub plain_nodes : {held : Held} {slots : ℕ} → NoImages held → AreNodesWithin slots held
 plain_nodes none of number node at = absurd (none (page_key of.segment ImageSpace number) refl (ap is_some at.there))

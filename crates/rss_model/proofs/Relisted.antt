@@ -21,16 +21,14 @@ use Rattle.rss_page.specs.Surveyed.{held_at}
 use Rattle.rss_tuple.specs.Directory.{Bodies, contents_in, homes, overflows, bodies_of}
 use Rattle.rss_tuple.specs.Heaps.{IsLed}
 use Rattle.rss_model.specs.Tables.{Contents, Tables, content, tuple_count}
-use Rattle.rss_model.specs.Fits.{Fits}
 use Rattle.rss_model.specs.Defining.{with_definitions}
 use Rattle.rss_model.specs.Store.{Defines, HasNumber, IsStorePage, SpellsTables, definition_of}
 use Rattle.rss_model.proofs.Counts.{none_counted, count_of_none}
 use Rattle.rss_model.proofs.Heap.{empty_entry}
 use Rattle.rss_model.proofs.Listed.{at_place}
 use Rattle.rss_model.proofs.Named.{made, made_here, made_other, made_still, gone, gone_other}
-use Rattle.rss_model.proofs.PlainStores.{PlainContents, plain_defines, spelled_contents, plain_images, contents_spelled, tables_plain, none_imaged}
+use Rattle.rss_model.proofs.PlainStores.{still_plain, PlainContents, plain_defines, spelled_contents, plain_images, contents_spelled, tables_plain, none_imaged}
 use Rattle.rss_model.proofs.LogLists.{some_of}
-use Rattle.rss_model.proofs.Redefining.{live_defined}
 use Rattle.rss_model.proofs.Spelled.{named_relation}
 
 -- ---- one number of a listing
@@ -116,7 +114,7 @@ module _ {held : Held} {listing : Listing} {tables : Tables} (spells : SpellsTab
     segments = λ q. (to q, from q);
     relations = λ k relation segment l. spells.defines.relations k relation segment (record { at = l.at; within = sym (still relation.segment (spells.listed.relations k relation l.at).segment) ∙ l.within });
     only_relations = spells.defines.only_relations;
-    paths = plain_defines fits.plain (record { no_images = (tables_plain spells).no_images; no_links = (tables_plain spells).no_links });
+    paths = plain_defines (still_plain spells refl refl) (record { no_images = (tables_plain spells).no_images; no_links = (tables_plain spells).no_links });
   }
     where
       to : (q : Name) → is_some (map.get (map.insert tables.definitions.segments name tt) q) ≡ true → HasNumber SegmentKind listed_now q
@@ -142,10 +140,11 @@ module _ {held : Held} {listing : Listing} {tables : Tables} (spells : SpellsTab
     formed = spells.formed;
     linked = spells.linked;
     listed = fits;
+    plain = still_plain spells refl refl;
     defines = segment_made_defines;
     counts = spells.counts;
-    contents = spelled_contents fits.plain (contents_relisted listing listed_now (bodies_of held) tables.contents (λ k relation tid at there. at) (λ k relation tid at there. at) (contents_spelled spells));
-    images = plain_images fits.plain (none_imaged spells);
+    contents = spelled_contents (still_plain spells refl refl) (contents_relisted listing listed_now (bodies_of held) tables.contents (λ k relation tid at there. at) (λ k relation tid at there. at) (contents_spelled spells));
+    images = plain_images (still_plain spells refl refl) (none_imaged spells);
   }
 
 -- ---- a segment is dropped
@@ -215,7 +214,7 @@ module _ {held : Held} {listing : Listing} {tables : Tables} (spells : SpellsTab
     segments = λ q. (to q, from q);
     relations = λ k relation segment l. spells.defines.relations k relation segment (record { at = l.at; within = sym (others relation.segment (none k relation l.at)) ∙ l.within });
     only_relations = spells.defines.only_relations;
-    paths = plain_defines fits.plain (record { no_images = (tables_plain spells).no_images; no_links = (tables_plain spells).no_links });
+    paths = plain_defines (still_plain spells refl refl) (record { no_images = (tables_plain spells).no_images; no_links = (tables_plain spells).no_links });
   }
     where
       to : (q : Name) → is_some (map.get (map.remove tables.definitions.segments name) q) ≡ true → HasNumber SegmentKind listed_less q
@@ -242,16 +241,17 @@ module _ {held : Held} {listing : Listing} {tables : Tables} (spells : SpellsTab
     formed = spells.formed;
     linked = spells.linked;
     listed = fits;
+    plain = still_plain spells refl refl;
     defines = segment_gone_defines;
     counts = spells.counts;
-    contents = spelled_contents fits.plain (contents_relisted listing listed_less (bodies_of held) tables.contents (λ k relation tid at there. at) (λ k relation tid at there. at) (contents_spelled spells));
-    images = plain_images fits.plain (none_imaged spells);
+    contents = spelled_contents (still_plain spells refl refl) (contents_relisted listing listed_less (bodies_of held) tables.contents (λ k relation tid at there. at) (λ k relation tid at there. at) (contents_spelled spells));
+    images = plain_images (still_plain spells refl refl) (none_imaged spells);
   }
 
 -- ---- a relation is made
 
-module _ {held : Held} {listing : Listing} {tables : Tables} {slots : ℕ} (spells : SpellsTables held listing tables) (fit : Fits slots tables) (number : ℕ) (new : RelationEntry) (segment : Name) (least : IsLeastUnused RelationKind listing number) (fits : ListingFits (with_relation listing number (Some new)))
-    (within : segment_at listing new.segment ≡ Some segment) (empty : new.live ≡ 0) (fresh : is_some (map.get tables.definitions.relations new.name) ≡ false) where
+module _ {held : Held} {listing : Listing} {tables : Tables} (spells : SpellsTables held listing tables) (number : ℕ) (new : RelationEntry) (defined : (tid : Tid) → IsTupleThere tables.contents new tid → is_some (map.get tables.definitions.relations new.name) ≡ true) (segment : Name) (least : IsLeastUnused RelationKind listing number)
+    (fits : ListingFits (with_relation listing number (Some new))) (within : segment_at listing new.segment ≡ Some segment) (empty : new.live ≡ 0) (fresh : is_some (map.get tables.definitions.relations new.name) ≡ false) where
   abbrev listed_more : Listing
   listed_more = with_relation listing number (Some new)
 
@@ -273,8 +273,8 @@ module _ {held : Held} {listing : Listing} {tables : Tables} {slots : ℕ} (spel
   ]
 
   -- the new one has no tuples
-  no_tuple : (tid : Tid) → is_some (content tables.contents (Tuple new.name tid)) ≡ true → ⊥
-  no_tuple tid lives = true≢false (sym (live_defined fit new.name tid lives) ∙ fresh)
+  no_tuple : (tid : Tid) → IsTupleThere tables.contents new tid → ⊥
+  no_tuple tid lives = true≢false (sym (defined tid lives) ∙ fresh)
 
   relation_made_defines : Defines listed_more (record tables.definitions { relations = map.insert tables.definitions.relations new.name (definition_of segment new) })
   relation_made_defines = record {
@@ -289,7 +289,7 @@ module _ {held : Held} {listing : Listing} {tables : Tables} {slots : ℕ} (spel
           made_other tables.definitions.relations new.name (definition_of segment new) relation.name (λ same. true≢false (sym (ap is_some had) ∙ ap (λ (n : Name). is_some (map.get tables.definitions.relations n)) same ∙ fresh)) ∙ had
     ];
     only_relations = only;
-    paths = plain_defines fits.plain (record { no_images = (tables_plain spells).no_images; no_links = (tables_plain spells).no_links });
+    paths = plain_defines (still_plain spells refl refl) (record { no_images = (tables_plain spells).no_images; no_links = (tables_plain spells).no_links });
   }
     where
       only : (q : Name) → is_some (map.get (map.insert tables.definitions.relations new.name (definition_of segment new)) q) ≡ true → HasNumber RelationKind listed_more q
@@ -306,16 +306,17 @@ module _ {held : Held} {listing : Listing} {tables : Tables} {slots : ℕ} (spel
     formed = spells.formed;
     linked = spells.linked;
     listed = fits;
+    plain = still_plain spells refl refl;
     defines = relation_made_defines;
     counts = λ k relation at. elim (now_or_old k relation at) [
       | inl same ↦ ap (λ (r : RelationEntry). tuple_count tables.contents r.name) (sym same) ∙ count_of_none tables.contents new.name (λ tid. none_from _ (no_tuple tid)) ∙ sym empty ∙ ap (λ (r : RelationEntry). r.live) same
       | inr was ↦ spells.counts k relation was
     ];
-    contents = spelled_contents fits.plain (contents_relisted listing listed_more (bodies_of held) tables.contents (λ k relation tid at there. other_kept k (was_another k relation at) ∙ at) (λ k relation tid at there. elim (now_or_old k relation at) [
+    contents = spelled_contents (still_plain spells refl refl) (contents_relisted listing listed_more (bodies_of held) tables.contents (λ k relation tid at there. other_kept k (was_another k relation at) ∙ at) (λ k relation tid at there. elim (now_or_old k relation at) [
       | inl same ↦ absurd (no_tuple tid (ap (λ (r : RelationEntry). is_some (content tables.contents (Tuple r.name tid))) same ∙ there))
       | inr was ↦ was
     ]) (contents_spelled spells));
-    images = plain_images fits.plain (none_imaged spells);
+    images = plain_images (still_plain spells refl refl) (none_imaged spells);
   }
     where
       none_from : {A : Type 0} (o : Option A) → (is_some o ≡ true → ⊥) → o ≡ None
@@ -352,7 +353,7 @@ module _ {held : Held} {listing : Listing} {tables : Tables} (spells : SpellsTab
         let had = named_relation listing q (spells.defines.only_relations q (ap is_some (sym was.1) ∙ there)) in
         let other : had.number ≢ number = λ same. was.0 (sym had.named ∙ ap (λ (r : RelationEntry). r.name) (same_Some _ _ (sym had.at ∙ ap (relation_at listing) same ∙ at))) in
         (had.number, number_of listed_fewer had.number had.relation (rest_kept had.number other ∙ had.at) ∙ ap Some had.named);
-    paths = plain_defines fits.plain (record { no_images = (tables_plain spells).no_images; no_links = (tables_plain spells).no_links });
+    paths = plain_defines (still_plain spells refl refl) (record { no_images = (tables_plain spells).no_images; no_links = (tables_plain spells).no_links });
   }
 
   pub relation_gone_spells : SpellsTables held listed_fewer (with_definitions (record tables.definitions { relations = map.remove tables.definitions.relations old.name }) tables)
@@ -361,10 +362,11 @@ module _ {held : Held} {listing : Listing} {tables : Tables} (spells : SpellsTab
     formed = spells.formed;
     linked = spells.linked;
     listed = fits;
+    plain = still_plain spells refl refl;
     defines = relation_gone_defines;
     counts = λ k relation is. spells.counts k relation (had_it k relation is).1;
-    contents = spelled_contents fits.plain (contents_relisted listing listed_fewer (bodies_of held) tables.contents (λ k relation tid is there.
+    contents = spelled_contents (still_plain spells refl refl) (contents_relisted listing listed_fewer (bodies_of held) tables.contents (λ k relation tid is there.
         let other : k ≢ number = λ same. let one : relation ≡ old = same_Some _ _ (sym is ∙ ap (relation_at listing) same ∙ at) in true≢false (sym there ∙ ap (λ (r : RelationEntry). is_some (content tables.contents (Tuple r.name tid))) one ∙ ap is_some (none_counted tables.contents old.name empty tid)) in
         rest_kept k other ∙ is) (λ k relation tid is there. (had_it k relation is).1) (contents_spelled spells));
-    images = plain_images fits.plain (none_imaged spells);
+    images = plain_images (still_plain spells refl refl) (none_imaged spells);
   }

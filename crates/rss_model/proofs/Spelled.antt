@@ -6,7 +6,7 @@ use Rattle.std.specs.FinMap.{same_map}
 use Rattle.std.proofs.lemmas.Option.{none-some, same_Some}
 use Rattle.rss_base.specs.Paged.{Held}
 use Rattle.rss_base.specs.TupleTypes.{kinds, misfit, misfit_from, fits, tuple_bytes, value_bytes, int_bytes, IsStorable}
-use Rattle.rss_base.specs.Listings.{Listing, ListingFits, IsNumberOf, relation_at}
+use Rattle.rss_base.specs.Listings.{Listing, ListingFits, IsPlain, IsNumberOf, relation_at}
 use Rattle.rss_base.specs.declared.name.Name.{Name}
 use Rattle.rss_base.specs.declared.tid.Tid.{Tid}
 use Rattle.rss_base.specs.declared.item.Item.{Item}
@@ -116,12 +116,12 @@ module _ {listing : Listing} (fits : ListingFits listing) where
       ap (map.get b.relations) (sym has.named) ∙ theirs ∙ ap Some same
 
   -- what is listed is defined in one way
-  pub defines_once : {a b : Definitions} → Defines listing a → Defines listing b → a ≡ b
-  defines_once {a = a} {b = b} one other =
+  pub defines_once : IsPlain listing → {a b : Definitions} → Defines listing a → Defines listing b → a ≡ b
+  defines_once plain {a = a} {b = b} one other =
       let segments : a.segments ≡ b.segments = same_map name_total name_apart _ _ (λ q. same_options _ _ (segments_too one other q) (segments_too other one q)) in
       let relations : a.relations ≡ b.relations = same_map name_total name_apart _ _ (λ q. same_options _ _ (relations_too one other q) (relations_too other one q)) in
-      let images : a.images ≡ b.images = (plain_defined fits.plain one).no_images ∙ sym (plain_defined fits.plain other).no_images in
-      let links : a.links ≡ b.links = (plain_defined fits.plain one).no_links ∙ sym (plain_defined fits.plain other).no_links in
+      let images : a.images ≡ b.images = (plain_defined plain one).no_images ∙ sym (plain_defined plain other).no_images in
+      let links : a.links ≡ b.links = (plain_defined plain one).no_links ∙ sym (plain_defined plain other).no_links in
       λ i. record { segments = segments i; relations = relations i; images = images i; links = links i }
 
 -- ---- tuples
@@ -181,7 +181,7 @@ module _ {held : Held} {listing : Listing} {a b : Tables} {m n : ℕ} (one : Spe
       let relation : body.relation ≡ mine.relation = same_Some _ _ (sym body.at ∙ ap (relation_at listing) (sym parts.0) ∙ mine.at) in
       let holds : content b.contents (Tuple mine.relation.name mine.tid) ≡ Some (Values body.values) = ap (λ (r : RelationEntry). content b.contents (Tuple r.name mine.tid)) (sym relation) ∙ body.holds in
       let of = fits.tuples mine.relation.name mine.tid (Values body.values) holds in
-      let definitions : a.definitions ≡ b.definitions = defines_once one.listed one.defines other.defines in
+      let definitions : a.definitions ≡ b.definitions = defines_once one.listed one.plain one.defines other.defines in
       let fields : of.fields ≡ mine.fields = same_Some _ _ (sym of.defined ∙ ap (λ (d : Definitions). option_map (λ (r : RelationDef). kinds r.fields) (map.get d.relations mine.relation.name)) (sym definitions) ∙ mine.defined) in
       let theirs : misfit mine.fields body.values ≡ None = ap (λ (f : List FieldKind). misfit f body.values) (sym fields) ∙ ap (misfit of.fields) (same_values _ _ of.tuple) ∙ of.fit in
       let values = tuple_bytes_same 1 mine.fields mine.values body.values mine.fit theirs mine.storable body.storable parts.1 in
@@ -194,6 +194,6 @@ module _ {held : Held} {listing : Listing} {a b : Tables} {m n : ℕ} (one : Spe
   -- no two tables are spelled alike
   pub spells_once : a ≡ b
   spells_once =
-      let definitions : a.definitions ≡ b.definitions = defines_once one.listed one.defines other.defines in
+      let definitions : a.definitions ≡ b.definitions = defines_once one.listed one.plain one.defines other.defines in
       let contents : a.contents ≡ b.contents = same_map item_total item_apart _ _ (λ q. same_options _ _ (content_too one other fit fits q) (content_too other one fits fit q)) in
       λ i. record { definitions = definitions i; contents = contents i }

@@ -24,7 +24,7 @@ use Rattle.rss_base.specs.LogPages.{log_bytes}
 use Rattle.rss_base.specs.PageMap.{IsMap, IsMapFault, page_count}
 use Rattle.rss_base.specs.Paged.{Held, mapped_of}
 use Rattle.rss_base.specs.StoredPages.{mapped_by, held_at}
-use Rattle.rss_base.specs.Listings.{Listing, ListingFits, HoldsListing, IsNumberOf, AreDifferent, field_numbers, segment_at, relation_at, image_at, link_at}
+use Rattle.rss_base.specs.Listings.{Listing, ListingFits, IsPlain, HoldsListing, IsNumberOf, AreDifferent, field_numbers, segment_at, relation_at, image_at, link_at}
 use Rattle.rss_base.specs.Nodes.{Node, NodesOf}
 use Rattle.rss_base.specs.Trees.{Pair, IsNodeAt, IsImage}
 use Rattle.rss_base.specs.Prefixes.{ChildPlace, Part, Outside, Member, Child, Parent, part_in, neighbours_in, ends_of, first_of, last_of, member_block, child_block, parent_block}
@@ -263,13 +263,14 @@ AreCounts listing contents =
 abbrev pub IsStorePage : Listing → PageKey → Type 0
 IsStorePage listing key = (key.space ≡ System) ⊎ (is_some (segment_at listing key.segment) ≡ true)
 
--- The pages beside those of the system space spell these tables, whose definitions are listed so: they are those of a tuple store with these tuples.
+-- The pages beside those of the system space spell these tables, whose definitions are listed so: they are those of a tuple store with these tuples. As yet there are no images.
 pub record SpellsTables (held : Held) (listing : Listing) (tables : Tables) : Type 0 where
   pub only : (key : PageKey) → is_some (held key) ≡ true → IsStorePage listing key
   pub formed : (key : PageKey) (bytes : List ℕ) → IsHeapKey key → held key ≡ Some bytes
       → IsHeap key bytes None
   pub linked : (segment : ℕ) → AreLinked (homes held segment) (overflows held segment)
   pub listed : ListingFits listing
+  pub plain : IsPlain listing
   pub defines : Defines listing tables.definitions
   pub counts : AreCounts listing tables.contents
   pub contents : SpellsContents listing (bodies_of held) tables.contents

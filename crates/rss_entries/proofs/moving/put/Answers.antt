@@ -1,0 +1,16 @@
+use Rattle.std.proofs.Common.{Option, List, ℕ, sym, subst, arith}
+use Rattle.std.specs.Prelude.{OnOk}
+use Rattle.rss_base.specs.DiskRule.{IsTold}
+use Rattle.rss_base.proofs.Steps.{widens}
+use Rattle.rss_entries.specs.Keyed.{PutsKey}
+use Rattle.rss_entries.proofs.Composed.{becomes_itself}
+use Rattle.rss_entries.proofs.moving.put.Goals as goal
+
+pub returns-in-Some-clause-puts : goal.returns-in-Some-clause-puts
+returns-in-Some-clause-puts g c = subst (λ (k : Option (List ℕ)). OnOk c.insert.result (IsTold (g.P.Pages.view c.args.pages.now).disk → PutsKey k c.args.tid c.args.image.now c.insert.new.self (g.P.Pages.view c.args.pages.now) (g.P.Pages.view c.insert.new.pages))) (sym c.in-Some.is) c.insert.ensures.puts
+
+pub returns-in-Some-clause-did : goal.returns-in-Some-clause-did
+returns-in-Some-clause-did g c = widens (λ key there. there) (omega arith) (omega arith) c.insert.ensures.did
+
+pub returns-in-None-clause-puts : goal.returns-in-None-clause-puts
+returns-in-None-clause-puts g c = λ told. subst (λ (k : Option (List ℕ)). PutsKey k c.args.tid c.args.image.now c.args.image.now (g.P.Pages.view c.args.pages.now) (g.P.Pages.view c.args.pages.now)) (sym c.in-None.is) (λ pairs tree lacks. becomes_itself c.args.image.now (g.P.Pages.view c.args.pages.now) pairs tree)

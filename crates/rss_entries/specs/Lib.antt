@@ -1,0 +1,5 @@
+pub mod Rooms
+pub mod Moving
+pub mod Images
+pub mod Keyed
+pub mod Seeking
