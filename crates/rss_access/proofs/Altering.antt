@@ -1,13 +1,12 @@
 -- A change of a tuple that was made: the tables that the pages spell then.
-use Rattle.std.proofs.Common.{◌≡◌, ◌≢◌, inl, inr, ⊎_elim, ℕ, ◌<◌, false, List, refl, sym, ◌∙◌, ap, subst, arith}
-use Rattle.std.specs.Prelude.{Option, Some, option_map, OnOk, Result, Ok, Err}
-use Rattle.std.proofs.lemmas.Bool.{cases_eq}
+use Rattle.std.proofs.Common.{◌≡◌, ◌≢◌, inl, inr, ℕ, ◌+◌, ◌≤◌, Bool, true, false, List, refl, sym, ◌∙◌, ap, subst, arith}
+use Rattle.std.specs.Prelude.{Option, Some, None, is_some, option_map, OnOk, Result, Ok, Err}
+use Rattle.std.proofs.lemmas.Bool.{cases_eq, true_from_ne_false}
 use Rattle.std.proofs.lemmas.Option.{same_Some}
 use Rattle.rss_base.specs.DiskRule.{IsTold}
-use Rattle.rss_base.specs.Paged.{Mapped, Held, Backing, mapped_of, mapped_pages}
-use Rattle.rss_base.specs.PageMap.{page_count}
-use Rattle.rss_base.specs.Steps.{PagesView, PagesStep, Keys, AreCounted, no_page}
-use Rattle.rss_base.specs.Listings.{Listing, ListingFits, relation_at}
+use Rattle.rss_base.specs.Paged.{Mapped, page_key, mapped_in, mapped_of}
+use Rattle.rss_base.specs.Steps.{PagesStep}
+use Rattle.rss_base.specs.Listings.{Listing, numbered, segment_at, relation_at}
 use Rattle.rss_base.specs.declared.name.Name.{Name}
 use Rattle.rss_base.specs.declared.tid.Tid.{Tid}
 use Rattle.rss_base.specs.declared.item.Item.{Item}
@@ -15,124 +14,210 @@ use Rattle.rss_base.specs.declared.item.Item.TheVariants.{Tuple as TupleItem}
 use Rattle.rss_base.specs.declared.fault.PageFault.{PageFault}
 use Rattle.rss_base.specs.declared.place.Place.{Place}
 use Rattle.rss_base.specs.declared.key.PageKey.{PageKey}
+use Rattle.rss_base.specs.declared.key.Space.{Space}
 use Rattle.rss_base.specs.declared.key.Space.TheVariants.{Overflow}
 use Rattle.rss_base.specs.declared.relation.RelationEntry.{RelationEntry}
+use Rattle.rss_base.specs.declared.value.Value.{Value}
 use Rattle.rss_base.specs.declared.change.Change as told
 use Rattle.rss_base.specs.declared.change.Change.TheVariants.{Insert, Delete, Update, Connect, Disconnect}
-use Rattle.rss_base.proofs.Steps.{all_mapped, all_held}
-use Rattle.rss_tuple.specs.Checked.{pages_of}
-use Rattle.rss_tuple.specs.Directory.{bodies_of, with_body}
-use Rattle.rss_catalog.specs.Catalogs.{CatalogView}
+use Rattle.rss_tuple.specs.Directory.{Bodies, bodies_of}
+use Rattle.rss_entries.specs.Images.{TupleMove, CanMove, with_tuple, after_move}
 use Rattle.rss_model.specs.Items.{Content, Values}
-use Rattle.rss_model.specs.Tables.{Contents, Tables, put, tuple_count, is_tuple_of}
+use Rattle.rss_model.specs.Tables.{Contents, Tables, content, put, tuple_count, is_tuple_of}
 use Rattle.rss_model.specs.Changes.{Change}
-use Rattle.rss_model.specs.Meter.{MayLead}
-use Rattle.rss_model.specs.Store.{SpellsTables, Defines, AreCounts, plain_body as body_of}
+use Rattle.rss_model.specs.Meter.{Overfills, MayLead, held_size}
+use Rattle.rss_model.specs.Store.{SpellsTables, AreCounts, IsStorePage, plain_body as body_of}
 use Rattle.rss_model.proofs.Codes.{name_total, name_apart}
-use Rattle.rss_model.proofs.Contents.{not_tied}
-use Rattle.rss_model.proofs.Counts.{counts_same}
-use Rattle.rss_access.specs.Changes.{IsTupleRecord, number_told, tid_told, body_after, count_after, reversed, turned, AccessView, CanApply, Recounted, CountsChange, Applies, Undoes, NoneUndoes, Alters, Makes, Misfits, Takes, pages_of_relation, pages_told, applied}
-use Rattle.rss_access.specs.Tuples.{body_at, size_of_body, ChangesTuple}
-use Rattle.rss_access.proofs.Numbered.{names_apart, counted_or_old, counted_defines}
-use Rattle.rss_access.proofs.Recounting.{Recounts, recounts_itself, recounts_listed}
-use Rattle.rss_access.proofs.Spelling.{IsChange, spells_changed, may_lead, with_tuple, mapped_changed}
-use Rattle.rss_access.proofs.Telling.{Reads, reads, holds_old, count_is, can_turned, none_applies, reversed_tuple}
+use Rattle.rss_model.proofs.Contents.{tied, not_tied}
+use Rattle.rss_model.proofs.Counts.{one_if, counts_same, counts_put}
+use Rattle.rss_model.proofs.Listed.{listed, stands_within}
+use Rattle.rss_model.proofs.PlainStores.{spelled_contents, contents_spelled, PlainContents}
+use Rattle.rss_access.specs.Changes.{IsTupleRecord, number_told, tid_told, body_before, body_after, count_after, reversed, turned, AccessView, HasRoom, CanApply, Applies, Undoes, NoneUndoes, Alters, Makes, Misfits, pages_of_relation, pages_told, applied, HasTables}
+use Rattle.rss_access.specs.Tuples.{body_at, size_of_body, SetsBody}
+use Rattle.rss_access.specs.Written.{content_of}
+use Rattle.rss_access.proofs.Counting.{overflows_one}
+use Rattle.rss_access.proofs.Numbered.{names_apart, counted_or_old}
+use Rattle.rss_access.proofs.Recounting.{Recounts, recounts_itself, contents_changed}
+use Rattle.rss_access.proofs.Rerooting.{recounts_by, plain_still, defines_still}
+use Rattle.rss_access.proofs.Telling.{some_body, no_body, count_of_some, count_of_none, Reads, reads, shows_move, can_turned, none_applies, reversed_tuple, same_number, can_become}
+use Rattle.rss_access.proofs.TupleChanges.{range-le}
+use Rattle.rss_access.proofs.Weighing.{links_defined, values_size, bytes_less}
 
--- ---- the listing
+-- ---- how many tuples there are
 
--- The listing says of these contents what the one before says of those before.
-record Relists (number : ℕ) (relation : RelationEntry) (tables : Tables) (contents : Contents) (old new : Listing) : Type 0 where
-  recounts : Recounts number relation old new
-  fits : ListingFits new
-  defines : Defines new tables.definitions
-  counts : AreCounts new contents
+-- by what the tuple was and becomes
+count_by_bodies : (told_change : told.Change) (number : ℕ) (was next : Option (List Value)) (before live after : ℕ) → body_before told_change ≡ option_map (body_of number) was → body_after told_change ≡ option_map (body_of number) next → after + one_if (is_some (option_map Values was)) ≡ before + one_if (is_some (option_map Values next)) → before ≡ live → after ≡ count_after told_change live
+count_by_bodies (Insert relation tid values) number was next before live after old new both same = omega (arith, both, same, count_of_none was (no_body _ was old), count_of_some next (some_body _ next new))
+count_by_bodies (Delete relation tid values) number was next before live after old new both same = omega (arith, both, same, count_of_some was (some_body _ was old), count_of_none next (no_body _ next new))
+count_by_bodies (Update relation tid from to) number was next before live after old new both same = omega (arith, both, same, count_of_some was (some_body _ was old), count_of_some next (some_body _ next new))
+count_by_bodies (Connect link parent child left) number was next before live after old new both same = omega (arith, both, same, count_of_none was (no_body _ was old), count_of_none next (no_body _ next new))
+count_by_bodies (Disconnect link parent child left) number was next before live after old new both same = omega (arith, both, same, count_of_none was (no_body _ was old), count_of_none next (no_body _ next new))
 
-module _ {at : AccessView} {told_change : told.Change} {tables : Tables} {change : Change} (can : CanApply at told_change tables change) (r : Reads at.catalog.listing told_change change) (is : IsTupleRecord told_change) where
-  abbrev next_contents : Contents
-  next_contents = put tables.contents change.item change.new
+-- ---- the pages of the relation
 
-  -- the tuples of another relation are as many
-  others_same : (other : Name) → other ≢ r.relation.name → tuple_count next_contents other ≡ tuple_count tables.contents other
-  others_same other apart = counts_same tables.contents change.item change.new other (ap (is_tuple_of other) r.item ∙ not_tied name_total name_apart other r.relation.name apart)
+told_pages : (listing : Listing) (told_change : told.Change) {relation : RelationEntry} → relation_at listing (number_told told_change) ≡ Some relation → (key : PageKey) → pages_told listing told_change key → (key.segment ≡ relation.segment) × content_of listing key
+told_pages listing told_change at key is = subst (λ (found : Option RelationEntry). pages_of_relation listing found key) at is
 
-  relisted : {new : CatalogView} → Recounted (number_told told_change) r.relation (count_after told_change r.relation.live) at.catalog new → Relists (number_told told_change) r.relation tables next_contents at.catalog.listing new.listing
-  relisted {new = new} counted = record {
-    recounts = recounts_listed (count_after told_change r.relation.live) r.at counted.lists;
-    fits = counted.fits can.spells.listed;
-    defines = subst (λ (l : Listing). Defines l tables.definitions) (sym counted.lists.is) (counted_defines at.catalog.listing (number_told told_change) (count_after told_change r.relation.live) r.relation r.at can.spells.listed.plain can.spells.defines);
-    counts = λ k entry there. elim (counted_or_old at.catalog.listing (number_told told_change) (count_after told_change r.relation.live) r.relation r.at k entry (ap (λ (l : Listing). relation_at l k) (sym counted.lists.is) ∙ there)) [
-      | inl here ↦ ap (λ (e : RelationEntry). tuple_count next_contents e.name) (sym here.1) ∙ count_is told_change is can r ∙ ap (λ (e : RelationEntry). e.live) here.1
-      | inr was ↦ others_same entry.name (names_apart can.spells.listed k (number_told told_change) entry r.relation was.1 r.at was.0) ∙ can.spells.counts k entry was.1
-    ];
-  }
-
-  same_listed : {new : CatalogView} → new ≡ at.catalog → count_after told_change r.relation.live ≡ r.relation.live → Relists (number_told told_change) r.relation tables next_contents at.catalog.listing new.listing
-  same_listed {new = new} same live = subst (λ (c : CatalogView). Relists (number_told told_change) r.relation tables next_contents at.catalog.listing c.listing) (sym same) (record {
-    recounts = recounts_itself r.at;
-    fits = can.spells.listed;
-    defines = can.spells.defines;
-    counts = λ k entry there. by k entry there;
-  })
-    where
-      by : (k : ℕ) (entry : RelationEntry) → relation_at at.catalog.listing k ≡ Some entry → tuple_count next_contents entry.name ≡ entry.live
-      by k entry there = elim (cases_eq k (number_told told_change)) [
-        | inl here ↦
-            let one : r.relation ≡ entry = same_Some _ _ (sym r.at ∙ ap (relation_at at.catalog.listing) (sym here) ∙ there) in
-            ap (λ (e : RelationEntry). tuple_count next_contents e.name) (sym one) ∙ count_is told_change is can r ∙ live ∙ ap (λ (e : RelationEntry). e.live) one
-        | inr apart ↦ others_same entry.name (names_apart can.spells.listed k (number_told told_change) entry r.relation there r.at apart) ∙ can.spells.counts k entry there
-      ]
-
--- the listing after the change, by its kind
-relists : {at : AccessView} (told_change : told.Change) {tables : Tables} {change : Change} (new : CatalogView) → IsTupleRecord told_change → (can : CanApply at told_change tables change) (r : Reads at.catalog.listing told_change change) → CountsChange told_change r.relation at.catalog new
-    → Relists (number_told told_change) r.relation tables (put tables.contents change.item change.new) at.catalog.listing new.listing
-relists (Insert number tid values) new is can r counts = relisted can r is counts
-relists (Delete number tid values) new is can r counts = relisted can r is counts
-relists (Update number tid from to) new is can r counts = same_listed can r is counts refl
-relists (Connect link parent child left) new is can r counts = absurd is
-relists (Disconnect link parent child left) new is can r counts = absurd is
+pub pages_are_told : (listing : Listing) (told_change : told.Change) {relation : RelationEntry} → relation_at listing (number_told told_change) ≡ Some relation → (key : PageKey) → key.segment ≡ relation.segment → content_of listing key → pages_told listing told_change key
+pages_are_told listing told_change at key segment content = subst (λ (found : Option RelationEntry). pages_of_relation listing found key) (sym at) (segment, content)
 
 -- ---- the tables
 
--- of a relation that is listed
-pub told_pages : (listing : Listing) (told_change : told.Change) {relation : RelationEntry} → relation_at listing (number_told told_change) ≡ Some relation → (key : PageKey) → pages_told listing told_change key → pages_of relation.segment key
-told_pages listing told_change at key is = subst (λ (found : Option RelationEntry). pages_of_relation found key) at is
-
-pub pages_are_told : (listing : Listing) (told_change : told.Change) {relation : RelationEntry} → relation_at listing (number_told told_change) ≡ Some relation → (key : PageKey) → pages_of relation.segment key → pages_told listing told_change key
-pages_are_told listing told_change at key is = subst (λ (found : Option RelationEntry). pages_of_relation found key) (sym at) is
-
--- the tables with the tuple that the change leaves
-applied_tuple : {listing : Listing} {told_change : told.Change} {change : Change} (tables : Tables) (r : Reads listing told_change change) → with_tuple tables r.relation.name (tid_told told_change) r.next ≡ applied tables change
-applied_tuple {told_change = told_change} {change = change} tables r = ap (λ (c : Contents). record { definitions = tables.definitions; contents = c }) same_contents
+-- where no page of a space was taken, no more are mapped
+over_less : (old new : Mapped) (space : Space) (limit : ℕ) → ((key : PageKey) → key.space ≡ space → new key ≡ true → old key ≡ true) → mapped_of new space limit ≤ mapped_of old space limit
+over_less old new space limit same = range-le (mapped_in new space limit) (mapped_in old space limit) 1 8 (λ segment. range-le (λ n. one_if (new (page_key segment space n))) (λ n. one_if (old (page_key segment space n))) 0 limit (λ n. one_less _ _ (same (page_key segment space n) refl)))
   where
-    same_contents : put tables.contents (TupleItem r.relation.name (tid_told told_change)) (option_map Values r.next) ≡ put tables.contents change.item change.new
-    same_contents = ap (λ (item : Item). put tables.contents item (option_map Values r.next)) (sym r.item) ∙ ap (put tables.contents change.item) (sym r.new)
+    one_less : (a b : Bool) → (a ≡ true → b ≡ true) → one_if a ≤ one_if b
+    one_less true b is = omega (arith, ap one_if (is refl))
+    one_less false b is = omega arith
+
+module _ {cost : ℕ} {old new : AccessView} {told_change : told.Change} (step : PagesStep (pages_told old.catalog.listing told_change) cost cost old.pages new.pages) (alters : Alters told_change old new) (told : IsTold old.pages.disk) {tables : Tables} (spells : SpellsTables old.pages.held old.catalog.listing tables) (was next : Option (List Value)) where
+  abbrev number : ℕ
+  number = number_told told_change
+
+  abbrev tid : Tid
+  tid = tid_told told_change
+
+  abbrev relation : RelationEntry
+  relation = alters.relation
+
+  abbrev item : Item
+  item = TupleItem relation.name tid
+
+  -- the change as one of a tuple of the tables
+  abbrev pub move : TupleMove
+  move = record { number = number; relation = relation; tid = tid; was = was; next = next }
+
+  abbrev next_tables : Tables
+  next_tables = after_move move tables
+
+  module _ (before : body_before told_change ≡ option_map (body_of number) was) (after : body_after told_change ≡ option_map (body_of number) next) (can : CanMove old.catalog.listing move tables) where
+    sets : SetsBody relation.segment tid (option_map (body_of number) next) old.pages new.pages
+    sets = subst (λ (body : Option (List ℕ)). SetsBody relation.segment tid body old.pages new.pages) after (alters.changes.sets told)
+
+    absent : was ≡ None → body_at old.pages relation.segment tid ≡ None
+    absent none = alters.found told ∙ before ∙ ap (option_map (body_of number)) none
+
+    -- a page of another segment is as it was
+    held_off : (key : PageKey) → key.segment ≢ relation.segment → new.pages.held key ≡ old.pages.held key
+    held_off key off = step.held_off told key (λ touched. off (told_pages old.catalog.listing told_change alters.listed key touched).0)
+
+    recounts : Recounts number relation old.catalog.listing new.catalog.listing
+    recounts = recounts_by alters.counts alters.listed
+
+    -- the bodies are those of the tuples after the change
+    contents_by : {listing : Listing} → Recounts number relation old.catalog.listing listing → PlainContents listing (bodies_of new.pages.held) next_tables.contents
+    contents_by {listing = listing} recounted =
+        subst (λ (bodies : Bodies). PlainContents listing bodies next_tables.contents) (sym sets.bodies)
+        (contents_changed spells.listed.relations_once alters.listed recounted (contents_spelled spells) tid was next can.holds absent can.next_storable)
+
+    -- so many tuples are there afterwards
+    pub count_is : tuple_count next_tables.contents relation.name ≡ count_after told_change relation.live
+    count_is =
+        let mine : is_tuple_of relation.name item ≡ true = tied name_total name_apart relation.name in
+        let both = counts_put tables.contents item (option_map Values next) relation.name mine in
+        let was_there : one_if (is_some (content tables.contents item)) ≡ one_if (is_some (option_map Values was)) = ap (λ (o : Option Content). one_if (is_some o)) can.holds in
+        count_by_bodies told_change number was next (tuple_count tables.contents relation.name) relation.live (tuple_count next_tables.contents relation.name) before after (omega (arith, both, was_there)) (spells.counts number relation alters.listed)
+
+    pub others_same : (other : Name) → other ≢ relation.name → tuple_count next_tables.contents other ≡ tuple_count tables.contents other
+    others_same other apart = counts_same tables.contents item (option_map Values next) other (not_tied name_total name_apart other relation.name apart)
+
+    counts_are : AreCounts new.catalog.listing next_tables.contents
+    counts_are k entry there = elim (counted_or_old old.catalog.listing number (count_after told_change relation.live) relation alters.listed k entry (ap (λ (l : List (Option RelationEntry)). numbered l k) (sym alters.counts.relations) ∙ there)) [
+      | inl here ↦ ap (λ (e : RelationEntry). tuple_count next_tables.contents e.name) (sym here.1) ∙ count_is ∙ ap (λ (e : RelationEntry). e.live) here.1
+      | inr kept ↦ others_same entry.name (names_apart spells.listed k number entry relation kept.1 alters.listed kept.0) ∙ spells.counts k entry kept.1
+    ]
+
+    segment_still : (segment : ℕ) → segment_at new.catalog.listing segment ≡ segment_at old.catalog.listing segment
+    segment_still segment = ap (λ (names : List (Option Name)). numbered names segment) alters.counts.segments
+
+    still_listed : (key : PageKey) → IsStorePage old.catalog.listing key → IsStorePage new.catalog.listing key
+    still_listed key (inl system) = inl system
+    still_listed key (inr segment) = inr (ap is_some (segment_still key.segment) ∙ segment)
+
+    -- the pages spell the tables with the change
+    pub altered_spells : SpellsTables new.pages.held new.catalog.listing next_tables
+    altered_spells = record {
+      only = λ key there. elim (cases_eq key.segment relation.segment) [
+        | inl own ↦ inr (ap is_some (segment_still key.segment ∙ ap (segment_at old.catalog.listing) own) ∙ (spells.listed.relations number relation alters.listed).segment)
+        | inr off ↦ still_listed key (spells.only key (ap is_some (sym (held_off key off)) ∙ there))
+      ];
+      formed = λ key bytes heap there.
+          let formed = sets.heaps.formed key bytes heap there in
+          record { formed = formed.formed; some = formed.some; short = formed.short; noted = tt };
+      linked = sets.heaps.linked;
+      listed = alters.counts.fits spells.listed;
+      plain = plain_still alters.counts alters.listed spells.plain;
+      defines = defines_still alters.counts alters.listed spells.defines;
+      counts = counts_are;
+      contents = spelled_contents (plain_still alters.counts alters.listed spells.plain) (contents_by recounts);
+      images = alters.images told move tables (record {
+        tells = record { number = refl; tid = refl; before = before; after = after };
+        can = can;
+        images = spells.images;
+        room = omega (arith, alters.room);
+      });
+    }
+
+    -- there may be as many overflow pages then
+    pub may_lead : new.pages.slots ≡ old.pages.slots → MayLead next_tables item (option_map Values was) (option_map Values next) (mapped_of old.pages.mapped Overflow old.pages.slots) (mapped_of new.pages.mapped Overflow new.pages.slots)
+    may_lead slots = record {
+      one = omega (arith, overflows_one old.pages.mapped new.pages.mapped alters.changes.one new.pages.slots, same_slots);
+      only = λ not.
+          let less : mapped_of new.pages.mapped Overflow new.pages.slots ≤ mapped_of old.pages.mapped Overflow new.pages.slots = over_less old.pages.mapped new.pages.mapped Overflow new.pages.slots (λ key space there. true_from_ne_false (old.pages.mapped key) (λ none. not (overfills key space there none))) in
+          omega (arith, less, same_slots);
+    }
+      where
+        same_slots : mapped_of old.pages.mapped Overflow new.pages.slots ≡ mapped_of old.pages.mapped Overflow old.pages.slots
+        same_slots = ap (mapped_of old.pages.mapped Overflow) slots
+
+        size_of : (w : Option (List Value)) → size_of_body (option_map (body_of number) w) ≡ held_size tables.definitions relation.name (option_map Values w)
+        size_of None = refl
+        size_of (Some values) = sym (values_size tables.definitions (links_defined spells.listed.no_links spells.defines) relation.name number values)
+
+        -- what the tuple held, by its body
+        size_was : size_of_body (body_at old.pages relation.segment tid) ≡ held_size tables.definitions relation.name (option_map Values was)
+        size_was = ap size_of_body (alters.found told ∙ before) ∙ size_of was
+
+        -- an overflow page was taken
+        overfills : (key : PageKey) → key.space ≡ Overflow → new.pages.mapped key ≡ true → old.pages.mapped key ≡ false → Overfills next_tables item (option_map Values was) (option_map Values next)
+        overfills key space there none =
+            let so = listed spells.listed spells.defines number relation alters.listed in
+            record {
+              relation = relation.name;
+              tid = tid;
+              segment = so.0;
+              is = refl;
+              grows = omega (arith, sets.grows key space there none, size_was, size_of next);
+              stands = stands_within next_tables spells.listed spells.defines number relation alters.listed so.0 so.1.within;
+              beyond = omega (arith, sets.over key space there none, bytes_less next_tables spells.listed spells.defines (contents_by (recounts_itself alters.listed)) relation.segment so.0 so.1.within tid.page);
+            }
+
+-- ---- from all tables in which it may be applied
 
 module _ {cost : ℕ} {old new : AccessView} {told_change : told.Change} (is : IsTupleRecord told_change) (step : PagesStep (pages_told old.catalog.listing told_change) cost cost old.pages new.pages) (alters : Alters told_change old new) (told : IsTold old.pages.disk) (tables : Tables) (change : Change) (can : CanApply old told_change tables change) where
   r : Reads old.catalog.listing told_change change
-  r = reads can.spells.listed told_change change is can.tells can.means
+  r = reads told_change change is can.tells can.means
 
-  one : alters.relation ≡ r.relation
-  one = same_Some _ _ (sym alters.listed ∙ r.at)
+  one : r.relation ≡ alters.relation
+  one = same_Some _ _ (sym r.at ∙ alters.listed)
 
-  lists : Relists (number_told told_change) r.relation tables (put tables.contents change.item change.new) old.catalog.listing new.catalog.listing
-  lists = relists told_change new.catalog is can r (subst (λ (e : RelationEntry). CountsChange told_change e old.catalog new.catalog) one alters.counts)
+  moves : CanMove old.catalog.listing (record { number = number_told told_change; relation = alters.relation; tid = tid_told told_change; was = r.was; next = r.next }) tables
+  moves = subst (λ (entry : RelationEntry). CanMove old.catalog.listing (record { number = number_told told_change; relation = entry; tid = tid_told told_change; was = r.was; next = r.next }) tables) one (shows_move can r alters.small (can_become told_change can r).named alters.room).can
 
-  changed : IsChange old.pages new.pages old.catalog.listing (number_told told_change) r.relation (tid_told told_change) r.was r.next
-  changed = record {
-    at = r.at;
-    told = told;
-    slots = step.passes.slots;
-    held_off = λ key off. step.held_off told key (λ touched. off (told_pages old.catalog.listing told_change r.at key touched));
-    changes = subst (λ (body : Option (List ℕ)). ChangesTuple r.relation.segment (tid_told told_change) body old.pages new.pages) r.after (subst (λ (e : RelationEntry). ChangesTuple e.segment (tid_told told_change) (body_after told_change) old.pages new.pages) one alters.changes);
-    storable = r.storable;
-    absent = λ none. ap (λ (e : RelationEntry). body_at old.pages e.segment (tid_told told_change)) (sym one) ∙ alters.found told ∙ r.before ∙ ap (option_map (body_of (number_told told_change))) none;
-  }
+  item_is : TupleItem alters.relation.name (tid_told told_change) ≡ change.item
+  item_is = ap (λ (entry : RelationEntry). TupleItem entry.name (tid_told told_change)) (sym one) ∙ sym r.item
+
+  -- the tables with the tuple that the change leaves
+  applied_tuple : with_tuple tables alters.relation.name (tid_told told_change) r.next ≡ applied tables change
+  applied_tuple = ap (λ (c : Contents). record { definitions = tables.definitions; contents = c }) same_contents
+    where
+      same_contents : put tables.contents (TupleItem alters.relation.name (tid_told told_change)) (option_map Values r.next) ≡ put tables.contents change.item change.new
+      same_contents = ap (λ (item : Item). put tables.contents item (option_map Values r.next)) item_is ∙ ap (put tables.contents change.item) (sym r.new)
 
   -- the pages spell the tables with the change applied
   pub alters_tables : SpellsTables new.pages.held new.catalog.listing (applied tables change)
-  alters_tables =
-      subst (λ (t : Tables). SpellsTables new.pages.held new.catalog.listing t) (applied_tuple tables r)
-      (spells_changed can.spells changed (holds_old can r) lists.recounts lists.fits lists.defines (subst (λ (c : Contents). AreCounts new.catalog.listing c) (ap (λ (t : Tables). t.contents) (sym (applied_tuple tables r))) lists.counts))
+  alters_tables = subst (λ (t : Tables). SpellsTables new.pages.held new.catalog.listing t) applied_tuple (altered_spells step alters told can.spells r.was r.next r.before r.after moves)
 
   abbrev before : ℕ
   before = mapped_of old.pages.mapped Overflow old.pages.slots
@@ -140,49 +225,17 @@ module _ {cost : ℕ} {old new : AccessView} {told_change : told.Change} (is : I
   abbrev after : ℕ
   after = mapped_of new.pages.mapped Overflow new.pages.slots
 
+  abbrev left_tables : Tables
+  left_tables = with_tuple tables alters.relation.name (tid_told told_change) r.next
+
   -- there may be as many overflow pages then
   pub alters_leads : MayLead (applied tables change) change.item change.old change.new before after
   alters_leads =
-      subst (λ (t : Tables). MayLead t change.item change.old change.new before after) (applied_tuple tables r)
-      (subst (λ (o : Option Content). MayLead (with_tuple tables r.relation.name (tid_told told_change) r.next) change.item o change.new before after) (sym r.old)
-      (subst (λ (o : Option Content). MayLead (with_tuple tables r.relation.name (tid_told told_change) r.next) change.item (option_map Values r.was) o before after) (sym r.new)
-      (subst (λ (item : Item). MayLead (with_tuple tables r.relation.name (tid_told told_change) r.next) item (option_map Values r.was) (option_map Values r.next) before after) (sym r.item)
-      (may_lead can.spells changed (holds_old can r)))))
-
--- ---- pages that were looked at first
-
-module _ {asks outs : ℕ} {old mid : PagesView} (looked : PagesStep no_page asks outs old mid) where
-  pub body_looked : IsTold old.disk → (segment : ℕ) (tid : Tid) → body_at mid segment tid ≡ body_at old segment tid
-  body_looked told segment tid = ap (λ (h : Held). bodies_of h segment tid) (all_held looked told)
-
-  pub changes_looked : {segment : ℕ} {tid : Tid} {body : Option (List ℕ)} {new : PagesView} → ChangesTuple segment tid body mid new → ChangesTuple segment tid body old new
-  changes_looked {segment = segment} {tid = tid} {body = body} {new = new} changes = record {
-    one = λ key other is not there none. changes.one key other is (was key not) there (was other none);
-    changed = λ key is. ⊎_elim (λ before. ⊎_elim (λ same. inl same) (λ no. absurd no) (looked.changed_off key before)) (λ now. inr now) (changes.changed key is);
-    sets = λ told.
-        let sets = changes.sets (looked.passes.leaves.told.0 told) in
-        record {
-          bodies = sets.bodies ∙ ap (λ (h : Held). with_body (bodies_of h) segment tid body) (all_held looked told);
-          heaps = sets.heaps;
-          over = λ key space is not. sets.over key space is (was key not);
-          grows = λ key space is not. subst (λ (b : Option (List ℕ)). size_of_body b < size_of_body body) (body_looked told segment tid) (sets.grows key space is (was key not));
-        };
-  }
-    where
-      was : (key : PageKey) → old.mapped key ≡ false → mid.mapped key ≡ false
-      was key is = ap (λ (m : Mapped). m key) (all_mapped looked) ∙ is
-
--- ---- room
-
--- one page more is mapped at most, and so one fewer is spare
-pub takes_two : {touched : Keys} {asks outs segment : ℕ} {tid : Tid} {body : Option (List ℕ)} {old new : PagesView} → PagesStep touched asks outs old new → ChangesTuple segment tid body old new → AreCounted old → AreCounted new → Takes 2 old new
-takes_two {old = old} {new = new} step changes before now =
-    let few = mapped_changed changes old.slots in
-    let at = ap (λ (n : ℕ). mapped_pages n new.mapped) step.passes.slots in
-    record {
-      mapped = omega (arith, few, at);
-      spare = omega (arith, few, at, before, now, step.passes.slots, ap (λ (b : Backing). page_count b.shadow) step.passes.backing);
-    }
+      subst (λ (t : Tables). MayLead t change.item change.old change.new before after) applied_tuple
+      (subst (λ (o : Option Content). MayLead left_tables change.item o change.new before after) (sym r.old)
+      (subst (λ (o : Option Content). MayLead left_tables change.item (option_map Values r.was) o before after) (sym r.new)
+      (subst (λ (item : Item). MayLead left_tables item (option_map Values r.was) (option_map Values r.next) before after) item_is
+      (may_lead step alters told can.spells r.was r.next r.before r.after moves step.passes.slots))))
 
 -- ---- by the result
 
@@ -202,5 +255,6 @@ module _ {T : Type 0} {old new : AccessView} (told_change : told.Change) (result
       by (Err e) done = tt
 
 -- of a change that is turned round
-pub none_undoes : {at : AccessView} {told_change : told.Change} {place : Place} → IsTupleRecord told_change → Misfits (reversed told_change) at place → NoneUndoes told_change at
-none_undoes {told_change = told_change} is misfits tables change can = none_applies (reversed_tuple told_change is) misfits tables (turned change) (can_turned can)
+pub none_undoes : {at : AccessView} {told_change : told.Change} {place : Place} → IsTupleRecord told_change → (HasTables at → Misfits (reversed told_change) at place) → HasRoom at (number_told told_change) → NoneUndoes told_change at
+none_undoes {at = at} {told_change = told_change} is misfits room tables change can =
+    none_applies (reversed_tuple told_change is) misfits (subst (HasRoom at) (sym (same_number told_change)) room) tables (turned change) (can_turned can)

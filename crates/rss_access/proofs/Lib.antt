@@ -3,9 +3,18 @@ pub mod Counting
 pub mod TupleChanges
 pub mod Weighing
 pub mod Recounting
+pub mod Rerooting
+pub mod Heaped
+pub mod Imaged
 pub mod Spelling
 pub mod Writing
 pub mod Telling
+pub mod Between
+pub mod Showing
 pub mod Altering
 pub mod Making
+pub mod ImageKeys
+pub mod ImageRooms
+pub mod Rooted
+pub mod ImageMoves
 mod NextTuples

@@ -1,11 +1,20 @@
 -- How a change of a tuple is made: where it is refused, and what was done.
-use Rattle.std.proofs.Common.{◌≡◌, ◌≢◌, ℕ, true, false, refl, sym, ◌∙◌, ap, subst, arith}
-use Rattle.std.specs.Prelude.{Option, Some, None, is_some, Result, Ok, Err, IsErrAnd}
-use Rattle.std.proofs.lemmas.Bool.{true≢false}
+use Rattle.std.proofs.Common.{◌≡◌, inl, inr, ℕ, ◌+◌, ◌*◌, ◌^◌, ◌≤◌, true, false, List, ◌∷◌, length, refl, sym, ◌∙◌, ap, subst, arith, ◌<◌}
+use Rattle.std.specs.Prelude.{Option, Some, None, is_some, option_map, Result, Ok, Err, IsErrAnd}
+use Rattle.std.specs.Ordering.{eq_by_cmp}
+use Rattle.std.specs.Cmp.{Equal-is}
+use Rattle.std.proofs.lemmas.Bool.{cases_Bool, true≢false}
 use Rattle.rss_base.specs.DiskRule.{IsTold}
-use Rattle.rss_base.specs.Steps.{PagesView, PagesStep, PagesCall, AreCounted, no_page}
-use Rattle.rss_base.specs.Listings.{Listing, numbered, names_of, relation_at}
+use Rattle.rss_base.specs.Paged.{page_key}
+use Rattle.rss_base.specs.Steps.{PagesView, PagesStep, PagesCall, Keys, AreCounted, no_page}
+use Rattle.rss_base.specs.TupleTypes.{kinds, SpellsSome}
+use Rattle.rss_base.specs.Listings.{Listing, ListingFits, numbered, names_of, relation_at, with_relation, with_count}
+use Rattle.rss_base.specs.declared.name.Name.{Name}
 use Rattle.rss_base.specs.declared.tid.Tid.{Tid}
+use Rattle.rss_base.specs.declared.field.FieldDef.{FieldDef}
+use Rattle.rss_base.specs.declared.item.Item.TheVariants.{Tuple as TupleItem}
+use Rattle.rss_base.specs.declared.key.PageKey.{PageKey}
+use Rattle.rss_base.specs.declared.key.Space.TheVariants.{Image}
 use Rattle.rss_base.specs.declared.place.Place.{Place}
 use Rattle.rss_base.specs.declared.place.Place.TheVariants.{Tuple as TuplePlace, Count as CountPlace}
 use Rattle.rss_base.specs.declared.fault.PageFault.{PageFault}
@@ -13,21 +22,42 @@ use Rattle.rss_base.specs.declared.fault.PageFault.TheVariants.{Damaged}
 use Rattle.rss_base.specs.declared.refusal.Kind.TheVariants.{Relation as RelationKind}
 use Rattle.rss_base.specs.declared.relation.RelationEntry.{RelationEntry}
 use Rattle.rss_base.specs.declared.change.Change as told
-use Rattle.rss_base.proofs.Steps.{within, all_mapped}
+use Rattle.rss_base.specs.declared.change.Change.TheVariants.{Insert as Inserts, Delete as Deletes, Update as Updates, Connect, Disconnect}
+use Rattle.rss_base.proofs.Steps.{within, widens, among, then, untouched, all_mapped}
+use Rattle.rss_value.proofs.Spelling.{length-tuple_bytes}
+use Rattle.rss_tuple.specs.Checked.{pages_of}
 use Rattle.rss_tuple.specs.Heaps.{AreHeaps}
 use Rattle.rss_tuple.proofs.Changes.{spare_after}
-use Rattle.rss_catalog.specs.Catalogs.{CatalogView}
+use Rattle.rss_catalog.specs.Catalogs.{CatalogView, HasImageOf, IsSafe}
+use Rattle.rss_entries.specs.Rooms.{images_room, image_places, images_cost}
+use Rattle.rss_entries.specs.Images.{TupleMove, CanMove, after_move}
+use Rattle.rss_model.specs.Items.{Values, name_cmp}
+use Rattle.rss_model.specs.Tables.{Tables, tuple_count}
+use Rattle.rss_model.specs.Store.{SpellsTables, SpellsImages}
+use Rattle.rss_model.proofs.Codes.{name_apart}
+use Rattle.rss_model.specs.Fits.{IsLive, IsIdentifier}
+use Rattle.rss_model.proofs.Contents.{content_elsewhere}
+use Rattle.rss_model.proofs.Counts.{counts_same}
 use Rattle.rss_model.proofs.LogLists.{some_of}
+use Rattle.rss_model.proofs.Putting.{same_parts}
+use Rattle.rss_model.proofs.PlainStores.{plain_nodes, none_imaged}
 use Rattle.rss_model.proofs.Relisted.{number_of}
 use Rattle.rss_access.specs.declared.edit.Edit.{Edit}
 use Rattle.rss_access.specs.declared.edit.Edit.TheVariants.{Insert, Delete, Update}
 use Rattle.rss_access.specs.declared.edit.TupleChange.{TupleChange}
 use Rattle.rss_access.specs.Edits.{told_of, told_by}
-use Rattle.rss_access.specs.Changes.{number_told, tid_told, body_before, body_after, count_after, CanAlter, MayBecome, MayCount, AccessView, both, Recounted, CountsChange, Alters, Makes, Misfits, Takes, pages_told, alter_cost}
-use Rattle.rss_access.specs.Changes.Misfits.{tuple as tuple_misfits, count as count_misfits, unlisted}
-use Rattle.rss_access.specs.Tuples.{body_at, ChangesTuple}
+use Rattle.rss_access.specs.Changes.{number_told, tid_told, body_before, body_after, count_after, AreValuesOf, CanAlter, HasTables, HasRoom, MayBecome, MayCount, AccessView, both, image_pages_of, own_image_pages, ShowsMove, MayMoveAll, MovesAll, Alters, Makes, Misfits, pages_told, alter_cost}
+use Rattle.rss_access.specs.Changes.Misfits.{tuple as tuple_misfits, room as room_misfits, count as count_misfits, unlisted}
+use Rattle.rss_access.specs.Relisted.{KeepsSpelled, Rerooted, Recounted}
+use Rattle.rss_access.specs.Tuples.{body_at, CanPut, IsShortBody, ChangesTuple}
 use Rattle.rss_access.proofs.Numbered.{entry_at}
-use Rattle.rss_access.proofs.Altering.{changes_looked}
+use Rattle.rss_access.proofs.Altering.{pages_are_told, altered_spells, count_is}
+use Rattle.rss_access.proofs.Between.{changes_looked, changes_imaged, heap_two, images_same, places_left}
+use Rattle.rss_access.proofs.Imaged.{images_kept, images_counted, images_beside}
+use Rattle.rss_access.proofs.Recounting.{same_or_other}
+use Rattle.rss_entries.proofs.Places.{places_same}
+use Rattle.rss_access.proofs.Rerooting.{rerooted_itself, recounts_rerooted, same_images}
+use Rattle.rss_access.proofs.Showing.{HasMove, told_move, move, can_move, tuples_after, few_after}
 
 -- ---- the change that is lent
 
@@ -72,9 +102,13 @@ module _ (change : TupleChange) (pages : PagesView) (catalog : CatalogView) wher
   misfits_unlisted unused = subst (Misfits (told_by change) (both pages catalog)) (ap CountPlace (number_by change)) (unlisted (ap (relation_at catalog.listing) (number_by change) ∙ unused_listed catalog.listing change.number unused))
 
   module _ (relation : RelationEntry) (at : relation_at catalog.listing change.number ≡ Some relation) where
-    pub misfits_tuple : (body_at pages relation.segment change.tid ≡ body_before (told_by change) → MayBecome pages.slots (told_by change) → ⊥) → Misfits (told_by change) (both pages catalog) (TuplePlace relation.segment change.tid)
+    pub misfits_tuple : (body_at pages relation.segment change.tid ≡ body_before (told_by change) → MayBecome pages.slots relation.fields (told_by change) → ⊥) → Misfits (told_by change) (both pages catalog) (TuplePlace relation.segment change.tid)
     misfits_tuple not = subst (Misfits (told_by change) (both pages catalog)) (ap (TuplePlace relation.segment) (tid_by change))
         (tuple_misfits (listed_by change catalog.listing at) (λ stands. not (ap (body_at pages relation.segment) (sym (tid_by change)) ∙ stands)))
+
+    pub misfits_room : (HasRoom (both pages catalog) change.number → ⊥) → Misfits (told_by change) (both pages catalog) (TuplePlace relation.segment change.tid)
+    misfits_room not = subst (Misfits (told_by change) (both pages catalog)) (ap (TuplePlace relation.segment) (tid_by change))
+        (room_misfits (listed_by change catalog.listing at) (λ room. not (subst (HasRoom (both pages catalog)) (number_by change) room)))
 
     pub misfits_count : body_at pages relation.segment change.tid ≡ body_before (told_by change) → (MayCount (told_by change) relation.live → ⊥) → Misfits (told_by change) (both pages catalog) (CountPlace change.number)
     misfits_count stands not = subst (Misfits (told_by change) (both pages catalog)) (ap CountPlace (number_by change))
@@ -87,75 +121,226 @@ same_place is = cc
 
 module _ {T : Type 0} {change : told.Change} {old new : AccessView} where
   -- it can't be made, which a look at the pages has shown
-  pub damaged_makes : {place : Place} → PagesStep no_page 2 2 old.pages new.pages → new.catalog ≡ old.catalog → (IsTold old.pages.disk → Misfits change old place) → Makes {T = T} change old new (Err (Damaged place))
+  pub damaged_makes : {place : Place} → PagesStep no_page 2 2 old.pages new.pages → new.catalog ≡ old.catalog → (IsTold old.pages.disk → HasTables old → Misfits change old place) → Makes {T = T} change old new (Err (Damaged place))
   damaged_makes {place = place} looked same misfits = record {
     alters = tt;
+    still = tt;
     takes = tt;
     step = within (λ key is. absurd is) (omega arith) (omega arith) looked;
-    same = same;
+    rerooted = subst (Rerooted old.catalog) (sym same) (rerooted_itself old.catalog);
     failed = λ is. absurd (cc);
     memory = λ is. absurd (cc);
-    damaged = λ at is on. subst (Misfits change old) (same_place is) (misfits on);
+    damaged = λ at is on has. subst (Misfits change old) (same_place is) (misfits on has);
     kept = λ at is on. looked;
   }
 
   -- a call below failed
-  pub fails_makes : (fault : PageFault) (result : Result T PageFault) → IsErrAnd result (λ why. why ≡ fault) → PagesCall {T = T} (pages_told old.catalog.listing change) (alter_cost old.pages.slots) (alter_cost old.pages.slots) old.pages new.pages result → new.catalog ≡ old.catalog → Makes change old new result
-  fails_makes fault (Ok value) is call same = absurd is
-  fails_makes fault (Err e) is call same = record {
+  pub fails_makes : (fault : PageFault) (result : Result T PageFault) → IsErrAnd result (λ why. why ≡ fault) → PagesCall {T = T} (pages_told old.catalog.listing change) (alter_cost old.pages.slots) (alter_cost old.pages.slots) old.pages new.pages result → Rerooted old.catalog new.catalog → Makes change old new result
+  fails_makes fault (Ok value) is call rerooted = absurd is
+  fails_makes fault (Err e) is call rerooted = record {
     alters = tt;
+    still = tt;
     takes = tt;
     step = call.step;
-    same = same;
+    rerooted = rerooted;
     failed = call.failed;
     memory = call.memory;
     damaged = λ place at on. absurd (call.sound place at on);
     kept = λ place at on. absurd (call.sound place at on);
   }
 
-  pub done_makes : (value : T) → PagesStep (pages_told old.catalog.listing change) (alter_cost old.pages.slots) (alter_cost old.pages.slots) old.pages new.pages → Alters change old new → Takes 2 old.pages new.pages → Makes {T = T} change old new (Ok value)
-  done_makes value step alters takes = record {
+  done_makes : (value : T) → image_places old.pages ≤ image_places new.pages + 2 → PagesStep (pages_told old.catalog.listing change) (alter_cost old.pages.slots) (alter_cost old.pages.slots) old.pages new.pages → Alters change old new → CanAlter new → Makes {T = T} change old new (Ok value)
+  done_makes value places step alters still = record {
     alters = alters;
-    takes = takes;
+    still = still;
+    takes = record { heap = heap_two step.passes.slots alters.changes; places = places };
     step = step;
-    same = tt;
+    rerooted = tt;
     failed = λ is. absurd (cc);
     memory = λ is. absurd (cc);
     damaged = λ place is on. absurd (cc);
     kept = λ place is on. absurd (cc);
   }
 
--- the pages may still be changed then
-pub can_still : {old mid : PagesView} → PagesStep no_page 2 2 old mid → CanAlter old → (IsTold old.disk → AreHeaps mid) → AreCounted old → AreCounted mid → CanAlter mid
-can_still looked can heaps before now = record {
+-- ---- what may be put
+
+-- the pages may still be changed after a look
+pub can_put : {old mid : PagesView} → PagesStep no_page 2 2 old mid → 2 ≤ old.spare → (IsTold old.disk → AreHeaps mid) → AreCounted old → AreCounted mid → CanPut mid
+can_put looked spare heaps before now = record {
   heaps = λ told. heaps (looked.passes.leaves.told.1 told);
-  spare = omega (arith, can.spare, spare_after looked (all_mapped looked) before now);
+  spare = omega (arith, spare, spare_after looked (all_mapped looked) before now);
 }
+
+-- slots and fields by other names
+pub may_become_as : {slots slots_too : ℕ} {fields fields_too : List FieldDef} {told_change : told.Change} → slots ≡ slots_too → fields ≡ fields_too → MayBecome slots fields told_change → MayBecome slots_too fields_too told_change
+may_become_as {slots_too = slots_too} {fields = fields} {told_change = told_change} same_slots same_fields may =
+    subst (λ (f : List FieldDef). MayBecome slots_too f told_change) same_fields (subst (λ (n : ℕ). MayBecome n fields told_change) same_slots may)
+
+-- values that are spelled are not too long for a page
+short_bytes : (relation : RelationEntry) (number : ℕ) (bytes : List ℕ) → IsSafe relation → SpellsSome (kinds relation.fields) bytes → length (number ∷ bytes) ≤ 2400
+short_bytes relation number bytes safe (values, spells) = omega (arith, length-tuple_bytes (kinds relation.fields) values spells.fit, safe.narrow, ap (λ (b : List ℕ). length b) spells.same)
+
+pub short_body : (relation : RelationEntry) → IsSafe relation → (told_change : told.Change) → AreValuesOf relation.fields told_change → IsShortBody (body_after told_change)
+short_body relation safe (Inserts number tid values) are = short_bytes relation number values safe are
+short_body relation safe (Deletes number tid values) are = omega arith
+short_body relation safe (Updates number tid from to) are = short_bytes relation number to safe are.1
+short_body relation safe (Connect link parent child left) are = omega arith
+short_body relation safe (Disconnect link parent child left) are = omega arith
+
+-- ---- the pages that are touched
+
+module _ (change : TupleChange) (listing : Listing) {relation : RelationEntry} (at : relation_at listing change.number ≡ Some relation) where
+  pub heap_told : (key : PageKey) → pages_of relation.segment key → pages_told listing (told_by change) key
+  heap_told key is = pages_are_told listing (told_by change) (listed_by change listing at) key is.0 (inl is.1)
+
+  own_image : (key : PageKey) → own_image_pages listing change.number key → key ≡ page_key relation.segment Image key.number
+  own_image key is = subst (λ (found : Option RelationEntry). image_pages_of found key) at is.0
+
+  image_space : (key : PageKey) → own_image_pages listing change.number key → key.space ≡ Image
+  image_space key is = ap (λ (k : PageKey). k.space) (own_image key is)
+
+  pub images_told : (key : PageKey) → own_image_pages listing change.number key → pages_told listing (told_by change) key
+  images_told key is =
+      let image = is.1 in
+      pages_are_told listing (told_by change) (listed_by change listing at) key (ap (λ (k : PageKey). k.segment) (own_image key is)) (inr (image_space key is, record { number = image.number; image = image.image; at = image.at }))
+
+-- more pages may be touched by a call
+pub widens_to : {T : Type 0} {touched more : Keys} {asks outs : ℕ} {old new : PagesView} {result : Result T PageFault} → ((key : PageKey) → touched key → more key) → PagesCall touched asks outs old new result → PagesCall more asks outs old new result
+widens_to is call = widens is (omega arith) (omega arith) call
+
+-- ---- where the relation has no images
+
+-- all of them show the tables after the change
+pub none_moves : (pages : PagesView) (catalog : CatalogView) (change : TupleChange) → (HasImageOf catalog.listing change.number → ⊥) → MovesAll (both pages catalog) (both pages catalog) (told_by change)
+none_moves pages catalog change none move tables shows =
+    let same : move.number ≡ change.number = sym shows.tells.number ∙ number_by change in
+    images_beside shows.can.fits move.number move.relation shows.can.listed (λ has. none (subst (HasImageOf catalog.listing) same has)) move.tid move.next shows.images
 
 -- ---- what was done
 
-counts_by : {old new : CatalogView} (number : ℕ) (tid : Tid) (edit : Edit) (relation : RelationEntry) (count : ℕ) → count ≡ count_after (told_of number tid edit) relation.live → count ≢ relation.live → Recounted number relation count old new → CountsChange (told_of number tid edit) relation old new
-counts_by {old = old} {new = new} number tid (Insert values) relation count is other counted = subst (λ (n : ℕ). Recounted number relation n old new) is counted
-counts_by {old = old} {new = new} number tid (Delete values) relation count is other counted = subst (λ (n : ℕ). Recounted number relation n old new) is counted
-counts_by number tid (Update from to) relation count is other counted = absurd (other is)
+module _ (change : TupleChange) {first mid put : PagesView} {before : CatalogView} {relation : RelationEntry} (at : relation_at before.listing change.number ≡ Some relation) (counted_first : AreCounted first) (counted_put : AreCounted put) (looked : PagesStep no_page 2 2 first mid) (found : IsTold first.disk → body_at first relation.segment change.tid ≡ body_before (told_by change)) (room : HasRoom (both first before) change.number) (may : MayBecome first.slots relation.fields (told_by change)) (small : first.slots < 2 ^ 32) (can : CanAlter (both first before))
+    (putted : PagesStep (pages_of relation.segment) (3 * mid.slots + 7) (3 * mid.slots + 7) mid put) (changes : ChangesTuple relation.segment change.tid (body_after (told_by change)) mid put) where
+  listed : relation_at before.listing (number_told (told_by change)) ≡ Some relation
+  listed = listed_by change before.listing at
 
-counts_still : (catalog : CatalogView) (number : ℕ) (tid : Tid) (edit : Edit) (relation : RelationEntry) (count : ℕ) → count ≡ count_after (told_of number tid edit) relation.live → MayCount (told_of number tid edit) relation.live → count ≡ relation.live → CountsChange (told_of number tid edit) relation catalog catalog
-counts_still catalog number tid (Insert values) relation count is may same = absurd (omega (arith, is, same))
-counts_still catalog number tid (Delete values) relation count is may same = absurd (omega (arith, is, same, may))
-counts_still catalog number tid (Update from to) relation count is may same = refl
+  found_told : IsTold first.disk → body_at first relation.segment (tid_told (told_by change)) ≡ body_before (told_by change)
+  found_told told = ap (body_at first relation.segment) (tid_by change) ∙ found told
 
-module _ {old mid new : PagesView} {before after : CatalogView} (change : TupleChange) (relation : RelationEntry) (at : relation_at before.listing change.number ≡ Some relation) (looked : PagesStep no_page 2 2 old mid) (found : IsTold old.disk → body_at old relation.segment change.tid ≡ body_before (told_by change)) (changes : ChangesTuple relation.segment change.tid (body_after (told_by change)) mid new) (count : ℕ) (is : count ≡ count_after (told_by change) relation.live) where
-  alters : CountsChange (told_by change) relation before after → Alters (told_by change) (both old before) (both new after)
-  alters counts = record {
-    relation = relation;
-    listed = listed_by change before.listing at;
-    found = λ told. ap (body_at old relation.segment) (tid_by change) ∙ found told;
-    changes = subst (λ (tid : Tid). ChangesTuple relation.segment tid (body_after (told_by change)) old new) (sym (tid_by change)) (changes_looked looked changes);
-    counts = counts;
+  put_step : PagesStep (pages_of relation.segment) (2 + (3 * mid.slots + 7)) (2 + (3 * mid.slots + 7)) first put
+  put_step = then (untouched looked) putted
+
+  changes_put : ChangesTuple relation.segment change.tid (body_after (told_by change)) first put
+  changes_put = changes_looked looked changes
+
+  room_put : images_room before.listing change.number ≤ image_places put
+  room_put = omega (arith, room, places_left put_step changes_put counted_first counted_put)
+
+  -- the image pages show then what they did
+  shows_put : IsTold first.disk → {move : TupleMove} {tables : Tables} → ShowsMove (both first before) (told_by change) move tables → ShowsMove (both put before) (told_by change) move tables
+  shows_put told shows = record {
+    tells = shows.tells;
+    can = shows.can;
+    images = images_kept (images_same put_step told) shows.images;
+    room = subst (λ (n : ℕ). images_room before.listing n ≤ image_places put) (sym (number_by change) ∙ shows.tells.number) room_put;
   }
 
-  pub alters_counted : count ≢ relation.live → Recounted change.number relation count before after → Alters (told_by change) (both old before) (both new after)
-  alters_counted other counted = alters (counts_by change.number change.tid change.edit relation count is other counted)
+  -- so the entries of the tuple can be moved
+  pub may_move : IsTold put.disk → HasImageOf before.listing change.number → MayMoveAll (both put before) (told_by change)
+  may_move told_put image =
+      let told = put_step.passes.leaves.told.1 told_put in
+      let has = can.tables told (record { number = image.number; image = image.image; at = image.at }) in
+      let values = told_move (told_by change) relation listed (found_told told) may small has in
+      record {
+        move = move (told_by change) relation listed (found_told told) may small has;
+        tables = has.tables;
+        shows = shows_put told (record {
+          tells = record { number = refl; tid = refl; before = values.before; after = values.after };
+          can = can_move (told_by change) relation listed (found_told told) may small has;
+          images = has.spells.images;
+          room = subst (λ (n : ℕ). images_room before.listing n ≤ image_places first) (sym (number_by change)) (omega (arith, room));
+        });
+      }
 
-  pub alters_still : after ≡ before → MayCount (told_by change) relation.live → count ≡ relation.live → Alters (told_by change) (both old before) (both new after)
-  alters_still same may equal = alters (subst (λ (c : CatalogView). CountsChange (told_by change) relation before c) (sym same) (counts_still before change.number change.tid change.edit relation count is may equal))
+  module _ {moved : PagesView} {between after : CatalogView} (counted_moved : AreCounted moved) (moves : IsTold put.disk → MovesAll (both put before) (both moved between) (told_by change)) (rerooted : Rerooted before between) (step : PagesStep (own_image_pages before.listing change.number) images_cost images_cost put moved) (count : ℕ) (count_is_so : count ≡ count_after (told_by change) relation.live) (may_count : MayCount (told_by change) relation.live)
+      (lists : (entry : RelationEntry) → relation_at between.listing change.number ≡ Some entry → after.listing ≡ with_relation between.listing change.number (Some (with_count count entry))) (keeps : KeepsSpelled between after) (fits : ListingFits between.listing → ListingFits after.listing) where
+    at_between : relation_at between.listing change.number ≡ Some relation
+    at_between = ap (λ (l : List (Option RelationEntry)). numbered l change.number) rerooted.relations ∙ at
+
+    all_steps : PagesStep (pages_told before.listing (told_by change)) (alter_cost first.slots) (alter_cost first.slots) first moved
+    all_steps = within (λ key is. is) (omega (arith, looked.passes.slots)) (omega (arith, looked.passes.slots)) (then (among (heap_told change before.listing at) put_step) (among (images_told change before.listing at) step))
+
+    moves_all : IsTold first.disk → MovesAll (both first before) (both moved after) (told_by change)
+    moves_all told a_move tables shows =
+        let then_images = moves (put_step.passes.leaves.told.0 told) a_move tables (shows_put told shows) in
+        subst (λ (l : Listing). SpellsImages moved.held l (after_move a_move tables)) (sym (lists relation at_between)) (images_counted between.listing change.number count relation at_between then_images)
+
+    counts : Recounted (number_told (told_by change)) (count_after (told_by change) relation.live) relation before after
+    counts =
+        subst (λ (n : ℕ). Recounted n (count_after (told_by change) relation.live) relation before after) (sym (number_by change))
+        (subst (λ (live : ℕ). Recounted change.number live relation before after) count_is_so (recounts_rerooted change.number count relation rerooted (lists relation at_between) keeps fits))
+
+    alters : Alters (told_by change) (both first before) (both moved after)
+    alters = record {
+      relation = relation;
+      listed = listed;
+      small = small;
+      room = subst (HasRoom (both first before)) (sym (number_by change)) room;
+      found = found_told;
+      changes = subst (λ (tid : Tid). ChangesTuple relation.segment tid (body_after (told_by change)) first moved) (sym (tid_by change)) (changes_imaged (image_space change before.listing at) step put_step.passes.leaves.told.0 changes_put);
+      counts = counts;
+      images = moves_all;
+    }
+
+    -- the pages spell tables still, where they spelled some
+    has_still : IsTold first.disk → HasTables (both first before) → HasTables (both moved after)
+    unfolding alters
+    has_still told has = record {
+      tables = after_move moving has.tables;
+      spells = spells;
+      tuples = tuples_after (told_by change) relation listed (found_told told) may small has;
+      tids = tids;
+      few = few;
+      nodes = plain_nodes (none_imaged spells);
+    }
+      where
+        values : HasMove relation.fields (told_by change)
+        values = told_move (told_by change) relation listed (found_told told) may small has
+
+        moving : TupleMove
+        moving = move (told_by change) relation listed (found_told told) may small has
+
+        can_be : CanMove before.listing moving has.tables
+        can_be = can_move (told_by change) relation listed (found_told told) may small has
+
+        spells : SpellsTables moved.held after.listing (after_move moving has.tables)
+        spells = altered_spells all_steps alters told has.spells values.was values.next values.before values.after can_be
+
+        own : tuple_count (after_move moving has.tables).contents relation.name ≤ 2 ^ 20
+        own =
+            let live : relation.live ≤ 2 ^ 20 = omega (arith, has.few relation.name, has.spells.counts change.number relation at) in
+            omega (arith, count_is all_steps alters told has.spells values.was values.next values.before values.after can_be, few_after (told_by change) relation.live may_count live)
+
+        -- the tuple's own identifier, or one that was there
+        tids : (name : Name) (t : Tid) → IsLive (after_move moving has.tables) name t → IsIdentifier moved.slots t
+        tids name t live = subst (λ (n : ℕ). IsIdentifier n t) (sym all_steps.passes.slots) (elim (same_or_other (TupleItem name t) (TupleItem relation.name (tid_told (told_by change)))) [
+          | inl same ↦ subst (IsIdentifier first.slots) (sym (same_parts name relation.name t (tid_told (told_by change)) same).1) may.named
+          | inr other ↦ has.tids name t (sym (ap is_some (content_elsewhere has.tables.contents (TupleItem relation.name (tid_told (told_by change))) (option_map Values values.next) (TupleItem name t) other)) ∙ live)
+        ])
+
+        few : (name : Name) → tuple_count (after_move moving has.tables).contents name ≤ 2 ^ 20
+        few name = elim (cases_Bool (eq_by_cmp name_cmp name relation.name)) [
+          | inl same ↦ subst (λ (n : Name). tuple_count (after_move moving has.tables).contents n ≤ 2 ^ 20) (sym (name_apart name relation.name ((Equal-is (name_cmp name relation.name)).0 same))) own
+          | inr off ↦ omega (arith, has.few name, counts_same has.tables.contents (TupleItem relation.name (tid_told (told_by change))) (option_map Values values.next) name off)
+        ]
+
+    -- images have two places fewer at most
+    places : image_places first ≤ image_places moved + 2
+    places =
+        let same = places_same relation.segment put moved counted_put counted_moved (among (own_image change before.listing at) step) in
+        omega (arith, same, places_left put_step changes_put counted_first counted_put)
+
+    pub made : Makes {T = Unit {0}} (told_by change) (both first before) (both moved after) (Ok tt)
+    made = done_makes tt places all_steps alters (record {
+      heaps = λ told. (alters.changes.sets (all_steps.passes.leaves.told.1 told)).heaps;
+      tables = λ told image. let told_first = all_steps.passes.leaves.told.1 told in has_still told_first (can.tables told_first (same_images counts.images image));
+    })

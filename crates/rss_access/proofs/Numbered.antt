@@ -1,18 +1,17 @@
 -- The relations of a listing by their numbers and names, and a listing in which one count is set.
-use Rattle.std.proofs.Common.{◌≡◌, ◌≢◌, ◌⊎◌, inl, inr, ℕ, zero, suc, ◌-◌, List, [], ◌∷◌, length, get_or, refl, sym, ◌∙◌, ap, subst}
-use Rattle.std.specs.Prelude.{Option, Some, None, option_map, map as list_map}
+use Rattle.std.proofs.Common.{◌≡◌, ◌≢◌, ◌⊎◌, inl, inr, ℕ, zero, suc, List, [], ◌∷◌, get_or, refl, sym, ◌∙◌, ap, subst}
+use Rattle.std.specs.Prelude.{Option, Some, None, option_map, option_and_then, map as list_map}
 use Rattle.std.specs.FinMap as map
 use Rattle.std.proofs.lemmas.Bool.{cases_eq}
-use Rattle.std.proofs.lemmas.List.{length-set}
 use Rattle.std.proofs.lemmas.Option.{none-some, same_Some}
-use Rattle.rss_base.specs.Listings.{IsPlain, Listing, ListingFits, relation_at, segment_at, IsNumberOf, with_relation, with_count}
+use Rattle.rss_base.specs.Listings.{Listing, ListingFits, relation_at, segment_at, IsNumberOf, with_relation, with_count}
 use Rattle.rss_base.specs.TupleTypes.{kinds}
 use Rattle.rss_base.specs.declared.name.Name.{Name}
+use Rattle.rss_base.specs.declared.link.LinkEntry.{LinkEntry}
 use Rattle.rss_base.specs.declared.relation.RelationEntry.{RelationEntry}
 use Rattle.rss_base.specs.declared.refusal.Kind.TheVariants.{Relation as RelationKind}
 use Rattle.rss_model.specs.Tables.{RelationDef, Definitions, Tables, fields_of}
-use Rattle.rss_model.specs.Store.{Defines, HasNumber, definition_of}
-use Rattle.rss_model.proofs.PlainStores.{plain_defines, plain_defined}
+use Rattle.rss_model.specs.Store.{Defines, HasNumber, definition_of, image_definition, link_definition, relation_name}
 use Rattle.rss_model.proofs.Listed.{at_place, listed}
 use Rattle.rss_model.proofs.Relisted.{number_within_list, number_set, number_kept, number_of}
 
@@ -76,9 +75,19 @@ module _ (listing : Listing) (number live : ℕ) (entry : RelationEntry) (at : r
     | inr other ↦ inr (other, sym (counted_else k other) ∙ is)
   ]
 
+  -- each relation has its name
+  name_kept : (k : ℕ) → relation_name counted_listing k ≡ relation_name listing k
+  name_kept k = elim (cases_eq k number) [
+    | inl same ↦ ap (relation_name counted_listing) same ∙ ap (option_map (λ (r : RelationEntry). r.name)) counted_here ∙ sym (ap (relation_name listing) same ∙ ap (option_map (λ (r : RelationEntry). r.name)) at)
+    | inr other ↦ ap (option_map (λ (r : RelationEntry). r.name)) (counted_else k other)
+  ]
+
+  link_kept : (link : LinkEntry) (child : RelationEntry) → link_definition listing link child ≡ link_definition counted_listing link child
+  link_kept link child = λ i. record { parent = option_and_then (λ k. sym (name_kept k) i) link.parent; child = child.name }
+
   -- the same is defined
-  pub counted_defines : {definitions : Definitions} → IsPlain listing → Defines listing definitions → Defines counted_listing definitions
-  counted_defines {definitions = definitions} plain defines = record {
+  pub counted_defines : {definitions : Definitions} → Defines listing definitions → Defines counted_listing definitions
+  counted_defines {definitions = definitions} defines = record {
     segments = defines.segments;
     relations = λ k relation segment l. elim (counted_or_old k relation l.at) [
       | inl here ↦
@@ -87,7 +96,18 @@ module _ (listing : Listing) (number live : ℕ) (entry : RelationEntry) (at : r
       | inr was ↦ defines.relations k relation segment (record { at = was.1; within = l.within })
     ];
     only_relations = λ name there. still name (defines.only_relations name there);
-    paths = plain_defines (record { no_images = plain.no_images; no_links = plain.no_links }) (plain_defined plain defines);
+    paths = record {
+      images = λ k image relation l. elim (counted_or_old image.relation relation l.within) [
+        | inl here ↦ subst (λ (r : RelationEntry). map.get definitions.images image.name ≡ Some (image_definition image r)) here.1 (defines.paths.images k image entry (record { at = l.at; within = ap (relation_at listing) here.0 ∙ at }))
+        | inr was ↦ defines.paths.images k image relation (record { at = l.at; within = was.1 })
+      ];
+      only_images = defines.paths.only_images;
+      links = λ k link child l. elim (counted_or_old link.child child l.within) [
+        | inl here ↦ subst (λ (r : RelationEntry). map.get definitions.links link.name ≡ Some (link_definition counted_listing link r)) here.1 (defines.paths.links k link entry (record { at = l.at; within = ap (relation_at listing) here.0 ∙ at }) ∙ ap Some (link_kept link entry))
+        | inr was ↦ defines.paths.links k link child (record { at = l.at; within = was.1 }) ∙ ap Some (link_kept link child)
+      ];
+      only_links = defines.paths.only_links;
+    };
   }
     where
       still : (name : Name) → HasNumber RelationKind listing name → HasNumber RelationKind counted_listing name
@@ -99,7 +119,3 @@ module _ (listing : Listing) (number live : ℕ) (entry : RelationEntry) (at : r
             let has = entry_at listing name k is in
             (k, number_of counted_listing k has.entry (counted_else k other ∙ has.at) ∙ ap Some has.named)
       ]
-
--- one count more or less leaves the places
-pub places_counted : (listing now : Listing) (number : ℕ) (entry : Option RelationEntry) → now ≡ with_relation listing number entry → length now.relations ≡ length listing.relations
-places_counted listing now number entry is = ap (λ (l : Listing). length l.relations) is ∙ length-set listing.relations (number - 1) entry

@@ -77,7 +77,7 @@ next_body number (Some values) body is = (values, refl, sym (same_Some _ _ is))
 first_same : (a b : ℕ) (x y : List Value) → body_of a x ≡ body_of b y → a ≡ b
 first_same a b x y same = cc
 
-same_or_other : (a b : Item) → (a ≡ b) ⊎ (a ≢ b)
+pub same_or_other : (a b : Item) → (a ≡ b) ⊎ (a ≢ b)
 same_or_other a b = elim (cases_Bool (eq_by_cmp item_cmp a b)) [
   | inl same ↦ inl (same_item_of a b same)
   | inr off ↦ inr (λ is. absurd (true≢false (sym (ap (λ (q : Item). eq_by_cmp item_cmp q b) is ∙ itself b) ∙ off)))

@@ -1,9 +1,9 @@
 -- What the record of a change of a tuple means, and its reverse.
-use Rattle.std.proofs.Common.{◌≡◌, ◌≢◌, ℕ, ◌+◌, ◌^◌, ◌≤◌, true, List, ◌∷◌, length, refl, sym, ◌∙◌, ap, subst, arith}
+use Rattle.std.proofs.Common.{◌≡◌, ◌≢◌, ℕ, ◌+◌, ◌^◌, ◌≤◌, true, List, ◌∷◌, refl, sym, ◌∙◌, ap, subst, arith, ◌<◌}
 use Rattle.std.specs.Prelude.{Option, Some, None, is_some, option_map, unwrap_or, All, IfSome}
 use Rattle.std.proofs.lemmas.Option.{none-some, same_Some}
-use Rattle.rss_base.specs.TupleTypes.{kinds, IsStorable}
-use Rattle.rss_base.specs.Listings.{Listing, ListingFits, segment_at, relation_at}
+use Rattle.rss_base.specs.TupleTypes.{kinds, misfit, IsStorable, SpellsSome}
+use Rattle.rss_base.specs.Listings.{Listing, segment_at, relation_at}
 use Rattle.rss_base.specs.declared.name.Name.{Name}
 use Rattle.rss_base.specs.declared.tid.Tid.{Tid}
 use Rattle.rss_base.specs.declared.value.Value.{Value}
@@ -14,23 +14,23 @@ use Rattle.rss_base.specs.declared.refusal.Kind.TheVariants.{Relation as Relatio
 use Rattle.rss_base.specs.declared.relation.RelationEntry.{RelationEntry}
 use Rattle.rss_base.specs.declared.change.Change as told
 use Rattle.rss_base.specs.declared.change.Change.TheVariants.{Insert, Delete, Update, Connect, Disconnect}
-use Rattle.rss_value.proofs.Spelling.{length-tuple_bytes}
 use Rattle.rss_model.specs.Items.{Content, Values}
 use Rattle.rss_model.specs.Tables.{Contents, Tables, content, put, tuple_count, is_tuple_of}
 use Rattle.rss_model.specs.Changes.{Change}
-use Rattle.rss_model.specs.Fits.{IsLive}
+use Rattle.rss_model.specs.Fits.{IsLive, IsIdentifier, Fits}
 use Rattle.rss_model.specs.Meanings.{IsChangeTold, Means, TellsValues, name_at, nameless, item_told}
-use Rattle.rss_model.specs.Store.{plain_body as body_of}
+use Rattle.rss_model.specs.Store.{plain_body as body_of, SpellsTables}
 use Rattle.rss_model.proofs.Codes.{name_total, name_apart}
 use Rattle.rss_model.proofs.Contents.{tied, content_here, content_elsewhere}
 use Rattle.rss_model.proofs.Counts.{one_if, counts_put}
 use Rattle.rss_model.proofs.Listed.{listed, stands_within}
-use Rattle.rss_model.proofs.PlainStores.{contents_spelled}
+use Rattle.rss_model.proofs.PlainStores.{contents_spelled, plain_nodes, none_imaged}
 use Rattle.rss_model.proofs.Putting.{same_parts}
 use Rattle.rss_model.proofs.Relisted.{number_of}
-use Rattle.rss_access.specs.Changes.{IsTupleRecord, number_told, tid_told, body_before, body_after, count_after, reversed, turned, ReverseMeans, MayBecome, MayCount, AccessView, CanApply, CanUndo, Misfits, applied}
-use Rattle.rss_access.specs.Changes.Misfits.{tuple as tuple_misfits, count as count_misfits, unlisted}
+use Rattle.rss_access.specs.Changes.{IsTupleRecord, number_told, tid_told, body_before, body_after, reversed, turned, ReverseMeans, AreValuesOf, MayBecome, MayCount, AccessView, HasRoom, CanApply, CanUndo, ShowsMove, Misfits, applied, HasTables}
+use Rattle.rss_access.specs.Changes.Misfits.{tuple as tuple_misfits, room as room_misfits, count as count_misfits, unlisted}
 use Rattle.rss_access.specs.Tuples.{body_at}
+use Rattle.rss_access.proofs.Spelling.{all_storable}
 
 -- ---- the change that is told
 
@@ -45,8 +45,8 @@ pub record Reads (listing : Listing) (told_change : told.Change) (change : Chang
   pub new : change.new ≡ option_map Values next
   pub before : body_before told_change ≡ option_map (body_of (number_told told_change)) was
   pub after : body_after told_change ≡ option_map (body_of (number_told told_change)) next
+  pub fit : IfSome next (λ values. misfit (kinds relation.fields) values ≡ None)
   pub storable : IfSome next (All IsStorable)
-  pub short : IfSome (body_after told_change) (λ body. length body ≤ 2400)
   pub some : was ≡ None → next ≡ None → ⊥
 
 -- the relation of a number has its name
@@ -59,24 +59,27 @@ item_of listing number tid relation at is = is ∙ ap (λ (name : Name). TupleIt
 body_is : {listing : Listing} {number : ℕ} {bytes : List ℕ} {held : Option Content} (tells : TellsValues listing number bytes held) → Some (number ∷ bytes) ≡ Some (body_of number tells.values)
 body_is {number = number} tells = ap (λ (b : List ℕ). Some (number ∷ b)) tells.spells.same
 
-is_short : {listing : Listing} {number : ℕ} {bytes : List ℕ} {held : Option Content} → ListingFits listing → (tells : TellsValues listing number bytes held) → length (number ∷ bytes) ≤ 2400
-is_short {number = number} fits tells =
-    let entry = fits.relations number tells.relation tells.at in
-    omega (arith, length-tuple_bytes (kinds tells.relation.fields) tells.values tells.spells.fit, entry.fields.narrow, ap (λ (b : List ℕ). length b) tells.spells.same)
+-- the values fit the fields of the relation with this number
+fit_of : {listing : Listing} {number : ℕ} {bytes : List ℕ} {held : Option Content} (tells : TellsValues listing number bytes held) (relation : RelationEntry) → relation_at listing number ≡ Some relation → misfit (kinds relation.fields) tells.values ≡ None
+fit_of tells relation at = subst (λ (entry : RelationEntry). misfit (kinds entry.fields) tells.values ≡ None) (same_Some _ _ (sym tells.at ∙ at)) tells.spells.fit
 
-pub reads : {listing : Listing} → ListingFits listing → (told_change : told.Change) (change : Change) → IsTupleRecord told_change → IsChangeTold listing change.by told_change change → Means listing told_change change → Reads listing told_change change
-reads {listing = listing} fits (Insert number tid values) change is tells means =
+pub reads : {listing : Listing} (told_change : told.Change) (change : Change) → IsTupleRecord told_change → IsChangeTold listing change.by told_change change → Means listing told_change change → Reads listing told_change change
+reads {listing = listing} (Insert number tid values) change is tells means =
     let next = means.1 in
-    record { relation = next.relation; was = None; next = Some next.values; at = next.at; item = item_of listing number tid next.relation next.at tells.item; old = means.0; new = next.is; before = refl; after = body_is next; storable = next.spells.storable; short = is_short fits next; some = λ none never. absurd (cc) }
-reads {listing = listing} fits (Delete number tid values) change is tells means =
+    record { relation = next.relation; was = None; next = Some next.values; at = next.at; item = item_of listing number tid next.relation next.at tells.item; old = means.0; new = next.is; before = refl; after = body_is next; fit = next.spells.fit; storable = next.spells.storable; some = λ none never. absurd (cc) }
+reads {listing = listing} (Delete number tid values) change is tells means =
     let was = means.0 in
-    record { relation = was.relation; was = Some was.values; next = None; at = was.at; item = item_of listing number tid was.relation was.at tells.item; old = was.is; new = means.1; before = body_is was; after = refl; storable = tt; short = tt; some = λ none never. absurd (cc) }
-reads {listing = listing} fits (Update number tid from to) change is tells means =
+    record { relation = was.relation; was = Some was.values; next = None; at = was.at; item = item_of listing number tid was.relation was.at tells.item; old = was.is; new = means.1; before = body_is was; after = refl; fit = tt; storable = tt; some = λ none never. absurd (cc) }
+reads {listing = listing} (Update number tid from to) change is tells means =
     let was = means.0 in
     let next = means.1 in
-    record { relation = was.relation; was = Some was.values; next = Some next.values; at = was.at; item = item_of listing number tid was.relation was.at tells.item; old = was.is; new = next.is; before = body_is was; after = body_is next; storable = next.spells.storable; short = is_short fits next; some = λ none never. absurd (cc) }
-reads fits (Connect link parent child left) change is tells means = absurd is
-reads fits (Disconnect link parent child left) change is tells means = absurd is
+    record { relation = was.relation; was = Some was.values; next = Some next.values; at = was.at; item = item_of listing number tid was.relation was.at tells.item; old = was.is; new = next.is; before = body_is was; after = body_is next; fit = fit_of next was.relation was.at; storable = next.spells.storable; some = λ none never. absurd (cc) }
+reads (Connect link parent child left) change is tells means = absurd is
+reads (Disconnect link parent child left) change is tells means = absurd is
+
+-- its bytes are such as spell a tuple of the relation
+spelled_by : {listing : Listing} {number : ℕ} {bytes : List ℕ} {held : Option Content} (tells : TellsValues listing number bytes held) (relation : RelationEntry) → relation_at listing number ≡ Some relation → SpellsSome (kinds relation.fields) bytes
+spelled_by {bytes = bytes} tells relation at = subst (λ (entry : RelationEntry). SpellsSome (kinds entry.fields) bytes) (same_Some _ _ (sym tells.at ∙ at)) (tells.values, tells.spells)
 
 -- ---- its reverse
 
@@ -93,6 +96,13 @@ item_same listing (Delete number tid values) = refl
 item_same listing (Update number tid from to) = refl
 item_same listing (Connect link parent child left) = refl
 item_same listing (Disconnect link parent child left) = refl
+
+pub same_number : (told_change : told.Change) → number_told (reversed told_change) ≡ number_told told_change
+same_number (Insert number tid values) = refl
+same_number (Delete number tid values) = refl
+same_number (Update number tid from to) = refl
+same_number (Connect link parent child left) = refl
+same_number (Disconnect link parent child left) = refl
 
 -- what can be undone, can be applied turned round
 pub can_turned : {at : AccessView} {told_change : told.Change} {tables : Tables} {change : Change} → CanUndo at told_change tables change → CanApply at (reversed told_change) tables (turned change)
@@ -173,60 +183,106 @@ module _ {at : AccessView} {told_change : told.Change} {tables : Tables} {change
       let both = counts_put tables.contents change.item change.new r.relation.name mine in
       omega (arith, both, ap (λ (o : Option Content). one_if (is_some o)) (can.holds ∙ r.old), ap (λ (o : Option Content). one_if (is_some o)) r.new, counted)
 
-  pub few : tuple_count next_contents r.relation.name ≤ 2 ^ 20
+  few : tuple_count next_contents r.relation.name ≤ 2 ^ 20
   few = can.fit_next.few r.relation.name
+
+  -- a tuple stands there before it, where the change tells of one
+  live_old : is_some r.was ≡ true → IsLive tables r.relation.name (tid_told told_change)
+  live_old some = ap is_some holds_old ∙ by r.was some
+    where
+      by : (was : Option (List Value)) → is_some was ≡ true → is_some (option_map Values was) ≡ true
+      by None is = absurd (cc)
+      by (Some values) is = refl
+
+  -- it is what it tells of in the image pages
+  pub shows_move : at.pages.slots < 2 ^ 32 → IsIdentifier at.pages.slots (tid_told told_change) → HasRoom at (number_told told_change) → ShowsMove at told_change (record { number = number_told told_change; relation = r.relation; tid = tid_told told_change; was = r.was; next = r.next }) tables
+  shows_move small named room = record {
+    tells = record { number = refl; tid = refl; before = r.before; after = r.after };
+    can = record {
+      listed = r.at;
+      fits = can.spells.listed;
+      defines = can.spells.defines;
+      counts = can.spells.counts;
+      tuples = can.fit.tuples;
+      storable = all_storable can.spells;
+      tids = λ name t there. let id = can.fit.tids name t there in record { page = omega (arith, id.page, small); slot = omega (arith, id.slot) };
+      holds = holds_old;
+      tid = record { page = omega (arith, named.page, small); slot = omega (arith, named.slot) };
+      fit = r.fit;
+      next_storable = r.storable;
+      few = λ number relation there. omega (arith, can.fit.few relation.name, can.spells.counts number relation there);
+    };
+    images = can.spells.images;
+    room = omega (arith, room);
+  }
 
 -- ---- by the kinds of changes
 
-some_body : {A B : Type 0} (f : A → B) (o : Option A) {b : B} → Some b ≡ option_map f o → is_some o ≡ true
+pub some_body : {A B : Type 0} (f : A → B) (o : Option A) {b : B} → Some b ≡ option_map f o → is_some o ≡ true
 some_body f None is = absurd (cc)
 some_body f (Some a) is = refl
 
-no_body : {A B : Type 0} (f : A → B) (o : Option A) → None ≡ option_map f o → o ≡ None
+pub no_body : {A B : Type 0} (f : A → B) (o : Option A) → None ≡ option_map f o → o ≡ None
 no_body f None is = refl
 no_body f (Some a) is = absurd (cc)
 
-count_of_some : (o : Option (List Value)) → is_some o ≡ true → one_if (is_some (option_map Values o)) ≡ 1
+pub count_of_some : (o : Option (List Value)) → is_some o ≡ true → one_if (is_some (option_map Values o)) ≡ 1
 count_of_some None is = absurd (cc)
 count_of_some (Some values) is = refl
 
-count_of_none : (o : Option (List Value)) → o ≡ None → one_if (is_some (option_map Values o)) ≡ 0
+pub count_of_none : (o : Option (List Value)) → o ≡ None → one_if (is_some (option_map Values o)) ≡ 0
 count_of_none None is = refl
 count_of_none (Some values) is = absurd (cc)
 
--- so many tuples are there afterwards
-pub count_is : {at : AccessView} (told_change : told.Change) {tables : Tables} {change : Change} → IsTupleRecord told_change → (can : CanApply at told_change tables change) (r : Reads at.catalog.listing told_change change) → tuple_count (put tables.contents change.item change.new) r.relation.name ≡ count_after told_change r.relation.live
-count_is (Insert number tid values) is can r = omega (arith, counts_both can r, count_of_none r.was (no_body _ r.was r.before), count_of_some r.next (some_body _ r.next r.after))
-count_is (Delete number tid values) is can r = omega (arith, counts_both can r, count_of_some r.was (some_body _ r.was r.before), count_of_none r.next (no_body _ r.next r.after))
-count_is (Update number tid from to) is can r = omega (arith, counts_both can r, count_of_some r.was (some_body _ r.was r.before), count_of_some r.next (some_body _ r.next r.after))
-count_is (Connect link parent child left) is can r = absurd is
-count_is (Disconnect link parent child left) is can r = absurd is
-
-pub can_count : {at : AccessView} (told_change : told.Change) {tables : Tables} {change : Change} → (can : CanApply at told_change tables change) (r : Reads at.catalog.listing told_change change) → MayCount told_change r.relation.live
+can_count : {at : AccessView} (told_change : told.Change) {tables : Tables} {change : Change} → (can : CanApply at told_change tables change) (r : Reads at.catalog.listing told_change change) → MayCount told_change r.relation.live
 can_count (Insert number tid values) can r = omega (arith, counts_both can r, few can r, count_of_none r.was (no_body _ r.was r.before), count_of_some r.next (some_body _ r.next r.after))
 can_count (Delete number tid values) can r = omega (arith, counts_both can r, count_of_some r.was (some_body _ r.was r.before), count_of_none r.next (no_body _ r.next r.after))
 can_count (Update number tid from to) can r = tt
 can_count (Connect link parent child left) can r = tt
 can_count (Disconnect link parent child left) can r = tt
 
-pub can_become : {at : AccessView} (told_change : told.Change) {tables : Tables} {change : Change} → (can : CanApply at told_change tables change) (r : Reads at.catalog.listing told_change change) → MayBecome at.pages.slots told_change
-can_become (Insert number tid values) can r = (can.fit_next.tids r.relation.name tid (live_new can r (no_body _ r.was r.before)), omega (arith, r.short))
-can_become (Delete number tid values) can r = tt
-can_become (Update number tid from to) can r = omega (arith, r.short)
-can_become (Connect link parent child left) can r = tt
-can_become (Disconnect link parent child left) can r = tt
+pub can_become : {at : AccessView} (told_change : told.Change) {tables : Tables} {change : Change} → (can : CanApply at told_change tables change) (r : Reads at.catalog.listing told_change change) → MayBecome at.pages.slots r.relation.fields told_change
+can_become {at = at} told_change {tables = tables} {change = change} can r = record { named = named_by told_change can r; values = values_by told_change can.means r }
+  where
+    named_by : (told_change : told.Change) (can : CanApply at told_change tables change) (r : Reads at.catalog.listing told_change change) → IsIdentifier at.pages.slots (tid_told told_change)
+    named_by (Insert number tid values) can r = can.fit_next.tids r.relation.name tid (live_new can r (no_body _ r.was r.before))
+    named_by (Delete number tid values) can r = can.fit.tids r.relation.name tid (live_old can r (some_body _ r.was r.before))
+    named_by (Update number tid from to) can r = can.fit.tids r.relation.name tid (live_old can r (some_body _ r.was r.before))
+    named_by (Connect link parent child left) can r = absurd (r.some (no_body _ r.was r.before) (no_body _ r.next r.after))
+    named_by (Disconnect link parent child left) can r = absurd (r.some (no_body _ r.was r.before) (no_body _ r.next r.after))
 
--- where it doesn't go with what is there, there are no tables from which it can be applied
-pub none_applies : {at : AccessView} {told_change : told.Change} {place : Place} → IsTupleRecord told_change → Misfits told_change at place → (tables : Tables) (change : Change) → CanApply at told_change tables change → ⊥
-none_applies {at = at} {told_change = told_change} is misfits tables change can = by misfits
+    values_by : (told_change : told.Change) → Means at.catalog.listing told_change change → (r : Reads at.catalog.listing told_change change) → AreValuesOf r.relation.fields told_change
+    values_by (Insert number tid values) means r = spelled_by means.1 r.relation r.at
+    values_by (Delete number tid values) means r = spelled_by means.0 r.relation r.at
+    values_by (Update number tid from to) means r = (spelled_by means.0 r.relation r.at, spelled_by means.1 r.relation r.at)
+    values_by (Connect link parent child left) means r = tt
+    values_by (Disconnect link parent child left) means r = tt
+
+-- pages that spell tables that fit
+pub has_tables : {at : AccessView} {tables : Tables} → SpellsTables at.pages.held at.catalog.listing tables → Fits at.pages.slots tables → HasTables at
+has_tables {tables = tables} spells fit = record {
+  tables = tables;
+  spells = spells;
+  tuples = fit.tuples;
+  tids = fit.tids;
+  few = fit.few;
+  nodes = plain_nodes (none_imaged spells);
+}
+
+-- where it doesn't go with what is there, and there is room, there are no tables from which it can be applied
+pub none_applies : {at : AccessView} {told_change : told.Change} {place : Place} → IsTupleRecord told_change → (HasTables at → Misfits told_change at place) → HasRoom at (number_told told_change) → (tables : Tables) (change : Change) → CanApply at told_change tables change → ⊥
+none_applies {at = at} {told_change = told_change} is misfits room tables change can = by (misfits (has_tables can.spells can.fit))
   where
     r : Reads at.catalog.listing told_change change
-    r = reads can.spells.listed told_change change is can.tells can.means
+    r = reads told_change change is can.tells can.means
 
     same : {relation : RelationEntry} → relation_at at.catalog.listing (number_told told_change) ≡ Some relation → r.relation ≡ relation
     same there = same_Some _ _ (sym r.at ∙ there)
 
     by : {place : Place} → Misfits told_change at place → ⊥
-    by (tuple_misfits there not) = not (ap (λ (entry : RelationEntry). body_at at.pages entry.segment (tid_told told_change)) (sym (same there)) ∙ body_there can r) (can_become told_change can r)
+    by (tuple_misfits there not) =
+        not (ap (λ (entry : RelationEntry). body_at at.pages entry.segment (tid_told told_change)) (sym (same there)) ∙ body_there can r)
+        (subst (λ (entry : RelationEntry). MayBecome at.pages.slots entry.fields told_change) (same there) (can_become told_change can r))
+    by (room_misfits there not) = not room
     by (count_misfits there found not) = not (subst (λ (entry : RelationEntry). MayCount told_change entry.live) (same there) (can_count told_change can r))
     by (unlisted none) = absurd (none-some _ (sym none ∙ r.at))

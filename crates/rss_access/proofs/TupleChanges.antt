@@ -193,8 +193,8 @@ for_page segment tid before now changed key is = ⊎_elim (λ was. inl was) (λ 
 changes_by : {segment : ℕ} {tid : Tid} {body : List ℕ} {old new : PagesView} → (IsTold old.disk → tid.slot < 128) → length body ≤ 2400 → OnlyLonger old new segment tid body → TakesOne segment tid body old new → ((key : PageKey) → new.changed key ≡ true → (old.changed key ≡ true) ⊎ pages_for segment tid key)
     → (IsTold old.disk → bodies_of new.held ≡ with_body (bodies_of old.held) segment tid (Some body)) → (IsTold old.disk → AreHeaps new) → ChangesTuple segment tid (Some body) old new
 changes_by {segment = segment} {tid = tid} {body = body} {old = old} {new = new} low few longer takes changed put heaps = record {
-  one = λ key other is not there none. taken takes.one key is not ∙ sym (taken takes.one other there none);
-  changed = for_page segment tid old.changed new.changed changed;
+  one = λ key other heap heap_too is not there none. taken takes.one key is not ∙ sym (taken takes.one other there none);
+  changed = λ key heap is. for_page segment tid old.changed new.changed changed key is;
   sets = λ told. record {
     bodies = put told;
     heaps = heaps told;
@@ -242,8 +242,8 @@ longer_put old new segment tid body (Ok value) live takes = λ told key space is
 pub changes_removed : {T : Type 0} {cost segment : ℕ} {tid : Tid} {old new : PagesView} (result : Result T PageFault) → OnOk result (IsTold old.disk → bodies_of new.held ≡ with_body (bodies_of old.held) segment tid None) → OnOk result (TakesOnly no_page old new) → TuplesCall (pages_for segment tid) (only_tuple segment tid) cost (tuples_in old) (tuples_in new) result → OnOk result (ChangesTuple segment tid None old new)
 changes_removed (Err e) gone takes did = tt
 changes_removed {segment = segment} {tid = tid} {old = old} {new = new} (Ok value) gone takes did = record {
-  one = λ key other is not there none. absurd (taken takes key is not);
-  changed = for_page segment tid old.changed new.changed did.below.step.changed_off;
+  one = λ key other heap heap_too is not there none. absurd (taken takes key is not);
+  changed = λ key heap is. for_page segment tid old.changed new.changed did.below.step.changed_off key is;
   sets = λ told. record {
     bodies = gone told;
     heaps = did.heaps told;

@@ -1,7 +1,6 @@
 -- Pages of the catalog that are written: what all others hold stays as it was.
 use Rattle.std.proofs.Common.{◌≡◌, ◌≢◌, inl, inr, ℕ, Bool, true, false, refl, sym, ◌∙◌, ap, subst}
-use Rattle.std.specs.Prelude.{Option, Some, is_some, List, slice_index_or}
-use Rattle.std.proofs.Math.Path.{fun_ext}
+use Rattle.std.specs.Prelude.{Some, is_some, slice_index_or}
 use Rattle.rss_base.specs.DiskRule.{IsTold}
 use Rattle.rss_base.specs.Listings.{Listing, HoldsListing, catalog_page}
 use Rattle.rss_base.specs.Paged.{Held, page_key}
@@ -10,14 +9,14 @@ use Rattle.rss_base.specs.declared.key.Space.{Space}
 use Rattle.rss_base.specs.declared.key.Space.TheVariants.{System, Home, Overflow, Image}
 use Rattle.rss_base.specs.declared.key.PageKey.{PageKey}
 use Rattle.rss_page.specs.Slotted.{IsHeapKey}
-use Rattle.rss_page.specs.Surveyed.{held_at}
-use Rattle.rss_tuple.specs.Directory.{Bodies, bodies_of, body_by, contents_in, homes, overflows, Entries}
-use Rattle.rss_tuple.specs.Heaps.{IsHeap, AreLinked, AreHeaps}
+use Rattle.rss_tuple.specs.Directory.{Bodies}
+use Rattle.rss_tuple.specs.Heaps.{AreHeaps}
 use Rattle.rss_catalog.specs.Catalogs.{CatalogView, IsPending, pending_pages, StoresListing}
 use Rattle.rss_model.specs.Tables.{Tables}
 use Rattle.rss_model.specs.Store.{SpellsTables, SpellsContents, IsStorePage}
-use Rattle.rss_model.proofs.PlainStores.{plain_images, none_imaged}
 use Rattle.rss_access.specs.Written.{AreWritten, is_pending}
+use Rattle.rss_access.proofs.Heaped.{SameHeaps, bodies_alike, linked_alike, heaps_alike}
+use Rattle.rss_access.proofs.Imaged.{SameImages, images_kept}
 
 -- pages that hold the same, but for those of the system space
 abbrev pub SameOffSystem : (old new : Held) → Type 0
@@ -28,30 +27,25 @@ pub off_system : (key : PageKey) → IsHeapKey key → key.space ≢ System
 off_system key (inl home) system = let not : Home ≡ System = sym home ∙ system in absurd (cc)
 off_system key (inr over) system = let not : Overflow ≡ System = sym over ∙ system in absurd (cc)
 
+same_heaps : {old new : Held} → SameOffSystem old new → SameHeaps old new
+same_heaps same key heap = same key (off_system key heap)
+
 module _ {old new : Held} (same : SameOffSystem old new) where
-  homes_same : (segment : ℕ) → homes new segment ≡ homes old segment
-  homes_same segment = fun_ext (λ page. fun_ext (λ slot. ap (λ (b : Option (List ℕ)). held_at (contents_in b) slot) (same (page_key segment Home page) (λ e. absurd (cc)))))
-
-  overflows_same : (segment : ℕ) → overflows new segment ≡ overflows old segment
-  overflows_same segment = fun_ext (λ page. fun_ext (λ slot. ap (λ (b : Option (List ℕ)). held_at (contents_in b) slot) (same (page_key segment Overflow page) (λ e. absurd (cc)))))
-
-  pub bodies_same : bodies_of new ≡ bodies_of old
-  bodies_same = fun_ext (λ segment. fun_ext (λ tid. λ i. body_by (overflows_same segment i) (homes_same segment i tid.page tid.slot)))
-
-  pub linked_same : (segment : ℕ) → AreLinked (homes old segment) (overflows old segment) → AreLinked (homes new segment) (overflows new segment)
-  linked_same segment linked = subst (λ (o : Entries). AreLinked (homes new segment) o) (sym (overflows_same segment)) (subst (λ (h : Entries). AreLinked h (overflows old segment)) (sym (homes_same segment)) linked)
+  same_images : SameImages old new
+  same_images key image = same key (λ system. let not : Image ≡ System = sym image ∙ system in absurd (cc))
 
   -- they spell the same tables
   pub spells_same : {listing : Listing} {tables : Tables} → SpellsTables old listing tables → SpellsTables new listing tables
   spells_same {listing = listing} {tables = tables} spells = record {
     only = λ key there. by_space key there key.space refl;
     formed = λ key bytes heap is. spells.formed key bytes heap (sym (same key (off_system key heap)) ∙ is);
-    linked = λ segment. linked_same segment (spells.linked segment);
+    linked = λ segment. linked_alike (same_heaps same) segment (spells.linked segment);
     listed = spells.listed;
+    plain = spells.plain;
     defines = spells.defines;
     counts = spells.counts;
-    contents = subst (λ (b : Bodies). SpellsContents listing b tables.contents) (sym bodies_same) spells.contents;
-    images = plain_images spells.listed.plain (λ key image there. none_imaged spells key image (ap is_some (sym (same key (λ system. let not : Image ≡ System = sym image ∙ system in absurd (cc)))) ∙ there));
+    contents = subst (λ (b : Bodies). SpellsContents listing b tables.contents) (sym (bodies_alike (same_heaps same))) spells.contents;
+    images = images_kept same_images spells.images;
   }
     where
       kept : (key : PageKey) → is_some (new key) ≡ true → key.space ≢ System → IsStorePage listing key
@@ -65,12 +59,7 @@ module _ {old new : Held} (same : SameOffSystem old new) where
 
 -- pages of a tuple store that hold and note the same are in form
 pub heaps_same : {old new : PagesView} → SameOffSystem old.held new.held → ((key : PageKey) → (key.space ≡ System → ⊥) → new.notes key ≡ old.notes key) → AreHeaps old → AreHeaps new
-heaps_same {old = old} {new = new} same notes heaps = record {
-  formed = λ key bytes heap is.
-      let off = off_system key heap in
-      subst (IsHeap key bytes) (sym (notes key off)) (heaps.formed key bytes heap (sym (same key off) ∙ is));
-  linked = λ segment. linked_same same segment (heaps.linked segment);
-}
+heaps_same same notes heaps = heaps_alike (same_heaps same) (λ key heap. notes key (off_system key heap)) heaps
 
 -- ---- the pages that are written
 

@@ -1,29 +1,34 @@
 -- What a change of a tuple does, as a record of the log tells it: to the pages, to the catalog, and to the tables that these spell.
-use Rattle.std.specs.Prelude.{◌≡◌, ℕ, ◌+◌, ◌-◌, ◌*◌, ◌^◌, ◌<◌, ◌≤◌, List, ◌∷◌, length, Option, Some, None, Result, Err, IsErrOf, OnOk, OnErr, ⊤}
+use Rattle.std.specs.Prelude.{◌≡◌, ℕ, ◌+◌, ◌-◌, ◌*◌, ◌^◌, ◌<◌, ◌≤◌, List, ◌∷◌, Option, Some, None, option_map, Result, Err, IsErrOf, OnOk, OnErr, ⊤}
 use Rattle.rss_base.specs.DiskRule.{IsTold}
 use Rattle.rss_base.specs.Faults.{Rises}
-use Rattle.rss_base.specs.Paged.{mapped_pages}
-use Rattle.rss_base.specs.Steps.{PagesView, Keys, PagesStep, no_page}
-use Rattle.rss_base.specs.Listings.{Listing, ListingFits, relation_at, with_relation, with_count}
+use Rattle.rss_base.specs.Steps.{PagesView, Keys, PagesStep, no_page, pages_in}
+use Rattle.rss_base.specs.declared.key.Space.TheVariants.{Image as ImageSpace}
+use Rattle.rss_base.specs.TupleTypes.{kinds, SpellsSome}
+use Rattle.rss_base.specs.Listings.{Listing, relation_at}
+use Rattle.rss_base.specs.declared.name.Name.{Name}
 use Rattle.rss_base.specs.declared.tid.Tid.{Tid}
+use Rattle.rss_base.specs.declared.field.FieldDef.{FieldDef}
 use Rattle.rss_base.specs.declared.place.Place.{Place}
 use Rattle.rss_base.specs.declared.place.Place.TheVariants.{Tuple as TuplePlace, Count as CountPlace}
 use Rattle.rss_base.specs.declared.fault.PageFault.{PageFault}
 use Rattle.rss_base.specs.declared.fault.PageFault.TheVariants.{Device as DeviceFailed, Damaged, NoMemory}
-use Rattle.rss_base.specs.declared.refusal.Kind.TheVariants.{Relation as RelationKind}
 use Rattle.rss_base.specs.declared.relation.RelationEntry.{RelationEntry}
 use Rattle.rss_base.specs.declared.change.Change as told
 use Rattle.rss_base.specs.declared.change.Change.TheVariants.{Insert, Delete, Update, Connect, Disconnect}
-use Rattle.rss_tuple.specs.Heaps.{body_most, AreHeaps}
-use Rattle.rss_tuple.specs.Checked.{pages_of}
-use Rattle.rss_catalog.specs.Catalogs.{CatalogView, Lists, page_of}
+use Rattle.rss_tuple.specs.Heaps.{AreHeaps}
+use Rattle.rss_catalog.specs.Catalogs.{CatalogView, HasImageOf}
 use Rattle.rss_model.specs.Items.{Content}
-use Rattle.rss_model.specs.Tables.{Tables, content}
+use Rattle.rss_model.specs.Tables.{Tables, content, tuple_count}
 use Rattle.rss_model.specs.Changes.{Change, apply, undo}
-use Rattle.rss_model.specs.Fits.{Fits, IsIdentifier}
+use Rattle.rss_model.specs.Fits.{Fits, IsLive, IsIdentifier, tuple_limit}
 use Rattle.rss_model.specs.Meanings.{IsChangeTold, Means}
-use Rattle.rss_model.specs.Store.{SpellsTables}
+use Rattle.rss_model.specs.Store.{SpellsTables, SpellsImages, AreNodesWithin, plain_body}
+use Rattle.rss_entries.specs.Rooms.{images_room, image_places, images_cost}
+use Rattle.rss_entries.specs.Images.{AreTuples, TupleMove, CanMove, after_move}
 use Rattle.rss_access.specs.Tuples.{body_at, ChangesTuple}
+use Rattle.rss_access.specs.Written.{heap_now, HasImage, content_of}
+use Rattle.rss_access.specs.Relisted.{Rerooted, Recounted}
 
 -- ---- a change, as it is told
 
@@ -89,22 +94,23 @@ ReverseMeans told_change back =
 
 -- ---- where it may be made
 
--- The pages are those of a tuple store, and there is room for two pages more.
-pub record CanAlter (pages : PagesView) : Type 0 where
-  pub heaps : IsTold pages.disk → AreHeaps pages
-  pub spare : 2 ≤ pages.spare
+-- the values that it tells are those of tuples with these fields
+abbrev pub AreValuesOf : List FieldDef → told.Change → Type 0
+AreValuesOf fields (Insert number tid values) = SpellsSome (kinds fields) values
+AreValuesOf fields (Delete number tid values) = SpellsSome (kinds fields) values
+AreValuesOf fields (Update number tid old new) =
+    SpellsSome (kinds fields) old × SpellsSome (kinds fields) new
+AreValuesOf fields (Connect link parent child left) = ⊤
+AreValuesOf fields (Disconnect link parent child left) = ⊤
 
--- the tuple may have this identifier and these values
-abbrev pub MayBecome : ℕ → told.Change → Type 0
-MayBecome slots (Insert relation tid values) = IsIdentifier slots tid × (length values < body_most)
-MayBecome slots (Delete relation tid values) = ⊤
-MayBecome slots (Update relation tid old new) = length new < body_most
-MayBecome slots (Connect link parent child left) = ⊤
-MayBecome slots (Disconnect link parent child left) = ⊤
+-- and the tuple may have this identifier
+pub record MayBecome (slots : ℕ) (fields : List FieldDef) (change : told.Change) : Type 0 where
+  pub named : IsIdentifier slots (tid_told change)
+  pub values : AreValuesOf fields change
 
 -- one tuple more or less can be counted
 abbrev pub MayCount : told.Change → ℕ → Type 0
-MayCount (Insert relation tid values) live = live + 1 < 2 ^ 32
+MayCount (Insert relation tid values) live = live < tuple_limit
 MayCount (Delete relation tid values) live = 0 < live
 MayCount (Update relation tid old new) live = ⊤
 MayCount (Connect link parent child left) live = ⊤
@@ -119,6 +125,24 @@ pub record AccessView : Type 1 where
 
 abbrev pub both : PagesView → CatalogView → AccessView
 both pages catalog = record { pages = pages; catalog = catalog }
+
+-- The pages spell tables by the catalog's listing, with tuples of their relations, not too many of each, and identifiers of the store, also in the nodes of images.
+pub record HasTables (at : AccessView) : Type 0 where
+  pub tables : Tables
+  pub spells : SpellsTables at.pages.held at.catalog.listing tables
+  pub tuples : AreTuples tables
+  pub tids : (relation : Name) (tid : Tid) → IsLive tables relation tid → IsIdentifier at.pages.slots tid
+  pub few : (relation : Name) → tuple_count tables.contents relation ≤ tuple_limit
+  pub nodes : AreNodesWithin at.pages.slots at.pages.held
+
+-- On a device that tells its contents, the pages are those of a tuple store, and where an image is listed, they spell tables.
+pub record CanAlter (at : AccessView) : Type 0 where
+  pub heaps : IsTold at.pages.disk → AreHeaps at.pages
+  pub tables : IsTold at.pages.disk → HasImage at.catalog.listing → HasTables at
+
+-- There is room for two pages more, and for a pair more in each image of the relation.
+abbrev pub HasRoom : AccessView → ℕ → Type 0
+HasRoom at number = 2 + images_room at.catalog.listing number ≤ image_places at.pages
 
 -- the tables with the change applied, or undone
 abbrev pub applied : Tables → Change → Tables
@@ -167,40 +191,69 @@ abbrev pub NoneUndoes : told.Change → AccessView → Type 0
 NoneUndoes told_change at =
     (tables : Tables) (change : Change) → CanUndo at told_change tables change → ⊥
 
+-- ---- the images of a relation
+
+-- the pages of a relation's images are among these
+abbrev pub image_pages_of : Option RelationEntry → Keys
+image_pages_of None = no_page
+image_pages_of (Some relation) = pages_in relation.segment ImageSpace
+
+-- and where it has none, there are none
+abbrev pub own_image_pages : Listing → ℕ → Keys
+own_image_pages listing number key =
+    image_pages_of (relation_at listing number) key × HasImageOf listing number
+
+-- the change tells of this tuple, with these values
+pub record TellsMove (change : told.Change) (move : TupleMove) : Type 0 where
+  pub number : number_told change ≡ move.number
+  pub tid : tid_told change ≡ move.tid
+  pub before : body_before change ≡ option_map (plain_body move.number) move.was
+  pub after : body_after change ≡ option_map (plain_body move.number) move.next
+
+-- The image pages show tables in which the tuple can change so, and there is room for its entries.
+pub record ShowsMove (at : AccessView) (change : told.Change) (move : TupleMove) (tables : Tables) : Type 0 where
+  pub tells : TellsMove change move
+  pub can : CanMove at.catalog.listing move tables
+  pub images : SpellsImages at.pages.held at.catalog.listing tables
+  pub room : images_room at.catalog.listing move.number ≤ image_places at.pages
+
+-- there are such tables
+pub record MayMoveAll (at : AccessView) (change : told.Change) : Type 0 where
+  pub move : TupleMove
+  pub tables : Tables
+  pub shows : ShowsMove at change move tables
+
+-- from all such tables the image pages come to show those after the change
+abbrev pub MovesAll : AccessView → AccessView → told.Change → Type 0
+MovesAll old new change = (move : TupleMove) (tables : Tables) → ShowsMove old change move tables
+    → SpellsImages new.pages.held new.catalog.listing (after_move move tables)
+
 -- ---- what is done to the pages and the catalog
 
--- The relation has so many tuples, and nothing else is listed anew.
-pub record Recounted (number : ℕ) (relation : RelationEntry) (live : ℕ) (old new : CatalogView) : Type 0 where
-  pub lists : Lists (with_relation old.listing number (Some (with_count live relation)))
-      (page_of RelationKind number) old new
-  pub fits : ListingFits old.listing → ListingFits new.listing
-
--- the count goes with the tuple: one more, one less, or the same, and then the catalog has not changed
-abbrev pub CountsChange : told.Change → RelationEntry → CatalogView → CatalogView → Type 0
-CountsChange (Insert number tid values) relation old new =
-    Recounted number relation (relation.live + 1) old new
-CountsChange (Delete number tid values) relation old new =
-    Recounted number relation (relation.live - 1) old new
-CountsChange (Update number tid from to) relation old new = new ≡ old
-CountsChange (Connect link parent child left) relation old new = new ≡ old
-CountsChange (Disconnect link parent child left) relation old new = new ≡ old
-
--- The tuple was as the change finds it, and is as the change leaves it; so is the count of its relation.
+-- There was room; the tuple was as the change finds it, and is as the change leaves it; so is the count of its relation, with its images.
 pub record Alters (change : told.Change) (old new : AccessView) : Type 0 where
   pub relation : RelationEntry
   pub listed : relation_at old.catalog.listing (number_told change) ≡ Some relation
+  pub small : old.pages.slots < 2 ^ 32
+  pub room : HasRoom old (number_told change)
   pub found : IsTold old.pages.disk
       → body_at old.pages relation.segment (tid_told change) ≡ body_before change
   pub changes : ChangesTuple relation.segment (tid_told change) (body_after change)
       old.pages new.pages
-  pub counts : CountsChange change relation old.catalog new.catalog
+  pub counts : Recounted (number_told change) (count_after change relation.live) relation
+      old.catalog new.catalog
+  pub images : IsTold old.pages.disk → MovesAll old new change
 
--- The change can't be made: the tuple isn't as the change finds it or can't be as the change leaves it; or its relation isn't listed, or can't be counted so.
+-- The change can't be made: the tuple isn't as the change finds it or can't be as the change leaves it; its relation isn't listed, or can't be counted so; or there is no room.
 pub data Misfits (change : told.Change) (at : AccessView) : Place → Type 0 where
   tuple : {relation : RelationEntry}
       → relation_at at.catalog.listing (number_told change) ≡ Some relation
       → (body_at at.pages relation.segment (tid_told change) ≡ body_before change
-      → MayBecome at.pages.slots change → ⊥)
+      → MayBecome at.pages.slots relation.fields change → ⊥)
+      → Misfits change at (TuplePlace relation.segment (tid_told change))
+  room : {relation : RelationEntry}
+      → relation_at at.catalog.listing (number_told change) ≡ Some relation
+      → (HasRoom at (number_told change) → ⊥)
       → Misfits change at (TuplePlace relation.segment (tid_told change))
   count : {relation : RelationEntry}
       → relation_at at.catalog.listing (number_told change) ≡ Some relation
@@ -211,33 +264,34 @@ pub data Misfits (change : told.Change) (at : AccessView) : Place → Type 0 whe
       → Misfits change at (CountPlace (number_told change))
 
 -- the pages of the relation's segment
-abbrev pub pages_of_relation : Option RelationEntry → Keys
-pages_of_relation None = no_page
-pages_of_relation (Some relation) = pages_of relation.segment
+abbrev pub pages_of_relation : Listing → Option RelationEntry → Keys
+pages_of_relation listing None key = ⊥
+pages_of_relation listing (Some relation) key = (key.segment ≡ relation.segment) × content_of listing key
 
 abbrev pub pages_told : Listing → told.Change → Keys
-pages_told listing change = pages_of_relation (relation_at listing (number_told change))
+pages_told listing change = pages_of_relation listing (relation_at listing (number_told change))
 
 -- how many pages are asked for at most, and how many may leave memory
 abbrev pub alter_cost : ℕ → ℕ
-alter_cost slots = 3 * slots + 9
+alter_cost slots = 3 * slots + 9 + images_cost
 
--- so many pages more are mapped at most, and so many fewer are spare
-pub record Takes (count : ℕ) (old new : PagesView) : Type 0 where
-  pub mapped : mapped_pages new.slots new.mapped ≤ mapped_pages old.slots old.mapped + count
-  pub spare : old.spare ≤ new.spare + count
+-- So many home and overflow pages more are mapped at most, and so many places fewer are left to images.
+pub record Takes (pages : ℕ) (old new : PagesView) : Type 0 where
+  pub heap : heap_now new ≤ heap_now old + pages
+  pub places : image_places old ≤ image_places new + pages
 
--- What a call that makes this change passes on, by its result: what was done; or where it can't be made, on a device that tells its contents, and then no page was changed. Only pages of the relation's segment are touched, and two are taken at most. Each failure of the device has its cause, memory never runs out, and at an error the catalog is as it was.
+-- What a call that makes this change passes on, by its result: what was done, with pages that may be changed on; or where it can't be made, on a device that tells its contents, over pages that spell tables, and then nothing was changed. Only pages of the relation's segment are touched. Each failure of the device has its cause, memory never runs out, and at an error the catalog lists the same, but for where images begin.
 pub record Makes {T : Type 0} (change : told.Change) (old new : AccessView)
     (result : Result T PageFault) : Type 0 where
   pub alters : OnOk result (Alters change old new)
+  pub still : OnOk result (CanAlter new)
   pub takes : OnOk result (Takes 2 old.pages new.pages)
   pub step : PagesStep (pages_told old.catalog.listing change)
       (alter_cost old.pages.slots) (alter_cost old.pages.slots) old.pages new.pages
-  pub same : OnErr result (new.catalog ≡ old.catalog)
+  pub rerooted : OnErr result (Rerooted old.catalog new.catalog)
   pub failed : IsErrOf result DeviceFailed → Rises old.pages.faults new.pages.faults
   pub memory : IsErrOf result NoMemory → ⊥
   pub damaged : (place : Place) → result ≡ Err (Damaged place) → IsTold old.pages.disk
-      → Misfits change old place
+      → HasTables old → Misfits change old place
   pub kept : (place : Place) → result ≡ Err (Damaged place) → IsTold old.pages.disk
       → PagesStep no_page 2 2 old.pages new.pages

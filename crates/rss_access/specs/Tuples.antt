@@ -1,5 +1,5 @@
 -- What the calls on tuples do to the pages.
-use Rattle.std.specs.Prelude.{◌≡◌, ◌⊎◌, ℕ, ◌<◌, Bool, true, false, List, [], ◌∷◌, length, sum_by, Option, Some, None, MatchOption, option_map, unwrap_or}
+use Rattle.std.specs.Prelude.{◌≡◌, ◌⊎◌, ℕ, ◌<◌, ◌≤◌, Bool, true, false, List, [], ◌∷◌, length, sum_by, Option, Some, None, MatchOption, option_map, unwrap_or}
 use Rattle.std.specs.List.{range_with_len}
 use Rattle.rss_base.specs.DiskRule.{IsTold}
 use Rattle.rss_base.specs.Sizes.{page_entries}
@@ -8,10 +8,10 @@ use Rattle.rss_base.specs.Steps.{PagesView}
 use Rattle.rss_base.specs.declared.tid.Tid.{Tid}
 use Rattle.rss_base.specs.declared.key.PageKey.{PageKey}
 use Rattle.rss_base.specs.declared.key.Space.TheVariants.{Home, Overflow}
-use Rattle.rss_page.specs.Slotted.{bodies_room}
+use Rattle.rss_page.specs.Slotted.{IsHeapKey, bodies_room}
 use Rattle.rss_tuple.specs.Directory.{Bodies, bodies_of, with_body, tid_at}
 use Rattle.rss_tuple.specs.Finding.{IsAfter}
-use Rattle.rss_tuple.specs.Heaps.{AreHeaps}
+use Rattle.rss_tuple.specs.Heaps.{body_most, AreHeaps}
 use Rattle.rss_tuple.specs.Placing.{IsChosen}
 use Rattle.rss_tuple.specs.TupleSteps.{IsLeast, NoneIs}
 use Rattle.rss_model.specs.Fits.{IsIdentifier}
@@ -40,6 +40,15 @@ pub record CanChange (pages : PagesView) : Type 0 where
   pub spare : 0 < pages.spare
   pub few : mapped_pages pages.slots pages.mapped < pages.slots
 
+-- They may be, with room for two pages more.
+pub record CanPut (pages : PagesView) : Type 0 where
+  pub heaps : IsTold pages.disk → AreHeaps pages
+  pub spare : 2 ≤ pages.spare
+
+-- a body, where there is one, is not too long for a page
+abbrev pub IsShortBody : Option (List ℕ) → Type 0
+IsShortBody body = size_of_body body ≤ body_most
+
 -- The tuple has this body now, or there is none, and no other tuple has changed. An overflow page is mapped that wasn't only where the tuple is new or longer, and the tuples with identifiers of that page have no room there.
 pub record SetsBody (segment : ℕ) (tid : Tid) (now : Option (List ℕ)) (old new : PagesView) : Type 0 where
   pub bodies : bodies_of new.held ≡ with_body (bodies_of old.held) segment tid now
@@ -49,11 +58,13 @@ pub record SetsBody (segment : ℕ) (tid : Tid) (now : Option (List ℕ)) (old n
   pub grows : (key : PageKey) → key.space ≡ Overflow → new.mapped key ≡ true → old.mapped key ≡ false
       → size_of_body (body_at old segment tid) < size_of_body now
 
--- A tuple was changed: one page more is mapped at most, and the pages of this tuple alone were changed.
+-- A tuple was changed: of home and overflow pages one more is mapped at most, and those of this tuple alone were changed.
 pub record ChangesTuple (segment : ℕ) (tid : Tid) (now : Option (List ℕ)) (old new : PagesView) : Type 0 where
-  pub one : (key other : PageKey) → new.mapped key ≡ true → old.mapped key ≡ false
+  pub one : (key other : PageKey) → IsHeapKey key → IsHeapKey other
+      → new.mapped key ≡ true → old.mapped key ≡ false
       → new.mapped other ≡ true → old.mapped other ≡ false → key ≡ other
-  pub changed : (key : PageKey) → new.changed key ≡ true → (old.changed key ≡ true) ⊎ IsPageFor tid key
+  pub changed : (key : PageKey) → IsHeapKey key → new.changed key ≡ true
+      → (old.changed key ≡ true) ⊎ IsPageFor tid key
   pub sets : IsTold old.disk → SetsBody segment tid now old new
 
 -- A tuple with this body was put where none was, and has the identifier that the rule of tuple stores names.

@@ -2,8 +2,9 @@
 use Rattle.std.specs.Prelude.{◌≡◌, ◌⊎◌, ℕ, ◌+◌, ◌<◌, Bool, false, ◌==◌, ◌&&◌, List, slice_index_or, Some}
 use Rattle.rss_base.specs.Sizes.{system_pages}
 use Rattle.rss_base.specs.Paged.{Held, page_key, mapped_of}
-use Rattle.rss_base.specs.Listings.{catalog_page}
-use Rattle.rss_base.specs.Steps.{PagesView}
+use Rattle.rss_base.specs.Listings.{Listing, image_at, catalog_page}
+use Rattle.rss_base.specs.declared.image.ImageEntry.{ImageEntry}
+use Rattle.rss_base.specs.Steps.{PagesView, Keys}
 use Rattle.rss_base.specs.declared.key.PageKey.{PageKey}
 use Rattle.rss_base.specs.declared.key.Space.{Space}
 use Rattle.rss_base.specs.declared.key.Space.TheVariants.{System, Home, Overflow, Image}
@@ -17,6 +18,16 @@ heap_now pages = mapped_of pages.mapped Home pages.slots + mapped_of pages.mappe
 -- a home or overflow page, or one of the system space
 abbrev pub IsSystemOrHeap : PageKey → Type 0
 IsSystemOrHeap key = (key.space ≡ System) ⊎ IsHeapKey key
+
+-- an image is listed
+pub record HasImage (listing : Listing) : Type 0 where
+  pub number : ℕ
+  pub image : ImageEntry
+  pub at : image_at listing number ≡ Some image
+
+-- the pages that tuples may have, and where an image is listed, those that images may have
+abbrev pub content_of : Listing → Keys
+content_of listing key = IsHeapKey key ⊎ ((key.space ≡ Image) × HasImage listing)
 
 -- ---- pages of the catalog
 

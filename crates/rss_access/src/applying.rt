@@ -1,18 +1,28 @@
 // Changes that are applied and undone.
-ghost use Rattle.std.specs.Prelude.{◌≡◌, ◌+◌, ◌*◌, true, Err, IfOk, OnOk};
+ghost use Rattle.std.specs.Prelude.{◌≡◌, ◌+◌, ◌*◌, ◌<◌, true, is_some, Some, Err, IfOk, OnOk};
 ghost use Rattle.rss_base.specs.DiskRule.{IsTold};
+ghost use Rattle.rss_base.specs.Sizes.{page_entries};
 ghost use Rattle.rss_base.specs.Steps.{PagesCall, no_page};
+ghost use Rattle.rss_base.specs.Listings.{ListingFits, relation_at, with_relation, with_count};
 ghost use Rattle.rss_base.specs.declared.fault.PageFault.TheVariants.{Damaged as PageDamaged};
 ghost use Rattle.rss_base.specs.declared.place.Place.{Place as AnyPlace};
+ghost use Rattle.rss_base.specs.declared.relation.RelationEntry.{RelationEntry as Entry};
 ghost use Rattle.rss_tuple.specs.Calls.{IsSegment};
 ghost use Rattle.rss_tuple.specs.Checked.{pages_of};
 ghost use Rattle.rss_tuple.specs.Heaps.{AreHeaps};
-ghost use Rattle.rss_access.specs.Changes.{IsTupleRecord, CanAlter, MayBecome, body_before, body_after, reversed};
+ghost use Rattle.rss_catalog.specs.Catalogs.{HasImageOf};
+ghost use Rattle.rss_entries.specs.Rooms.{images_cost};
+ghost use Rattle.rss_model.specs.Fits.{IsIdentifier};
+ghost use Rattle.rss_access.specs.Changes.{IsTupleRecord, CanAlter, HasRoom, number_told, body_before, body_after, reversed};
 ghost use Rattle.rss_access.specs.Changes.{both, Applies, Undoes, NoneApplies, NoneUndoes, Makes};
+ghost use Rattle.rss_access.specs.Changes.{AreValuesOf, MayMoveAll, MovesAll, own_image_pages};
 ghost use Rattle.rss_access.specs.Edits.{told_by};
-ghost use Rattle.rss_access.specs.Tuples.{body_at, ChangesTuple};
+ghost use Rattle.rss_access.specs.Relisted.{KeepsSpelled, Rerooted};
+ghost use Rattle.rss_access.specs.Tuples.{body_at, CanPut, IsShortBody, ChangesTuple};
 
 use crate::edit::{Edit, TupleChange, body_with};
+use crate::moving::move_images;
+use crate::rooms::has_room;
 use crate::tuples::{delete, put_at, update};
 use rss_base::{Body, Change, Kind, PageFault, Pages, Place};
 use rss_catalog::Catalog;
@@ -21,20 +31,24 @@ use rss_tuple::{Store, Tuples};
 /// Applies a change of a tuple: what it tells as old becomes what it tells as new, and the count of
 /// the relation goes with it. As yet no change of a chain may be given.
 ///
-/// Where the tuple isn't as the change tells it, or can't become what it tells, the fault is
-/// `Damaged` at the tuple; at the count of the relation, where that can't go with it or no such
-/// relation is defined. Nothing is changed then. It takes two pages at most.
+/// The entries of the tuple in the images of its relation move along.
+///
+/// Where the tuple isn't as the change tells it, or can't become what it tells, or where there is no
+/// room, the fault is `Damaged` at the tuple; at the count of the relation, where that can't go with
+/// it or no such relation is defined. Nothing is changed then. It takes two pages at most, and what
+/// its images need.
 pub fn apply<P: Pages>(
     tuples: &mut Store<P>,
     catalog: &mut Catalog,
     change: &Change,
 ) -> Result<(), PageFault>
-    requires may { CanAlter (P.view tuples.old.pages) }
+    requires may { CanAlter (both (P.view tuples.old.pages) catalog.old) }
     requires tuple { IsTupleRecord change.now }
     ensures applies { OnOk result (Applies change.now
         (both (P.view tuples.old.pages) catalog.old) (both (P.view tuples.new.pages) catalog.new)) }
     ensures sound { (place : AnyPlace) → result ≡ Err (PageDamaged place)
         → IsTold (P.view tuples.old.pages).disk
+        → HasRoom (both (P.view tuples.old.pages) catalog.old) (number_told change.now)
         → NoneApplies change.now (both (P.view tuples.old.pages) catalog.old) }
     ensures makes { Makes change.now (both (P.view tuples.old.pages) catalog.old)
         (both (P.view tuples.new.pages) catalog.new) result }
@@ -49,12 +63,13 @@ pub fn undo<P: Pages>(
     catalog: &mut Catalog,
     change: &Change,
 ) -> Result<(), PageFault>
-    requires may { CanAlter (P.view tuples.old.pages) }
+    requires may { CanAlter (both (P.view tuples.old.pages) catalog.old) }
     requires tuple { IsTupleRecord change.now }
     ensures undoes { OnOk result (Undoes change.now
         (both (P.view tuples.old.pages) catalog.old) (both (P.view tuples.new.pages) catalog.new)) }
     ensures sound { (place : AnyPlace) → result ≡ Err (PageDamaged place)
         → IsTold (P.view tuples.old.pages).disk
+        → HasRoom (both (P.view tuples.old.pages) catalog.old) (number_told change.now)
         → NoneUndoes change.now (both (P.view tuples.old.pages) catalog.old) }
     ensures makes { Makes (reversed change.now) (both (P.view tuples.old.pages) catalog.old)
         (both (P.view tuples.new.pages) catalog.new) result }
@@ -68,7 +83,7 @@ fn alter<P: Pages>(
     catalog: &mut Catalog,
     change: TupleChange<'_>,
 ) -> Result<(), PageFault>
-    requires { CanAlter (P.view tuples.old.pages) }
+    requires { CanAlter (both (P.view tuples.old.pages) catalog.old) }
     ensures { Makes (told_by change.entry) (both (P.view tuples.old.pages) catalog.old)
         (both (P.view tuples.new.pages) catalog.new) result }
 {
@@ -76,11 +91,14 @@ fn alter<P: Pages>(
     if !catalog.used(Kind::Relation, number) {
         return Err(PageFault::Damaged(Place::Count(number)));
     }
-    let entry = catalog.relation(number);
-    let segment = entry.segment;
-    let live = entry.live;
+    let relation = catalog.relation(number);
+    let segment = relation.segment;
+    let live = relation.live;
     let damaged = PageFault::Damaged(Place::Tuple(segment, change.tid));
-    if !change.may_become(tuples.pages.slots()) {
+    if !change.may_become(tuples.pages.slots(), relation.fields.as_slice()) {
+        return Err(damaged);
+    }
+    if !has_room(&tuples.pages, catalog, number) {
         return Err(damaged);
     }
     if !is_found(tuples, segment, change)? {
@@ -90,9 +108,8 @@ fn alter<P: Pages>(
         return Err(PageFault::Damaged(Place::Count(number)));
     };
     put(tuples, segment, change)?;
-    if count != live {
-        catalog.set_count(number, count);
-    }
+    move_entries(&mut tuples.pages, catalog, change)?;
+    recount(catalog, number, count);
     Ok(())
 }
 
@@ -124,9 +141,10 @@ fn put<P: Pages>(
     segment: u8,
     change: TupleChange<'_>,
 ) -> Result<(), PageFault>
-    requires may { CanAlter (P.view tuples.old.pages) }
+    requires may { CanPut (P.view tuples.old.pages) }
     requires segment { IsSegment segment }
-    requires becomes { MayBecome (P.view tuples.old.pages).slots (told_by change) }
+    requires named { IsIdentifier (P.view tuples.old.pages).slots change.tid }
+    requires short { IsShortBody (body_after (told_by change)) }
     requires found { IsTold (P.view tuples.old.pages).disk
         → body_at (P.view tuples.old.pages) segment change.tid ≡ body_before (told_by change) }
     ensures changes { OnOk result (ChangesTuple segment change.entry.tid
@@ -145,5 +163,45 @@ fn put<P: Pages>(
             let body = body_with(change.number, to);
             update(tuples, segment, change.tid, body.as_slice())
         }
+    }
+}
+
+/// Moves the entries of a tuple, where its relation has images.
+fn move_entries<P: Pages>(
+    pages: &mut P,
+    catalog: &mut Catalog,
+    change: TupleChange<'_>,
+) -> Result<(), PageFault>
+    requires slot { change.tid.slot < page_entries }
+    requires values { (relation : Entry)
+        → relation_at catalog.old.listing change.number ≡ Some relation
+        → AreValuesOf relation.fields (told_by change) }
+    requires may { IsTold (P.view pages.old).disk
+        → HasImageOf catalog.old.listing change.number
+        → MayMoveAll (both (P.view pages.old) catalog.old) (told_by change) }
+    ensures moves { OnOk result (IsTold (P.view pages.old).disk
+        → MovesAll (both (P.view pages.old) catalog.old) (both (P.view pages.new) catalog.new)
+        (told_by change.entry)) }
+    ensures rerooted { Rerooted catalog.old catalog.new }
+    ensures did { PagesCall (own_image_pages catalog.old.listing change.entry.number)
+        images_cost images_cost (P.view pages.old) (P.view pages.new) result }
+{
+    if catalog.has_image_of(change.number) {
+        move_images(pages, catalog, change)?;
+    }
+    Ok(())
+}
+
+/// Sets the count of a relation, where it has another one.
+fn recount(catalog: &mut Catalog, number: u8, count: u32)
+    requires { is_some (relation_at catalog.old.listing number) ≡ true }
+    ensures lists { (relation : Entry) → relation_at catalog.old.listing number ≡ Some relation
+        → catalog.new.listing
+        ≡ with_relation catalog.old.listing number (Some (with_count count relation)) }
+    ensures keeps { KeepsSpelled catalog.old catalog.new }
+    ensures fits { ListingFits catalog.old.listing → ListingFits catalog.new.listing }
+{
+    if catalog.relation(number).live != count {
+        catalog.set_count(number, count);
     }
 }

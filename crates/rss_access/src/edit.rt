@@ -2,10 +2,14 @@
 ghost use Rattle.std.specs.Prelude.{◌≡◌, ◌<◌, ◌∷◌, ℕ, List, Option, true, length, None, IfSome};
 ghost use Rattle.rss_tuple.specs.Finding.{IsFetched};
 ghost use Rattle.rss_tuple.specs.Heaps.{body_most};
-ghost use Rattle.rss_access.specs.Changes.{IsTupleRecord, ReverseMeans, MayBecome, MayCount, body_before, reversed, count_after};
-ghost use Rattle.rss_access.specs.Edits.{told_by};
+ghost use Rattle.rss_access.specs.Changes.{IsTupleRecord, ReverseMeans, MayBecome, MayCount, body_before, body_after, reversed, count_after};
+ghost use Rattle.rss_access.specs.Edits.{told_by, body_lent};
 
-use rss_base::{BODY_BYTES, Body, Change, PAGE_ENTRIES, Tid};
+use rss_base::{Body, Change, FieldDef, PAGE_ENTRIES, Tid};
+use rss_value::spells;
+
+/// How many tuples a relation has at most.
+pub const TUPLES_MOST: u32 = 1 << 20;
 
 /// What becomes of a tuple, with the bytes of its values.
 #[derive(Clone, Copy)]
@@ -82,19 +86,46 @@ impl<'a> TupleChange<'a> {
         }
     }
 
-    /// Whether a tuple of a store of so many slots may have this identifier and these values.
-    pub(crate) fn may_become(self, slots: u32) -> bool
-        ensures yes { result ≡ true → MayBecome slots (told_by self.entry) }
-        ensures no { MayBecome slots (told_by self.entry) → result ≡ true }
+    /// The bytes of the tuple's values before the change, if there is one then.
+    pub(crate) fn was(self) -> Option<&'a [u8]>
+        ensures { body_before (told_by self.entry) ≡ body_lent self.entry.number result }
     {
         match self.edit {
-            Edit::Insert(values) => {
-                self.tid.page < slots
-                    && usize::from(self.tid.slot) < PAGE_ENTRIES
-                    && values.len() < BODY_BYTES
-            }
-            Edit::Delete(_) => true,
-            Edit::Update { from: _, to } => to.len() < BODY_BYTES,
+            Edit::Insert(_) => None,
+            Edit::Delete(values)
+            | Edit::Update {
+                from: values,
+                to: _,
+            } => Some(values),
+        }
+    }
+
+    /// And after it.
+    pub(crate) fn next(self) -> Option<&'a [u8]>
+        ensures { body_after (told_by self.entry) ≡ body_lent self.entry.number result }
+    {
+        match self.edit {
+            Edit::Delete(_) => None,
+            Edit::Insert(values)
+            | Edit::Update {
+                from: _,
+                to: values,
+            } => Some(values),
+        }
+    }
+
+    /// Whether a tuple of a relation with these fields, in a store of so many slots, may have this
+    /// identifier and these values.
+    pub(crate) fn may_become(self, slots: u32, fields: &[FieldDef]) -> bool
+        ensures yes { result ≡ true → MayBecome slots fields.now (told_by self.entry) }
+        ensures no { MayBecome slots fields.now (told_by self.entry) → result ≡ true }
+    {
+        if self.tid.page >= slots || usize::from(self.tid.slot) >= PAGE_ENTRIES {
+            return false;
+        }
+        match self.edit {
+            Edit::Insert(values) | Edit::Delete(values) => spells(fields, values),
+            Edit::Update { from, to } => spells(fields, from) && spells(fields, to),
         }
     }
 
@@ -126,7 +157,8 @@ impl<'a> TupleChange<'a> {
         ensures none { result ≡ None → MayCount (told_by self.entry) live → ⊥ }
     {
         match self.edit {
-            Edit::Insert(_) => live.checked_add(1),
+            Edit::Insert(_) if live < TUPLES_MOST => Some(live + 1),
+            Edit::Insert(_) => None,
             Edit::Delete(_) => live.checked_sub(1),
             Edit::Update { .. } => Some(live),
         }

@@ -4,8 +4,11 @@
 mod applying;
 mod bodies;
 mod edit;
+mod moving;
+mod rooms;
 mod tuples;
 
 pub use applying::{apply, undo};
 pub use bodies::{body_of, tuple_of};
+pub use edit::TUPLES_MOST;
 pub use tuples::{delete, find, find_next, insert, update};

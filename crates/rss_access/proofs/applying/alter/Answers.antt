@@ -1,62 +1,68 @@
-use Rattle.std.proofs.Common.{ℕ, refl, sym, ◌∙◌, subst, arith}
+use Rattle.std.proofs.Common.{refl, sym, ◌∙◌, arith}
 use Rattle.std.proofs.lemmas.Bool.{true≢false}
-use Rattle.rss_base.proofs.Steps.{rests, fails, then, then_call, untouched, within}
-use Rattle.rss_access.specs.Changes.{MayBecome}
+use Rattle.rss_base.proofs.Steps.{rests, fails, among, then, then_call, untouched}
 use Rattle.rss_access.specs.Edits.{told_by}
-use Rattle.rss_access.proofs.Altering.{takes_two, changes_looked, pages_are_told}
-use Rattle.rss_access.proofs.Making.{used_listed, listed_by, misfits_unlisted, misfits_tuple, misfits_count, damaged_makes, fails_makes, done_makes, can_still, alters_counted, alters_still}
+use Rattle.rss_access.proofs.Making.{used_listed, misfits_unlisted, misfits_tuple, misfits_room, misfits_count, damaged_makes, fails_makes, can_put, may_become_as, short_body, heap_told, images_told, may_move, widens_to, made}
+use Rattle.rss_access.proofs.Rerooting.{rerooted_itself}
 use Rattle.rss_access.proofs.applying.alter.Goals as goal
 
-pub relation-entry-requires : goal.relation-entry-requires
-relation-entry-requires g c = used_listed c.args.catalog.now.listing c.args.change.number (sym c.used.ensures ∙ c.if-not-used.false)
+pub relation-relation-requires : goal.relation-relation-requires
+relation-relation-requires g c = used_listed c.args.catalog.now.listing c.args.change.number (sym c.used.ensures ∙ c.if-not-used.false)
 
 pub put-requires-clause-may : goal.put-requires-clause-may
-put-requires-clause-may g c = can_still c.in_ok-is_found.ensures.did.step c.requires c.in_ok-is_found.ensures.heaps (g.met.P.Pages.are_counted c.args.tuples.now.pages) (g.met.P.Pages.are_counted c.is_found.new.tuples.pages)
+put-requires-clause-may g c = can_put c.in_ok-is_found.ensures.did.step (c.has_room.ensures.spare c.if-not-has_room.false) c.in_ok-is_found.ensures.heaps (g.met.P.Pages.are_counted c.args.tuples.now.pages) (g.met.P.Pages.are_counted c.is_found.new.tuples.pages)
+
+pub put-requires-clause-short : goal.put-requires-clause-short
+put-requires-clause-short g c = short_body c.relation-relation.result.now c.relation-relation.ensures.safe (told_by c.args.change) (may_become_as refl c.as_slice.ensures (c.may_become.ensures.yes c.if-not-may_become.false)).values
+
+pub move_entries-requires-clause-may : goal.move_entries-requires-clause-may
+move_entries-requires-clause-may g c = λ told image. may_move c.args.change c.relation-relation.ensures.is (g.met.P.Pages.are_counted c.args.tuples.now.pages) (g.met.P.Pages.are_counted c.put.new.tuples.pages) c.in_ok-is_found.ensures.did.step (c.in_ok-is_found.ensures.found c.if-not-branch.false) (c.has_room.ensures.room c.if-not-has_room.false)
+    (may_become_as c.slots.ensures c.as_slice.ensures (c.may_become.ensures.yes c.if-not-may_become.false)) (omega (arith, c.slots.ensures)) c.requires c.in_ok-put.ensures.did.step c.in_ok-put.ensures.changes told image
 
 -- ---- where it is refused
 
 pub returns-then-not-used : goal.returns-then-not-used
-returns-then-not-used g c = damaged_makes (rests _) refl (λ on. misfits_unlisted c.args.change (g.P.Pages.view c.args.tuples.now.pages) c.args.catalog.now (sym c.used.ensures ∙ c.if-not-used.true))
+returns-then-not-used g c = damaged_makes (rests _) refl (λ on has. misfits_unlisted c.args.change (g.P.Pages.view c.args.tuples.now.pages) c.args.catalog.now (sym c.used.ensures ∙ c.if-not-used.true))
 
 pub returns-then-not-may_become : goal.returns-then-not-may_become
-returns-then-not-may_become g c = damaged_makes (rests _) refl (λ on. misfits_tuple c.args.change (g.P.Pages.view c.args.tuples.now.pages) c.args.catalog.now c.relation-entry.result.now c.relation-entry.ensures.is
-    (λ found may. true≢false (sym (c.may_become.ensures.no (subst (λ (slots : ℕ). MayBecome slots (told_by c.args.change)) (sym c.slots.ensures) may)) ∙ c.if-not-may_become.true)))
+returns-then-not-may_become g c = damaged_makes (rests _) refl (λ on has. misfits_tuple c.args.change (g.P.Pages.view c.args.tuples.now.pages) c.args.catalog.now c.relation-relation.result.now c.relation-relation.ensures.is
+    (λ found may. true≢false (sym (c.may_become.ensures.no (may_become_as (sym c.slots.ensures) (sym c.as_slice.ensures) may)) ∙ c.if-not-may_become.true)))
+
+pub returns-then-not-has_room : goal.returns-then-not-has_room
+returns-then-not-has_room g c = damaged_makes (rests _) refl (λ on has. misfits_room c.args.change (g.P.Pages.view c.args.tuples.now.pages) c.args.catalog.now c.relation-relation.result.now c.relation-relation.ensures.is
+    (c.has_room.ensures.none c.if-not-has_room.true on has))
 
 pub returns-then-not-branch : goal.returns-then-not-branch
-returns-then-not-branch g c = damaged_makes c.in_ok-is_found.ensures.did.step refl (λ on. misfits_tuple c.args.change (g.P.Pages.view c.args.tuples.now.pages) c.args.catalog.now c.relation-entry.result.now c.relation-entry.ensures.is
+returns-then-not-branch g c = damaged_makes c.in_ok-is_found.ensures.did.step refl (λ on has. misfits_tuple c.args.change (g.P.Pages.view c.args.tuples.now.pages) c.args.catalog.now c.relation-relation.result.now c.relation-relation.ensures.is
     (λ found may. true≢false (sym (c.in_ok-is_found.ensures.lost on found) ∙ c.if-not-branch.true)))
 
 pub returns-in_default : goal.returns-in_default
-returns-in_default g c = damaged_makes c.in_ok-is_found.ensures.did.step refl (λ on. misfits_count c.args.change (g.P.Pages.view c.args.tuples.now.pages) c.args.catalog.now c.relation-entry.result.now c.relation-entry.ensures.is
+returns-in_default g c = damaged_makes c.in_ok-is_found.ensures.did.step refl (λ on has. misfits_count c.args.change (g.P.Pages.view c.args.tuples.now.pages) c.args.catalog.now c.relation-relation.result.now c.relation-relation.ensures.is
     (c.in_ok-is_found.ensures.found c.if-not-branch.false on) (c.count.ensures.none c.in_default.is))
 
 -- ---- where a call fails
 
 pub returns-in_err-is_found : goal.returns-in_err-is_found
-returns-in_err-is_found g c = fails_makes _ _ c.from_residual.ensures.1 (fails _ c.from_residual.ensures.1 (λ key is. absurd is) (omega arith) (omega arith) c.in_err-is_found.ensures.did) refl
+returns-in_err-is_found g c = fails_makes _ _ c.from_residual.ensures.1 (fails _ c.from_residual.ensures.1 (λ key is. absurd is) (omega arith) (omega arith) c.in_err-is_found.ensures.did) (rerooted_itself _)
 
 pub returns-in_err-put : goal.returns-in_err-put
 returns-in_err-put g c =
     let looked = c.in_ok-is_found.ensures.did.step in
     fails_makes _ _ c.from_residual-in_err-put.ensures.1
-    (fails _ c.from_residual-in_err-put.ensures.1 (pages_are_told c.args.catalog.now.listing (told_by c.args.change) (listed_by c.args.change c.args.catalog.now.listing c.relation-entry.ensures.is)) (omega (arith, looked.passes.slots)) (omega (arith, looked.passes.slots)) (then_call (untouched looked) c.in_err-put.ensures.did)) refl
+    (fails _ c.from_residual-in_err-put.ensures.1 (heap_told c.args.change c.args.catalog.now.listing c.relation-relation.ensures.is) (omega (arith, looked.passes.slots)) (omega (arith, looked.passes.slots)) (then_call (untouched looked) c.in_err-put.ensures.did)) (rerooted_itself _)
+
+pub returns-in_err-move_entries : goal.returns-in_err-move_entries
+returns-in_err-move_entries g c =
+    let looked = c.in_ok-is_found.ensures.did.step in
+    let heaps = heap_told c.args.change c.args.catalog.now.listing c.relation-relation.ensures.is in
+    let images = images_told c.args.change c.args.catalog.now.listing c.relation-relation.ensures.is in
+    fails_makes _ _ c.from_residual-in_err-move_entries.ensures.1
+    (fails _ c.from_residual-in_err-move_entries.ensures.1 (λ key is. is) (omega (arith, looked.passes.slots)) (omega (arith, looked.passes.slots)) (then_call (then (untouched looked) (among heaps c.in_ok-put.ensures.did.step)) (widens_to images c.in_err-move_entries.ensures.did)))
+    c.in_err-move_entries.ensures.rerooted
 
 -- ---- where it is made
 
-pub returns-then-count-live : goal.returns-then-count-live
-returns-then-count-live g c =
-    let looked = c.in_ok-is_found.ensures.did.step in
-    done_makes _
-    (within (pages_are_told c.args.catalog.now.listing (told_by c.args.change) (listed_by c.args.change c.args.catalog.now.listing c.relation-entry.ensures.is)) (omega (arith, looked.passes.slots)) (omega (arith, looked.passes.slots)) (then (untouched looked) c.in_ok-put.ensures.did.step))
-    (alters_counted c.args.change c.relation-entry.result.now c.relation-entry.ensures.is looked (c.in_ok-is_found.ensures.found c.if-not-branch.false) c.in_ok-put.ensures.changes c.in-Some.count c.in-Some.ensures.some
-    (λ same. absurd (omega (arith, c.if-count-live.true, same))) (record { lists = c.set_count.ensures.lists c.relation-entry.result.now c.relation-entry.ensures.is; fits = c.set_count.ensures.fits }))
-    (takes_two (then (untouched looked) c.in_ok-put.ensures.did.step) (changes_looked looked c.in_ok-put.ensures.changes) (g.met.P.Pages.are_counted c.args.tuples.now.pages) (g.met.P.Pages.are_counted c.put.new.tuples.pages))
-
-pub returns-else-count-live : goal.returns-else-count-live
-returns-else-count-live g c =
-    let looked = c.in_ok-is_found.ensures.did.step in
-    done_makes _
-    (within (pages_are_told c.args.catalog.now.listing (told_by c.args.change) (listed_by c.args.change c.args.catalog.now.listing c.relation-entry.ensures.is)) (omega (arith, looked.passes.slots)) (omega (arith, looked.passes.slots)) (then (untouched looked) c.in_ok-put.ensures.did.step))
-    (alters_still c.args.change c.relation-entry.result.now c.relation-entry.ensures.is looked (c.in_ok-is_found.ensures.found c.if-not-branch.false) c.in_ok-put.ensures.changes c.in-Some.count c.in-Some.ensures.some refl c.in-Some.ensures.may
-    (omega (arith, c.if-count-live.false)))
-    (takes_two (then (untouched looked) c.in_ok-put.ensures.did.step) (changes_looked looked c.in_ok-put.ensures.changes) (g.met.P.Pages.are_counted c.args.tuples.now.pages) (g.met.P.Pages.are_counted c.put.new.tuples.pages))
+pub returns : goal.returns
+returns g c = made c.args.change c.relation-relation.ensures.is (g.met.P.Pages.are_counted c.args.tuples.now.pages) (g.met.P.Pages.are_counted c.put.new.tuples.pages) c.in_ok-is_found.ensures.did.step (c.in_ok-is_found.ensures.found c.if-not-branch.false) (c.has_room.ensures.room c.if-not-has_room.false)
+    (may_become_as c.slots.ensures c.as_slice.ensures (c.may_become.ensures.yes c.if-not-may_become.false)) (omega (arith, c.slots.ensures)) c.requires c.in_ok-put.ensures.did.step c.in_ok-put.ensures.changes
+    (g.met.P.Pages.are_counted c.move_entries.new.pages) c.in_ok-move_entries.ensures.moves c.in_ok-move_entries.ensures.rerooted c.in_ok-move_entries.ensures.did.step c.in-Some.count c.in-Some.ensures.some c.in-Some.ensures.may c.recount.ensures.lists c.recount.ensures.keeps c.recount.ensures.fits

@@ -1,0 +1,249 @@
+-- The entry of a tuple in one image of its relation, where a change tells the tuple's values: what a move of it may find, and what it leaves.
+use Rattle.std.proofs.Common.{◌≡◌, ℕ, ◌+◌, ◌<◌, ◌≤◌, true, List, ◌∷◌, inl, inr, refl, sym, ◌∙◌, ap, subst, arith}
+use Rattle.std.specs.Prelude.{Option, Some, None, is_some, option_map, option_copied, All, IfSome}
+use Rattle.std.specs.Borrow.{Bor}
+use Rattle.std.proofs.lemmas.Bool.{cases_lt}
+use Rattle.std.proofs.lemmas.Option.{none-some, same_Some}
+use Rattle.rss_base.specs.DiskRule.{IsTold}
+use Rattle.rss_base.specs.Steps.{PagesView, PagesStep, AreCounted, pages_in}
+use Rattle.rss_base.specs.TupleTypes.{kinds, misfit, tuple_bytes, IsStorable}
+use Rattle.rss_base.specs.Listings.{Listing, numbered, field_numbers, relation_at, image_at}
+use Rattle.rss_base.specs.declared.key.PageKey.{PageKey}
+use Rattle.rss_base.specs.declared.key.Space.{Space}
+use Rattle.rss_base.specs.declared.key.Space.TheVariants.{Home, Overflow, Image as ImageSpace, System}
+use Rattle.rss_base.specs.PageMap.{IsKey, number_limit}
+use Rattle.rss_base.specs.declared.tid.Tid.{Tid}
+use Rattle.rss_base.specs.declared.change.Change as told
+use Rattle.rss_base.specs.declared.field.FieldDef.{FieldDef}
+use Rattle.rss_base.specs.declared.image.ImageEntry.{ImageEntry}
+use Rattle.rss_base.specs.declared.item.Item.TheVariants.{Tuple as TupleItem}
+use Rattle.rss_base.specs.declared.relation.RelationEntry.{RelationEntry}
+use Rattle.rss_base.specs.declared.value.FieldKind.{FieldKind}
+use Rattle.rss_base.specs.declared.value.Value.{Value}
+use Rattle.rss_catalog.specs.Catalogs.{CatalogView}
+use Rattle.rss_catalog.proofs.Numbered.{numbered_map}
+use Rattle.rss_image.specs.Images.{nodes_of}
+use Rattle.rss_image.specs.declared.image.Image.{Image}
+use Rattle.rss_model.specs.Items.{Values}
+use Rattle.rss_model.specs.Tables.{Tables, content}
+use Rattle.rss_model.specs.Store.{IsListedImage, SpellsImages, plain_body}
+use Rattle.rss_model.specs.Meanings.{rootless}
+use Rattle.rss_model.proofs.Spelled.{tuple_bytes_same}
+use Rattle.rss_entries.specs.Moving.{KeyKinds, AreSpelled, MayMove, MovesEntry}
+use Rattle.rss_entries.specs.Images.{TupleMove, CanMove, after_move, image_of, key_of}
+use Rattle.rss_entries.specs.Rooms.{width_of}
+use Rattle.rss_access.specs.declared.edit.Edit.{Edit}
+use Rattle.rss_access.specs.declared.edit.Edit.TheVariants.{Insert, Delete, Update}
+use Rattle.rss_access.specs.declared.edit.TupleChange.{TupleChange}
+use Rattle.rss_access.specs.Changes.{AccessView, ShowsMove, both, number_told, tid_told, body_before, body_after}
+use Rattle.rss_access.specs.Edits.{told_of, told_by, body_lent}
+use Rattle.rss_access.specs.Moved.{IsImageOf, ShowsMoveBelow, Reroots}
+use Rattle.rss_access.specs.Relisted.{Rerooted}
+use Rattle.rss_access.proofs.Numbered.{fields_listed}
+use Rattle.rss_entries.proofs.Standing.{AreLow}
+use Rattle.rss_entries.proofs.Showing.{shows_first, shows_next, shows_moved, shows_all, can_still}
+use Rattle.rss_entries.proofs.Places.{may_move, places_same, rooms_same}
+
+-- ---- numbers of pages
+
+limit_low : (slots : ℕ) (space : Space) → slots < 4294967296 → number_limit slots space ≤ 4294967295
+limit_low slots Home few = omega arith
+limit_low slots Overflow few = omega arith
+limit_low slots ImageSpace few = omega arith
+limit_low slots System few = omega arith
+
+-- no page has the number that stands for no next leaf
+pub held_low : (pages : PagesView) (slots : ℕ) → slots < 4294967296 → pages.slots ≡ slots → ((key : PageKey) → is_some (pages.held key) ≡ pages.mapped key) → ((key : PageKey) → pages.mapped key ≡ true → IsKey pages.slots key) → AreLow pages.held
+held_low pages slots few same holds allowed key there =
+    let is : IsKey pages.slots key = allowed key (sym (holds key) ∙ there) in
+    omega (arith, is.number, limit_low pages.slots key.space (omega (arith, same, few)))
+
+-- ---- values and the bytes that tell them
+
+-- values that fit and can be spelled
+record AreFit (fields : List FieldKind) (values : Option (List Value)) : Type 0 where
+  fit : IfSome values (λ v. misfit fields v ≡ None)
+  storable : IfSome values (All IsStorable)
+
+rest_same : (n m : ℕ) (x y : List ℕ) → n ∷ x ≡ m ∷ y → x ≡ y
+rest_same n m x y same = cc
+
+module _ (fields : List FieldKind) (n m : ℕ) where
+  -- bytes are those of one tuple
+  same_values : (bytes : Option (Bor (List ℕ))) (values others : Option (List Value)) → body_lent m bytes ≡ option_map (plain_body n) values → AreFit fields values → AreSpelled fields (option_copied bytes) others → others ≡ values
+  same_values None None None is fit spelled = refl
+  same_values None None (Some others) is fit spelled = absurd spelled
+  same_values None (Some values) others is fit spelled = absurd (cc)
+  same_values (Some b) None others is fit spelled = absurd (cc)
+  same_values (Some b) (Some values) None is fit spelled = absurd spelled
+  same_values (Some b) (Some values) (Some others) is fit spelled =
+      ap Some (tuple_bytes_same 1 fields others values spelled.fit fit.fit spelled.storable fit.storable (sym spelled.same ∙ rest_same m n b.now (tuple_bytes values) (same_Some _ _ is)))
+
+  are_spelled : (bytes : Option (Bor (List ℕ))) (values : Option (List Value)) → body_lent m bytes ≡ option_map (plain_body n) values → AreFit fields values → AreSpelled fields (option_copied bytes) values
+  are_spelled None None is fit = tt
+  are_spelled None (Some values) is fit = absurd (cc)
+  are_spelled (Some b) None is fit = absurd (cc)
+  are_spelled (Some b) (Some values) is fit = record { fit = fit.fit; storable = fit.storable; same = rest_same m n b.now (tuple_bytes values) (same_Some _ _ is) }
+
+-- ---- the values of the tuple that changes
+
+module _ {listing : Listing} {move : TupleMove} {tables : Tables} (can : CanMove listing move tables) where
+  old_fit : AreFit (kinds move.relation.fields) move.was
+  old_fit = by move.was refl
+    where
+      by : (was : Option (List Value)) → move.was ≡ was → AreFit (kinds move.relation.fields) was
+      by None is = record { fit = tt; storable = tt }
+      by (Some values) is =
+          let there : content tables.contents (TupleItem move.relation.name move.tid) ≡ Some (Values values) = can.holds ∙ ap (option_map Values) is in
+          let of = can.tuples move.relation.name move.tid (Values values) there in
+          let fields : of.fields ≡ kinds move.relation.fields = same_Some _ _ (sym of.defined ∙ fields_listed tables can.fits can.defines move.number move.relation can.listed) in
+          record {
+            fit = ap (λ (f : List FieldKind). misfit f values) (sym fields) ∙ ap (misfit of.fields) (held_same values of.values of.tuple) ∙ of.fit;
+            storable = can.storable move.relation.name move.tid values there;
+          }
+        where
+          held_same : (a b : List Value) → Values a ≡ Values b → a ≡ b
+          held_same a b same = cc
+
+  new_fit : AreFit (kinds move.relation.fields) move.next
+  new_fit = record { fit = can.fit; storable = can.next_storable }
+
+-- ---- what a change that is lent tells
+
+number_of_edit : (number : ℕ) (tid : Tid) (edit : Edit) → number_told (told_of number tid edit) ≡ number
+number_of_edit number tid (Insert values) = refl
+number_of_edit number tid (Delete values) = refl
+number_of_edit number tid (Update from to) = refl
+
+tid_of_edit : (number : ℕ) (tid : Tid) (edit : Edit) → tid_told (told_of number tid edit) ≡ tid
+tid_of_edit number tid (Insert values) = refl
+tid_of_edit number tid (Delete values) = refl
+tid_of_edit number tid (Update from to) = refl
+
+pub number_lent : (change : TupleChange) → number_told (told_by change) ≡ change.number
+number_lent change = number_of_edit change.number change.tid change.edit
+
+pub tid_lent : (change : TupleChange) → tid_told (told_by change) ≡ change.tid
+tid_lent change = tid_of_edit change.number change.tid change.edit
+
+-- the bytes of the values before and after a change
+pub record Lends (change : told.Change) (number : ℕ) (was next : Option (Bor (List ℕ))) : Type 0 where
+  pub before : body_before change ≡ body_lent number was
+  pub after : body_after change ≡ body_lent number next
+
+-- what a move is given for an image: the fields of its relation and of its keys, their width, and the tuple's identifier
+pub record Passes (change : told.Change) (image : ImageEntry) (relation : RelationEntry) (fields : List FieldDef) (which : List ℕ) (width : ℕ) (tid : Tid) : Type 0 where
+  pub of : image.relation ≡ number_told change
+  pub fields_are : fields ≡ relation.fields
+  pub which_are : which ≡ field_numbers image
+  pub width_is : width ≡ width_of image relation
+  pub tid_is : tid_told change ≡ tid
+
+abbrev pub key_passed : List FieldDef → List ℕ → KeyKinds
+key_passed fields which = record { fields = kinds fields; which = which }
+
+abbrev pub image_passed : ℕ → ImageEntry → RelationEntry → ℕ → Image
+image_passed number image relation width = record { segment = relation.segment; number = number; width = width; root = image.root; levels = image.levels }
+
+-- ---- an image of the relation
+
+module _ {k number : ℕ} {catalog : CatalogView} {image : ImageEntry} {relation : RelationEntry} (at : image_at catalog.listing k ≡ Some image) (within : relation_at catalog.listing image.relation ≡ Some relation)
+    {change : told.Change} {was next : Option (Bor (List ℕ))} (lends : Lends change number was next) {fields : List FieldDef} {which : List ℕ} {width : ℕ} {tid : Tid} (passes : Passes change image relation fields which width tid) {old : PagesView} (low : AreLow old.held)
+    (move : TupleMove) (tables : Tables) (shows : ShowsMoveBelow k (both old catalog) change move tables) where
+  its : image.relation ≡ move.number
+  its = passes.of ∙ shows.tells.number
+
+  one_relation : relation ≡ move.relation
+  one_relation = same_Some _ _ (sym within ∙ ap (relation_at catalog.listing) its ∙ shows.can.listed)
+
+  listed : IsListedImage catalog.listing k image move.relation
+  listed = record { at = at; within = within ∙ ap Some one_relation }
+
+  kinds_same : kinds fields ≡ kinds move.relation.fields
+  kinds_same = ap kinds passes.fields_are ∙ ap (λ (r : RelationEntry). kinds r.fields) one_relation
+
+  key_same : key_passed fields which ≡ key_of image move.relation
+  key_same = λ i. record { fields = kinds_same i; which = passes.which_are i }
+
+  tid_same : tid ≡ move.tid
+  tid_same = sym passes.tid_is ∙ shows.tells.tid
+
+  image_same : image_passed k image relation width ≡ image_of k image move.relation
+  image_same = (λ i. image_passed k image relation (passes.width_is i)) ∙ ap (image_of k image) one_relation
+
+  was_told : body_lent number was ≡ option_map (plain_body move.number) move.was
+  was_told = sym lends.before ∙ shows.tells.before
+
+  next_told : body_lent number next ≡ option_map (plain_body move.number) move.next
+  next_told = sym lends.after ∙ shows.tells.after
+
+  -- the values that the bytes spell are those of the tuple
+  pub may_be_moved : ((key : PageKey) → is_some (old.held key) ≡ old.mapped key) → (values : Option (List Value)) → AreSpelled (kinds fields) (option_copied was) values
+      → MayMove (key_passed fields which) tid values (image_passed k image relation width) old
+  may_be_moved holds values spelled =
+      let same : values ≡ move.was = same_values (kinds move.relation.fields) move.number number was move.was values was_told (old_fit shows.can) (subst (λ (f : List FieldKind). AreSpelled f (option_copied was) values) kinds_same spelled) in
+      subst (λ (v : Option (List Value)). MayMove (key_passed fields which) tid v (image_passed k image relation width) old) (sym same)
+      (subst (λ (key : KeyKinds). MayMove key tid move.was (image_passed k image relation width) old) (sym key_same)
+      (subst (λ (t : Tid). MayMove (key_of image move.relation) t move.was (image_passed k image relation width) old) (sym tid_same)
+      (subst (λ (passed : Image). MayMove (key_of image move.relation) move.tid move.was passed old) (sym image_same)
+      (may_move move shows.can k image old low holds shows.images listed its shows.room))))
+
+  module _ (disk : IsTold old.disk) {new : PagesView} (new_low : AreLow new.held) (counted : AreCounted old) (new_counted : AreCounted new) {asks outs : ℕ} (step : PagesStep (pages_in relation.segment ImageSpace) asks outs old new)
+      (after : Image) (nodes : nodes_of after ≡ nodes_of (image_passed k image relation width))
+      (moves : (values others : Option (List Value)) → AreSpelled (kinds fields) (option_copied was) values → AreSpelled (kinds fields) (option_copied next) others → MovesEntry (key_passed fields which) tid values others (image_passed k image relation width) after old new)
+      {now : CatalogView} (reroots : Reroots k after.root after.levels image catalog now) where
+    moved : MovesEntry (key_of image move.relation) move.tid move.was move.next (image_of k image move.relation) after old new
+    moved =
+        subst (λ (passed : Image). MovesEntry (key_of image move.relation) move.tid move.was move.next passed after old new) image_same
+        (subst (λ (t : Tid). MovesEntry (key_of image move.relation) t move.was move.next (image_passed k image relation width) after old new) tid_same
+        (subst (λ (key : KeyKinds). MovesEntry key tid move.was move.next (image_passed k image relation width) after old new) key_same
+        (moves move.was move.next
+        (subst (λ (f : List FieldKind). AreSpelled f (option_copied was) move.was) (sym kinds_same) (are_spelled (kinds move.relation.fields) move.number number was move.was was_told (old_fit shows.can)))
+        (subst (λ (f : List FieldKind). AreSpelled f (option_copied next) move.next) (sym kinds_same) (are_spelled (kinds move.relation.fields) move.number number next move.next next_told (new_fit shows.can))))))
+
+    its_step : PagesStep (pages_in move.relation.segment ImageSpace) asks outs old new
+    its_step = subst (λ (r : RelationEntry). PagesStep (pages_in r.segment ImageSpace) asks outs old new) one_relation step
+
+    its_nodes : nodes_of after ≡ nodes_of (image_of k image move.relation)
+    its_nodes = nodes ∙ ap nodes_of image_same
+
+    -- the image shows the tables after the change
+    pub shows_one_more : ShowsMoveBelow (k + 1) (both new now) change move tables
+    shows_one_more = record {
+      tells = shows.tells;
+      can = can_still shows.can k image at after.root after.levels now.listing reroots.is (reroots.rerooted.fits shows.can.fits);
+      images = shows_moved move shows.can k image listed its disk low new_low shows.images after its_nodes moved its_step now.listing reroots.is;
+      room = omega (arith, shows.room, rooms_same catalog.listing move.number k image at after.root after.levels now.listing reroots.is, places_same move.relation.segment old new counted new_counted its_step);
+    }
+
+-- ---- an image of another relation
+
+pub shows_another : {k : ℕ} {at : AccessView} (change : TupleChange) {move : TupleMove} {tables : Tables} → (IsImageOf at.catalog.listing k change.number → ⊥) → ShowsMoveBelow k at (told_by change) move tables → ShowsMoveBelow (k + 1) at (told_by change) move tables
+shows_another {k = k} {at = at} change {move = move} other shows = record {
+  tells = shows.tells;
+  can = shows.can;
+  images = shows_next move shows.can k (λ image there its. other (record { image = image; at = there; of = its ∙ sym shows.tells.number ∙ number_lent change })) shows.images;
+  room = shows.room;
+}
+
+-- ---- all images
+
+-- before any image is moved
+pub shows_none_yet : {at : AccessView} {change : told.Change} {move : TupleMove} {tables : Tables} → ShowsMove at change move tables → ShowsMoveBelow 1 at change move tables
+shows_none_yet {move = move} shows = record { tells = shows.tells; can = shows.can; images = shows_first move shows.images; room = shows.room }
+
+none_now : {old now : CatalogView} → Rerooted old now → (number : ℕ) → image_at old.listing number ≡ None → image_at now.listing number ≡ None
+none_now {old = old} {now = now} rerooted number none = none_of (image_at now.listing number)
+    (sym (numbered_map rootless now.listing.images number) ∙ ap (λ (items : List (Option ImageEntry)). numbered items number) rerooted.images ∙ numbered_map rootless old.listing.images number ∙ ap (option_map rootless) none)
+  where
+    none_of : (o : Option ImageEntry) → option_map rootless o ≡ None → o ≡ None
+    none_of None is = refl
+    none_of (Some image) is = absurd (cc)
+
+-- once all are moved
+pub shows_them_all : {old now : CatalogView} {pages : PagesView} {change : told.Change} {move : TupleMove} {tables : Tables} {k last : ℕ} → Rerooted old now → ((number : ℕ) → last < number → image_at old.listing number ≡ None) → last < k → ShowsMoveBelow k (both pages now) change move tables
+    → SpellsImages pages.held now.listing (after_move move tables)
+shows_them_all {k = k} {last = last} rerooted none few shows = shows_all shows.images (λ number image at. elim (cases_lt number k) [
+  | inl below ↦ below
+  | inr past ↦ absurd (none-some image (sym (none_now rerooted number (none number (omega (arith, past, few)))) ∙ at))
+])

@@ -1,0 +1,44 @@
+-- The entries of a tuple are moved in the images of its relation, one image after another.
+use Rattle.std.specs.Prelude.{◌≡◌, ℕ, ◌+◌, ◌*◌, ◌≤◌, Some}
+use Rattle.rss_base.specs.Listings.{Listing, image_at, with_image, with_root}
+use Rattle.rss_base.specs.declared.image.ImageEntry.{ImageEntry}
+use Rattle.rss_base.specs.declared.change.Change as told
+use Rattle.rss_catalog.specs.Catalogs.{CatalogView}
+use Rattle.rss_model.specs.Tables.{Tables}
+use Rattle.rss_entries.specs.Rooms.{images_room, image_places}
+use Rattle.rss_entries.specs.Images.{TupleMove, CanMove, ShowBelow}
+use Rattle.rss_access.specs.Changes.{AccessView, TellsMove}
+use Rattle.rss_access.specs.Relisted.{Rerooted}
+
+-- how many pages are asked for at most where an entry is moved in one image, and how many may leave memory
+abbrev pub image_cost : ℕ
+image_cost = 10 * 255 + 2
+
+-- the image of this number is one of this relation
+pub record IsImageOf (listing : Listing) (number relation : ℕ) : Type 0 where
+  pub image : ImageEntry
+  pub at : image_at listing number ≡ Some image
+  pub of : image.relation ≡ relation
+
+-- The images below a number show tables after the change, and the others those before it, in which the tuple can change so; and there is room for its entries.
+pub record ShowsMoveBelow (k : ℕ) (at : AccessView) (change : told.Change) (move : TupleMove) (tables : Tables) : Type 0 where
+  pub tells : TellsMove change move
+  pub can : CanMove at.catalog.listing move tables
+  pub images : ShowBelow k at.pages.held at.catalog.listing move tables
+  pub room : images_room at.catalog.listing move.number ≤ image_places at.pages
+
+-- there are such tables
+pub record MayMoveAt (k : ℕ) (at : AccessView) (change : told.Change) : Type 0 where
+  pub move : TupleMove
+  pub tables : Tables
+  pub shows : ShowsMoveBelow k at change move tables
+
+-- all such tables are shown after the change by one image more
+abbrev pub MovesAt : ℕ → AccessView → AccessView → told.Change → Type 0
+MovesAt k old new change = (move : TupleMove) (tables : Tables) → ShowsMoveBelow k old change move tables
+    → ShowsMoveBelow (k + 1) new change move tables
+
+-- The image of this number begins here now, and all else is listed as it was.
+pub record Reroots (number root levels : ℕ) (image : ImageEntry) (old new : CatalogView) : Type 0 where
+  pub is : new.listing ≡ with_image old.listing number (Some (with_root root levels image))
+  pub rerooted : Rerooted old new
