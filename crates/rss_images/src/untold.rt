@@ -48,6 +48,10 @@ impl<P: Pages> Pages for Untold<P> {
         self.pages.spare()
     }
 
+    fn image_pages(&self) -> u32 {
+        self.pages.image_pages()
+    }
+
     fn has(&self, key: PageKey) -> bool {
         self.pages.has(key)
     }

@@ -1,5 +1,5 @@
 -- Changes that are made one after another.
-use Rattle.std.proofs.Common.{◌≡◌, ℕ, ◌+◌, ◌*◌, ◌≤◌, List, [], ◌∷◌, ◌++◌, length, get_or, take, drop, append_assoc, add-one, refl, sym, ◌∙◌, ap, subst, arith}
+use Rattle.std.proofs.Common.{◌≡◌, inl, inr, ℕ, ◌+◌, ◌*◌, ◌≤◌, List, [], ◌∷◌, ◌++◌, length, get_or, take, drop, append_assoc, add-one, refl, sym, ◌∙◌, ap, subst, arith}
 use Rattle.std.specs.Prelude.{◌<◌, map, Option, Some, None, Result, Ok, Err, IsErrAnd, OnOk}
 use Rattle.std.proofs.Math.Seq.{drop-cons}
 use Rattle.std.proofs.lemmas.Result.{err_from_is_err_and}
@@ -13,12 +13,12 @@ use Rattle.rss_base.specs.declared.place.Place.{Place}
 use Rattle.rss_base.specs.declared.place.Place.TheVariants.{Log as LogPlace}
 use Rattle.rss_base.specs.declared.relation.RelationEntry.{RelationEntry}
 use Rattle.rss_base.specs.declared.change.Change as told
-use Rattle.rss_base.specs.Listings.{relation_at}
+use Rattle.rss_base.specs.Listings.{Listing, relation_at}
 use Rattle.rss_base.proofs.Steps.{rests, then, within}
-use Rattle.rss_page.specs.Slotted.{IsHeapKey}
 use Rattle.rss_log.specs.Logs.{LogView}
 use Rattle.rss_model.specs.Tables.{Tables}
-use Rattle.rss_access.specs.Changes.{AccessView, alter_cost, Takes, applied, pages_of_relation, number_told, Makes, NoneApplies, CanApply}
+use Rattle.rss_access.specs.Written.{content_of}
+use Rattle.rss_access.specs.Changes.{AccessView, alter_cost, Takes, HasRoom, applied, pages_of_relation, number_told, Makes, NoneApplies, CanApply}
 use Rattle.rss_access.proofs.Altering.{applies_by}
 use Rattle.rss_access.proofs.Telling.{none_applies}
 use Rattle.rss_restart.specs.declared.restarting.Way.{Way}
@@ -26,6 +26,7 @@ use Rattle.rss_restart.specs.Walks.{Turn, turn, directed, recorded, Move, turns_
 use Rattle.rss_restart.specs.Walks.{Counted}
 use Rattle.rss_restart.specs.Walks.Counted.{counts_none, counts_more}
 use Rattle.rss_catalog.specs.Catalogs.{CatalogView}
+use Rattle.rss_restart.specs.Restarting.{KeepsCatalog}
 use Rattle.rss_restart.proofs.Keeping.{keeps_itself, keeps_then, keeps_made}
 use Rattle.rss_restart.proofs.Moving.{walks_on, no_step_walks, told_once, directed_tuple}
 
@@ -116,11 +117,16 @@ turns_all way positions i low =
 
 -- ---- what they pass on
 
+-- pages that images may have now are those that they had
+content_was : {old mid : AccessView} → KeepsCatalog old mid → (key : PageKey) → content_of mid.catalog.listing key → content_of old.catalog.listing key
+content_was keeps key (inl heap) = inl heap
+content_was keeps key (inr image) = inr (image.0, keeps.images image.1)
+
 takes_none : (pages : PagesView) → Takes 0 pages pages
-takes_none pages = record { mapped = omega arith; spare = omega arith }
+takes_none pages = record { heap = omega arith; places = omega arith }
 
 takes_both : {T : Type 0} (old mid new : PagesView) (m n all : ℕ) (result : Result T PageFault) → all ≡ m + n → Takes m old mid → OnOk result (Takes n mid new) → OnOk result (Takes all old new)
-takes_both old mid new m n all (Ok value) sum one two = record { mapped = omega (arith, sum, one.mapped, two.mapped); spare = omega (arith, sum, one.spare, two.spare) }
+takes_both old mid new m n all (Ok value) sum one two = record { heap = omega (arith, sum, one.heap, two.heap); places = omega (arith, sum, one.places, two.places) }
 takes_both old mid new m n all (Err fault) sum one two = tt
 
 pub walks_nothing : {log : LogView} (view : AccessView) → Walks {T = Unit {0}} log 0 view view (Ok tt)
@@ -138,12 +144,12 @@ walks_nothing view = record {
 module _ {T U : Type 0} {log : LogView} {most more : ℕ} {old mid new : AccessView} {value : U} where
   pub walks_then : {result : Result T PageFault} → Walks log most old mid (Ok value) → Walks log more mid new result → Walks log (most + more) old new result
   walks_then {result = result} one two =
-      let next : PagesStep IsHeapKey (two.made * alter_cost old.pages.slots) (two.made * alter_cost old.pages.slots) mid.pages new.pages =
-      subst (λ (n : ℕ). PagesStep IsHeapKey (two.made * alter_cost n) (two.made * alter_cost n) mid.pages new.pages) one.step.passes.slots two.step in
+      let next : PagesStep (content_of mid.catalog.listing) (two.made * alter_cost old.pages.slots) (two.made * alter_cost old.pages.slots) mid.pages new.pages =
+      subst (λ (n : ℕ). PagesStep (content_of mid.catalog.listing) (two.made * alter_cost n) (two.made * alter_cost n) mid.pages new.pages) one.step.passes.slots two.step in
       record {
         made = one.made + two.made;
         few = omega (arith, one.few, two.few);
-        step = within (λ key is. is) (omega arith) (omega arith) (then one.step next);
+        step = within (λ key is. is) (omega arith) (omega arith) (then one.step (within {asks_now = two.made * alter_cost old.pages.slots} {outs_now = two.made * alter_cost old.pages.slots} (λ key is. content_was one.keeps key is) (omega arith) (omega arith) next));
         takes = takes_both old.pages mid.pages new.pages (2 * one.made) (2 * two.made) (2 * (one.made + two.made)) result (omega arith) one.takes two.takes;
         keeps = keeps_then one.keeps one.step.passes.leaves.told.0 two.keeps;
         failed = λ is. let rose = two.failed is in omega (arith, rose, one.step.passes.later);
@@ -171,9 +177,9 @@ walks_within few walks = record { made = walks.made; few = omega (arith, few, wa
 
 -- ---- one change
 
-heap_told : (found : Option RelationEntry) (key : PageKey) → pages_of_relation found key → IsHeapKey key
-heap_told None key is = absurd is
-heap_told (Some relation) key is = is.1
+pub content_told : (listing : Listing) (found : Option RelationEntry) (key : PageKey) → pages_of_relation listing found key → content_of listing key
+content_told listing None key is = absurd is
+content_told listing (Some relation) key is = is.1
 
 same_place : {T : Type 0} {one two : Place} → ◌≡◌ {A = Result T PageFault} (Err (Damaged one)) (Err (Damaged two)) → two ≡ one
 same_place is = cc (is)
@@ -192,8 +198,8 @@ walks_refused at view low high = record {
 }
 
 module _ {T : Type 0} {change : told.Change} {old new : AccessView} {result : Result T PageFault} (makes : Makes change old new result) where
-  made_step : PagesStep IsHeapKey (1 * alter_cost old.pages.slots) (1 * alter_cost old.pages.slots) old.pages new.pages
-  made_step = within (λ key is. heap_told (relation_at old.catalog.listing (number_told change)) key is) (omega arith) (omega arith) makes.step
+  made_step : PagesStep (content_of old.catalog.listing) (1 * alter_cost old.pages.slots) (1 * alter_cost old.pages.slots) old.pages new.pages
+  made_step = within (λ key is. content_told old.catalog.listing (relation_at old.catalog.listing (number_told change)) key is) (omega arith) (omega arith) makes.step
 
 -- a change was made
 pub walks_made : {T : Type 0} {log : LogView} {change : told.Change} {old new : AccessView} (value : T) → Makes change old new (Ok value) → Walks log 1 old new (Ok value)
@@ -235,18 +241,16 @@ walks_recorded at NoMemory low high makes = absurd (makes.memory refl)
 -- ---- a change that can't be made
 
 pub none_told : {log : LogView} (next : Turn) {view : AccessView} → TellsNone log next.at → NoStep log next view
-none_told next none told_change tells spare tables change can = none told_change tells
+none_told next none told_change tells room tables change can = none told_change tells
 
-pub none_spare : {log : LogView} (next : Turn) {view : AccessView} → view.pages.spare < 2 → NoStep log next view
-none_spare next few told_change tells spare tables change can = absurd (omega (arith, few, spare))
-
-none_applied : {log : LogView} (next : Turn) {view : AccessView} {told_change : told.Change} → TellsAt log next.at told_change → NoneApplies (directed next.way told_change) view → NoStep log next view
-none_applied next {view = view} {told_change = told_change} tells none other tells_too spare tables change can =
-    none tables change (subst (λ (c : told.Change). CanApply view (directed next.way c) tables change) (told_once tells_too tells) can)
+none_applied : {log : LogView} (next : Turn) {view : AccessView} {told_change : told.Change} → TellsAt log next.at told_change → (HasRoom view (number_told (directed next.way told_change)) → NoneApplies (directed next.way told_change) view) → NoStep log next view
+none_applied next {view = view} {told_change = told_change} tells none other tells_too room tables change can =
+    let same = told_once tells_too tells in
+    none (subst (λ (c : told.Change). HasRoom view (number_told (directed next.way c))) same room) tables change (subst (λ (c : told.Change). CanApply view (directed next.way c) tables change) same can)
 
 pub none_recorded : {T U : Type 0} {log : LogView} (next : Turn) {old new : AccessView} {told_change : told.Change} (fault : PageFault) (place : Place) → TellsAt log next.at told_change → Makes {T = U} (directed next.way told_change) old new (Err fault) → ◌≡◌ {A = Result T PageFault} (Err (recorded next.at fault)) (Err (Damaged place)) → IsTold old.pages.disk → NoStep log next old
 none_recorded next DeviceFailed place tells makes is told = absurd (cc (is))
-none_recorded next {told_change = told_change} (Damaged found) place tells makes is told = none_applied next tells (none_applies (directed_tuple next.way told_change tells.tuple) (makes.damaged found refl told))
+none_recorded next {told_change = told_change} (Damaged found) place tells makes is told = none_applied next tells (λ room. none_applies (directed_tuple next.way told_change tells.tuple) (makes.damaged found refl told) room)
 none_recorded next NoMemory place tells makes is told = absurd (cc (is))
 
 -- ---- a change that is made

@@ -1,16 +1,17 @@
 -- A change that is made: what the log tells of the others means the same afterwards.
-use Rattle.std.proofs.Common.{◌≡◌, inl, inr, ℕ, zero, suc, ◌+◌, ◌-◌, List, [], ◌∷◌, get_or, refl, sym, ◌∙◌, ap, subst, arith}
-use Rattle.std.specs.Prelude.{Option, Some, None, unwrap_or, replicate}
+use Rattle.std.proofs.Common.{◌≡◌, inl, inr, ℕ, zero, suc, ◌≤◌, List, [], ◌∷◌, get_or, refl, sym, ◌∙◌, ap, subst, arith}
+use Rattle.std.specs.Prelude.{Option, Some, None, unwrap_or, replicate, sum_by}
 use Rattle.std.specs.List.{AllByRecursion}
 use Rattle.std.proofs.lemmas.Bool.{cases_eq, cases_lt}
 use Rattle.std.proofs.lemmas.List.{get_or_past, get_or-replicate, length-replicate}
 use Rattle.std.proofs.lemmas.Option.{none-some, same_Some}
-use Rattle.rss_base.specs.Sizes.{links_most}
+use Rattle.rss_base.specs.Sizes.{images_most, links_most}
 use Rattle.rss_base.specs.DiskRule.{IsTold}
 use Rattle.rss_base.specs.TupleTypes.{kinds, Spells}
-use Rattle.rss_base.specs.Listings.{Listing, IsPlain, relation_at, link_at, with_count}
+use Rattle.rss_base.specs.Listings.{Listing, IsPlain, numbered, relation_at, link_at, with_count}
 use Rattle.rss_base.specs.declared.name.Name.{Name}
 use Rattle.rss_base.specs.declared.field.FieldDef.{FieldDef}
+use Rattle.rss_base.specs.declared.image.ImageEntry.{ImageEntry}
 use Rattle.rss_base.specs.declared.link.LinkEntry.{LinkEntry}
 use Rattle.rss_base.specs.declared.item.Item.TheVariants.{Tuple as TupleItem}
 use Rattle.rss_base.specs.declared.relation.RelationEntry.{RelationEntry}
@@ -28,8 +29,12 @@ use Rattle.rss_model.specs.Fits.{Fits}
 use Rattle.rss_model.specs.Meanings.{IsChangeTold, Means, TellsValues, name_at, nameless}
 use Rattle.rss_model.proofs.Listed.{at_place}
 use Rattle.rss_model.proofs.Relisted.{number_of}
-use Rattle.rss_access.specs.Changes.{AccessView, IsTupleRecord, number_told, CountsChange, Alters, Applies, CanApply, applied}
-use Rattle.rss_access.proofs.Recounting.{Recounts, recounts_itself, recounts_listed}
+use Rattle.rss_access.specs.Changes.{AccessView, IsTupleRecord, HasRoom, number_told, Alters, Applies, CanApply, applied}
+use Rattle.rss_access.specs.Relisted.{Recounted}
+use Rattle.rss_entries.specs.Rooms.{images_room, image_room, image_places}
+use Rattle.rss_access.proofs.Numbered.{counted_here, counted_else}
+use Rattle.rss_access.proofs.Recounting.{Recounts}
+use Rattle.rss_access.proofs.Rerooting.{recounts_by}
 use Rattle.rss_access.proofs.Telling.{reversed_tuple}
 use Rattle.rss_restart.specs.declared.restarting.Way.{Way}
 use Rattle.rss_restart.specs.declared.restarting.Way.TheVariants.{Back, Again}
@@ -88,14 +93,6 @@ module _ {number : ℕ} {relation : RelationEntry} {old now : Listing} (at : rel
   told_still (Connect link parent child left) change is means tells = absurd is
   told_still (Disconnect link parent child left) change is means tells = absurd is
 
--- the listing after a change of a tuple
-recounts_of : (told_change : told.Change) (relation : RelationEntry) (old now : CatalogView) → IsTupleRecord told_change → relation_at old.listing (number_told told_change) ≡ Some relation → CountsChange told_change relation old now → Recounts (number_told told_change) relation old.listing now.listing
-recounts_of (Insert number tid values) relation old now is at counts = recounts_listed (relation.live + 1) at counts.lists
-recounts_of (Delete number tid values) relation old now is at counts = recounts_listed (relation.live - 1) at counts.lists
-recounts_of (Update number tid from to) relation old now is at counts = subst (λ (c : CatalogView). Recounts number relation old.listing c.listing) (sym counts) (recounts_itself at)
-recounts_of (Connect link parent child left) relation old now is at counts = absurd is
-recounts_of (Disconnect link parent child left) relation old now is at counts = absurd is
-
 -- ---- which way a change is made
 
 pub directed_tuple : (way : Way) (told_change : told.Change) → IsTupleRecord told_change → IsTupleRecord (directed way told_change)
@@ -128,6 +125,19 @@ pub told_once : {log : LogView} {at : ℕ} {one two : told.Change} → TellsAt l
 told_once {one = one} {two = two} first second =
     same_change first.by second.by one two (one_front (records.Change first.by one) (records.Change second.by two) first.rest second.rest first.begins.spellable second.begins.spellable (sym first.begins.is ∙ second.begins.is)).0
 
+-- ---- room
+
+-- without images, two places are room enough
+rooms_none : (listing : Listing) (number : ℕ) → IsPlain listing → images_room listing number ≡ 0
+rooms_none listing number plain = ap (λ (images : List (Option ImageEntry)). sum_by (image_room listing number) images) plain.no_images ∙ none images_most
+  where
+    none : (count : ℕ) → sum_by (image_room listing number) (replicate count None) ≡ 0
+    none zero = refl
+    none (suc count) = none count
+
+pub plain_room : (at : AccessView) (number : ℕ) → IsPlain at.catalog.listing → 2 ≤ image_places at.pages → HasRoom at number
+plain_room at number plain room = omega (arith, rooms_none at.catalog.listing number plain, room)
+
 -- ---- the first of the changes that can be made
 
 pub fits_now : (slots : ℕ) (tables : Tables) (moves : List Move) → MovesFit slots tables moves → Fits slots tables
@@ -147,7 +157,7 @@ module _ {log : LogView} {at : AccessView} {tables : Tables} {m : Move} {moves :
 
   -- it is one that can be made
   pub no_step_walks : NoStep log m.next at → ⊥
-  no_step_walks none = none m.told_change can.are.0.tells (omega (arith, can.room)) tables m.change can_make
+  no_step_walks none = none m.told_change can.are.0.tells (plain_room at (number_told (directed m.next.way m.told_change)) can.spells.plain (omega (arith, can.room))) tables m.change can_make
 
   -- once it is made, the others can be
   pub walks_on : {now : AccessView} → StepsTo log m.next at now → IsTold at.pages.disk → now.pages.slots ≡ at.pages.slots → CanWalk log now (applied tables m.change) moves
@@ -155,13 +165,12 @@ module _ {log : LogView} {at : AccessView} {tables : Tables} {m : Move} {moves :
       let same : step.told_change ≡ m.told_change = told_once step.tells can.are.0.tells in
       let does : Applies (directed m.next.way m.told_change) at now = subst (λ (c : told.Change). Applies (directed m.next.way c) at now) same step.applies in
       let alters : Alters (directed m.next.way m.told_change) at now = subst (λ (c : told.Change). Alters (directed m.next.way c) at now) same step.alters in
-      let is = directed_tuple m.next.way m.told_change can.are.0.tells.tuple in
       record {
         spells = does on tables m.change can_make;
-        are = moves_still log alters.listed (recounts_of (directed m.next.way m.told_change) alters.relation at.catalog now.catalog is alters.listed alters.counts) moves can.are.1;
+        are = moves_still log alters.listed (recounts_by alters.counts alters.listed) moves can.are.1;
         find = can.find.1;
         fit = subst (λ (slots : ℕ). MovesFit slots (applied tables m.change) moves) (sym slots) can.fit.1;
-        room = omega (arith, can.room, step.takes.spare);
+        room = omega (arith, can.room, step.takes.places);
       }
 
 -- ---- without links no record of a chain means anything

@@ -24,6 +24,7 @@ use Rattle.rss_model.proofs.Counts.{one_if}
 use Rattle.rss_model.proofs.LogLists.{by_test}
 use Rattle.rss_model.proofs.Sparing.{number_leaves_room, spare_in_restart}
 use Rattle.rss_model.proofs.StorePages.{map_allowed, pages_counted}
+use Rattle.rss_entries.specs.Rooms.{image_places}
 use Rattle.rss_access.specs.Changes.{AccessView}
 use Rattle.rss_restart.specs.Surveys.{redone_at}
 use Rattle.rss_restart.specs.Restarting.{changes_made, CanRestart}
@@ -72,9 +73,9 @@ module _ {pages : Pages} {stored : Stored} {at : AccessView} {log : LogView} (st
         all = opened.counted;
       }
 
-  room : 2 * changes_made stored.older stored.newer ≤ at.pages.spare
-  room = spare_in_restart (change_counts (meter_of stored)) (page_counts at.pages) 0 (changes_made stored.older stored.newer)
-      (number_leaves_room stored.saved.definitions (meter_of stored) (page_counts at.pages) (omega (arith, store.room, opened.slots))) none_made (omega (arith, few_changes stored))
+  room : 2 * changes_made stored.older stored.newer ≤ image_places at.pages
+  room = let spare = spare_in_restart (change_counts (meter_of stored)) (page_counts at.pages) 0 (changes_made stored.older stored.newer)
+      (number_leaves_room stored.saved.definitions (meter_of stored) (page_counts at.pages) (omega (arith, store.room, opened.slots))) none_made (omega (arith, few_changes stored)) in omega (arith, spare)
 
   -- ---- its log
 

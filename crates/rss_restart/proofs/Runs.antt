@@ -7,6 +7,7 @@ use Rattle.rss_model.specs.Tables.{Tables, content}
 use Rattle.rss_model.specs.Fits.{Fits}
 use Rattle.rss_model.specs.Store.{SpellsTables}
 use Rattle.rss_model.proofs.LogLists.{all_append}
+use Rattle.rss_entries.specs.Rooms.{image_places}
 use Rattle.rss_access.specs.Changes.{AccessView, applied}
 use Rattle.rss_restart.specs.Walks.{Turn, Move, IsMove, turns_of, moved, MovesFind, MovesFit, CanWalk}
 
@@ -51,7 +52,7 @@ fit_both slots tables (m ∷ one) two first second = (first.0, fit_both slots (a
 abbrev pub ground_of : AccessView → LogView → Ground
 ground_of at log = record { listing = at.catalog.listing; log = log; slots = at.pages.slots }
 
-pub walk_both : {at : AccessView} {log : LogView} {tables mid next : Tables} {one two : List Turn} → SpellsTables at.pages.held at.catalog.listing tables → (first : Runs (ground_of at log) tables mid one) → (second : Runs (ground_of at log) mid next two) → 2 * length (first.moves ++ second.moves) ≤ at.pages.spare
+pub walk_both : {at : AccessView} {log : LogView} {tables mid next : Tables} {one two : List Turn} → SpellsTables at.pages.held at.catalog.listing tables → (first : Runs (ground_of at log) tables mid one) → (second : Runs (ground_of at log) mid next two) → 2 * length (first.moves ++ second.moves) ≤ image_places at.pages
     → CanWalk log at tables (first.moves ++ second.moves)
 walk_both {at = at} {log = log} {tables = tables} {mid = mid} spells first second room = record {
   spells = spells;

@@ -4,11 +4,10 @@ use Rattle.rss_base.specs.DiskRule.{IsTold}
 use Rattle.rss_base.specs.Faults.{Rises}
 use Rattle.rss_base.specs.Sizes.{system_pages}
 use Rattle.rss_base.specs.Steps.{PagesStep, no_page}
-use Rattle.rss_base.specs.Listings.{ListingFits}
+use Rattle.rss_base.specs.Listings.{ListingFits, IsPlain}
 use Rattle.rss_base.specs.declared.fault.PageFault.{PageFault}
 use Rattle.rss_base.specs.declared.fault.PageFault.TheVariants.{Device as DeviceFailed, Damaged, NoMemory}
 use Rattle.rss_base.specs.declared.place.Place.{Place}
-use Rattle.rss_page.specs.Slotted.{IsHeapKey}
 use Rattle.rss_log.specs.Logs.{LogView}
 use Rattle.rss_model.specs.Tables.{Contents, Tables}
 use Rattle.rss_model.specs.Restart.{losers}
@@ -16,7 +15,8 @@ use Rattle.rss_model.specs.Recovers.{lists_at, Recovers, WayFits}
 use Rattle.rss_model.specs.Meanings.{Logged, as_entries, IsLogged}
 use Rattle.rss_model.specs.Store.{SpellsTables}
 use Rattle.rss_access.specs.Changes.{AccessView, alter_cost, Takes}
-use Rattle.rss_access.specs.Written.{AreWritten}
+use Rattle.rss_entries.specs.Rooms.{image_places}
+use Rattle.rss_access.specs.Written.{HasImage, content_of, AreWritten}
 use Rattle.rss_restart.specs.Surveys.{IsLogOf, IsLogPlace, redone_at}
 
 -- saved: the tables of the checkpoint.
@@ -44,7 +44,7 @@ pub record CanRestart (at : AccessView) (log : LogView) (checkpoint : ℕ) (r : 
   pub means : IsLogged at.catalog.listing (lists_at (as_entries r.older)) r.older r.newer
   pub recovers : Recovers r.saved.contents (as_entries r.older) (as_entries r.newer) r.base
   pub way : WayFits at.pages.slots r.saved (as_entries r.older) (as_entries r.newer)
-  pub room : 2 * changes_made r.older r.newer ≤ at.pages.spare
+  pub room : 2 * changes_made r.older r.newer ≤ image_places at.pages
 
 -- whatever the log recovers over the old pages, the new pages spell it
 abbrev pub Recovered : LogView → ℕ → AccessView → AccessView → Type 0
@@ -56,20 +56,22 @@ Recovered log checkpoint old new =
 abbrev pub NoneRecovered : LogView → ℕ → AccessView → Type 0
 NoneRecovered log checkpoint at = (r : Recovery) → CanRestart at log checkpoint r → ⊥
 
--- What is kept of the catalog, whatever was done: its listing is sound still, and each of its pages that isn't to be written is as it spells it.
+-- What is kept of the catalog, whatever was done: its listing is sound still, it lists images only where it did, neither images nor links where it listed none, and each of its pages that isn't to be written is as it spells it.
 pub record KeepsCatalog (old new : AccessView) : Type 0 where
   pub fits : ListingFits old.catalog.listing → ListingFits new.catalog.listing
+  pub images : HasImage new.catalog.listing → HasImage old.catalog.listing
+  pub plain : IsPlain old.catalog.listing → IsPlain new.catalog.listing
   pub places : length new.catalog.pending ≡ length old.catalog.pending
   pub written : IsTold old.pages.disk → length old.catalog.pending ≡ system_pages
       → AreWritten old.pages.held old.catalog → AreWritten new.pages.held new.catalog
 
--- What a restart passes on, by its result: it made so many changes in home and overflow pages, and no more than the log has to undo and to do again. At success it took two pages at most for each. Each failure of the device has its cause, memory runs out only while nothing is changed yet, and what is damaged is a position of the log.
+-- What a restart passes on, by its result: it made so many changes in the pages of tuples and images, and no more than the log has to undo and to do again. At success it took two home or overflow pages at most for each. Each failure of the device has its cause, memory runs out only while nothing is changed yet, and what is damaged is a position of the log.
 pub record RestartPasses {T : Type 0} (log : LogView) (checkpoint : ℕ) (old new : AccessView)
     (result : Result T PageFault) : Type 0 where
   pub made : ℕ
   pub most : (older newer : List Logged) → IsLogOf old.catalog.listing log checkpoint older newer
       → made ≤ changes_made older newer
-  pub step : PagesStep IsHeapKey (made * alter_cost old.pages.slots)
+  pub step : PagesStep (content_of old.catalog.listing) (made * alter_cost old.pages.slots)
       (made * alter_cost old.pages.slots) old.pages new.pages
   pub takes : OnOk result (Takes (2 * made) old.pages new.pages)
   pub keeps : KeepsCatalog old new

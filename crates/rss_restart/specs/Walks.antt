@@ -13,7 +13,6 @@ use Rattle.rss_base.specs.declared.place.Place.{Place}
 use Rattle.rss_base.specs.declared.place.Place.TheVariants.{Log as LogPlace}
 use Rattle.rss_base.specs.declared.change.Change as told
 use Rattle.rss_base.specs.declared.log_record.LogRecord.TheVariants as records
-use Rattle.rss_page.specs.Slotted.{IsHeapKey}
 use Rattle.rss_log.specs.Logs.{LogView, bytes_from}
 use Rattle.rss_catalog.specs.Catalogs.{CatalogView}
 use Rattle.rss_model.specs.Tables.{Tables, content}
@@ -23,7 +22,10 @@ use Rattle.rss_model.specs.Restart.{losers}
 use Rattle.rss_model.specs.Recovers.{lists_at}
 use Rattle.rss_model.specs.Meanings.{IsChangeTold, Means, Logged, as_entries}
 use Rattle.rss_model.specs.Store.{SpellsTables}
-use Rattle.rss_access.specs.Changes.{AccessView, IsTupleRecord, reversed, applied, alter_cost, Alters, Applies, Takes, CanApply, CountsChange, number_told}
+use Rattle.rss_access.specs.Changes.{AccessView, IsTupleRecord, reversed, applied, alter_cost, Alters, Applies, Takes, HasRoom, CanApply, number_told, count_after}
+use Rattle.rss_entries.specs.Rooms.{image_places}
+use Rattle.rss_access.specs.Relisted.{Recounted}
+use Rattle.rss_access.specs.Written.{content_of}
 use Rattle.rss_restart.specs.declared.restarting.Way.{Way}
 use Rattle.rss_restart.specs.declared.restarting.Way.TheVariants.{Back, Again}
 use Rattle.rss_restart.specs.Surveys.{IsLogPlace, redone_at}
@@ -61,7 +63,7 @@ pub record TellsAt (log : LogView) (at : ℕ) (change : told.Change) : Type 0 wh
 abbrev pub TellsNone : LogView → ℕ → Type 0
 TellsNone log at = (change : told.Change) → TellsAt log at change → ⊥
 
--- The change at this position is made: it is applied as the log tells it, and takes two pages at most.
+-- The change at this position is made: it is applied as the log tells it, and takes two home or overflow pages at most.
 pub record StepsTo (log : LogView) (next : Turn) (old new : AccessView) : Type 0 where
   pub told_change : told.Change
   pub tells : TellsAt log next.at told_change
@@ -72,8 +74,8 @@ pub record StepsTo (log : LogView) (next : Turn) (old new : AccessView) : Type 0
 -- there are no tables from which it can be made
 abbrev pub NoStep : LogView → Turn → AccessView → Type 0
 NoStep log next at =
-    (told_change : told.Change) → TellsAt log next.at told_change → 2 ≤ at.pages.spare
-    → (tables : Tables) (change : Change)
+    (told_change : told.Change) → TellsAt log next.at told_change
+    → HasRoom at (number_told (directed next.way told_change)) → (tables : Tables) (change : Change)
     → CanApply at (directed next.way told_change) tables change → ⊥
 
 -- ---- one after another
@@ -115,7 +117,7 @@ pub record CanWalk (log : LogView) (at : AccessView) (tables : Tables) (moves : 
   pub are : AllByRecursion (IsMove at.catalog.listing log) moves
   pub find : MovesFind tables moves
   pub fit : MovesFit at.pages.slots tables moves
-  pub room : 2 * length moves ≤ at.pages.spare
+  pub room : 2 * length moves ≤ image_places at.pages
 
 -- What was made is the front of what can be made: the rest can be made from the tables that are then there.
 abbrev pub Leads : LogView → List Turn → AccessView → AccessView → Type 0
@@ -129,12 +131,12 @@ NoWalk log turns at =
     (tables : Tables) (front rest : List Move) → turns_of front ≡ turns
     → CanWalk log at tables (front ++ rest) → ⊥
 
--- What making so many changes at most passes on: home and overflow pages alone are touched, and at success two are taken at most for each change. Each failure of the device has its cause, memory never runs out, and what is damaged is a position of the log.
+-- What making so many changes at most passes on: pages of tuples and images alone are touched, and at success two home or overflow pages are taken at most for each change. Each failure of the device has its cause, memory never runs out, and what is damaged is a position of the log.
 pub record Walks {T : Type 0} (log : LogView) (most : ℕ) (old new : AccessView)
     (result : Result T PageFault) : Type 0 where
   pub made : ℕ
   pub few : made ≤ most
-  pub step : PagesStep IsHeapKey (made * alter_cost old.pages.slots)
+  pub step : PagesStep (content_of old.catalog.listing) (made * alter_cost old.pages.slots)
       (made * alter_cost old.pages.slots) old.pages new.pages
   pub takes : OnOk result (Takes (2 * made) old.pages new.pages)
   pub keeps : KeepsCatalog old new
@@ -150,7 +152,8 @@ pub data Counted (log : LogView) : List Turn → CatalogView → CatalogView →
   counts_more : {next : Turn} {turns : List Turn} {told_change : told.Change} {relation : RelationEntry}
       {old mid new : CatalogView} → TellsAt log next.at told_change
       → relation_at old.listing (number_told (directed next.way told_change)) ≡ Some relation
-      → CountsChange (directed next.way told_change) relation old mid
+      → Recounted (number_told (directed next.way told_change))
+      (count_after (directed next.way told_change) relation.live) relation old mid
       → Counted log turns mid new → Counted log (next ∷ turns) old new
 
 -- the changes that are undone, and then those that are done again

@@ -3,7 +3,6 @@ ghost use Rattle.std.specs.Prelude.{◌≡◌, ℕ, ◌≤◌, length, map, take
 ghost use Rattle.rss_base.specs.DiskRule.{IsTold};
 ghost use Rattle.rss_base.specs.declared.fault.PageFault.TheVariants.{Damaged};
 ghost use Rattle.rss_base.specs.declared.place.Place.{Place as AnyPlace};
-ghost use Rattle.rss_tuple.specs.Heaps.{AreHeaps};
 ghost use Rattle.rss_model.specs.Meanings.{Logged};
 ghost use Rattle.rss_access.specs.Changes.{both, IsTupleRecord, CanAlter, Makes};
 ghost use Rattle.rss_restart.specs.Restarting.{Recovered, NoneRecovered, RestartPasses};
@@ -18,9 +17,6 @@ use rss_catalog::Catalog;
 use rss_log::Log;
 use rss_tuple::Store;
 use std::alloc::Global;
-
-/// How many pages a change may take.
-const PAGES_TAKEN: u32 = 2;
 
 /// Which way a change is made.
 #[derive(Clone, Copy)]
@@ -37,7 +33,7 @@ enum Way {
 /// be among them.
 ///
 /// A record that is out of form, or that tells no change of a tuple where one is to be made, a
-/// change that isn't found as it is told, and one for which no two pages are spare, are `Damaged`
+/// change that isn't found as it is told, and one for which there is no room, are `Damaged`
 /// at the record's position. Whether a Checkpoint record stands at `checkpoint` isn't tested. After
 /// such a fault, or one of the device, some of the changes are made; where memory ran out, none is.
 pub fn restart<P: Pages>(
@@ -47,7 +43,7 @@ pub fn restart<P: Pages>(
     log: &Log,
     checkpoint: u64,
 ) -> Result<(), PageFault>
-    requires heaps { IsTold (P.view tuples.old.pages).disk → AreHeaps (P.view tuples.old.pages) }
+    requires may { CanAlter (both (P.view tuples.old.pages) catalog.old) }
     requires low { log.now.head ≤ checkpoint }
     requires high { checkpoint ≤ log.now.end }
     ensures recovers { OnOk result (Recovered log.now checkpoint
@@ -58,8 +54,7 @@ pub fn restart<P: Pages>(
     ensures sound { (place : AnyPlace) → result ≡ Err (Damaged place)
         → IsTold (P.view tuples.old.pages).disk
         → NoneRecovered log.now checkpoint (both (P.view tuples.old.pages) catalog.old) }
-    ensures heaps { OnOk result (IsTold (P.view tuples.old.pages).disk
-        → AreHeaps (P.view tuples.new.pages)) }
+    ensures still { OnOk result (CanAlter (both (P.view tuples.new.pages) catalog.new)) }
     ensures did { RestartPasses log.now checkpoint (both (P.view tuples.old.pages) catalog.old)
         (both (P.view tuples.new.pages) catalog.new) result }
 {
@@ -76,7 +71,7 @@ fn walk<P: Pages>(
     positions: &[u64],
     way: Way,
 ) -> Result<(), PageFault>
-    requires heaps { IsTold (P.view tuples.old.pages).disk → AreHeaps (P.view tuples.old.pages) }
+    requires may { CanAlter (both (P.view tuples.old.pages) catalog.old) }
     requires within { All (IsChangeAt log.now) positions.now }
     ensures leads { OnOk result (Leads log.now (map (turn way) positions.now)
         (both (P.view tuples.old.pages) catalog.old) (both (P.view tuples.new.pages) catalog.new)) }
@@ -86,8 +81,7 @@ fn walk<P: Pages>(
         → IsTold (P.view tuples.old.pages).disk
         → NoWalk log.now (map (turn way) positions.now)
         (both (P.view tuples.old.pages) catalog.old) }
-    ensures heaps { OnOk result (IsTold (P.view tuples.old.pages).disk
-        → AreHeaps (P.view tuples.new.pages)) }
+    ensures still { OnOk result (CanAlter (both (P.view tuples.new.pages) catalog.new)) }
     ensures did { Walks log.now (length positions.now) (both (P.view tuples.old.pages) catalog.old)
         (both (P.view tuples.new.pages) catalog.new) result }
 {
@@ -105,11 +99,12 @@ fn make<P: Pages>(
     position: u64,
     way: Way,
 ) -> Result<(), PageFault>
-    requires heaps { IsTold (P.view tuples.old.pages).disk → AreHeaps (P.view tuples.old.pages) }
+    requires may { CanAlter (both (P.view tuples.old.pages) catalog.old) }
     requires low { log.now.head ≤ position }
     requires high { position ≤ log.now.end }
     ensures steps { OnOk result (StepsTo log.now (turn way position)
         (both (P.view tuples.old.pages) catalog.old) (both (P.view tuples.new.pages) catalog.new)) }
+    ensures still { OnOk result (CanAlter (both (P.view tuples.new.pages) catalog.new)) }
     ensures sound { (place : AnyPlace) → result ≡ Err (Damaged place)
         → IsTold (P.view tuples.old.pages).disk
         → NoStep log.now (turn way position) (both (P.view tuples.old.pages) catalog.old) }
@@ -120,9 +115,6 @@ fn make<P: Pages>(
     let Some(change) = change_at(log, position) else {
         return Err(damaged);
     };
-    if tuples.pages.spare() < PAGES_TAKEN {
-        return Err(damaged);
-    }
     match direct(tuples, catalog, &change, way) {
         Ok(()) => Ok(()),
         Err(fault) => Err(at_record(fault, position)),
@@ -136,7 +128,7 @@ fn direct<P: Pages>(
     change: &Change,
     way: Way,
 ) -> Result<(), PageFault>
-    requires may { CanAlter (P.view tuples.old.pages) }
+    requires may { CanAlter (both (P.view tuples.old.pages) catalog.old) }
     requires tuple { IsTupleRecord change.now }
     ensures { Makes (directed way change.now) (both (P.view tuples.old.pages) catalog.old)
         (both (P.view tuples.new.pages) catalog.new) result }

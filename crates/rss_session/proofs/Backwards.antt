@@ -22,13 +22,16 @@ use Rattle.rss_trans.specs.Transactions.{Transaction, is_open, transaction_in, c
 use Rattle.rss_trans.specs.Told.{TellsOpen}
 use Rattle.rss_trans.proofs.Asked.{changes_told, positions_told, saves_told}
 use Rattle.rss_trans.proofs.Noting.{all_stay}
+use Rattle.rss_access.specs.Changes.{number_told}
 use Rattle.rss_store.specs.Changing.{own_positions, IsOwnAt, AltersPages, MayNotTakeBack}
 use Rattle.rss_store.specs.Shown.{ShowsWith}
 use Rattle.rss_session.specs.Sessions.{SessionView, IsReady}
 use Rattle.rss_session.specs.Shown.{Shows, ShowsBack}
 use Rattle.rss_session.specs.Calls.{NoMoreSaves, GoesOn, KeepsTables, ShowsNone, HasMarks, taken_to, TakesNewest, TakesBackOne, TakesBack, GoesBack}
-use Rattle.rss_session.proofs.Fewer.{IsLastAt, put_here, taken_all, taken_then, newest_at, newest_none, taken_get, length_taken, none_from}
+use Rattle.rss_session.proofs.Fewer.{IsLastAt, put_here, put_open, taken_all, taken_then, newest_at, newest_none, taken_get, length_taken, none_from}
 use Rattle.rss_session.proofs.Steady.{changes_kept, none_there}
+use Rattle.rss_session.proofs.ToldBack.{tells_back}
+use Rattle.rss_session.proofs.Undone.{room_back}
 
 abbrev pub position_of : Noted → ℕ
 position_of note = note.position
@@ -163,7 +166,12 @@ module _ (old mid : SessionView) (t save : ℕ) (first : Option ℕ) (opened : i
 
     -- nothing is found damaged
     pub none_shown : IsTold old.store.pages.disk → MayNotTakeBack mid.store position → ShowsNone old
-    none_shown told not state kept shows = not state t last.older (own_at old state t last.older position shows place_is) (shown_mid told state shows).store
+    none_shown told not state kept shows =
+        let own = own_at old state t last.older position shows place_is in
+        let back = (shown_mid told state shows).store in
+        let tells = tells_back mid.store way.ready.store state t last.older position own back in
+        let open_still = put_open old.opened mid.opened t (taken_to way.left (transaction_in old.opened t)) opened way.opened.transactions in
+        not tells.0 tells.1 (room_back mid t way.ready open_still (omega (arith, mid_count)) (number_told tells.0)) state t last.older own back
 
   -- ---- at the end
 

@@ -25,16 +25,16 @@ use Rattle.rss_model.proofs.BothRooms.{changes_keep_rooms}
 use Rattle.rss_model.proofs.LogCounting.{change_told_size}
 use Rattle.rss_model.proofs.Relisted.{number_of}
 use Rattle.rss_model.proofs.Ruling.{behind}
-use Rattle.rss_model.proofs.Sparing.{session_changes}
+use Rattle.rss_model.proofs.Sparing.{session_changes, spare_for_next}
 use Rattle.rss_trans.specs.declared.noted.Noted.{Noted}
 use Rattle.rss_trans.specs.Transactions.{OpenView, is_open, transaction_in, Notes}
 use Rattle.rss_trans.specs.Told.{IsNumbered, is_tuple, takes_away, IsNoteOf, TellsSince}
 use Rattle.rss_trans.proofs.Told.{change_tells, recounted_tells, same_names}
 use Rattle.rss_trans.proofs.Summing.{since_told}
-use Rattle.rss_access.specs.Changes.{IsTupleRecord, number_told}
+use Rattle.rss_access.specs.Changes.{IsTupleRecord, HasRoom, number_told}
 use Rattle.rss_store.specs.Stores.{Grows}
 use Rattle.rss_store.specs.Stores.{IsReady as IsStoreReady}
-use Rattle.rss_store.specs.Changing.{MayMake}
+use Rattle.rss_store.specs.Changing.{access, MayMake}
 use Rattle.rss_store.specs.Changing.{MakesOne as StoreMakesOne}
 use Rattle.rss_session.specs.Changes.{is_delete_told}
 use Rattle.rss_session.specs.Sessions.{SessionView, AreRising, IsReady, sums_in, owed_for, owed_by}
@@ -43,7 +43,16 @@ use Rattle.rss_session.specs.Shown.{Shows}
 use Rattle.rss_session.specs.Weighing.{weighed}
 use Rattle.rss_session.specs.Calls.{MakesOne}
 use Rattle.rss_session.proofs.Noted.{Goes, noted_p, noted_q, noted_placed, noted_open, weighed_on}
+use Rattle.rss_session.proofs.Taken.{room_for_two}
 use Rattle.rss_session.proofs.Weighed.{goes_on_right}
+
+-- ---- it may be made
+
+-- there is room for it
+pub room_next : {view : SessionView} {t size : ℕ} → IsReady view → Goes view t size → (number : ℕ) → HasRoom (access view.store) number
+room_next {view = view} ready goes number =
+    let spare = spare_for_next (sessions.counts view) (sums_in view.opened).p (page_counts view.store.pages) (omega (arith, goes.room, ready.store.size)) ready.pages in
+    room_for_two view.store ready.store (omega (arith, spare)) number
 
 -- ---- a call may be made again
 

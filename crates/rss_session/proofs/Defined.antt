@@ -18,7 +18,7 @@ use Rattle.rss_base.specs.declared.refusal.Kind.TheVariants.{Segment as SegmentK
 use Rattle.rss_base.specs.declared.refusal.LimitKind.TheVariants.{Segments as SegmentLimit, Relations as RelationLimit}
 use Rattle.rss_base.specs.declared.refusal.Refusal.{Refusal}
 use Rattle.rss_base.specs.declared.refusal.Refusal.TheVariants.{NoSuch, NameTaken, Limit, NotEmpty, TransactionsOpen}
-use Rattle.rss_catalog.specs.Catalogs.{HasRelationIn, Lists, page_of}
+use Rattle.rss_catalog.specs.Catalogs.{HasRelationIn, HasImageOf, Lists, page_of}
 use Rattle.rss_model.specs.Tables.{tuple_count}
 use Rattle.rss_model.specs.Changes.{Change, after}
 use Rattle.rss_model.specs.Machine.{State, now}
@@ -29,7 +29,7 @@ use Rattle.rss_model.specs.ReplyText.{IsShort}
 use Rattle.rss_model.specs.Store.{SpellsTables}
 use Rattle.rss_model.proofs.ByNumber.{segment_named, segment_unnamed, relation_named, relation_unnamed, segments_full, segments_left, relations_full, relations_left, segment_used, segment_unused}
 use Rattle.rss_model.proofs.Heap.{nothing}
-use Rattle.rss_model.proofs.PlainStores.{plain_defined}
+use Rattle.rss_model.proofs.PlainStores.{no_image_at, plain_defined}
 use Rattle.rss_model.proofs.Tests.{goes_on, passes_if, passes_unless, make_segment_taken, make_segment_many, make_segment_passes, drop_segment_lacks, drop_segment_full, drop_segment_passes, drop_relation_lacks, drop_relation_full, drop_relation_passes, make_relation_lacks, make_relation_taken, make_relation_many, make_relation_passes}
 use Rattle.rss_trans.specs.Transactions.{Transaction}
 use Rattle.rss_trans.specs.Tables.{told}
@@ -143,8 +143,12 @@ module _ {view : SessionView} {state : State} (shows : Shows view state) (closed
     pub relation_full : 0 < entry.live → refusal state (DropRelation name) ≡ Some NotEmpty
     relation_full some = drop_relation_full state least name (relation_named spells.listed spells.defines name number is) (le-leb 1 (tuple_count state.base.contents name) (omega (arith, as_many, some)))
 
+    -- as yet none has an image
+    pub relation_imaged : HasImageOf view.store.catalog.listing number → refusal state (DropRelation name) ≡ Some NotEmpty
+    relation_imaged has = absurd (no_image_at spells.plain has.number has.image has.at)
+
     pub relation_drops : entry.live ≡ 0 → refusal state (DropRelation name) ≡ None
-    relation_drops empty = drop_relation_passes state least name (plain_defined spells.listed.plain spells.defines) (relation_named spells.listed spells.defines name number is) (lt-leb 1 (tuple_count state.base.contents name) (omega (arith, as_many, empty)))
+    relation_drops empty = drop_relation_passes state least name (plain_defined spells.plain spells.defines) (relation_named spells.listed spells.defines name number is) (lt-leb 1 (tuple_count state.base.contents name) (omega (arith, as_many, empty)))
 
   module _ (name within : Name) (fields : List FieldDef) (segment : ℕ) (there : IsNumberOf SegmentKind view.store.catalog.listing within segment) where
     segment_there : is_some (finite.get state.base.definitions.segments within) ≡ true

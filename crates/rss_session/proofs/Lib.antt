@@ -23,6 +23,8 @@ pub mod Looked
 pub mod Fewer
 pub mod Steady
 pub mod Ended
+pub mod Taken
+pub mod ToldBack
 pub mod Undone
 pub mod Backwards
 pub mod Restored

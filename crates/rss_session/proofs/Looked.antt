@@ -67,6 +67,7 @@ module _ (old : SessionView) {pages : PagesView} {asks writes : ℕ} (passes : P
       only = λ key is. ready.store.only key (sym (ap (λ (m : Mapped). m key) mapped) ∙ is);
       pending_places = ready.store.pending_places;
       settled_now = passes.leaves.stays_settled ready.store.settled_now;
+      plain = ready.store.plain;
       heaps = heaps;
     };
     pages = subst (IsInSession (sessions.counts old) (sums_in old.opened).p) (sym counts_same) ready.pages;

@@ -8,7 +8,7 @@ use Rattle.std.proofs.lemmas.Option.{same_Some}
 use Rattle.rss_base.specs.Paged.{Held}
 use Rattle.rss_base.specs.Sizes.{log_pages_least, system_pages}
 use Rattle.rss_base.specs.Steps.{PagesView}
-use Rattle.rss_base.specs.Listings.{Listing, ListingFits}
+use Rattle.rss_base.specs.Listings.{Listing, ListingFits, IsPlain}
 use Rattle.rss_base.specs.declared.call.Call.{Call}
 use Rattle.rss_model.specs.Tables.{Definitions, Tables}
 use Rattle.rss_model.specs.Changes.{Change}
@@ -21,6 +21,7 @@ use Rattle.rss_model.specs.Store.{SpellsTables, size_of}
 use Rattle.rss_model.proofs.BothRooms.{definitions_keep_rooms}
 use Rattle.rss_model.proofs.ByNumber.{relation_unnamed}
 use Rattle.rss_model.proofs.Redefining.{defined_fits}
+use Rattle.rss_model.proofs.Redefining.{live_defined}
 use Rattle.rss_model.proofs.Relisted.{segment_made_spells, segment_gone_spells, relation_made_spells, relation_gone_spells}
 use Rattle.rss_model.proofs.StepKeeping.{kept_fit}
 use Rattle.rss_trans.specs.Tables.{told}
@@ -47,7 +48,7 @@ relisted spells fit (segment name number fresh least) fits = record { definition
 relisted spells fit (relation name in_segment fields at number within fresh least) fits = record {
   definitions = _;
   so = refl;
-  spells = relation_made_spells spells fit number (entry_of name at fields) in_segment least fits within refl (relation_unnamed spells.listed spells.defines name fresh);
+  spells = relation_made_spells spells number (entry_of name at fields) (live_defined fit name) in_segment least fits within refl (relation_unnamed spells.listed spells.defines name fresh);
 }
 relisted spells fit (drop_segment name number at none) fits = record {
   definitions = _;
@@ -55,6 +56,13 @@ relisted spells fit (drop_segment name number at none) fits = record {
   spells = segment_gone_spells spells number name at (λ k r is within. none (record { number = k; relation = r; at = is; within = within })) fits;
 }
 relisted spells fit (drop_relation number entry at empty) fits = record { definitions = _; so = refl; spells = relation_gone_spells spells number entry at (spells.counts number entry at ∙ empty) fits }
+
+-- neither images nor links are listed
+plain_relisted : {old new : Listing} {call : Call} → Relists old call new → IsPlain old → IsPlain new
+plain_relisted (segment name number fresh least) plain = record { no_images = plain.no_images; no_links = plain.no_links }
+plain_relisted (relation name in_segment fields at number within fresh least) plain = record { no_images = plain.no_images; no_links = plain.no_links }
+plain_relisted (drop_segment name number at none) plain = record { no_images = plain.no_images; no_links = plain.no_links }
+plain_relisted (drop_relation number entry at live) plain = record { no_images = plain.no_images; no_links = plain.no_links }
 
 -- ---- the session
 
@@ -99,6 +107,7 @@ module _ {S : Type 0} (pages_view : S → PagesView) {call : Call} {old new : Se
       only = ready.store.only;
       pending_places = as_many ready.store.pending_places;
       settled_now = ready.store.settled_now;
+      plain = plain_relisted redefines.relists ready.store.plain;
       heaps = ready.store.heaps;
     };
     pages = ready.pages;

@@ -15,8 +15,8 @@ use Rattle.rss_trans.specs.Transactions.{Transaction, OpenView, is_open, transac
 use Rattle.rss_trans.specs.Told.{TellsSince}
 use Rattle.rss_trans.proofs.Summing.{count_any}
 use Rattle.rss_trans.proofs.Told.{taken_tells, recounted_tells, same_names}
-use Rattle.rss_access.specs.Changes.{CanAlter}
-use Rattle.rss_store.specs.Changing.{IsOwnAt}
+use Rattle.rss_access.specs.Changes.{HasRoom}
+use Rattle.rss_store.specs.Changing.{access, IsOwnAt}
 use Rattle.rss_store.specs.Changing.{TakesBackOne as StoreTakesBackOne}
 use Rattle.rss_store.specs.Stores.{IsReady as IsStoreReady}
 use Rattle.rss_session.specs.Sessions.{SessionView, AreRising, IsReady, sums_in, owed_for, owed_by}
@@ -25,6 +25,7 @@ use Rattle.rss_session.specs.Shown.{ShowsBack}
 use Rattle.rss_session.specs.Calls.{HasNewest}
 use Rattle.rss_session.proofs.Fewer.{changers, newest_at, put_here, put_p, put_q, put_opened, put_placed, taken_placed}
 use Rattle.rss_session.proofs.Sums.{gone_sum, get_open}
+use Rattle.rss_session.proofs.Taken.{room_for_two}
 
 -- the changes of one transaction are among all
 pub listed_some : (view : OpenView) (t : ℕ) → is_open view t ≡ true → length (transaction_in view t).changes ≤ (sums_in view).p
@@ -32,11 +33,11 @@ listed_some view t opened =
     let parted = gone_sum (change_count any) view.transactions t (transaction_in view t) (get_open view t opened) in
     omega (arith, parted, count_any (transaction_in view t).changes)
 
--- there are two spare pages for its undoing
-pub can_alter : (view : SessionView) (t : ℕ) → IsReady view → is_open view.opened t ≡ true → 1 ≤ length (transaction_in view.opened t).changes → CanAlter view.store.pages
-can_alter view t ready opened some =
+-- there is room for its undoing
+pub room_back : (view : SessionView) (t : ℕ) → IsReady view → is_open view.opened t ≡ true → 1 ≤ length (transaction_in view.opened t).changes → (number : ℕ) → HasRoom (access view.store) number
+room_back view t ready opened some =
     let spare = spare_for_all (sessions.counts view) (sums_in view.opened).p (page_counts view.store.pages) ready.room ready.pages in
-    record { heaps = ready.store.heaps; spare = omega (arith, spare, listed_some view.opened t opened, some) }
+    room_for_two view.store ready.store (omega (arith, spare, listed_some view.opened t opened, some))
 
 -- the counts of fewer changes
 pub fewer_changers : (some more : ℕ) → some ≤ more → changers some ≤ changers more

@@ -15,9 +15,9 @@ ghost use Rattle.rss_trans.specs.Transactions.{is_open, transaction_in};
 ghost use Rattle.rss_session.specs.Admissions.{IsGranuleOf, Tests};
 
 use crate::Session;
+use rss_access::TUPLES_MOST;
 use rss_base::{Item, Kind, LimitKind, MARKS_MOST, Name, Refusal, Tuple};
 use rss_buffer::Saving;
-use rss_store::TUPLES_MOST;
 use rss_value::fits;
 
 impl<S: Saving> Session<S> {

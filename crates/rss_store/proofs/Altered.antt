@@ -1,9 +1,9 @@
 -- What a change of a tuple leaves of a durable store, whatever is in its tables.
-use Rattle.std.proofs.Common.{◌≡◌, inl, inr, true, refl, sym, ◌∙◌, ap, subst, arith}
-use Rattle.std.specs.Prelude.{Option, Some, None, Result, Ok, Err, IsErrAnd, OnOk}
+use Rattle.std.proofs.Common.{◌≡◌, true, refl, sym, ◌∙◌, ap, subst, arith}
+use Rattle.std.specs.Prelude.{Result, Ok, Err, IsErrAnd, OnOk}
 use Rattle.std.proofs.lemmas.Result.{err_from_is_err_and, on_ok_weaker}
 use Rattle.rss_base.specs.DiskRule.{IsTold}
-use Rattle.rss_base.specs.Paged.{Fixed, Backing, HasFixed, page_key}
+use Rattle.rss_base.specs.Paged.{Fixed, Backing, HasFixed}
 use Rattle.rss_base.specs.Layout.{IsWellFormed}
 use Rattle.rss_base.specs.Listings.{Listing, relation_at}
 use Rattle.rss_base.specs.Steps.{PagesStep, AreCounted}
@@ -11,10 +11,7 @@ use Rattle.rss_base.specs.declared.change.Change as told
 use Rattle.rss_base.specs.declared.fault.PageFault.{PageFault}
 use Rattle.rss_base.specs.declared.fault.PageFault.TheVariants.{Device as DeviceFailed, Damaged, NoMemory}
 use Rattle.rss_base.specs.declared.key.PageKey.{PageKey}
-use Rattle.rss_base.specs.declared.key.Space.{Space}
-use Rattle.rss_base.specs.declared.key.Space.TheVariants.{Home, Overflow, Image, System}
 use Rattle.rss_base.specs.declared.place.Place.{Place}
-use Rattle.rss_base.specs.declared.relation.RelationEntry.{RelationEntry}
 use Rattle.rss_base.specs.declared.root.Root.{Root}
 use Rattle.rss_base.proofs.Steps.{rests, among}
 use Rattle.rss_page.specs.Slotted.{IsHeapKey}
@@ -22,37 +19,36 @@ use Rattle.rss_model.specs.Meanings.{SameDefinitions}
 use Rattle.rss_model.specs.Spares.{page_counts, TakesTwo}
 use Rattle.rss_model.specs.Store.{Stored}
 use Rattle.rss_model.proofs.Sparing.{takes_two}
-use Rattle.rss_access.specs.Changes.{alter_cost, number_told, pages_of_relation, Makes}
-use Rattle.rss_access.specs.Written.{IsSystemOrHeap, AreWritten}
-use Rattle.rss_access.proofs.Writing.{off_system}
+use Rattle.rss_model.proofs.StorePages.{pages_are}
+use Rattle.rss_catalog.specs.Catalogs.{HasSystemPages}
+use Rattle.rss_access.specs.Changes.{alter_cost, number_told, Makes}
+use Rattle.rss_access.specs.Written.{IsSystemOrHeap, content_of, AreWritten}
 use Rattle.rss_restart.specs.Restarting.{KeepsCatalog}
 use Rattle.rss_restart.proofs.Keeping.{keeps_itself, keeps_made}
+use Rattle.rss_restart.proofs.Leading.{content_told}
 use Rattle.rss_store.specs.Changing.{AltersPages, access}
 use Rattle.rss_store.specs.Shown.{LeavesStore}
 use Rattle.rss_store.specs.Stores.{StoreView, IsLogBehind, IsReady}
 use Rattle.rss_store.proofs.Definitions.{same_then, counts_same}
+use Rattle.rss_store.proofs.Spelled.{heap_step, system_kept, only_kept}
 
 -- ---- which pages are touched
 
-heap_told : (found : Option RelationEntry) (key : PageKey) → pages_of_relation found key → IsHeapKey key
-heap_told None key is = absurd is
-heap_told (Some relation) key is = is.1
-
 module _ {T : Type 0} {change : told.Change} (old new : StoreView) {result : Result T PageFault} (makes : Makes change (access old) (access new) result) where
-  heap_step : PagesStep IsHeapKey (alter_cost old.pages.slots) (alter_cost old.pages.slots) old.pages new.pages
-  heap_step = among (λ key is. heap_told (relation_at old.catalog.listing (number_told change)) key is) makes.step
+  content_step : PagesStep (content_of old.catalog.listing) (alter_cost old.pages.slots) (alter_cost old.pages.slots) old.pages new.pages
+  content_step = among (λ key is. content_told old.catalog.listing (relation_at old.catalog.listing (number_told change)) key is) makes.step
 
   keeps : KeepsCatalog (access old) (access new)
-  keeps = keeps_made (access old) (access new) heap_step result makes
+  keeps = keeps_made (access old) (access new) content_step result makes
 
   same_definitions : OnOk result (SameDefinitions old.catalog.listing new.catalog.listing)
-  same_definitions = on_ok_weaker result (λ alters. counts_same change alters.relation old.catalog new.catalog alters.listed alters.counts) makes.alters
+  same_definitions = on_ok_weaker result (λ alters. counts_same alters.listed alters.counts) makes.alters
 
 -- ---- what a call passes on
 
 pub alters_made : {T : Type 0} {change : told.Change} {old new : StoreView} {result : Result T PageFault} → Makes change (access old) (access new) result → new.root ≡ old.root → new.number ≡ old.number → AltersPages old new result
 alters_made {old = old} {new = new} makes root number = record {
-  step = heap_step old new makes;
+  step = content_step old new makes;
   takes = makes.takes;
   keeps = keeps old new makes;
   definitions = same_definitions old new makes;
@@ -65,7 +61,7 @@ alters_made {old = old} {new = new} makes root number = record {
 -- and answers something else
 pub alters_done : {T U : Type 0} {change : told.Change} {old new : StoreView} {value : T} (answer : U) → Makes change (access old) (access new) (Ok value) → new.root ≡ old.root → new.number ≡ old.number → AltersPages old new (Ok answer)
 alters_done {old = old} {new = new} answer makes root number = record {
-  step = heap_step old new makes;
+  step = content_step old new makes;
   takes = makes.takes;
   keeps = keeps old new makes;
   definitions = same_definitions old new makes;
@@ -80,7 +76,7 @@ pub alters_fail : {T U : Type 0} {change : told.Change} {old new : StoreView} {f
 alters_fail {U = U} {old = old} {new = new} {fault = fault} result is makes root number =
     let why = err_from_is_err_and result is in
     subst (λ (r : Result U PageFault). AltersPages old new r) (sym (why.1 ∙ ap Err why.2)) (record {
-      step = heap_step old new makes;
+      step = content_step old new makes;
       takes = tt;
       keeps = keeps old new makes;
       definitions = tt;
@@ -113,18 +109,17 @@ fault_passed {U = U} {result = result} {fault = fault} {place = place} is damage
 
 -- ---- a call may be made again
 
--- the pages that there are
-heap_or_not : (key : PageKey) → (space : Space) → key.space ≡ space → (IsHeapKey key → IsSystemOrHeap key) → ((IsHeapKey key → ⊥) → IsSystemOrHeap key) → IsSystemOrHeap key
-heap_or_not key Home is heap off = heap (inl is)
-heap_or_not key Overflow is heap off = heap (inr is)
-heap_or_not key Image is heap off = off (λ one. not one)
-  where
-    not : IsHeapKey key → ⊥
-    not (inl home) = let both : Home ≡ Image = sym home ∙ is in absurd (cc)
-    not (inr over) = let both : Overflow ≡ Image = sym over ∙ is in absurd (cc)
-heap_or_not key System is heap off = inl is
-
 module _ {T : Type 0} {change : told.Change} (old new : StoreView) {value : T} (makes : Makes change (access old) (access new) (Ok value)) (root : new.root ≡ old.root) where
+  -- of a store without images, pages of tuples alone were touched
+  tuples_step : IsReady old → PagesStep IsHeapKey (alter_cost old.pages.slots) (alter_cost old.pages.slots) old.pages new.pages
+  tuples_step ready = heap_step ready.plain (content_step old new makes)
+
+  system_made : IsReady old → HasSystemPages new.pages.mapped
+  system_made ready = system_kept (tuples_step ready) ready.system
+
+  only_made : IsReady old → (key : PageKey) → new.pages.mapped key ≡ true → IsSystemOrHeap key
+  only_made ready = only_kept (tuples_step ready) ready.only
+
   pub ready_made : new.number ≡ old.number → IsReady old → IsLogBehind new.root new.log → IsReady new
   ready_made number ready behind = record {
     number_low = omega (arith, ready.number_low, number);
@@ -134,11 +129,12 @@ module _ {T : Type 0} {change : told.Change} (old new : StoreView) {value : T} (
     log_pages = ap (λ (b : Backing). b.log_pages) makes.step.passes.backing ∙ ready.log_pages ∙ ap (λ (r : Root). r.log_pages) (sym root);
     area = ap (λ (b : Backing). b.area) makes.step.passes.backing ∙ ready.area ∙ ap (λ (r : Root). r.area) (sym root);
     log = behind;
-    system = λ page low. (heap_step old new makes).mapped_off (page_key 0 System page) (λ heap. off_system (page_key 0 System page) heap refl) ∙ ready.system page low;
-    only = λ key is. heap_or_not key key.space refl (λ heap. inr heap) (λ off. ready.only key (sym ((heap_step old new makes).mapped_off key off) ∙ is));
+    system = system_made ready;
+    only = only_made ready;
     pending_places = (keeps old new makes).places ∙ ready.pending_places;
     settled_now = makes.step.passes.leaves.stays_settled ready.settled_now;
-    heaps = λ told. (makes.alters.changes.sets (makes.step.passes.leaves.told.1 told)).heaps;
+    plain = (keeps old new makes).plain ready.plain;
+    heaps = makes.still.heaps;
   }
 
   -- ---- what a stop leaves, and the rest of what is shown
@@ -156,10 +152,16 @@ module _ {T : Type 0} {change : told.Change} (old new : StoreView) {value : T} (
     written_made ready written = (keeps old new makes).written told ready.pending_places written
 
   pub definitions_made : {listing : Listing} → SameDefinitions listing old.catalog.listing → SameDefinitions listing new.catalog.listing
-  definitions_made same = same_then same (counts_same change makes.alters.relation old.catalog new.catalog makes.alters.listed makes.alters.counts)
+  definitions_made same = same_then same (counts_same makes.alters.listed makes.alters.counts)
 
-  pub two_made : AreCounted new.pages → TakesTwo (page_counts old.pages) (page_counts new.pages)
-  two_made counted = takes_two makes.step counted makes.takes.mapped
+  -- two pages more are mapped at most
+  pub two_made : IsReady old → AreCounted new.pages → TakesTwo (page_counts old.pages) (page_counts new.pages)
+  two_made ready counted = takes_two makes.step counted (omega (
+    arith,
+    makes.takes.heap,
+    pages_are old.pages.mapped ready.only old.pages.slots ready.system,
+    pages_are new.pages.mapped (only_made ready) new.pages.slots (system_made ready),
+  ))
 
 -- by the result
 pub ready_by : {T : Type 0} {change : told.Change} (old new : StoreView) (result : Result T PageFault) → Makes change (access old) (access new) result → new.root ≡ old.root → new.number ≡ old.number → IsReady old → IsLogBehind new.root new.log → OnOk result (IsReady new)

@@ -1,12 +1,11 @@
 -- A store that was read is brought to rest: where it is then, and what a stop leaves.
-use Rattle.std.proofs.Common.{◌≡◌, inl, inr, ◌⊎◌, ⊎_elim, ℕ, ◌+◌, ◌*◌, ◌≤◌, true, List, [], ◌++◌, append-nil, refl, sym, ◌∙◌, ap, subst, rules, arith}
+use Rattle.std.proofs.Common.{◌≡◌, ◌⊎◌, ⊎_elim, ℕ, ◌+◌, ◌*◌, ◌≤◌, true, List, [], ◌++◌, append-nil, refl, sym, ◌∙◌, ap, subst, rules, arith}
 use Rattle.std.specs.Prelude.{Bool, false, IsTrue, is_some, Result, Ok, Err, OnOk, IsErrAnd}
 use Rattle.std.specs.FinMap as map
 use Rattle.std.proofs.lemmas.Result.{err_from_is_err_and}
 use Rattle.rss_base.specs.declared.fault.PageFault.{PageFault}
 use Rattle.rss_base.specs.declared.fault.PageFault.TheVariants.{Device as PageDevice, Damaged as PageDamaged}
-use Rattle.rss_base.specs.declared.key.Space.{Space}
-use Rattle.rss_base.specs.declared.key.Space.TheVariants.{Home, Overflow, Image, System}
+use Rattle.rss_base.specs.declared.key.Space.TheVariants.{Home, Overflow}
 use Rattle.rss_base.specs.declared.key.PageKey.{PageKey}
 use Rattle.rss_base.specs.declared.log_record.LogRecord.TheVariants as records
 use Rattle.rss_base.specs.declared.place.Place.{Place}
@@ -17,14 +16,13 @@ use Rattle.rss_base.specs.Faults.{Rises}
 use Rattle.rss_base.specs.Listings.{Listing}
 use Rattle.rss_base.specs.LogRecords.{ArePlaced, record_size}
 use Rattle.rss_base.specs.PageMap.{page_count}
-use Rattle.rss_base.specs.Paged.{Held, Fixed, Backing, HasFixed, page_key, mapped_of, mapped_pages}
+use Rattle.rss_base.specs.Paged.{Held, Fixed, Backing, HasFixed, mapped_of, mapped_pages}
 use Rattle.rss_base.specs.Sizes.{system_pages}
 use Rattle.rss_base.specs.Steps.{PagesView, PagesStep}
 use Rattle.rss_base.specs.StoredPages.{mapped_by}
 use Rattle.rss_base.proofs.Moments.{started, then, widened, continues, continues_then, rises_since}
 use Rattle.rss_page.specs.Slotted.{IsHeapKey}
-use Rattle.rss_tuple.specs.Heaps.{AreHeaps}
-use Rattle.rss_catalog.specs.Catalogs.{CatalogView}
+use Rattle.rss_catalog.specs.Catalogs.{CatalogView, HasSystemPages}
 use Rattle.rss_log.specs.Logs.{HasRecords}
 use Rattle.rss_model.specs.Tables.{Tables}
 use Rattle.rss_model.specs.Fits.{Fits}
@@ -41,7 +39,7 @@ use Rattle.rss_model.proofs.LogPlaced.{recovered_fit}
 use Rattle.rss_model.proofs.PlainStores.{tables_plain, plain_room}
 use Rattle.rss_model.proofs.StorePages.{pages_are, pages_counted, store_room, rest_metered}
 use Rattle.rss_model.proofs.Stores.{same_roots, same_overflow}
-use Rattle.rss_access.specs.Changes.{both}
+use Rattle.rss_access.specs.Changes.{both, alter_cost, CanAlter}
 use Rattle.rss_access.specs.Written.{heap_now, IsSystemOrHeap}
 use Rattle.rss_restart.specs.Opened.{recovery_of}
 use Rattle.rss_restart.specs.Surveys.{IsLogPlace}
@@ -51,6 +49,7 @@ use Rattle.rss_store.specs.Stores.{StoreView, IsReady, IsSaved}
 use Rattle.rss_store.specs.Shown.{HoldsTables, LeavesStore, HoldsLogged, Shows}
 use Rattle.rss_store.specs.Commits.{CanCheckpoint, IsSavedStore, CommitsPages, Saves}
 use Rattle.rss_store.specs.Opening.{RestsAt, NamesNone, IsReadFrom, OpensAt, BeginsIn, HasRoomTwice, FindsDamage, Begins}
+use Rattle.rss_store.proofs.Spelled.{heap_step, system_kept, only_kept}
 use Rattle.rss_store.proofs.Resting.{StandsThere, stands_there, not_none, rests, rested}
 
 -- ---- the state at rest
@@ -235,23 +234,6 @@ module _ {stored : Stored} {view : StoreView} (ready : IsReady view) (saved : Is
 abbrev pub changed_view : StoreView → PagesView → CatalogView → StoreView
 changed_view view pages catalog = record { pages = pages; catalog = catalog; log = view.log; root = view.root; number = view.number }
 
-heap_or_other : (space : Space) → ((space ≡ Home) ⊎ (space ≡ Overflow)) ⊎ ((space ≡ Home) ⊎ (space ≡ Overflow) → ⊥)
-heap_or_other Home = inl (inl refl)
-heap_or_other Overflow = inl (inr refl)
-heap_or_other Image = inr (λ is. elim is [ inl home ↦ absurd (cc) | inr over ↦ absurd (cc) ])
-heap_or_other System = inr (λ is. elim is [ inl home ↦ absurd (cc) | inr over ↦ absurd (cc) ])
-
--- what is kept over changes of home and overflow pages
-module _ {asks outs : ℕ} {old new : PagesView} (step : PagesStep IsHeapKey asks outs old new) where
-  system_kept : (n : ℕ) → old.mapped (page_key 0 System n) ≡ true → new.mapped (page_key 0 System n) ≡ true
-  system_kept n is = step.mapped_off (page_key 0 System n) (λ heap. elim heap [ inl home ↦ absurd (cc) | inr over ↦ absurd (cc) ]) ∙ is
-
-  only_kept : ((key : PageKey) → old.mapped key ≡ true → IsSystemOrHeap key) → (key : PageKey) → new.mapped key ≡ true → IsSystemOrHeap key
-  only_kept only key is = elim (heap_or_other key.space) [
-    | inl heap ↦ inr heap
-    | inr other ↦ only key (sym (step.mapped_off key other) ∙ is)
-  ]
-
 module _ {T : Type 0} {old : StoreView} {pages : PagesView} {catalog : CatalogView} {result : Result T PageFault} (ready : IsReady old) (passes : RestartPasses old.log old.root.checkpoint (both old.pages old.catalog) (both pages catalog) result) where
   abbrev mid : StoreView
   mid = changed_view old pages catalog
@@ -262,9 +244,19 @@ module _ {T : Type 0} {old : StoreView} {pages : PagesView} {catalog : CatalogVi
   pub mid_moments : IsTold old.pages.disk → Passes old.pages.disk pages.disk (HasFixed old.pages.fixed)
   mid_moments = passes.step.passes.leaves.moments ready.settled_now
 
+  -- of a store without images, pages of tuples alone were touched
+  mid_step : PagesStep IsHeapKey (passes.made * alter_cost old.pages.slots) (passes.made * alter_cost old.pages.slots) old.pages pages
+  mid_step = heap_step ready.plain passes.step
+
+  pub mid_system : HasSystemPages pages.mapped
+  mid_system = system_kept mid_step ready.system
+
+  pub mid_only : (key : PageKey) → pages.mapped key ≡ true → IsSystemOrHeap key
+  mid_only = only_kept mid_step ready.only
+
   -- it is ready
-  pub mid_ready : (IsTold old.pages.disk → AreHeaps pages) → IsReady mid
-  mid_ready heaps = record {
+  pub mid_ready : CanAlter (both pages catalog) → IsReady mid
+  mid_ready still = record {
     number_low = ready.number_low;
     number_high = ready.number_high;
     formed = ready.formed;
@@ -272,11 +264,12 @@ module _ {T : Type 0} {old : StoreView} {pages : PagesView} {catalog : CatalogVi
     log_pages = ap (λ (b : Backing). b.log_pages) passes.step.passes.backing ∙ ready.log_pages;
     area = ap (λ (b : Backing). b.area) passes.step.passes.backing ∙ ready.area;
     log = ready.log;
-    system = λ n low. system_kept passes.step n (ready.system n low);
-    only = only_kept passes.step ready.only;
+    system = mid_system;
+    only = mid_only;
     pending_places = passes.keeps.places ∙ ready.pending_places;
     settled_now = passes.step.passes.leaves.stays_settled ready.settled_now;
-    heaps = λ told. heaps (passes.step.passes.leaves.told.1 told);
+    plain = passes.keeps.plain ready.plain;
+    heaps = still.heaps;
   }
 
   module _ {stored : Stored} (mid_is : IsReady mid) (held_are : IsTold pages.disk → (key : PageKey) → is_some (pages.held key) ≡ pages.mapped key) (half : 2 * mapped_pages pages.slots pages.mapped ≤ pages.slots) (recovers : Recovered old.log old.root.checkpoint (both old.pages old.catalog) (both pages catalog)) (read : IsReadFrom stored old) where
@@ -335,12 +328,13 @@ module _ {T : Type 0} {old : StoreView} {pages : PagesView} {catalog : CatalogVi
 
 -- Each page has room in two slots, where a store was read: a restart takes two pages at most for each change.
 half_kept : {T : Type 0} {value : T} {stored : Stored} {old : StoreView} {pages : PagesView} {catalog : CatalogView} → IsReady old → RestartPasses {T = T} old.log old.root.checkpoint (both old.pages old.catalog) (both pages catalog) (Ok value) → IsReadFrom stored old → 2 * mapped_pages pages.slots pages.mapped ≤ pages.slots
-half_kept {stored = stored} {old = old} ready passes read = omega (
+half_kept {stored = stored} {old = old} {pages = pages} ready passes read = omega (
   arith,
-  passes.takes.mapped,
+  passes.takes.heap,
   passes.most stored.older stored.newer (can_restart read).records,
   few_changes stored,
   pages_are old.pages.mapped ready.only old.pages.slots ready.system,
+  pages_are pages.mapped (mid_only ready passes) pages.slots (mid_system ready passes),
   count_read read,
   pages_counted stored.root stored.owners read.pages read.store.map read.store.system read.store.spells,
   read.store.room,

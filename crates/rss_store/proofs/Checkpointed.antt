@@ -25,10 +25,10 @@ use Rattle.rss_buffer.specs.Saved.{IsSaveable}
 use Rattle.rss_buffer.specs.Saving.{SavingView, first_slot, AreSaveable, SavingStep}
 use Rattle.rss_buffer.proofs.SavingSteps.{saving_then}
 use Rattle.rss_store.proofs.Pieces.{slots_still, mapped_still}
-use Rattle.rss_tuple.specs.Heaps.{AreHeaps}
 use Rattle.rss_catalog.specs.Catalogs.{CatalogView, pending_pages, StoresListing}
 use Rattle.rss_access.specs.Written.{heap_now}
-use Rattle.rss_access.proofs.Writing.{spells_same, heaps_same, held_off_system, notes_off_system, all_written}
+use Rattle.rss_access.specs.Changes.{CanAlter}
+use Rattle.rss_access.proofs.Writing.{spells_same, held_off_system, notes_off_system, all_written}
 use Rattle.rss_model.specs.Changes.{Change}
 use Rattle.rss_model.specs.Records.{Checkpoint, Placed, Listed, changes_in, list_after}
 use Rattle.rss_model.specs.Machine.{State, now as tables_now}
@@ -51,6 +51,8 @@ use Rattle.rss_store.specs.Shown.{HoldsLogged, LeavesStore, Shows}
 use Rattle.rss_store.proofs.Growing.{Appends, behind_appended, logged_appended}
 use Rattle.rss_store.proofs.Places.{store_saving}
 use Rattle.rss_store.proofs.Nexts.{length-tail_of, behind_itself, ready_now}
+use Rattle.rss_store.proofs.Spelled.{alter_still, can_alter}
+use Rattle.rss_store.specs.Changing.{access}
 
 -- ---- the head behind a checkpoint
 
@@ -347,17 +349,16 @@ module _ {view : StoreView} {marks : List (ℕ × ℕ)} {mid saved : PagesView} 
     pub log_pages_last : new.pages.backing.log_pages ≡ view.pages.backing.log_pages
     log_pages_last = both.log_pages ∙ ap (λ (b : Backing). b.log_pages) is.step.passes.backing
 
-    heaps_last : IsTold new.pages.disk → AreHeaps new.pages
-    heaps_last told =
-        let told_mid : IsTold mid.disk = both.told.1 told in
-        let told_old : IsTold view.pages.disk = is.step.passes.leaves.told.1 told_mid in
-        heaps_same (λ key off. ap (λ (h : Held). h key) (both.held told_mid) ∙ held_off_system is.step told_old key off) (λ key off. ap (λ (n : Noted). n key) both.notes ∙ notes_off_system is.step key off) (ready.heaps told_old)
+    can_last : CanAlter (access new)
+    can_last = alter_still slots_last listing (λ told. is.step.passes.leaves.told.1 (both.told.1 told))
+        (λ told key off. ap (λ (h : Held). h key) (both.held (is.step.passes.leaves.told.0 told)) ∙ held_off_system is.step told key off)
+        (λ key off. ap (λ (n : Noted). n key) both.notes ∙ notes_off_system is.step key off) (can_alter ready)
 
     pub saved_ready : new.root ≡ next_root → new.number ≡ 3 - view.number → new.pages.backing.area ≡ next_root.area → new.pages.settled ≡ true → length new.catalog.pending ≡ system_pages → IsReady new
     saved_ready root number area settled pending =
         ready_now ready (subst IsWellFormed (sym root_is) (next_formed checkpoint (tail_of log) at_checkpoint refl)) (ap (λ (r : Root). r.slots) root_is) (ap (λ (r : Root). r.log_pages) root_is) root number area settled
         (subst (λ (r : Root). IsLogBehind r new.log) (sym root_is) (saved_behind checkpoint log.end (tail_of log) refl refl moved))
-        slots_last mapped_last log_pages_last pending heaps_last
+        slots_last mapped_last log_pages_last pending listing can_last
 
     -- as many pages are saved as are mapped: those of the system space and of the heap
     counted_pages : mapped_pages view.pages.slots view.pages.mapped ≡ heap_now view.pages + system_pages

@@ -32,6 +32,7 @@ ready_with ready behind = record {
   only = ready.only;
   pending_places = ready.pending_places;
   settled_now = ready.settled_now;
+  plain = ready.plain;
   heaps = ready.heaps;
 }
 

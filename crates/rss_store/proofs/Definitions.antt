@@ -19,7 +19,7 @@ use Rattle.rss_model.specs.Changes.{Change}
 use Rattle.rss_model.specs.Meanings.{endless, SameDefinitions, nameless, item_told, TellsValues, TellsPlace, Means}
 use Rattle.rss_model.specs.LogLaws.{IsToldBy}
 use Rattle.rss_model.proofs.Listed.{at_place}
-use Rattle.rss_access.specs.Changes.{number_told, Recounted, CountsChange}
+use Rattle.rss_access.specs.Relisted.{Recounted}
 
 -- ---- lists of what has a number
 
@@ -148,28 +148,20 @@ module _ {one other : Listing} (same : SameDefinitions one other) where
 
 -- ---- another count
 
-relation_recounted : (listing : Listing) (number live : ℕ) (relation : RelationEntry) → relation_at listing number ≡ Some relation → SameDefinitions listing (with_relation listing number (Some (with_count live relation)))
-relation_recounted listing zero live relation at = absurd (none-some relation at)
-relation_recounted listing (suc k) live relation at = record {
-  segments = refl;
-  relations = set_same (with_count 0) listing.relations (suc k - 1) relation (with_count live relation) (ap (λ (j : ℕ). get_or listing.relations j None) (less k) ∙ sym (at_place listing.relations k) ∙ at) refl;
-  images = refl;
-  links = refl;
-}
+relations_recounted : (listing : Listing) (number live : ℕ) (relation : RelationEntry) → relation_at listing number ≡ Some relation
+    → map (option_map (with_count 0)) (with_relation listing number (Some (with_count live relation))).relations ≡ map (option_map (with_count 0)) listing.relations
+relations_recounted listing zero live relation at = absurd (none-some relation at)
+relations_recounted listing (suc k) live relation at =
+    set_same (with_count 0) listing.relations (suc k - 1) relation (with_count live relation) (ap (λ (j : ℕ). get_or listing.relations j None) (less k) ∙ sym (at_place listing.relations k) ∙ at) refl
   where
     less : (k : ℕ) → suc k - 1 ≡ k
     less k = omega arith
 
-recounted_same : {number live : ℕ} {relation : RelationEntry} {old new : CatalogView} → relation_at old.listing number ≡ Some relation → Recounted number relation live old new → SameDefinitions old.listing new.listing
-recounted_same {number = number} {live = live} {relation = relation} {old = old} at counted = subst (SameDefinitions old.listing) (sym counted.lists.is) (relation_recounted old.listing number live relation at)
-
-itself_same : {old new : CatalogView} → new ≡ old → SameDefinitions old.listing new.listing
-itself_same {old = old} same = subst (λ (c : CatalogView). SameDefinitions old.listing c.listing) (sym same) (same_again old.listing)
-
--- a change that is counted
-pub counts_same : (told_change : told.Change) (relation : RelationEntry) (old new : CatalogView) → relation_at old.listing (number_told told_change) ≡ Some relation → CountsChange told_change relation old new → SameDefinitions old.listing new.listing
-counts_same (Insert number tid values) relation old new at counts = recounted_same at counts
-counts_same (Delete number tid values) relation old new at counts = recounted_same at counts
-counts_same (Update number tid from to) relation old new at counts = itself_same counts
-counts_same (Connect link parent child left) relation old new at counts = itself_same counts
-counts_same (Disconnect link parent child left) relation old new at counts = itself_same counts
+-- a relation that is counted anew
+pub counts_same : {number live : ℕ} {relation : RelationEntry} {old new : CatalogView} → relation_at old.listing number ≡ Some relation → Recounted number live relation old new → SameDefinitions old.listing new.listing
+counts_same {number = number} {live = live} {relation = relation} {old = old} at counted = record {
+  segments = counted.segments;
+  relations = ap (map (option_map (with_count 0))) counted.relations ∙ relations_recounted old.listing number live relation at;
+  images = counted.images;
+  links = ap (map (option_map endless)) counted.links;
+}

@@ -15,7 +15,8 @@ use Rattle.rss_base.specs.declared.root.Root.{Root}
 use Rattle.rss_base.proofs.Moments.{widened}
 use Rattle.rss_log.specs.Logs.{LogView, HasRecords, tail_of}
 use Rattle.rss_catalog.specs.Catalogs.{CatalogView}
-use Rattle.rss_tuple.specs.Heaps.{AreHeaps}
+use Rattle.rss_access.specs.Changes.{CanAlter}
+use Rattle.rss_store.specs.Changing.{access}
 use Rattle.rss_access.specs.Written.{AreWritten}
 use Rattle.rss_model.specs.Tables.{Contents}
 use Rattle.rss_model.specs.Changes.{Change, own, others, after}
@@ -98,11 +99,11 @@ module _ {view : StoreView} {log : LogView} {t at : ℕ} (ready : IsReady view) 
   ended_behind end tail at_end is = behind_itself log_now.is_log log_now.pages log_now.head at_end is
 
   pub ended_ready : {new : StoreView} {next : Root} → next ≡ grown view.root log.end (tail_of log) → Selects next (with_log view log) new → new.log ≡ log → new.catalog ≡ view.catalog → new.pages.slots ≡ view.pages.slots → new.pages.mapped ≡ view.pages.mapped → new.pages.backing.log_pages ≡ view.pages.backing.log_pages
-      → (IsTold new.pages.disk → AreHeaps new.pages) → IsReady new
-  ended_ready {new = new} {next = next} is selected log_is catalog slots mapped log_pages heaps =
+      → CanAlter (access new) → IsReady new
+  ended_ready {new = new} {next = next} is selected log_is catalog slots mapped log_pages can =
       ready_now ready (subst IsWellFormed (sym is) (grown_formed (tail_of log) refl)) (ap (λ (r : Root). r.slots) is) (ap (λ (r : Root). r.log_pages) is) selected.root selected.number selected.area selected.settled_now
       (subst (IsLogBehind next) (sym log_is) (subst (λ (r : Root). IsLogBehind r log) (sym is) (ended_behind log.end (tail_of log) refl refl)))
-      slots mapped log_pages (ap (λ (c : CatalogView). length c.pending) catalog ∙ ready.pending_places) heaps
+      slots mapped log_pages (ap (λ (c : CatalogView). length c.pending) catalog ∙ ready.pending_places) (ap (λ (c : CatalogView). c.listing) catalog) can
 
 -- ---- the next store
 

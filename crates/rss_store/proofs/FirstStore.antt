@@ -120,7 +120,7 @@ no_listing_fits = record {
   relations_once = λ one other name is too. absurd (none-some name (sym (none_numbered {A = Name} 48 one) ∙ is));
   relations = λ number relation is. absurd (no_relation number relation is);
   paths = plain_paths no_listing no_listing_plain;
-  plain = no_listing_plain;
+  no_links = refl;
 }
 
 -- ---- its pages of the catalog are zeros
@@ -171,7 +171,8 @@ spells_none slots log_pages pages made =
       formed = λ key bytes is there. absurd (none-some bytes (sym (none key is) ∙ there));
       linked = none_linked held none;
       listed = no_listing_fits;
-      defines = listing_defines no_listing_fits;
+      plain = no_listing_plain;
+      defines = listing_defines no_listing_fits no_listing_plain;
       counts = λ number relation at. absurd (no_relation number relation at);
       contents = spelled_contents no_listing_plain (record {
         stands = λ number relation tid values at is. absurd (no_relation number relation at);

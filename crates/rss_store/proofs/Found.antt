@@ -10,7 +10,7 @@ use Rattle.rss_base.specs.PageMap.{IsKey}
 use Rattle.rss_base.specs.Paged.{Held, page_key}
 use Rattle.rss_base.specs.Sizes.{segments}
 use Rattle.rss_base.specs.TupleTypes.{kinds, misfit, tuple_bytes, Spells}
-use Rattle.rss_base.specs.Listings.{Listing, ListingFits, HoldsListing, segment_at, relation_at}
+use Rattle.rss_base.specs.Listings.{Listing, ListingFits, IsPlain, HoldsListing, segment_at, relation_at}
 use Rattle.rss_base.specs.declared.key.PageKey.{PageKey}
 use Rattle.rss_base.specs.declared.key.Space.{Space}
 use Rattle.rss_base.specs.declared.key.Space.TheVariants.{Home, Overflow, Image, System}
@@ -31,7 +31,7 @@ use Rattle.rss_tuple.specs.Heaps.{AreLinked}
 use Rattle.rss_tuple.specs.Checked.{tuples_of}
 use Rattle.rss_model.specs.Items.{Content, Values}
 use Rattle.rss_model.specs.Tables.{RelationDef, Contents, Tables, content, fields_of, segment_of, is_tuple_of, tuple_count}
-use Rattle.rss_model.specs.Fits.{ArePlain, HasContent, IsTupleOf, IsLive, Fits, tuple_limit}
+use Rattle.rss_model.specs.Fits.{HasContent, IsTupleOf, IsLive, Fits, tuple_limit}
 use Rattle.rss_model.proofs.Plain.{plain_keys, plain_links}
 use Rattle.rss_model.specs.Store.{IsStorePage, IsTupleItem, AreCounts, Defines, SpellsTables, plain_body as body_of}
 use Rattle.rss_model.proofs.PlainStores.{spelled_contents, plain_images, contents_spelled, PlainBody as IsTupleBody}
@@ -103,7 +103,7 @@ unlisted_linked held listing only segment none = linked_none (homes held segment
 
 -- ---- pages that are found sound
 
-module _ (held : Held) (slots : ℕ) (listing : Listing) (fits : ListingFits listing) (only : (key : PageKey) → is_some (held key) ≡ true → IsPlainPage listing key) (allowed : (key : PageKey) → is_some (held key) ≡ true → IsKey slots key)
+module _ (held : Held) (slots : ℕ) (listing : Listing) (fits : ListingFits listing) (plain : IsPlain listing) (only : (key : PageKey) → is_some (held key) ≡ true → IsPlainPage listing key) (allowed : (key : PageKey) → is_some (held key) ≡ true → IsKey slots key)
     (sound : (segment : ℕ) → is_some (segment_at listing segment) ≡ true → IsSegmentOf held slots listing segment) where
   body_listed : (segment : ℕ) (tid : Tid) (body : List ℕ) → bodies_of held segment tid ≡ Some body → is_some (segment_at listing segment) ≡ true
   body_listed segment tid body is = heap_listed held listing only (page_key segment Home tid.page) (inl refl) (there (held (page_key segment Home tid.page)) refl is)
@@ -123,7 +123,7 @@ module _ (held : Held) (slots : ℕ) (listing : Listing) (fits : ListingFits lis
   found_tables = record { definitions = definitions_of listing; contents = contents_of listing (spots_of held slots) }
 
   defines : Defines listing (definitions_of listing)
-  defines = listing_defines fits
+  defines = listing_defines fits plain
 
   -- the fields of a listed relation
   fields_found : (number : ℕ) (relation : RelationEntry) → relation_at listing number ≡ Some relation → fields_of found_tables relation.name ≡ Some (kinds relation.fields)
@@ -182,10 +182,11 @@ module _ (held : Held) (slots : ℕ) (listing : Listing) (fits : ListingFits lis
     formed = λ key bytes heap is. (sound key.segment (heap_listed held listing only key heap (ap is_some is))).sound.formed key bytes (refl, heap) is;
     linked = linked_found;
     listed = fits;
+    plain = plain;
     defines = defines;
     counts = found_counts;
-    contents = spelled_contents fits.plain (record { stands = stands_found; bodies_are = body_found; only = item_found });
-    images = plain_images fits.plain (λ key image there. no_image key image (only key there));
+    contents = spelled_contents plain (record { stands = stands_found; bodies_are = body_found; only = item_found });
+    images = plain_images plain (λ key image there. no_image key image (only key there));
   }
     where
       store_page : (key : PageKey) → IsPlainPage listing key → IsStorePage listing key
@@ -275,19 +276,16 @@ module _ (held : Held) (slots : ℕ) (listing : Listing) (fits : ListingFits lis
 
   found_fit : Fits slots found_tables
   found_fit = record {
-    definitions = listing_fits fits defines;
+    definitions = listing_fits fits defines plain;
     tuples = tuple_found;
     tids = λ name tid lives. let of = (live_found name tid lives).1 in (named_in held slots allowed of.relation.segment tid (of.number ∷ of.bytes) of.stands).named;
     alone = alone_found;
     few = few_found;
-    keys = plain_keys found_tables plain;
+    keys = plain_keys found_tables (record { no_images = refl; no_links = refl });
     links = plain_links found_tables (λ link parent. no_chain link parent (content found_tables.contents (ChainItem link parent)) refl);
     only = λ item there. let of = item_found item there in subst HasContent (sym of.is) (tt {0});
   }
     where
-      plain : ArePlain (definitions_of listing)
-      plain = record { no_images = refl; no_links = refl }
-
       no_chain : (link : Name) (parent : Option Tid) (found : Option Content) → content found_tables.contents (ChainItem link parent) ≡ found → content found_tables.contents (ChainItem link parent) ≡ None
       no_chain link parent None is = is
       no_chain link parent (Some held) is = let of = item_found (ChainItem link parent) (ap is_some is) in let both : ChainItem link parent ≡ TupleItem of.relation.name of.tid = of.is in absurd (cc)
@@ -381,6 +379,6 @@ module _ {held : Held} {slots : ℕ} {listing : Listing} {tables : Tables} (allo
 -- ---- pages of no tables
 
 -- The pages of a listing's system space spell tables by no other listing.
-pub none_by : (held : Held) (slots : ℕ) (listing : Listing) → ListingFits listing → HoldsListing held listing → ((tables : Tables) → SpellsTables held listing tables → Fits slots tables → ⊥) → HoldsNone held slots
-none_by held slots listing fits system none other tables there spells fit =
-    none tables (subst (λ (l : Listing). SpellsTables held l tables) (listing_once held spells.listed fits there system) spells) fit
+pub none_by : (held : Held) (slots : ℕ) (listing : Listing) → ListingFits listing → IsPlain listing → HoldsListing held listing → ((tables : Tables) → SpellsTables held listing tables → Fits slots tables → ⊥) → HoldsNone held slots
+none_by held slots listing fits plain system none other tables there spells fit =
+    none tables (subst (λ (l : Listing). SpellsTables held l tables) (listing_once held spells.listed fits spells.plain plain there system) spells) fit

@@ -1,4 +1,5 @@
 mod Places
+pub mod Spelled
 mod Pieces
 mod Selected
 pub mod Nexts

@@ -8,7 +8,7 @@ use Rattle.rss_base.specs.Paged.{Held, Mapped, page_key}
 use Rattle.rss_base.specs.Sizes.{segments, system_pages}
 use Rattle.rss_base.specs.Steps.{PagesView, no_page}
 use Rattle.rss_base.specs.Looking.{ChecksPages}
-use Rattle.rss_base.specs.Listings.{Listing, ListingFits, HoldsListing, segment_at}
+use Rattle.rss_base.specs.Listings.{Listing, ListingFits, IsPlain, HoldsListing, segment_at}
 use Rattle.rss_base.specs.declared.place.Place.{Place}
 use Rattle.rss_base.specs.declared.place.Place.TheVariants.{Room}
 use Rattle.rss_base.specs.declared.fault.PageFault.{PageFault}
@@ -171,9 +171,9 @@ looked_all {listing = listing} fits all so segment there =
 -- ---- all pages
 
 -- the pages of the system space spell no listing
-pub none_listed : {old : PagesView} {place : Place} → (IsTold old.disk → (listing : Listing) → ListingFits listing → HoldsListing old.held listing → ⊥) → IsCatalogPlace place → FindsNone old place
+pub none_listed : {old : PagesView} {place : Place} → (IsTold old.disk → (listing : Listing) → ListingFits listing → IsPlain listing → HoldsListing old.held listing → ⊥) → IsCatalogPlace place → FindsNone old place
 none_listed flawed named = record {
-  none = λ told listing tables system spells fit. flawed told listing spells.listed system;
+  none = λ told listing tables system spells fit. flawed told listing spells.listed spells.plain system;
   elsewhere = λ room. let at = named.is in absurd (cc);
 }
 
@@ -187,7 +187,7 @@ module _ {T : Type 0} {old mid : PagesView} {catalog : CatalogView} {first : Res
   -- there is a page that no store with these definitions has
   pub none_foreign : {place : Place} (key : PageKey) → mid.mapped key ≡ true → (IsStorePage catalog.listing key → ⊥) → (place ≡ Room → ⊥) → FindsNone old place
   none_foreign key is foreign elsewhere = record {
-    none = λ told. none_by old.held old.slots catalog.listing loads.fits (loads.holds told) (λ tables spells fit. foreign (plain_page spells key (holds told key ∙ was_mapped key is)));
+    none = λ told. none_by old.held old.slots catalog.listing loads.fits loads.plain (loads.holds told) (λ tables spells fit. foreign (plain_page spells key (holds told key ∙ was_mapped key is)));
     elsewhere = elsewhere;
   }
 
@@ -197,7 +197,7 @@ module _ {T : Type 0} {old mid : PagesView} {catalog : CatalogView} {first : Res
   -- a segment isn't in form
   pub none_sound : {place : Place} → MissesOne catalog.listing mid place → FindsNone old place
   none_sound one = record {
-    none = λ told. none_by old.held old.slots catalog.listing loads.fits (loads.holds told) (λ tables spells fit.
+    none = λ told. none_by old.held old.slots catalog.listing loads.fits loads.plain (loads.holds told) (λ tables spells fit.
         one.misses.is_not (told_then told) (subst (λ (h : Held). IsSegmentOf h mid.slots catalog.listing one.segment) (sym (did.looks.held told))
         (subst (λ (n : ℕ). IsSegmentOf old.held n catalog.listing one.segment) (sym did.looks.step.passes.slots) (spelled_segment (key_held told) spells fit one.segment))));
     elsewhere = one.misses.elsewhere;
@@ -234,7 +234,7 @@ module _ {T : Type 0} {old mid : PagesView} {catalog : CatalogView} {first : Res
             let was : old.held key ≡ Some bytes = ap (λ (h : Held). h key) (sym (same_held told)) ∙ is in
             (all_noted told key.segment (heap_listed old.held catalog.listing (only_held told) key heap (ap is_some was)) key bytes (refl, heap) is).heap;
         linked = λ segment. subst (λ (h : Held). AreLinked (homes h segment) (overflows h segment)) (sym (same_held told))
-            (linked_found old.held old.slots catalog.listing loads.fits (only_held told) (key_held told) (sound_old told) segment);
+            (linked_found old.held old.slots catalog.listing loads.fits loads.plain (only_held told) (key_held told) (sound_old told) segment);
       }
 
       -- all are found
@@ -242,7 +242,7 @@ module _ {T : Type 0} {old mid : PagesView} {catalog : CatalogView} {first : Res
       finds_tables = record {
         loaded = loads;
         only = only_mapped;
-        holds = λ told. holds_found old.held old.slots catalog.listing loads.fits (only_held told) (key_held told) (sound_old told) (loads.holds told);
+        holds = λ told. holds_found old.held old.slots catalog.listing loads.fits loads.plain (only_held told) (key_held told) (sound_old told) (loads.holds told);
         heaps = heaps_now;
         noted = all_noted;
       }

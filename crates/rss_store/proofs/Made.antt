@@ -9,7 +9,7 @@ use Rattle.std.proofs.lemmas.List.Sums.{count_by-le-length}
 use Rattle.std.proofs.lemmas.Option.{none-some, same_Some}
 use Rattle.rss_base.specs.Names.{IsName}
 use Rattle.rss_base.specs.Sizes.{segments, relations_most}
-use Rattle.rss_base.specs.Listings.{Listing, ListingFits, numbered, names_of, segment_at}
+use Rattle.rss_base.specs.Listings.{Listing, ListingFits, IsPlain, numbered, names_of, segment_at}
 use Rattle.rss_base.specs.declared.name.Name.{Name}
 use Rattle.rss_base.specs.declared.relation.RelationEntry.{RelationEntry}
 use Rattle.rss_base.specs.declared.refusal.Kind.TheVariants.{Relation as RelationKind}
@@ -100,8 +100,8 @@ module _ {listing : Listing} (fits : ListingFits listing) where
   place_of_number items zero item at = absurd (none-some item at)
   place_of_number items (suc k) item at = (k, refl, sym (at_place items k) ∙ at)
 
-  pub listing_defines : Defines listing (definitions_of listing)
-  listing_defines = record {
+  pub listing_defines : IsPlain listing → Defines listing (definitions_of listing)
+  listing_defines plain = record {
     segments = λ name. (
       (λ there. let at = made_only (λ (n : Name). n) (λ n. tt {0}) listing.segments name there in (suc at.0, at_place listing.segments at.0 ∙ at.2 ∙ ap Some at.3)),
       (λ has. let place = place_of_number listing.segments has.0 name has.1 in ap is_some (made_some (λ (n : Name). n) (λ n. tt {0}) listing.segments segments_apart place.0 name place.2)),
@@ -113,7 +113,7 @@ module _ {listing : Listing} (fits : ListingFits listing) where
     only_relations = λ name there.
         let at = made_only relation_name (relation_def listing) listing.relations name there in
         (suc at.0, number_of listing (suc at.0) at.1 (at_place listing.relations at.0 ∙ at.2) ∙ ap Some at.3);
-    paths = plain_defines fits.plain (record { no_images = refl; no_links = refl });
+    paths = plain_defines plain (record { no_images = refl; no_links = refl });
   }
 
   -- ---- they fit
@@ -132,8 +132,8 @@ module _ {listing : Listing} (fits : ListingFits listing) where
           fields = (fits.relations has.number has.relation has.at).fields;
         })
 
-    pub listing_fits : DefinitionsFit definitions
-    listing_fits = record {
+    pub listing_fits : IsPlain listing → DefinitionsFit definitions
+    listing_fits plain = record {
       segment_names = λ name there. let has = (defines.segments name).0 there in fits.segment_names has.0 name has.1;
       few_segments = few_names listing.segments definitions.segments segments (segments_listed fits defines) fits.segment_places;
       relation_names = λ name there.
@@ -142,5 +142,5 @@ module _ {listing : Listing} (fits : ListingFits listing) where
       few_relations = few_names (names_of RelationKind listing) definitions.relations relations_most (relations_listed fits defines)
           (length-map listing.relations (option_map relation_name) ∙ fits.relation_places);
       relations = relation_fits;
-      paths = plain_paths definitions (plain_defined fits.plain defines);
+      paths = plain_paths definitions (plain_defined plain defines);
     }

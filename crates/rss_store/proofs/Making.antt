@@ -21,8 +21,8 @@ use Rattle.rss_model.specs.LogLaws.{IsStoredOf, ChangeTies, noted}
 use Rattle.rss_model.proofs.LogLists.{by_same}
 use Rattle.rss_model.proofs.Mixing.{own_here, own_off, up_skip, up_take}
 use Rattle.rss_model.proofs.Sparing.{session_changes}
-use Rattle.rss_access.specs.Changes.{IsTupleRecord, Applies, CanApply, NoneApplies, Makes}
 use Rattle.rss_access.proofs.Altering.{alters_leads}
+use Rattle.rss_access.specs.Changes.{IsTupleRecord, Applies, CanApply, NoneApplies, Makes}
 use Rattle.rss_store.specs.Changing.{access, MayMake, MakesOne}
 use Rattle.rss_store.specs.Shown.{ShowsWith, Shows}
 use Rattle.rss_store.specs.Stores.{StoreView, IsReady}
@@ -102,7 +102,7 @@ module _ {T : Type 0} (told_change : told.Change) (old new : StoreView) {value :
   session =
       let more : length state.changes + 1 ≡ length (change ∷ state.changes) = omega arith in
       subst (λ (n : ℕ). IsInSession (with_one (change_counts state.meter)) n (page_counts new.pages)) more
-      (session_changes (change_counts state.meter) (length state.changes) (page_counts old.pages) (page_counts new.pages) shown.session (two_made old new makes root counted))
+      (session_changes (change_counts state.meter) (length state.changes) (page_counts old.pages) (page_counts new.pages) shown.session (two_made old new makes root ready counted))
 
   pub makes_one : MakesOne new state change
   makes_one = record {

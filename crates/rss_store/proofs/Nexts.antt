@@ -6,18 +6,18 @@ use Rattle.std.proofs.Math.Seq.{drop-append_seam}
 use Rattle.rss_base.specs.DiskRule.{Pages, Told, IsTold, Leaves}
 use Rattle.rss_base.specs.Sizes.{piece_bytes, system_pages}
 use Rattle.rss_base.specs.Layout.{slots_at, IsWellFormed}
-use Rattle.rss_base.specs.Paged.{Held, Fixed, Mapped, HasFixed, mapped_pages}
-use Rattle.rss_base.specs.Notes.{Noted}
+use Rattle.rss_base.specs.Listings.{IsPlain}
+use Rattle.rss_base.specs.Paged.{Fixed, Mapped, HasFixed, mapped_pages}
 use Rattle.rss_base.specs.PageMap.{page_count}
 use Rattle.rss_base.specs.Steps.{PagesView, AreCounted}
 use Rattle.rss_base.specs.declared.root.Root.{Root}
 use Rattle.rss_log.specs.Logs.{LogView, IsLog, bytes_from, piece_start, tail_of}
 use Rattle.rss_buffer.specs.Slots.{fixed_by}
 use Rattle.rss_buffer.specs.Saving.{SavingView, AreSaveable}
-use Rattle.rss_tuple.specs.Heaps.{AreHeaps}
 use Rattle.rss_model.specs.Spares.{page_counts}
 use Rattle.rss_model.specs.Store.{Stored, IsStore}
-use Rattle.rss_access.proofs.Writing.{heaps_same}
+use Rattle.rss_access.specs.Changes.{CanAlter}
+use Rattle.rss_store.specs.Changing.{access}
 use Rattle.rss_catalog.specs.Catalogs.{HasSystemPages}
 use Rattle.rss_store.specs.Stores.{StoreView, IsLogBehind, IsReady}
 use Rattle.rss_store.proofs.Places.{store_fixed}
@@ -73,14 +73,10 @@ counts_still old new counted counted_now slots mapped shadow =
     let spare : new.spare ≡ old.spare = omega (arith, counted, counted_now, same, saved, slots) in
     λ i. record { slots = slots i; saved = saved i; mapped = same i; spare = spare i }
 
--- tuples in pages that hold the same
-pub heaps_still : {old new : PagesView} → new.held ≡ old.held → new.notes ≡ old.notes → AreHeaps old → AreHeaps new
-heaps_still held notes = heaps_same (λ key off. ap (λ (h : Held). h key) held) (λ key off. ap (λ (n : Noted). n key) notes)
-
 -- a call may be made again
 pub ready_now : {old new : StoreView} {next : Root} → IsReady old → IsWellFormed next → next.slots ≡ old.root.slots → next.log_pages ≡ old.root.log_pages → new.root ≡ next → new.number ≡ 3 - old.number → new.pages.backing.area ≡ next.area → new.pages.settled ≡ true → IsLogBehind next new.log
-    → new.pages.slots ≡ old.pages.slots → new.pages.mapped ≡ old.pages.mapped → new.pages.backing.log_pages ≡ old.pages.backing.log_pages → length new.catalog.pending ≡ system_pages → (IsTold new.pages.disk → AreHeaps new.pages) → IsReady new
-ready_now {old = old} {new = new} {next = next} ready formed same_slots same_pages root number area settled log slots mapped log_pages pending heaps = record {
+    → new.pages.slots ≡ old.pages.slots → new.pages.mapped ≡ old.pages.mapped → new.pages.backing.log_pages ≡ old.pages.backing.log_pages → length new.catalog.pending ≡ system_pages → new.catalog.listing ≡ old.catalog.listing → CanAlter (access new) → IsReady new
+ready_now {old = old} {new = new} {next = next} ready formed same_slots same_pages root number area settled log slots mapped log_pages pending listing can = record {
   number_low = omega (arith, number, ready.number_high);
   number_high = omega (arith, number, ready.number_low);
   formed = subst IsWellFormed (sym root) formed;
@@ -92,5 +88,6 @@ ready_now {old = old} {new = new} {next = next} ready formed same_slots same_pag
   only = λ key is. ready.only key (ap (λ (m : Mapped). m key) (sym mapped) ∙ is);
   pending_places = pending;
   settled_now = settled;
-  heaps = heaps;
+  plain = subst IsPlain (sym listing) ready.plain;
+  heaps = can.heaps;
 }

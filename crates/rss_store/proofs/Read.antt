@@ -165,6 +165,7 @@ module _ {root : Root} {number frames writes : ℕ} {owners : List (Option PageK
         only = λ key is. plain_key catalog key (finds.only key (sym (same_mapped key) ∙ is));
         pending_places = ap (λ (l : List Bool). length l) finds.loaded.written;
         settled_now = did.looks.step.passes.leaves.stays_settled fresh.settled;
+        plain = finds.loaded.plain;
         heaps = λ told. finds.heaps (did.looks.step.passes.leaves.told.1 told);
       }
 
@@ -194,7 +195,7 @@ module _ {root : Root} {number frames writes : ℕ} {owners : List (Option PageK
               shadow = new_shadow;
               slots = new_size;
               counted = counted;
-              listing = listing_once old.held finds.loaded.fits is.spells.listed (finds.loaded.holds told) (listing_here told stored store);
+              listing = listing_once old.held finds.loaded.fits is.spells.listed finds.loaded.plain is.spells.plain (finds.loaded.holds told) (listing_here told stored store);
               head = read.behind.head;
               end = read.end;
               kept = bytes told.pages told.is;

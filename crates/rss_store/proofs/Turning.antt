@@ -26,10 +26,10 @@ use Rattle.rss_model.specs.LogLaws.{IsToldBy, ChangesTurnBack, TakesBack}
 use Rattle.rss_model.specs.Store.{SpellsTables}
 use Rattle.rss_model.proofs.Mixing.{In}
 use Rattle.rss_model.proofs.Sparing.{session_goes_back}
-use Rattle.rss_access.specs.Changes.{IsTupleRecord, reversed, turned, taken_back, CanUndo, NoneUndoes, Undoes, Makes}
 use Rattle.rss_access.proofs.Altering.{alters_leads}
+use Rattle.rss_access.specs.Changes.{IsTupleRecord, reversed, turned, taken_back, CanUndo, NoneUndoes, Undoes, Makes}
 use Rattle.rss_access.proofs.Telling.{can_turned, reversed_tuple}
-use Rattle.rss_restart.specs.Walks.{TellsAt, TellsNone}
+use Rattle.rss_restart.specs.Walks.{TellsAt}
 use Rattle.rss_restart.proofs.Moving.{meant_tuple, told_once}
 use Rattle.rss_store.specs.Changing.{access, IsOwnAt, TakesBackOne}
 use Rattle.rss_store.specs.Shown.{HoldsLogged, ShowsWith, ShowsBack}
@@ -84,7 +84,7 @@ module _ {old : StoreView} (turns : ChangesTurnBack) (ready : IsReady old) (stat
   begins = begins_there (record { at = position; told = records.Change t back.told_change; is = Changed back.change }) shown.logged back.there
 
   tuple : IsTupleRecord back.told_change
-  tuple = meant_tuple old.catalog.listing back.told_change back.change shown.spells.listed.plain told_now.means
+  tuple = meant_tuple old.catalog.listing back.told_change back.change shown.spells.plain told_now.means
 
   tells : TellsAt old.log position back.told_change
   tells = record { by = t; rest = _; begins = begins; tuple = tuple }
@@ -103,9 +103,6 @@ module _ {old : StoreView} (turns : ChangesTurnBack) (ready : IsReady old) (stat
   }
 
   -- ---- what can't be so
-
-  pub some_told : TellsNone old.log position → ⊥
-  some_told none = none back.told_change tells
 
   pub may_be_undone : {found : told.Change} → TellsAt old.log position found → NoneUndoes found (access old) → ⊥
   may_be_undone found none = none tables back.change (subst (λ (c : told.Change). CanUndo (access old) c tables back.change) (told_once tells found) can_take_back)
@@ -152,7 +149,7 @@ module _ {old : StoreView} (turns : ChangesTurnBack) (ready : IsReady old) (stat
         written = written_made old new makes root on ready shown.written;
         heap = shown.heap;
         session = session_goes_back (change_counts state.meter) (length (kept_to maker t n state.changes)) (page_counts old.pages) (page_counts new.pages)
-            (subst (λ (count : ℕ). IsInSession (change_counts state.meter) count (page_counts old.pages)) fewer shown.session) (two_made old new makes root counted);
+            (subst (λ (count : ℕ). IsInSession (change_counts state.meter) count (page_counts old.pages)) fewer shown.session) (two_made old new makes root ready counted);
         over_is = refl;
       };
       way = subst (λ (cs : List Change). MayUndo (now state) cs state.meter.over over) (sym back.last)

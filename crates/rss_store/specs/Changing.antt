@@ -4,7 +4,6 @@ use Rattle.rss_base.specs.Faults.{Rises}
 use Rattle.rss_base.specs.Steps.{PagesStep}
 use Rattle.rss_base.specs.declared.fault.PageFault.{PageFault}
 use Rattle.rss_base.specs.declared.fault.PageFault.TheVariants.{Device as DeviceFailed, NoMemory}
-use Rattle.rss_page.specs.Slotted.{IsHeapKey}
 use Rattle.rss_base.specs.declared.change.Change as told
 use Rattle.rss_model.specs.Tables.{content}
 use Rattle.rss_model.specs.Changes.{Change, mine}
@@ -15,8 +14,10 @@ use Rattle.rss_model.specs.Steps.{IsOver, stamp_by}
 use Rattle.rss_model.specs.Kept.{FitMixed}
 use Rattle.rss_model.specs.Restart.{OnlyBy}
 use Rattle.rss_model.specs.LogLaws.{IsToldBy, noted, gone_back, all_back}
-use Rattle.rss_access.specs.Changes.{AccessView, both, alter_cost, Takes}
+use Rattle.rss_access.specs.Changes.{AccessView, both, HasRoom, number_told, alter_cost, Takes}
+use Rattle.rss_access.specs.Written.{content_of}
 use Rattle.rss_restart.specs.Restarting.{KeepsCatalog}
+use Rattle.rss_restart.specs.Walks.{TellsAt}
 use Rattle.rss_store.specs.Stores.{StoreView}
 use Rattle.rss_store.specs.Shown.{Shows, ShowsBack}
 
@@ -70,9 +71,9 @@ CutsAll old new t = (state : State) (back : ShowsBack old state t 0)
 abbrev pub access : StoreView → AccessView
 access view = both view.pages view.catalog
 
--- By the result: home and overflow pages alone are touched, and two are taken at most. The catalog is sound still, and lists the same definitions. Each failure of the device has its cause, and memory never runs out.
+-- By the result: pages of tuples and images alone are touched, and two home or overflow pages are taken at most. The catalog is sound still, and lists the same definitions. Each failure of the device has its cause, and memory never runs out.
 pub record AltersPages {T : Type 0} (old new : StoreView) (result : Result T PageFault) : Type 0 where
-  pub step : PagesStep IsHeapKey (alter_cost old.pages.slots) (alter_cost old.pages.slots)
+  pub step : PagesStep (content_of old.catalog.listing) (alter_cost old.pages.slots) (alter_cost old.pages.slots)
       old.pages new.pages
   pub takes : OnOk result (Takes 2 old.pages new.pages)
   pub keeps : KeepsCatalog (access old) (access new)
@@ -82,12 +83,14 @@ pub record AltersPages {T : Type 0} (old new : StoreView) (result : Result T Pag
   pub root : new.root ≡ old.root
   pub number : new.number ≡ old.number
 
--- in no state in which the change may be made is anything found damaged
+-- where there is room, in no state in which the change may be made is anything found damaged
 abbrev pub MayNotMake : StoreView → ℕ → told.Change → Type 0
-MayNotMake view t told_change = (state : State) (change : Change) → change.by ≡ t
+MayNotMake view t told_change = HasRoom (access view) (number_told told_change)
+    → (state : State) (change : Change) → change.by ≡ t
     → Shows view state → MayMake view state told_change change → ⊥
 
 -- nor on a way back
 abbrev pub MayNotTakeBack : StoreView → ℕ → Type 0
-MayNotTakeBack view position = (state : State) (t n : ℕ) → IsOwnAt state t n position
+MayNotTakeBack view position = (told_change : told.Change) → TellsAt view.log position told_change
+    → HasRoom (access view) (number_told told_change) → (state : State) (t n : ℕ) → IsOwnAt state t n position
     → ShowsBack view state t (n + 1) → ⊥

@@ -3,6 +3,7 @@ use Rattle.std.specs.Prelude.{◌≡◌, ℕ, ◌+◌, ◌<◌, ◌≤◌, true,
 use Rattle.rss_base.specs.DiskRule.{IsTold}
 use Rattle.rss_base.specs.Sizes.{system_pages}
 use Rattle.rss_base.specs.Layout.{IsWellFormed}
+use Rattle.rss_base.specs.Listings.{IsPlain}
 use Rattle.rss_base.specs.PageMap.{page_count}
 use Rattle.rss_base.specs.Paged.{mapped_pages}
 use Rattle.rss_base.specs.Steps.{PagesView}
@@ -50,6 +51,7 @@ pub record IsReady (view : StoreView) : Type 0 where
   pub only : (key : PageKey) → view.pages.mapped key ≡ true → IsSystemOrHeap key
   pub pending_places : length view.catalog.pending ≡ system_pages
   pub settled_now : view.pages.settled ≡ true
+  pub plain : IsPlain view.catalog.listing
   pub heaps : IsTold view.pages.disk → AreHeaps view.pages
 
 -- The selected root has the whole log, and the map that it names has each page, once.

@@ -5,7 +5,7 @@ ghost use Rattle.rss_base.specs.LogRecords.{record_size, IsChangeBounded};
 ghost use Rattle.rss_base.specs.declared.log_record.LogRecord.TheVariants as records;
 ghost use Rattle.rss_base.specs.declared.fault.PageFault.TheVariants.{Damaged};
 ghost use Rattle.rss_base.specs.declared.place.Place.{Place as AnyPlace};
-ghost use Rattle.rss_access.specs.Changes.{IsTupleRecord, CanAlter};
+ghost use Rattle.rss_access.specs.Changes.{IsTupleRecord};
 ghost use Rattle.rss_store.specs.Changing.{MakesChange, TakesBackOne, AltersPages, MayNotMake, MayNotTakeBack};
 ghost use Rattle.rss_store.specs.Commits.{HasLogRoom};
 ghost use Rattle.rss_store.specs.Stores.{IsReady, Grows};
@@ -22,11 +22,11 @@ impl<S: Saving> DurableStore<S> {
     /// Makes a change of a transaction, and puts its record behind the others. Answers the record's
     /// position. As yet no change of a chain may be given.
     ///
-    /// It takes no memory, and two pages at most. Where the tuple isn't as the change tells it, which
-    /// no device shows that tells its contents, the fault is `Damaged`.
+    /// It takes no memory, and two home or overflow pages at most. Where there is no room, or the tuple
+    /// isn't as the change tells it, which no device shows that tells its contents, the fault is
+    /// `Damaged`.
     pub fn change(&mut self, transaction: u32, change: Change) -> Result<u64, PageFault>
         requires ready { IsReady (view S.view self.old) }
-        requires may { CanAlter (view S.view self.old).pages }
         requires tuple { IsTupleRecord change }
         requires bounded { IsChangeBounded change }
         requires room { HasLogRoom (view S.view self.old).log
@@ -48,13 +48,12 @@ impl<S: Saving> DurableStore<S> {
     }
 
     /// Undoes the change of a tuple whose record begins at this position. It takes no memory, and two
-    /// pages at most.
+    /// home or overflow pages at most.
     ///
-    /// Where no such record begins there, or the tuple isn't as it tells, the fault is `Damaged`; no
-    /// device shows that which tells its contents.
+    /// Where there is no room, the fault is `Damaged`; so it is where no such record begins there, or
+    /// the tuple isn't as it tells, but no device shows that which tells its contents.
     pub fn undo(&mut self, position: u64) -> Result<(), PageFault>
         requires ready { IsReady (view S.view self.old) }
-        requires may { CanAlter (view S.view self.old).pages }
         requires low { (view S.view self.old).log.head ≤ position }
         requires high { position ≤ (view S.view self.old).log.end }
         ensures ready { OnOk result (IsReady (view S.view self.new)) }

@@ -17,15 +17,13 @@ ghost use Rattle.rss_store.specs.Checks.{AreSeen, ChecksSegment, MissesSegment, 
 ghost use Rattle.rss_store.specs.Checks.{ChecksSegments, MissesOne};
 ghost use Rattle.rss_store.specs.Looks.{FindsTables, FindsNone};
 
+use rss_access::TUPLES_MOST;
 use rss_base::{Kind, PageFault, PageKey, Pages, Place, RELATIONS_MOST, SEGMENTS, Space, Tid};
 use rss_catalog::Catalog;
 use rss_pagemap::SlotTable;
 use rss_tuple::{Visitor, check};
 use rss_value::spells;
 use std::alloc::Global;
-
-/// How many tuples a relation has at most.
-pub const TUPLES_MOST: u32 = 1 << 20;
 
 /// How many places there are for the numbers of relations.
 pub const RELATIONS: usize = RELATIONS_MOST as usize;

@@ -12,7 +12,7 @@ mod opening;
 mod store;
 mod writing;
 
-pub use checking::{RELATIONS, TUPLES_MOST, look_through, pages_in};
+pub use checking::{RELATIONS, look_through, pages_in};
 pub use formatting::format;
 pub use opening::open;
 pub use store::DurableStore;

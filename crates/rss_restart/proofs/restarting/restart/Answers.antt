@@ -37,9 +37,6 @@ pub returns-clause-sound : goal.returns-clause-sound
 returns-clause-sound g c = λ place is told r can.
     not_redone can (surveyed c.deref.ensures.value c.deref-2.ensures.value (c.in_ok-found.ensures.finds c.args.catalog.now.listing r.older r.newer can.records)) told c.in_ok-walk.ensures.leads (c.walk-2.ensures.sound place is (c.in_ok-walk.ensures.did.step.passes.leaves.told.0 told))
 
-pub returns-clause-heaps : goal.returns-clause-heaps
-returns-clause-heaps g c = on_ok c.walk-2.result (λ heaps told. heaps (c.in_ok-walk.ensures.did.step.passes.leaves.told.0 told)) c.walk-2.ensures.heaps
-
 pub returns-clause-did : goal.returns-clause-did
 returns-clause-did g c = passes_walk (λ older newer is. few_both (surveyed c.deref.ensures.value c.deref-2.ensures.value (c.in_ok-found.ensures.finds c.args.catalog.now.listing older newer is))) (walks_then c.in_ok-walk.ensures.did c.walk-2.ensures.did)
 

@@ -11,7 +11,7 @@ pub loop-position-init : goal.loop-position-init
 loop-position-init g c = record {
   leads = leads_nowhere (both (g.P.Pages.view c.args.tuples.now.pages) c.args.catalog.now);
   counted = counts_none;
-  heaps = c.requires.heaps;
+  still = c.requires.may;
   went = walks_nothing (both (g.P.Pages.view c.args.tuples.now.pages) c.args.catalog.now);
 }
 
@@ -26,7 +26,7 @@ loop-position-preserved g c =
           (leads_more c.loop-position.invariant.leads still c.in_ok-make.ensures.steps c.in_ok-make.ensures.did.step.passes.slots);
       counted = subst (λ (turns : List Turn). Counted c.args.log.now turns c.args.catalog.now c.make.new.catalog) (sym (turns_more c.args.way c.args.positions.now c.loop-position.position-index c.loop-position-test.true))
           (counted_more c.loop-position.invariant.counted c.in_ok-make.ensures.steps);
-      heaps = λ told. (c.in_ok-make.ensures.steps.alters.changes.sets (still told)).heaps;
+      still = c.in_ok-make.ensures.still;
       went = walks_then {result = Ok tt} c.loop-position.invariant.went c.in_ok-make.ensures.did;
     }
 

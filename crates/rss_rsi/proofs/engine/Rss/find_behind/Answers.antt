@@ -4,7 +4,7 @@ use Rattle.rss_base.specs.TupleTypes.{kinds, width, most_width}
 use Rattle.rss_base.specs.declared.field.FieldDef.{FieldDef}
 use Rattle.rss_model.proofs.Lengths.{row_line}
 use Rattle.rss_rsi.specs.Parts.{parts_of}
-use Rattle.rss_rsi.proofs.Looks.{body_as, costly_damaged, costly_fails, lacks_costly, passed_on}
+use Rattle.rss_rsi.proofs.Looks.{ready_looked, body_as, costly_damaged, costly_fails, lacks_costly, passed_on}
 use Rattle.rss_rsi.proofs.Scans.{none_unread, row_behind}
 use Rattle.rss_rsi.proofs.engine.Rss.find_behind.Goals as goal
 
@@ -35,3 +35,6 @@ returns-clause-finds g c =
     (λ values body. c.in-Ok.ensures.exact values (body_as look.looks.catalog c.relation.ensures.is c.relation-entry.ensures.is c.as_slice.ensures c.as_slice-2.ensures.bytes values body))
     c.in_ok-tuple.tuple c.in_ok-tuple.ensures.some
     (row_line c.in-Some.tid (kinds c.as_slice.result.now) c.in_ok-tuple.tuple (omega arith) (omega arith) spelled.spelled.fit (subst (λ (f : List FieldDef). width (kinds f) ≤ most_width) (sym c.as_slice.ensures) c.relation-entry.ensures.safe.narrow) spelled.spelled.storable)
+
+pub invariant_of-self-2 : goal.invariant_of-self-2
+invariant_of-self-2 g c = record { ready = λ up. ready_looked (parts_of c.args.self.now) _ {found = c.in_ok-found.found} (c.args.self.now.ready c.requires.up) c.in_ok-found.ensures.looks (record { locks = refl; scans = refl }) }

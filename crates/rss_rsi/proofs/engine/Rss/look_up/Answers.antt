@@ -63,3 +63,9 @@ returns-clause-finds g c = λ relation known.
 
 pub invariant_of-self-2 : goal.invariant_of-self-2
 invariant_of-self-2 g c = record { ready = λ up. ready_looked (parts_of c.args.self.now) _ {found = c.in_ok-there.there} (c.args.self.now.ready c.requires.up) c.in_ok-there.ensures.looks (record { locks = refl; scans = refl }) }
+
+pub invariant_of-self-then-not-there : goal.invariant_of-self-then-not-there
+invariant_of-self-then-not-there g c = record { ready = λ up. ready_looked (parts_of c.args.self.now) _ {found = c.in_ok-there.there} (c.args.self.now.ready c.requires.up) c.in_ok-there.ensures.looks (record { locks = refl; scans = refl }) }
+
+pub invariant_of-self-in_default : goal.invariant_of-self-in_default
+invariant_of-self-in_default g c = record { ready = λ up. ready_looked (parts_of c.args.self.now) _ {found = c.in_ok-there.there} (c.args.self.now.ready c.requires.up) c.in_ok-there.ensures.looks (record { locks = refl; scans = refl }) }

@@ -6,6 +6,7 @@ use Rattle.rss_trans.specs.Tables.{told}
 use Rattle.rss_trans.specs.Transactions.{is_open, transaction_in}
 use Rattle.rss_trans.proofs.Told.{open_saves}
 use Rattle.rss_store.specs.Parts.{view as store_view}
+use Rattle.rss_store.proofs.Altered.{fault_passed}
 use Rattle.rss_session.specs.Calls.{HasMarks}
 use Rattle.rss_session.specs.Parts.{view}
 use Rattle.rss_session.specs.Sessions.{SessionView}
@@ -87,3 +88,6 @@ returns-then-is_some-clause-others g c = λ u off is. others_stay _ c.args.trans
 
 pub returns-else-is_some-clause-others : goal.returns-else-is_some-clause-others
 returns-else-is_some-clause-others g c = λ u off is. others_stay _ c.args.transaction c.gone.ensures.transactions u off (put_stay _ c.args.transaction _ c.in_ok-first.ensures.takes.opened.transactions u is)
+
+pub returns-in_err-first-clause-sound : goal.returns-in_err-first-clause-sound
+returns-in_err-first-clause-sound g c = λ place is on. c.in_err-first.ensures.sound place (fault_passed c.from_residual.ensures.1 is) on

@@ -2,11 +2,13 @@ use Rattle.std.proofs.Common.{refl, sym, arith}
 use Rattle.rss_model.proofs.Sparing.{takes_two}
 use Rattle.rss_record.proofs.Parsing.{some_bytes}
 use Rattle.rss_base.specs.declared.log_record.LogRecord.TheVariants as records
+use Rattle.rss_store.specs.Parts.{view as store_view}
 use Rattle.rss_store.proofs.Altered.{fault_passed}
 use Rattle.rss_session.proofs.SavePoints.{keeps_saves}
 use Rattle.rss_session.proofs.StaysOpen.{put_stay}
+use Rattle.rss_session.proofs.Taken.{mapped_two}
 use Rattle.rss_session.proofs.Noted.{weighed_goes}
-use Rattle.rss_session.proofs.Changed.{ready_noted, makes_noted}
+use Rattle.rss_session.proofs.Changed.{room_next, ready_noted, makes_noted}
 use Rattle.rss_session.proofs.Passing.{keeps_altered, goes_altered, fault_same}
 use Rattle.rss_session.proofs.session.Session.change.Goals as goal
 
@@ -24,13 +26,13 @@ returns-clause-goes g c = goes_altered _ c.requires.ready.store (λ is. absurd (
     (keeps_saves _ c.args.transaction _ c.note.ensures.transactions (omega arith))
 
 pub returns-in_err-position-clause-sound : goal.returns-in_err-position-clause-sound
-returns-in_err-position-clause-sound g c = λ place is told state change by kept shows may. c.in_err-position.ensures.sound place (fault_passed c.from_residual.ensures.1 is) told state change by shows.store may
+returns-in_err-position-clause-sound g c = λ place is told state change by kept shows may. c.in_err-position.ensures.sound place (fault_passed c.from_residual.ensures.1 is) told (room_next c.requires.ready (weighed_goes _ _ _ c.requires.weighed) _) state change by shows.store may
 
 pub returns-clause-ready : goal.returns-clause-ready
 returns-clause-ready g c =
     let store = c.in_ok-position.ensures in
     ready_noted c.requires.ready c.requires.«open» (weighed_goes _ _ _ c.requires.weighed) store.ready c.note.ensures (sym store.at) store.log (some_bytes (records.Change c.args.transaction c.args.change))
-    (takes_two store.did.step (g.met.S.Pages.are_counted c.change.new.self.tuples.pages) store.did.takes.mapped) refl refl store.did.root
+    (takes_two store.did.step (g.met.S.Pages.are_counted c.change.new.self.tuples.pages) (mapped_two (store_view g.S.Pages.view c.args.self.now.store) (store_view g.S.Pages.view c.change.new.self) c.requires.ready.store store.ready store.did.takes)) refl refl store.did.root
 
 pub returns-clause-makes : goal.returns-clause-makes
 returns-clause-makes g c = λ told state change by kept shows may.

@@ -10,8 +10,9 @@ use Rattle.rss_session.specs.Definitions.{Relists}
 use Rattle.rss_session.specs.Definitions.Relists.{drop_relation}
 use Rattle.rss_access.proofs.Numbered.{entry_at, name_of}
 use Rattle.rss_access.proofs.Recounting.{page_same}
-use Rattle.rss_session.proofs.Defined.{refused, relation_lacks, relation_full, relation_drops, redefines, relation_page}
+use Rattle.rss_session.proofs.Defined.{refused, relation_lacks, relation_full, relation_imaged, relation_drops, redefines, relation_page}
 use Rattle.rss_session.proofs.session.Session.drop_relation.Goals as goal
+use Rattle.rss_session.proofs.session.Session.drop_relation.Goals.{then-relation-gt0-via-then-relation-gt0, then-relation-gt0-via-else-relation-gt0+then-has_image_of}
 
 pub returns-in_err-test_rest : goal.returns-in_err-test_rest
 returns-in_err-test_rest g c = refused g.S.Pages.view c.args.self.now (DropRelation c.args.name.now) if_any_open c.from_residual.result c.from_residual.ensures.1 (λ state. refuses_at _) c.in_err-test_rest.ensures.tests
@@ -30,7 +31,13 @@ pub returns-then-relation-gt0 : goal.returns-then-relation-gt0
 returns-then-relation-gt0 g c =
     let entry = c.relation.result.now in
     let named = name_of c.args.self.now.store.catalog.listing c.args.name.now c.in-Some.number entry c.in-Some.ensures.some c.relation.ensures.is in record {
-      tests = (λ told state shows. relation_full shows c.in_ok-test_rest.ensures.closed c.args.name.now c.in-Some.number c.in-Some.ensures.some entry c.relation.ensures.is named c.if-relation-gt0.true, search rules);
+      tests = (
+        λ told state shows. elim c.then-relation-gt0.branch [
+          | then-relation-gt0-via-then-relation-gt0 w ↦ relation_full shows c.in_ok-test_rest.ensures.closed c.args.name.now c.in-Some.number c.in-Some.ensures.some entry c.relation.ensures.is named w.if-relation-gt0.true
+          | then-relation-gt0-via-else-relation-gt0+then-has_image_of w ↦ relation_imaged shows c.in_ok-test_rest.ensures.closed c.args.name.now c.in-Some.number c.in-Some.ensures.some entry c.relation.ensures.is named (w.has_image_of.ensures.0 w.if-has_image_of.true)
+        ],
+        search rules,
+      );
       redefines = tt;
       same = refl;
     }

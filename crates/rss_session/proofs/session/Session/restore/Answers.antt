@@ -3,6 +3,7 @@ use Rattle.rss_model.specs.Spares.{page_counts}
 use Rattle.rss_model.specs.Steps.{left_at}
 use Rattle.rss_trans.specs.Tables.{told}
 use Rattle.rss_store.specs.Parts.{view as store_view}
+use Rattle.rss_store.proofs.Altered.{fault_passed}
 use Rattle.rss_session.specs.Parts.{view}
 use Rattle.rss_session.specs.Sessions.{SessionView}
 use Rattle.rss_session.proofs.Restored.{still_open, save_there, restore_room, ready_restored, ready_unchanged, restores_some, restores_none, undone_own, none_own}
@@ -68,3 +69,6 @@ returns-in-Some-clause-stay g c = λ u is. put_stay _ c.args.transaction _ c.cut
 
 pub returns-in_default-clause-stay : goal.returns-in_default-clause-stay
 returns-in_default-clause-stay g c = λ u is. put_stay _ c.args.transaction _ c.cut.ensures.transactions u (put_stay _ c.args.transaction _ c.in_ok-first.ensures.takes.opened.transactions u is)
+
+pub returns-in_err-first-clause-sound : goal.returns-in_err-first-clause-sound
+returns-in_err-first-clause-sound g c = λ place is on. c.in_err-first.ensures.sound place (fault_passed c.from_residual.ensures.1 is) on

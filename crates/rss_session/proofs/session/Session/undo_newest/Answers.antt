@@ -2,15 +2,14 @@ use Rattle.std.proofs.Common.{refl, arith}
 use Rattle.rss_model.proofs.Sparing.{takes_two}
 use Rattle.rss_trans.specs.Tables.{told}
 use Rattle.rss_store.specs.Parts.{view as store_view}
+use Rattle.rss_store.proofs.Altered.{fault_passed}
 use Rattle.rss_session.specs.Parts.{view}
 use Rattle.rss_session.specs.Sessions.{SessionView}
 use Rattle.rss_session.proofs.Fewer.{placed_at}
-use Rattle.rss_session.proofs.Undone.{can_alter, ready_undone, back_one}
+use Rattle.rss_session.proofs.Undone.{ready_undone, back_one}
 use Rattle.rss_session.proofs.SavePoints.{keeps_saves}
+use Rattle.rss_session.proofs.Taken.{mapped_two}
 use Rattle.rss_session.proofs.session.Session.undo_newest.Goals as goal
-
-pub undo-requires-clause-may : goal.undo-requires-clause-may
-undo-requires-clause-may g c = can_alter (view g.S.Pages.view c.args.self.now) c.args.transaction c.requires.ready c.requires.open (omega (arith, c.requires.newest.count))
 
 pub undo-requires-clause-low : goal.undo-requires-clause-low
 undo-requires-clause-low g c = (placed_at _ _ c.requires.newest.older c.args.position _ c.requires.newest.place (c.requires.ready.placed c.args.transaction)).0
@@ -24,7 +23,7 @@ returns-clause-ready g c =
     let new : SessionView = record { store = store_view g.S.Pages.view c.undo.new.self; opened = told c.take_newest.new.self; heap = old.heap; surviving = old.surviving } in
     let did = c.in_ok-undo.ensures.did in
     ready_undone old new c.args.transaction c.args.position c.requires.ready c.requires.open c.requires.newest c.take_newest.ensures refl refl c.in_ok-undo.ensures.ready c.undo.ensures.log
-    (takes_two did.step (g.met.S.Pages.are_counted c.undo.new.self.tuples.pages) did.takes.mapped)
+    (takes_two did.step (g.met.S.Pages.are_counted c.undo.new.self.tuples.pages) (mapped_two old.store new.store c.requires.ready.store c.in_ok-undo.ensures.ready did.takes))
 
 pub returns-clause-back : goal.returns-clause-back
 returns-clause-back g c = λ on state n count own shows.
@@ -34,3 +33,6 @@ returns-clause-back g c = λ on state n count own shows.
 
 pub returns-clause-saves : goal.returns-clause-saves
 returns-clause-saves g c = keeps_saves _ c.args.transaction _ c.take_newest.ensures.transactions (omega arith)
+
+pub returns-in_err-undo-clause-sound : goal.returns-in_err-undo-clause-sound
+returns-in_err-undo-clause-sound g c = λ place is on. c.in_err-undo.ensures.sound place (fault_passed c.from_residual.ensures.1 is) on

@@ -6,11 +6,15 @@ use Rattle.rss_store.specs.Parts.{view}
 use Rattle.rss_store.proofs.Growing.{Appends, behind_grown}
 use Rattle.rss_store.proofs.Altered.{alters_done, alters_fail, fault_passed, ready_made}
 use Rattle.rss_store.proofs.Making.{makes_one, may_not_make}
+use Rattle.rss_store.proofs.Spelled.{can_alter}
 use Rattle.rss_store.proofs.store.DurableStore.change.Goals as goal
 
+pub apply-requires-clause-may : goal.apply-requires-clause-may
+apply-requires-clause-may g c = can_alter c.requires.ready
+
 pub returns-in_err-apply-clause-sound : goal.returns-in_err-apply-clause-sound
-returns-in_err-apply-clause-sound g c = λ place is told state change by shown may.
-    may_not_make c.args.change c.requires.ready (c.in_err-apply.ensures.sound place (fault_passed c.from_residual.ensures.1 is) told) state change shown may
+returns-in_err-apply-clause-sound g c = λ place is told room state change by shown may.
+    may_not_make c.args.change c.requires.ready (c.in_err-apply.ensures.sound place (fault_passed c.from_residual.ensures.1 is) told room) state change shown may
 
 pub returns-in_err-apply-clause-did : goal.returns-in_err-apply-clause-did
 returns-in_err-apply-clause-did g c = alters_fail _ c.from_residual.ensures.1 c.in_err-apply.ensures.makes refl refl

@@ -1,10 +1,14 @@
-use Rattle.std.proofs.Common.{sym, ◌∙◌, arith}
+use Rattle.std.proofs.Common.{sym, ◌∙◌, ap, arith}
 use Rattle.std.proofs.lemmas.Result.{on_ok_weaker}
 use Rattle.rss_base.specs.LogRecords.{IsSpellable}
+use Rattle.rss_base.specs.Notes.{Noted}
+use Rattle.rss_base.specs.Paged.{Held}
 use Rattle.rss_base.specs.declared.log_record.LogRecord.TheVariants as records
+use Rattle.rss_catalog.specs.Catalogs.{CatalogView}
 use Rattle.rss_store.proofs.Growing.{Appends}
 use Rattle.rss_store.proofs.Pieces.{slots_still, mapped_still}
-use Rattle.rss_store.proofs.Nexts.{on_ok_both, fixes_now, heaps_still}
+use Rattle.rss_store.proofs.Nexts.{on_ok_both, fixes_now}
+use Rattle.rss_store.proofs.Spelled.{alter_still, can_alter}
 use Rattle.rss_store.proofs.Ended.{grown_same, ended_can, ended_ready, ended_next, ended_moments, ended_shows}
 use Rattle.rss_store.proofs.store.DurableStore.commit.Goals as goal
 
@@ -22,9 +26,10 @@ returns-clause-ready g c =
     let step = select.did.step in
     let saveable = g.met.S.Saving.saveable c.args.self.now.tuples.pages in
     let saveable_now = g.met.S.Saving.saveable c.select.new.self.tuples.pages in
+    let slots = slots_still step saveable saveable_now in
     on_ok_weaker c.select.result (λ selected. ended_ready c.requires.ready c.requires.room appends (grown_same c.args.self.now.root c.end.ensures.end c.tail_of.ensures) selected select.log select.catalog
-    (slots_still step saveable saveable_now) (mapped_still step saveable saveable_now) step.log_pages
-    (λ told. let was = step.told.1 told in heaps_still (step.held was) step.notes (c.requires.ready.heaps was))) select.selected
+    slots (mapped_still step saveable saveable_now) step.log_pages
+    (alter_still slots (ap (λ (k : CatalogView). k.listing) select.catalog) step.told.1 (λ told key off. ap (λ (h : Held). h key) (step.held told)) (λ key off. ap (λ (n : Noted). n key) step.notes) (can_alter c.requires.ready))) select.selected
 
 pub returns-clause-moments : goal.returns-clause-moments
 returns-clause-moments g c = λ told state shows may.

@@ -1,7 +1,11 @@
 use Rattle.rss_base.specs.declared.place.Place.TheVariants.{Log as LogPlace}
 use Rattle.rss_store.specs.Parts.{view}
 use Rattle.rss_store.proofs.Begun.{mid_ready, went_back, begins_damaged, begins_unrestarted, finds_no_room, begins_saved, is_true, not_true}
+use Rattle.rss_store.proofs.Spelled.{can_alter}
 use Rattle.rss_store.proofs.store.DurableStore.recover.Goals as goal
+
+pub restart-requires-clause-may : goal.restart-requires-clause-may
+restart-requires-clause-may g c = can_alter c.requires.ready
 
 -- ---- restart fails
 
@@ -18,11 +22,11 @@ returns-then-not-has_room g c =
 -- ---- a checkpoint is taken
 
 pub checkpoint-requires-clause-ready : goal.checkpoint-requires-clause-ready
-checkpoint-requires-clause-ready g c = mid_ready c.requires.ready c.in_ok-restart.ensures.did c.in_ok-restart.ensures.heaps
+checkpoint-requires-clause-ready g c = mid_ready c.requires.ready c.in_ok-restart.ensures.did c.in_ok-restart.ensures.still
 
 pub returns : goal.returns
 returns g c =
-    begins_saved c.requires.ready c.in_ok-restart.ensures.did (mid_ready c.requires.ready c.in_ok-restart.ensures.did c.in_ok-restart.ensures.heaps) (g.met.S.Pages.holds c.restart.new.tuples.pages)
+    begins_saved c.requires.ready c.in_ok-restart.ensures.did (mid_ready c.requires.ready c.in_ok-restart.ensures.did c.in_ok-restart.ensures.still) (g.met.S.Pages.holds c.restart.new.tuples.pages)
     (c.has_room.ensures.0 (is_true c.if-not-has_room.false)) c.in_ok-restart.ensures.recovers c.new.result c.new.ensures (view g.S.Pages.view c.checkpoint.new.self) c.checkpoint.result
     (λ told image left settled. g.met.S.Pages.stays c.checkpoint.new.self.tuples.pages settled told image left)
     c.checkpoint.ensures.ready c.checkpoint.ensures.saved c.checkpoint.ensures.shows c.checkpoint.ensures.moments c.checkpoint.ensures.saves c.checkpoint.ensures.did

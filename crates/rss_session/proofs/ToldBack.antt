@@ -1,0 +1,70 @@
+-- That the log tells of each change that may be taken back, as one of a tuple.
+use Rattle.std.proofs.Common.{◌≡◌, ℕ, zero, suc, ◌+◌, ◌<◌, List, [], ◌∷◌, ◌++◌, length, get_or, refl, sym, ◌∙◌, ap, subst, arith}
+use Rattle.std.specs.Prelude.{map, replicate, Contains, Option, Some, None, option_map}
+use Rattle.std.proofs.lemmas.List.{map-append}
+use Rattle.rss_base.specs.Sizes.{images_most, links_most}
+use Rattle.rss_base.specs.Listings.{Listing, IsPlain}
+use Rattle.rss_base.specs.LogRecords.{BeginsWith, Placed, record_size}
+use Rattle.rss_base.specs.declared.change.Change as told
+use Rattle.rss_base.specs.declared.image.ImageEntry.{ImageEntry}
+use Rattle.rss_base.specs.declared.link.LinkEntry.{LinkEntry}
+use Rattle.rss_base.specs.declared.log_record.LogRecord.TheVariants as records
+use Rattle.rss_log.specs.Logs.{HasRecords, bytes_from}
+use Rattle.rss_log.proofs.LogViews.{listed}
+use Rattle.rss_model.specs.EngineLogs.{EngineLog, all_logged}
+use Rattle.rss_model.specs.LogLaws.{TakesBack}
+use Rattle.rss_model.specs.Machine.{State}
+use Rattle.rss_model.specs.Meanings.{Logged, as_bytes, rootless, endless, SameDefinitions}
+use Rattle.rss_model.specs.Records.{Changed}
+use Rattle.rss_model.proofs.LogTurning.{changes_turn_back}
+use Rattle.rss_restart.specs.Walks.{TellsAt}
+use Rattle.rss_restart.proofs.Moving.{meant_tuple}
+use Rattle.rss_store.specs.Changing.{IsOwnAt}
+use Rattle.rss_store.specs.Shown.{HoldsLogged, ShowsBack}
+use Rattle.rss_store.specs.Stores.{StoreView, IsReady}
+use Rattle.rss_store.proofs.Ways.{stands}
+
+-- ---- listings of the same definitions
+
+-- where the parts are those of nothing, nothing is there
+none_of_parts : {A B : Type 0} (part : A → B) (items : List (Option A)) (count : ℕ) → map (option_map part) items ≡ map (option_map part) (replicate count None) → items ≡ replicate count None
+none_of_parts part [] zero same = refl
+none_of_parts part [] (suc count) same = absurd (cc (same))
+none_of_parts part (item ∷ items) zero same = absurd (cc (same))
+none_of_parts {A = A} part (None ∷ items) (suc count) same = ap (λ (l : List (Option A)). None ∷ l) (none_of_parts part items count (cc (same)))
+none_of_parts part (Some item ∷ items) (suc count) same = absurd (cc (same))
+
+plain_too : {one other : Listing} → SameDefinitions one other → IsPlain other → IsPlain one
+plain_too {one = one} {other = other} same plain = record {
+  no_images = none_of_parts rootless one.images images_most (sym same.images ∙ ap (λ (l : List (Option ImageEntry)). map (option_map rootless) l) plain.no_images);
+  no_links = none_of_parts endless one.links links_most (sym same.links ∙ ap (λ (l : List (Option LinkEntry)). map (option_map endless) l) plain.no_links);
+}
+
+-- ---- a record that is listed begins at its position
+
+-- what stands before it, and behind it
+parts_at : {A : Type 0} (xs : List A) (k : ℕ) (x : A) → k < length xs → get_or xs k x ≡ x → (front : List A) × ((behind : List A) × (xs ≡ front ++ x ∷ behind))
+parts_at [] k x low is = absurd (omega (arith, low))
+parts_at {A = A} (y ∷ ys) zero x low is = ([], (ys, ap (λ (z : A). z ∷ ys) is))
+parts_at {A = A} (y ∷ ys) (suc k) x low is = let rest = parts_at ys k x (omega (arith, low)) is in (y ∷ rest.0, (rest.1.0, ap (λ (l : List A). y ∷ l) rest.1.1))
+
+begins_there : {view : StoreView} {log : EngineLog} (l : Logged) → HoldsLogged view log → Contains (all_logged log) l → BeginsWith (bytes_from view.log l.at) l.told (bytes_from view.log (l.at + record_size l.told))
+begins_there {view = view} {log = log} l logged there =
+    let parts = parts_at (all_logged log) there.0 l there.1 there.2 in
+    let placed : Logged → Placed = λ k. record { at = k.at; is = k.told } in
+    listed view.log (as_bytes parts.0) (as_bytes parts.1.0) (placed l) (subst (HasRecords view.log) (ap as_bytes parts.1.1 ∙ map-append placed parts.0 (l ∷ parts.1.0)) logged.records)
+
+-- ---- what may be taken back
+
+pub tells_back : (view : StoreView) → IsReady view → (state : State) (t n position : ℕ) → IsOwnAt state t n position → ShowsBack view state t (n + 1) → (change : told.Change) × TellsAt view.log position change
+tells_back view ready state t n position own way =
+    let shown = way.shows in
+    let back : TakesBack shown.stored.listing shown.log state t n position = changes_turn_back shown.stored.listing shown.stored.saved shown.log state t n position shown.tied.ties (stands shown.tied.ties own) in (
+      back.told_change,
+      record {
+        by = t;
+        rest = _;
+        begins = begins_there (record { at = position; told = records.Change t back.told_change; is = Changed back.change }) shown.logged back.there;
+        tuple = meant_tuple shown.stored.listing back.told_change back.change (plain_too shown.definitions ready.plain) back.told.means;
+      },
+    )

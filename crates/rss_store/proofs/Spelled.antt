@@ -1,0 +1,76 @@
+-- What a store without images spells: its pages are those of tuples, and it stays changeable where these stay.
+use Rattle.std.proofs.Common.{◌≡◌, ◌⊎◌, inl, inr, ℕ, true, refl, sym, ◌∙◌, subst}
+use Rattle.rss_base.specs.DiskRule.{IsTold}
+use Rattle.rss_base.specs.Listings.{Listing, IsPlain}
+use Rattle.rss_base.specs.Paged.{page_key}
+use Rattle.rss_base.specs.Steps.{PagesView, PagesStep}
+use Rattle.rss_base.specs.declared.key.PageKey.{PageKey}
+use Rattle.rss_base.specs.declared.key.Space.{Space}
+use Rattle.rss_base.specs.declared.key.Space.TheVariants.{Home, Overflow, Image, System}
+use Rattle.rss_base.proofs.Steps.{among}
+use Rattle.rss_page.specs.Slotted.{IsHeapKey}
+use Rattle.rss_catalog.specs.Catalogs.{HasSystemPages}
+use Rattle.rss_model.specs.Fits.{IsIdentifier}
+use Rattle.rss_model.specs.Store.{SpellsTables}
+use Rattle.rss_model.proofs.PlainStores.{no_image_at, none_imaged, plain_nodes}
+use Rattle.rss_access.specs.Changes.{AccessView, CanAlter, HasTables}
+use Rattle.rss_access.specs.Written.{IsSystemOrHeap, HasImage, content_of}
+use Rattle.rss_access.proofs.Writing.{SameOffSystem, off_system, heaps_same, spells_same}
+use Rattle.rss_store.specs.Changing.{access}
+use Rattle.rss_store.specs.Stores.{StoreView, IsReady}
+
+-- ---- pages that are touched
+
+content_heap : {listing : Listing} → IsPlain listing → (key : PageKey) → content_of listing key → IsHeapKey key
+content_heap plain key (inl heap) = heap
+content_heap plain key (inr image) = absurd (no_image_at plain image.1.number image.1.image image.1.at)
+
+-- where no image is listed, pages of tuples alone are touched
+pub heap_step : {listing : Listing} {asks outs : ℕ} {old new : PagesView} → IsPlain listing → PagesStep (content_of listing) asks outs old new → PagesStep IsHeapKey asks outs old new
+heap_step plain step = among (λ key is. content_heap plain key is) step
+
+heap_or_other : (space : Space) → ((space ≡ Home) ⊎ (space ≡ Overflow)) ⊎ ((space ≡ Home) ⊎ (space ≡ Overflow) → ⊥)
+heap_or_other Home = inl (inl refl)
+heap_or_other Overflow = inl (inr refl)
+heap_or_other Image = inr (λ is. elim is [ inl home ↦ absurd (cc) | inr over ↦ absurd (cc) ])
+heap_or_other System = inr (λ is. elim is [ inl home ↦ absurd (cc) | inr over ↦ absurd (cc) ])
+
+-- the pages of the system space stay, and all others are of tuples
+module _ {asks outs : ℕ} {old new : PagesView} (step : PagesStep IsHeapKey asks outs old new) where
+  pub system_kept : HasSystemPages old.mapped → HasSystemPages new.mapped
+  system_kept system page low = step.mapped_off (page_key 0 System page) (λ heap. off_system (page_key 0 System page) heap refl) ∙ system page low
+
+  pub only_kept : ((key : PageKey) → old.mapped key ≡ true → IsSystemOrHeap key) → (key : PageKey) → new.mapped key ≡ true → IsSystemOrHeap key
+  only_kept only key is = elim (heap_or_other key.space) [
+    | inl heap ↦ inr heap
+    | inr other ↦ only key (sym (step.mapped_off key other) ∙ is)
+  ]
+
+-- ---- tables that are spelled
+
+module _ {old new : AccessView} (slots : new.pages.slots ≡ old.pages.slots) (listing : new.catalog.listing ≡ old.catalog.listing) where
+  -- the same tables, where at most pages of the catalog were written
+  tables_still : SameOffSystem old.pages.held new.pages.held → HasTables old → HasTables new
+  tables_still same has =
+      let spells : SpellsTables new.pages.held new.catalog.listing has.tables = subst (λ (l : Listing). SpellsTables new.pages.held l has.tables) (sym listing) (spells_same same has.spells) in
+      record {
+        tables = has.tables;
+        spells = spells;
+        tuples = has.tuples;
+        tids = λ relation tid lives. subst (λ (n : ℕ). IsIdentifier n tid) (sym slots) (has.tids relation tid lives);
+        few = has.few;
+        nodes = plain_nodes (none_imaged spells);
+      }
+
+  -- they may be changed on then
+  pub alter_still : (IsTold new.pages.disk → IsTold old.pages.disk) → (IsTold old.pages.disk → SameOffSystem old.pages.held new.pages.held) → ((key : PageKey) → (key.space ≡ System → ⊥) → new.pages.notes key ≡ old.pages.notes key) → CanAlter old → CanAlter new
+  alter_still told same notes can = record {
+    heaps = λ is. heaps_same (same (told is)) notes (can.heaps (told is));
+    tables = λ is image. tables_still (same (told is)) (can.tables (told is) (subst HasImage listing image));
+  }
+
+-- ---- a store that is ready
+
+-- its pages may be changed
+pub can_alter : {view : StoreView} → IsReady view → CanAlter (access view)
+can_alter ready = record { heaps = ready.heaps; tables = λ told image. absurd (no_image_at ready.plain image.number image.image image.at) }
