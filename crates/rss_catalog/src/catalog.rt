@@ -48,7 +48,7 @@ pub(crate) fn page_of(number: u8) -> u8
 }
 
 /// The page that spells an image.
-pub(crate) fn image_page_of(number: u8) -> u8
+pub fn image_page_of(number: u8) -> u8
     requires low { 1 ≤ number }
     requires high { number ≤ images_most }
     ensures page { result ≡ page_of Image number }

@@ -24,7 +24,7 @@ use Rattle.rss_catalog.specs.Catalogs.{CatalogView}
 use Rattle.rss_log.specs.Logs.{LogView}
 use Rattle.rss_model.specs.Fits.{Fits}
 use Rattle.rss_model.specs.Store.{SpellsTables, Stored, IsStore}
-use Rattle.rss_model.proofs.ListedOnce.{listing_once}
+use Rattle.rss_catalog.proofs.Same.{same_listing}
 use Rattle.rss_model.proofs.Stores.{one_root, one_map}
 use Rattle.rss_access.specs.Written.{IsSystemOrHeap}
 use Rattle.rss_store.specs.Stores.{StoreView, IsReady, IsSaved}
@@ -165,7 +165,7 @@ module _ {root : Root} {number frames writes : ℕ} {owners : List (Option PageK
         only = λ key is. plain_key catalog key (finds.only key (sym (same_mapped key) ∙ is));
         pending_places = ap (λ (l : List Bool). length l) finds.loaded.written;
         settled_now = did.looks.step.passes.leaves.stays_settled fresh.settled;
-        plain = finds.loaded.plain;
+        plain = finds.plain;
         heaps = λ told. finds.heaps (did.looks.step.passes.leaves.told.1 told);
       }
 
@@ -195,7 +195,7 @@ module _ {root : Root} {number frames writes : ℕ} {owners : List (Option PageK
               shadow = new_shadow;
               slots = new_size;
               counted = counted;
-              listing = listing_once old.held finds.loaded.fits is.spells.listed finds.loaded.plain is.spells.plain (finds.loaded.holds told) (listing_here told stored store);
+              listing = same_listing old.held catalog.listing _ (finds.loaded.holds told) (listing_here told stored store) finds.loaded.fits is.spells.listed;
               head = read.behind.head;
               end = read.end;
               kept = bytes told.pages told.is;
