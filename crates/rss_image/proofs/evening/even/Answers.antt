@@ -1,5 +1,7 @@
 use Rattle.std.proofs.Common.{◌≡◌, ◌≤◌, ◌/◌, ◌∙◌, ◌++◌, ℕ, List, length, drop, ap, sym, subst, arith}
 use Rattle.std.proofs.lemmas.List.{length-append}
+use Rattle.std.proofs.Math.Logic.{∥∥₁_elim, ∥∥₁_map}
+use mathlib.Core.HLevel.{⊥_prop}
 use Rattle.rss_base.proofs.Steps.{then, then_call, done, fails, widens, untouched}
 use Rattle.rss_levels.specs.Entries.{Entry, capacity}
 use Rattle.rss_levels.specs.Rows.{Cells}
@@ -17,7 +19,7 @@ read_node-requires-2-clause-there g c = λ told_one.
     let one = g.P.Pages.view c.read_node.new.pages in
     let step = c.in_ok-left.ensures.did.step in
     let told = step.passes.leaves.told.1 told_one in
-    node_seen of c.args.level c.args.other old one (keeps_none of old one step told) (right_node of old.held c.args.level c.args.number c.args.other c.args.pair.now (c.requires.there told))
+    ∥∥₁_map (c.requires.there told) (λ there. node_seen of c.args.level c.args.other old one (keeps_none of old one step told) (right_node of old.held c.args.level c.args.number c.args.other c.args.pair.now there))
 
 pub returns-in_err-right-clause-did : goal.returns-in_err-right-clause-did
 returns-in_err-right-clause-did g c = fails _ c.from_residual-in_err-right.ensures.1 (λ key none. absurd none) (omega arith) (omega arith) (then_call c.in_ok-left.ensures.did.step c.in_err-right.ensures.did)
@@ -29,10 +31,10 @@ returns-then-count-eq0-clause-did g c = widens (λ key none. none) (omega arith)
     let one = g.P.Pages.view c.read_node.new.pages in
     let step = c.in_ok-left.ensures.did.step in
     let told_one = step.passes.leaves.told.0 told in
-    let there = c.requires.there told in
+    ∥∥₁_elim (c.requires.there told) ⊥_prop (λ there.
     let some = left_full of (cells_of of old.held) c.args.level c.args.number c.args.other c.args.pair.now there.left there.right there.next there.are c.in_ok-left.left c.in_ok-right.right (c.in_ok-left.ensures.holds told)
     (was_holding of c.args.level c.args.other c.in_ok-right.right.next c.in_ok-right.right.entries old one (keeps_none of old one step told) (c.in_ok-right.ensures.holds told_one)) in
-    omega (arith, some, c.count-count.ensures.count, c.if-count-eq0.true)))
+    omega (arith, some, c.count-count.ensures.count, c.if-count-eq0.true))))
 
 pub returns-then-more-eq0-clause-did : goal.returns-then-more-eq0-clause-did
 returns-then-more-eq0-clause-did g c = widens (λ key none. none) (omega arith) (omega arith) (damage (untouched (then c.in_ok-left.ensures.did.step c.in_ok-right.ensures.did.step)) c.damaged-then-more-eq0.ensures (λ told.
@@ -41,10 +43,10 @@ returns-then-more-eq0-clause-did g c = widens (λ key none. none) (omega arith) 
     let one = g.P.Pages.view c.read_node.new.pages in
     let step = c.in_ok-left.ensures.did.step in
     let told_one = step.passes.leaves.told.0 told in
-    let there = c.requires.there told in
+    ∥∥₁_elim (c.requires.there told) ⊥_prop (λ there.
     let some = right_full of (cells_of of old.held) c.args.level c.args.number c.args.other c.args.pair.now there.left there.right there.next there.are c.in_ok-left.left c.in_ok-right.right (c.in_ok-left.ensures.holds told)
     (was_holding of c.args.level c.args.other c.in_ok-right.right.next c.in_ok-right.right.entries old one (keeps_none of old one step told) (c.in_ok-right.ensures.holds told_one)) in
-    omega (arith, some, c.count-more.ensures.count, c.if-more-eq0.true)))
+    omega (arith, some, c.count-more.ensures.count, c.if-more-eq0.true))))
 
 pub join_nodes-requires-clause-room : goal.join_nodes-requires-clause-room
 join_nodes-requires-clause-room g c =
