@@ -33,9 +33,9 @@ each_prop : {X : Type 0} (P : X → Type 0) → ((x : X) → IsProp (P x)) → (
 each_prop P all [] a b = refl
 each_prop P all (x ∷ xs) a b = λ i. (all x a.0 b.0 i, each_prop P all xs a.1 b.1 i)
 
--- any two proofs are equal that the bounds and the pairs of rows pass a test
-pub AreMade-prop : (good : List ℕ → Bool) (rows : List Row) → IsProp (AreMade good rows)
-AreMade-prop good = each_prop (Each (IsMade good)) (each_prop (IsMade good) (λ p a b i. (Bool-set _ _ a.0 b.0 i, each_prop (λ (e : Entry). good e.pair ≡ true) (λ e. Bool-set _ _) p.items a.1 b.1 i)))
+-- any two proofs are equal that the bounds and the pairs of a tree pass a test
+pub AreMade-prop : (good : List ℕ → Bool) {image : Image} {held : Held} {pairs : List (List ℕ)} (tree : ImageTree image held pairs) → IsProp (AreMade good ((tree.top ∷ []) ∷ tree.lower))
+AreMade-prop good tree = each_prop (Each (IsMade good)) (each_prop (IsMade good) (λ p a b i. (Bool-set _ _ a.0 b.0 i, each_prop (λ (e : Entry). good e.pair ≡ true) (λ e. Bool-set _ _) p.items a.1 b.1 i))) ((tree.top ∷ []) ∷ tree.lower)
 
 -- the rows of one tree of the pages are those of each
 each_made : (image : Image) (held : Held) (good : List ℕ → Bool) (pairs : List (List ℕ)) (top : Part) (lower : List Row) → IsTree (spells (nodes_of image)) (cells_of (nodes_of image) held) image.width image.root image.levels pairs top lower → AreMade good ((top ∷ []) ∷ lower) → AreAllMade good image held

@@ -13,6 +13,14 @@ use Rattle.rss_image.proofs.emptying.+give_under.Goals as goal
 pub returns-then-level-eq0-clause-gives : goal.returns-then-level-eq0-clause-gives
 returns-then-level-eq0-clause-gives g t c = on_both c.give_page.result (λ keeps loses told. gives_leaf c.args.of c.args.level c.args.number (g.P.Pages.view c.args.pages.now) (g.P.Pages.view c.give_page.new.pages) c.if-level-eq0.true (record { keeps = keeps told; loses_none = loses told })) c.give_page.ensures.keeps c.give_page.ensures.loses_none
 
+pub give_page-requires : goal.give_page-requires
+give_page-requires g t c = record {
+  mapped = λ told. ∥∥₁_elim (c.requires.there told) (Bool-set _ _) (λ has.
+      let view = g.P.Pages.view c.args.pages.now in
+      let node = under_node c.args.of view.held c.args.level c.args.number has in
+      held_is_mapped c.args.of view c.args.level c.args.number node.next node.entries (g.met.P.Pages.holds c.args.pages.now told) node.holds);
+}
+
 pub read_node-requires-clause-there : goal.read_node-requires-clause-there
 read_node-requires-clause-there g t c = λ told. ∥∥₁_map (c.requires.there told) (under_node c.args.of (g.P.Pages.view c.args.pages.now).held c.args.level c.args.number)
 

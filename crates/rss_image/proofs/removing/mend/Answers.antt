@@ -1,19 +1,24 @@
 use Rattle.std.proofs.Common.{◌≡◌, ◌⊎◌, inl, inr, ◌<◌, ◌+◌, ◌∙◌, ℕ, suc, List, length, ap, sym, subst, arith, Option}
 use Rattle.std.proofs.Math.Logic.{∥∥₁_elim, ∥∥₁_map}
 use Rattle.std.proofs.Math.Bool.{Bool-set}
-use Rattle.rss_base.proofs.Steps.{then_call, widens}
+use mathlib.Core.HLevel.{⊥_prop}
+use Rattle.rss_base.proofs.Steps.{rests, then_call, widens}
 use Rattle.rss_levels.specs.Entries.{Entry, least}
 use Rattle.rss_levels.specs.Rows.{first, no_page}
+use Rattle.rss_levels.proofs.Spotted.{stored_long}
 use Rattle.rss_base.specs.Paged.{page_key}
 use Rattle.rss_base.specs.declared.key.Space.TheVariants.{Image}
 use Rattle.rss_node.specs.Nodes.{NodeView, with_entries, spliced}
 use Rattle.rss_image.specs.Trees.{cells_of, HoldsNode}
 use Rattle.rss_image.specs.Removed.{second_names, MendsTo}
-use Rattle.rss_image.proofs.Calls.{held_mapped}
+use Rattle.rss_image.proofs.Calls.{damage, held_mapped}
 use Rattle.rss_image.proofs.Halves.{many}
 use Rattle.rss_image.proofs.Mending.{on_done, two, mend_neighbours, mend_still, mended}
 use Rattle.rss_image.proofs.removing.mend.Goals.{then-place-count, else-place-count, in-None, in-Some}
 use Rattle.rss_image.proofs.removing.mend.Goals as goal
+
+pub returns-then-count-lt2-clause-did : goal.returns-then-count-lt2-clause-did
+returns-then-count-lt2-clause-did g c = damage (rests _) c.damaged.ensures (λ told. ∥∥₁_elim (c.requires.there told) ⊥_prop (λ may. omega (arith, may.several, ap length may.own_is, stored_long c.args.of.width c.args.level may.entries, c.count-count.ensures.count, c.if-count-lt2.true)))
 
 pub even-requires-clause-there : goal.even-requires-clause-there
 even-requires-clause-there g c = λ told.

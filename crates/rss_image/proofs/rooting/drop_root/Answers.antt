@@ -1,5 +1,5 @@
 use Rattle.std.proofs.Common.{length, sym, ap, arith}
-use Rattle.std.proofs.Math.Logic.{∥∥₁_elim}
+use Rattle.std.proofs.Math.Logic.{∥∥₁_elim, ∥∥₁_map}
 use mathlib.Core.HLevel.{⊥_prop}
 use Rattle.rss_base.proofs.Steps.{then, then_call, done, fails, widens, untouched}
 use Rattle.rss_node.specs.Nodes.{NodeView}
@@ -9,6 +9,9 @@ use Rattle.rss_image.proofs.Evened.{was_holding}
 use Rattle.rss_image.proofs.Insertion.{same_node}
 use Rattle.rss_image.proofs.Cut.{root_given}
 use Rattle.rss_image.proofs.rooting.drop_root.Goals as goal
+
+pub read_node-requires-clause-there : goal.read_node-requires-clause-there
+read_node-requires-clause-there g c = λ told. ∥∥₁_map (c.requires.there told) (λ has. record { next = has.next; entries = has.entries; holds = has.holds })
 
 pub returns-then-count-eq0-clause-did : goal.returns-then-count-eq0-clause-did
 returns-then-count-eq0-clause-did g c = damage (untouched c.in_ok-node.ensures.did.step) c.damaged.ensures (λ told. ∥∥₁_elim (c.requires.there told) ⊥_prop (λ has.

@@ -71,7 +71,7 @@ returns-in-None-clause-puts g c = λ told. subst (λ (p : List ℕ). PutsPair p 
     became_whole image old c.pair_of-pair.result pairs tree (long_pair c.args.self.now.width c.args.key.now c.args.tid c.pair_of-pair.result c.pair_of-pair.ensures c.requires.long) room (slot_pair c.args.self.now.width c.args.key.now c.args.tid c.pair_of-pair.result c.pair_of-pair.ensures c.requires.long c.requires.slot) new ins counted)
 
 pub returns-in_ok-root-in-Some-clause-made : goal.returns-in_ok-root-in-Some-clause-made
-returns-in_ok-root-in-Some-clause-made g c = λ told good fine pairs tree made others other. ∥∥₁_elim (c.requires.may told) (AreMade-prop good _) (λ given.
+returns-in_ok-root-in-Some-clause-made g c = λ told good fine pairs tree made others other. ∥∥₁_elim (c.requires.may told) (AreMade-prop good other) (λ given.
     let image = c.args.self.now in
     let old = g.P.Pages.view c.args.pages.now in
     let mid = g.P.Pages.view c.insert_in.new.pages in
@@ -85,7 +85,7 @@ returns-in_ok-root-in-Some-clause-made g c = λ told good fine pairs tree made o
     split_made image old c.pair_of-pair.result may.pairs may.tree long (many image.width c.requires.of.narrow) good (one_made image old.held good pairs tree made may.pairs may.tree) mid (g.P.Pages.view c.add_root.new.pages) e c.in_ok-root-in-Some.root (ap good c.pair_of-pair.ensures ∙ fine) ins (c.in_ok-root-in-Some.ensures.rooted told_mid) others other)
 
 pub returns-in-None-clause-made : goal.returns-in-None-clause-made
-returns-in-None-clause-made g c = λ told good fine pairs tree made others other. ∥∥₁_elim (c.requires.may told) (AreMade-prop good _) (λ given.
+returns-in-None-clause-made g c = λ told good fine pairs tree made others other. ∥∥₁_elim (c.requires.may told) (AreMade-prop good other) (λ given.
     let image = c.args.self.now in
     let old = g.P.Pages.view c.args.pages.now in
     let new = g.P.Pages.view c.insert_in.new.pages in

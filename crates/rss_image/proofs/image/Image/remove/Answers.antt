@@ -56,7 +56,7 @@ pub returns-clause-did : goal.returns-clause-did
 returns-clause-did g c = widens (λ key there. there) (omega (arith, c.if-self-eq1.false, c.requires.low)) (omega (arith, c.if-self-eq1.false, c.requires.low)) (done _ (then c.in_ok-left.ensures.did.step c.in_ok-root.ensures.did.step))
 
 pub returns-then-self-eq1-clause-made : goal.returns-then-self-eq1-clause-made
-returns-then-self-eq1-clause-made g c = λ told good pairs tree made others other. ∥∥₁_elim (c.requires.may told) (AreMade-prop good _) (λ given.
+returns-then-self-eq1-clause-made g c = λ told good pairs tree made others other. ∥∥₁_elim (c.requires.may told) (AreMade-prop good other) (λ given.
     let image = c.args.self.now in
     let old = g.P.Pages.view c.args.pages.now in
     let long = (long_pair c.args.self.now.width c.args.key.now c.args.tid c.pair_of-pair.result c.pair_of-pair.ensures c.requires.long) in
@@ -65,7 +65,7 @@ returns-then-self-eq1-clause-made g c = λ told good pairs tree made others othe
     cut_made image old c.pair_of-pair.result may.pairs may.tree long (many image.width c.requires.of.narrow) good (one_made image old.held good pairs tree made may.pairs may.tree) (g.P.Pages.view c.remove_in.new.pages) c.in_ok-left.left rem (λ high. absurd (omega (arith, high, c.if-self-eq1.true))) others other)
 
 pub returns-then-left-gt1-clause-made : goal.returns-then-left-gt1-clause-made
-returns-then-left-gt1-clause-made g c = λ told good pairs tree made others other. ∥∥₁_elim (c.requires.may told) (AreMade-prop good _) (λ given.
+returns-then-left-gt1-clause-made g c = λ told good pairs tree made others other. ∥∥₁_elim (c.requires.may told) (AreMade-prop good other) (λ given.
     let image = c.args.self.now in
     let old = g.P.Pages.view c.args.pages.now in
     let long = (long_pair c.args.self.now.width c.args.key.now c.args.tid c.pair_of-pair.result c.pair_of-pair.ensures c.requires.long) in
@@ -74,7 +74,7 @@ returns-then-left-gt1-clause-made g c = λ told good pairs tree made others othe
     cut_made image old c.pair_of-pair.result may.pairs may.tree long (many image.width c.requires.of.narrow) good (one_made image old.held good pairs tree made may.pairs may.tree) (g.P.Pages.view c.remove_in.new.pages) c.in_ok-left.left rem (λ high. omega (arith, c.if-left-gt1.true)) others other)
 
 pub returns-clause-made : goal.returns-clause-made
-returns-clause-made g c = λ told good pairs tree made others other. ∥∥₁_elim (c.requires.may told) (AreMade-prop good _) (λ given.
+returns-clause-made g c = λ told good pairs tree made others other. ∥∥₁_elim (c.requires.may told) (AreMade-prop good other) (λ given.
     let image = c.args.self.now in
     let old = g.P.Pages.view c.args.pages.now in
     let mid = g.P.Pages.view c.remove_in.new.pages in
