@@ -20,6 +20,7 @@ use Rattle.rss_model.specs.Steps.{refusal}
 use Rattle.rss_model.specs.Store.{SpellsTables, size_of}
 use Rattle.rss_model.proofs.BothRooms.{definitions_keep_rooms}
 use Rattle.rss_model.proofs.ByNumber.{relation_unnamed}
+use Rattle.rss_model.proofs.PlainStores.{no_image_at}
 use Rattle.rss_model.proofs.Redefining.{defined_fits}
 use Rattle.rss_model.proofs.Redefining.{live_defined}
 use Rattle.rss_model.proofs.Relisted.{segment_made_spells, segment_gone_spells, relation_made_spells, relation_gone_spells}
@@ -109,6 +110,7 @@ module _ {S : Type 0} (pages_view : S → PagesView) {call : Call} {old new : Se
       settled_now = ready.store.settled_now;
       plain = plain_relisted redefines.relists ready.store.plain;
       heaps = ready.store.heaps;
+      tables = λ told image. absurd (no_image_at (plain_relisted redefines.relists ready.store.plain) image.number image.image image.at);
     };
     pages = ready.pages;
     room = ready.room;

@@ -135,6 +135,7 @@ module _ {T : Type 0} {change : told.Change} (old new : StoreView) {value : T} (
     settled_now = makes.step.passes.leaves.stays_settled ready.settled_now;
     plain = (keeps old new makes).plain ready.plain;
     heaps = makes.still.heaps;
+    tables = makes.still.tables;
   }
 
   -- ---- what a stop leaves, and the rest of what is shown

@@ -270,6 +270,7 @@ module _ {T : Type 0} {old : StoreView} {pages : PagesView} {catalog : CatalogVi
     settled_now = passes.step.passes.leaves.stays_settled ready.settled_now;
     plain = passes.keeps.plain ready.plain;
     heaps = still.heaps;
+    tables = still.tables;
   }
 
   module _ {stored : Stored} (mid_is : IsReady mid) (held_are : IsTold pages.disk → (key : PageKey) → is_some (pages.held key) ≡ pages.mapped key) (half : 2 * mapped_pages pages.slots pages.mapped ≤ pages.slots) (recovers : Recovered old.log old.root.checkpoint (both old.pages old.catalog) (both pages catalog)) (read : IsReadFrom stored old) where

@@ -25,6 +25,7 @@ use Rattle.rss_log.specs.Logs.{LogView}
 use Rattle.rss_model.specs.Fits.{Fits}
 use Rattle.rss_model.specs.Store.{SpellsTables, Stored, IsStore}
 use Rattle.rss_catalog.proofs.Same.{same_listing}
+use Rattle.rss_model.proofs.PlainStores.{no_image_at}
 use Rattle.rss_model.proofs.Stores.{one_root, one_map}
 use Rattle.rss_access.specs.Written.{IsSystemOrHeap}
 use Rattle.rss_store.specs.Stores.{StoreView, IsReady, IsSaved}
@@ -167,6 +168,7 @@ module _ {root : Root} {number frames writes : ℕ} {owners : List (Option PageK
         settled_now = did.looks.step.passes.leaves.stays_settled fresh.settled;
         plain = finds.plain;
         heaps = λ told. finds.heaps (did.looks.step.passes.leaves.told.1 told);
+        tables = λ told image. absurd (no_image_at finds.plain image.number image.image image.at);
       }
 
       read_saved : IsSaved read_view
