@@ -86,7 +86,7 @@ abbrev pub IsTupleThere : Contents → RelationEntry → Tid → Type 0
 IsTupleThere contents relation tid = is_some (content contents (Tuple relation.name tid)) ≡ true
 
 module _ (a b : Listing) (bodies : Bodies) (contents : Contents) where
-  contents_relisted : ((k : ℕ) (relation : RelationEntry) (tid : Tid) → relation_at a k ≡ Some relation → IsTupleThere contents relation tid → relation_at b k ≡ Some relation) → ((k : ℕ) (relation : RelationEntry) (tid : Tid) → relation_at b k ≡ Some relation → IsTupleThere contents relation tid → relation_at a k ≡ Some relation) → PlainContents a bodies contents → PlainContents b bodies contents
+  pub contents_relisted : ((k : ℕ) (relation : RelationEntry) (tid : Tid) → relation_at a k ≡ Some relation → IsTupleThere contents relation tid → relation_at b k ≡ Some relation) → ((k : ℕ) (relation : RelationEntry) (tid : Tid) → relation_at b k ≡ Some relation → IsTupleThere contents relation tid → relation_at a k ≡ Some relation) → PlainContents a bodies contents → PlainContents b bodies contents
   contents_relisted into back old = record {
     stands = λ number relation tid values at holds. old.stands number relation tid values (back number relation tid at (ap is_some holds)) holds;
     bodies_are = λ segment tid body is.
