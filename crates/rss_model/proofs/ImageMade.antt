@@ -73,35 +73,31 @@ image_made_defined definitions image relation names numbers all =
     let fields : names ≡ field_names (chosen (field_numbers image) relation.fields) = sym (ap (λ (ns : List ℕ). field_names (chosen ns relation.fields)) numbers ∙ names_back relation.fields names all) in
     ap (λ (ns : List Name). defined (MakeImage image.name relation.name image.is_unique ns) definitions) fields
 
--- ---- pages beside those of images
+-- ---- the pages of tuples
 
--- each page that isn't one of an image holds what it held
-abbrev pub KeepsBeside : Held → Held → Type 0
-KeepsBeside old new = (key : PageKey) → key.space ≢ ImageSpace → new key ≡ old key
+-- each page of the heap holds what it held
+abbrev pub KeepsHeap : Held → Held → Type 0
+KeepsHeap old new = (key : PageKey) → IsHeapKey key → new key ≡ old key
 
-no_image : (key : PageKey) → IsHeapKey key → key.space ≢ ImageSpace
-no_image key (inl home) same = let both : Home ≡ ImageSpace = sym home ∙ same in absurd (cc)
-no_image key (inr over) same = let both : Overflow ≡ ImageSpace = sym over ∙ same in absurd (cc)
-
-module _ {old new : Held} (kept : KeepsBeside old new) where
+module _ {old new : Held} (kept : KeepsHeap old new) where
   homes_kept : (segment : ℕ) → homes new segment ≡ homes old segment
-  homes_kept segment = λ i page slot. held_at (contents_in (kept (page_key segment Home page) (no_image (page_key segment Home page) (inl refl)) i)) slot
+  homes_kept segment = λ i page slot. held_at (contents_in (kept (page_key segment Home page) (inl refl) i)) slot
 
   overflows_kept : (segment : ℕ) → overflows new segment ≡ overflows old segment
-  overflows_kept segment = λ i page slot. held_at (contents_in (kept (page_key segment Overflow page) (no_image (page_key segment Overflow page) (inr refl)) i)) slot
+  overflows_kept segment = λ i page slot. held_at (contents_in (kept (page_key segment Overflow page) (inr refl) i)) slot
 
   bodies_kept : bodies_of new ≡ bodies_of old
   bodies_kept = λ i segment tid. body_by (overflows_kept segment i) (homes_kept segment i tid.page tid.slot)
 
   formed_kept : ((key : PageKey) (bytes : List ℕ) → IsHeapKey key → old key ≡ Some bytes → IsHeap key bytes None) → (key : PageKey) (bytes : List ℕ) → IsHeapKey key → new key ≡ Some bytes → IsHeap key bytes None
-  formed_kept formed key bytes heap is = formed key bytes heap (sym (kept key (no_image key heap)) ∙ is)
+  formed_kept formed key bytes heap is = formed key bytes heap (sym (kept key heap) ∙ is)
 
   linked_kept : (segment : ℕ) → AreLinked (homes old segment) (overflows old segment) → AreLinked (homes new segment) (overflows new segment)
   linked_kept segment linked = subst (λ (e : Entries). AreLinked (homes new segment) e) (sym (overflows_kept segment)) (subst (λ (e : Entries). AreLinked e (overflows old segment)) (sym (homes_kept segment)) linked)
 
 -- ---- an image comes or goes
 
-module _ {old new : Held} {listing : Listing} {tables : Tables} (spells : SpellsTables old listing tables) (number : ℕ) (image : Option ImageEntry) (kept : KeepsBeside old new) (fits : ListingFits (with_image listing number image)) where
+module _ {old new : Held} {listing : Listing} {tables : Tables} (spells : SpellsTables old listing tables) (number : ℕ) (image : Option ImageEntry) (kept : KeepsHeap old new) (fits : ListingFits (with_image listing number image)) where
   abbrev listed_now : Listing
   listed_now = with_image listing number image
 
@@ -139,7 +135,7 @@ module _ {old new : Held} {listing : Listing} {tables : Tables} (spells : Spells
       stays key there (inr (inl space)) =
           let of = shown.reached key space there in
           inr (ap (λ (s : ℕ). is_some (segment_at listing s)) of.segment ∙ (spells.listed.relations of.image.relation of.relation of.at.within).segment)
-      stays key there (inr (inr heap)) = spells.only key (ap is_some (sym (kept key (no_image key heap))) ∙ there)
+      stays key there (inr (inr heap)) = spells.only key (ap is_some (sym (kept key heap)) ∙ there)
 
 -- of another image, in the tables with other images
 image_still : {held : Held} {tables : Tables} {number : ℕ} {image : ImageEntry} {relation : RelationEntry} {pages : List ℕ} (images : map.FinMap name_cmp ImageDef) → SpellsImage held tables number image relation pages
@@ -148,10 +144,10 @@ image_still images is = record { pairs = is.pairs; tree = is.tree; once = is.onc
 
 -- ---- an image is made
 
--- The pages of a new image of this number are there, those of the others still are, and all else is as it was.
+-- The pages of a new image of this number are there, those of the others still are, and there are no more of the space of images; the pages of tuples are as they were.
 pub record HoldsNewImage (old new : Held) (listing : Listing) (tables : Tables) (number : ℕ) (image : ImageEntry) (relation : RelationEntry) : Type 0 where
   pub pages : List ℕ
-  pub kept : KeepsBeside old new
+  pub kept : KeepsHeap old new
   pub spells : SpellsImage new tables number image relation pages
   pub others : (k : ℕ) (other : ImageEntry) (its : RelationEntry) → IsListedImage listing k other its
       → (pages : List ℕ) × SpellsImage new tables k other its pages
@@ -251,9 +247,9 @@ module _ {old new : Held} {listing : Listing} {tables : Tables} (spells : Spells
 
 -- ---- an image is dropped
 
--- The pages of the image of this number aren't there any more, those of the others still are, and all else is as it was.
+-- The pages of the image of this number aren't there any more, those of the others still are, and there are no more of the space of images; the pages of tuples are as they were.
 pub record LosesImage (old new : Held) (listing : Listing) (tables : Tables) (number : ℕ) : Type 0 where
-  pub kept : KeepsBeside old new
+  pub kept : KeepsHeap old new
   pub others : (k : ℕ) (other : ImageEntry) (its : RelationEntry) (pages : List ℕ) → k ≢ number
       → IsListedImage listing k other its → SpellsImage old tables k other its pages
       → SpellsImage new tables k other its pages
