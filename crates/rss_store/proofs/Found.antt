@@ -48,7 +48,7 @@ use Rattle.rss_store.specs.Checks.{count_of, IsSegmentOf}
 use Rattle.rss_store.specs.Looks.{HoldsTables, HoldsNone}
 use Rattle.rss_store.proofs.Empties.{entry_none, linked_none}
 use Rattle.rss_store.proofs.Made.{definitions_of, listing_defines, listing_fits}
-use Rattle.rss_catalog.proofs.Same.{same_listing}
+use Rattle.rss_model.proofs.ListedOnce.{listing_once}
 use Rattle.rss_store.proofs.Rows.{IsAt, IsNamedIn, AreGood, Spot, values_in, named_by, held_by, item_of, contents_of, spots_of, spots_at, each_among, none_of, same_number, same_relation, relation_body, body_at_spot, found_at, found_spot, relation_counted}
 
 -- ---- identifiers, and numbers of segments
@@ -185,7 +185,7 @@ module _ (held : Held) (slots : ℕ) (listing : Listing) (fits : ListingFits lis
     plain = plain;
     defines = defines;
     counts = found_counts;
-    contents = spelled_contents plain (record { stands = stands_found; bodies_are = body_found; only = item_found });
+    contents = spelled_contents fits.no_links (record { stands = stands_found; bodies_are = body_found; only = item_found });
     images = plain_images plain (λ key image there. no_image key image (only key there));
   }
     where
@@ -381,4 +381,4 @@ module _ {held : Held} {slots : ℕ} {listing : Listing} {tables : Tables} (allo
 -- The pages of a listing's system space spell tables by no other listing.
 pub none_by : (held : Held) (slots : ℕ) (listing : Listing) → ListingFits listing → HoldsListing held listing → ((tables : Tables) → SpellsTables held listing tables → Fits slots tables → ⊥) → HoldsNone held slots
 none_by held slots listing fits system none other tables there spells fit =
-    none tables (subst (λ (l : Listing). SpellsTables held l tables) (same_listing held other listing there system spells.listed fits) spells) fit
+    none tables (subst (λ (l : Listing). SpellsTables held l tables) (listing_once held spells.listed fits there system) spells) fit

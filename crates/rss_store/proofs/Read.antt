@@ -24,7 +24,7 @@ use Rattle.rss_catalog.specs.Catalogs.{CatalogView}
 use Rattle.rss_log.specs.Logs.{LogView}
 use Rattle.rss_model.specs.Fits.{Fits}
 use Rattle.rss_model.specs.Store.{SpellsTables, Stored, IsStore}
-use Rattle.rss_catalog.proofs.Same.{same_listing}
+use Rattle.rss_model.proofs.ListedOnce.{listing_once}
 use Rattle.rss_model.proofs.PlainStores.{no_image_at}
 use Rattle.rss_model.proofs.Stores.{one_root, one_map}
 use Rattle.rss_access.specs.Written.{IsSystemOrHeap}
@@ -197,7 +197,7 @@ module _ {root : Root} {number frames writes : ℕ} {owners : List (Option PageK
               shadow = new_shadow;
               slots = new_size;
               counted = counted;
-              listing = same_listing old.held catalog.listing _ (finds.loaded.holds told) (listing_here told stored store) finds.loaded.fits is.spells.listed;
+              listing = listing_once old.held finds.loaded.fits is.spells.listed (finds.loaded.holds told) (listing_here told stored store);
               head = read.behind.head;
               end = read.end;
               kept = bytes told.pages told.is;
