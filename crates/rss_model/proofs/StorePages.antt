@@ -51,6 +51,13 @@ all_one : (f : ℕ → ℕ) (a n : ℕ) → ((j : ℕ) → j < a + n → f j ≡
 all_one f a zero each = refl
 all_one f a (suc n) each = omega (arith, each a (omega arith), all_one f (a + 1) n (λ j lt. each j (omega (arith, lt))), sum_by-cons f a (range_with_len (a + 1) n))
 
+-- those of each space, where all system pages are mapped
+pub pages_split : (mapped : Mapped) (slots : ℕ) → ((number : ℕ) → number < system_pages → mapped (page_key 0 System number) ≡ true) → mapped_pages slots mapped ≡ mapped_of mapped Home slots + mapped_of mapped Overflow slots + mapped_of mapped Image slots + system_pages
+unfolding mapped_pages
+pages_split mapped slots system =
+    let systems : mapped_in mapped System 10 0 ≡ 10 = all_one (λ n. count_of (mapped (page_key 0 System n))) 0 10 (λ n lt. ap count_of (system n lt)) in
+    omega (arith, systems)
+
 module _ (mapped : Mapped) (only : (key : PageKey) → mapped key ≡ true → (key.space ≡ System) ⊎ IsHeapKey key) where
   no_image : (segment number : ℕ) → mapped (page_key segment Image number) ≡ false
   no_image segment number = false_from_ne_true (mapped (page_key segment Image number)) (λ is. elim (only (page_key segment Image number) is) [
@@ -58,13 +65,12 @@ module _ (mapped : Mapped) (only : (key : PageKey) → mapped key ≡ true → (
     | inr heap ↦ ⊎_elim (λ home. absurd (cc)) (λ over. absurd (cc)) heap
   ])
 
+  no_images : (slots : ℕ) → mapped_of mapped Image slots ≡ 0
+  no_images slots = all_zero (mapped_in mapped Image slots) 1 8 (λ segment. all_zero (λ n. count_of (mapped (page_key segment Image n))) 0 slots (λ n. ap count_of (no_image segment n)))
+
   -- those of the system space, and the home and overflow pages
   pub pages_are : (slots : ℕ) → ((number : ℕ) → number < system_pages → mapped (page_key 0 System number) ≡ true) → mapped_pages slots mapped ≡ mapped_of mapped Home slots + mapped_of mapped Overflow slots + system_pages
-  unfolding mapped_pages
-  pages_are slots system =
-      let images : mapped_of mapped Image slots ≡ 0 = all_zero (mapped_in mapped Image slots) 1 8 (λ segment. all_zero (λ n. count_of (mapped (page_key segment Image n))) 0 slots (λ n. ap count_of (no_image segment n))) in
-      let systems : mapped_in mapped System 10 0 ≡ 10 = all_one (λ n. count_of (mapped (page_key 0 System n))) 0 10 (λ n lt. ap count_of (system n lt)) in
-      omega (arith, images, systems)
+  pages_are slots system = omega (arith, pages_split mapped slots system, no_images slots)
 
 is_some_mapped : (f : ℕ → List ℕ) (o : Option ℕ) → is_some (option_map f o) ≡ is_some o
 is_some_mapped f None = refl
