@@ -2,6 +2,7 @@
 use Rattle.std.proofs.Common.{◌≡◌, ◌⊎◌, inl, inr, ⊎_elim, ℕ, zero, suc, ◌+◌, ◌*◌, ◌<◌, ◌≤◌, Bool, true, false, cond, List, [], ◌∷◌, length, Option, Some, None, refl, sym, ◌∙◌, ap, subst, arith}
 use Rattle.std.specs.Prelude.{IfSome, is_some, option_map, count_by, sum_by, map as list_map}
 use Rattle.std.specs.FinMap as finite
+use Rattle.std.specs.FinMap.{FinMap}
 use Rattle.std.specs.List.{range_with_len}
 use Rattle.std.proofs.lemmas.Bool.{cases_lt, false_from_ne_true}
 use Rattle.std.proofs.lemmas.List.{get_or_past}
@@ -20,7 +21,8 @@ use Rattle.rss_base.specs.declared.name.Name.{Name}
 use Rattle.rss_base.specs.declared.root.Root.{Root}
 use Rattle.rss_base.proofs.Counts.{mapped_pages-owners}
 use Rattle.rss_page.specs.Slotted.{IsHeapKey}
-use Rattle.rss_model.specs.Tables.{Definitions, Tables, tuple_count}
+use Rattle.rss_model.specs.Items.{name_cmp}
+use Rattle.rss_model.specs.Tables.{ImageDef, Definitions, Tables, tuple_count}
 use Rattle.rss_model.specs.Changes.{Change, maker}
 use Rattle.rss_model.specs.Fits.{ArePlain}
 use Rattle.rss_model.specs.Kept.{AreStamps, IsMetered}
@@ -31,9 +33,10 @@ use Rattle.rss_model.specs.Meter.{Meter, heap_pages, changes_of, entries_most, p
 use Rattle.rss_model.specs.Spares.{change_counts}
 use Rattle.rss_model.specs.Recovers.{lists_at}
 use Rattle.rss_model.specs.Store.{IsStorePage, SpellsTables, Stored, first_record, meter_of, overflow_pages, pages_of_space, IsStore, StoresHaveRoom, OpeningsHaveRoom, OpeningsAreMetered}
+use Rattle.rss_model.proofs.Heap.{no_entries}
 use Rattle.rss_model.proofs.Listed.{heap_is}
 use Rattle.rss_model.proofs.ImageRooms.{images_allowed}
-use Rattle.rss_model.proofs.PlainStores.{none_imaged, plain_room}
+use Rattle.rss_model.proofs.PlainStores.{none_imaged}
 use Rattle.rss_model.proofs.Relisted.{page_kind}
 use Rattle.rss_model.proofs.Restarted.{recovered_pages, recovered_count}
 use Rattle.rss_model.proofs.Saving.{more_pages}
@@ -122,16 +125,26 @@ pages_counted root owners pages map {listing = listing} {tables = tables} listed
     first : ℕ
     first = slots_at root.slots root.log_pages
 
--- so the rule of room asks for each page twice
-module _ (is : Stored) (plain : ArePlain is.saved.definitions) (older : is.older ≡ []) (newer : is.newer ≡ first_record ∷ []) where
-  meter_is : room_number is.saved.definitions (meter_of is) ≡ 2 * (mapped_of (mapped_by is.owners) Home is.root.slots + mapped_of (mapped_by is.owners) Overflow is.root.slots + system_pages)
-  meter_is =
-      let none : (meter_of is).surviving ≡ 0 = ap (λ (l : List Logged). length (lists_at (as_entries l))) older in
-      let since : (meter_of is).since ≡ 0 = ap (λ (l : List Logged). count_by (λ m. is_change m.is) l) newer in
-      omega (arith, plain_room plain (meter_of is), none, since)
+-- the pages beside those of images
+abbrev pages_beside : Stored → ℕ
+pages_beside is = mapped_of (mapped_by is.owners) Home is.root.slots + mapped_of (mapped_by is.owners) Overflow is.root.slots + system_pages
 
-  pub room_least : 2 * page_count is.owners ≤ is.root.slots → page_count is.owners ≡ mapped_of (mapped_by is.owners) Home is.root.slots + mapped_of (mapped_by is.owners) Overflow is.root.slots + system_pages → room_number is.saved.definitions (meter_of is) ≤ is.root.slots
-  room_least room count = omega (arith, meter_is, room, count)
+-- where no image is defined and nothing is logged, the rule of room asks for each of them twice
+module _ (is : Stored) (none : is.saved.definitions.images ≡ finite.empty) (older : is.older ≡ []) (newer : is.newer ≡ first_record ∷ []) where
+  meter_is : room_number is.saved.definitions (meter_of is) ≡ 2 * pages_beside is
+  meter_is =
+      let images : (change_counts is.saved.definitions (meter_of is)).images ≡ 0 =
+      ap (λ (m : FinMap name_cmp ImageDef). sum_by (pages_of_image is.saved.definitions (meter_of is)) (finite.values m)) none
+      ∙ ap (λ (es : List (Name × ImageDef)). sum_by (pages_of_image is.saved.definitions (meter_of is)) (list_map (λ e. e.1) es)) (no_entries ImageDef) in
+      let surviving : (meter_of is).surviving ≡ 0 = ap (λ (l : List Logged). length (lists_at (as_entries l))) older in
+      let since : (meter_of is).since ≡ 0 = ap (λ (l : List Logged). count_by (λ m. is_change m.is) l) newer in
+      omega (arith, images, surviving, since)
+
+  pub first_room : 2 * page_count is.owners ≤ is.root.slots → pages_beside is ≤ page_count is.owners → room_number is.saved.definitions (meter_of is) ≤ is.root.slots
+  first_room room few = omega (arith, meter_is, room, few)
+
+pub room_least : (is : Stored) → ArePlain is.saved.definitions → is.older ≡ [] → is.newer ≡ first_record ∷ [] → 2 * page_count is.owners ≤ is.root.slots → page_count is.owners ≡ pages_beside is → room_number is.saved.definitions (meter_of is) ≤ is.root.slots
+room_least is plain older newer room count = first_room is plain.no_images older newer room (omega (arith, count))
 
 -- the images of a store have no more pages than the meter of its checkpoint allows them
 pub saved_few : {pages : Pages} {is : Stored} → IsStore pages is → pages_of_space Image is ≤ (change_counts is.saved.definitions (meter_of is)).images
