@@ -53,6 +53,11 @@ pub mod TupleKeeping
 pub mod ChainKeeping
 pub mod EndKeeping
 pub mod ImageLists
+pub mod ImageCounts
+pub mod ImageFields
+pub mod ImagePages
+pub mod MappedKeys
+pub mod ImageRooms
 pub mod ScanKeeping
 pub mod Redefining
 pub mod StepKeeping
@@ -75,6 +80,7 @@ pub mod Changers
 pub mod BothRooms
 pub mod StepRooms
 pub mod LogOnce
+pub mod Restarted
 pub mod StorePages
 pub mod Stores
 pub mod LogGrowing
