@@ -1,15 +1,17 @@
 -- A store that was opened can be restarted: its log is the one in memory, and there is room for each change.
 use Rattle.std.proofs.Common.{◌≡◌, ℕ, ◌+◌, ◌-◌, ◌*◌, ◌%◌, ◌≤◌, Bool, true, List, [], ◌∷◌, ◌++◌, length, refl, sym, ◌∙◌, ap, subst, arith}
-use Rattle.std.specs.Prelude.{count_by, drop, not}
+use Rattle.std.specs.Prelude.{count_by, drop, is_some, not}
 use Rattle.std.proofs.lemmas.List.Sums.{sum_by-cons, length-filter, count_by-le-length}
 use Rattle.rss_base.specs.DiskRule.{Pages}
 use Rattle.rss_base.specs.Listings.{Listing}
 use Rattle.rss_base.specs.LogPages.{log_bytes}
 use Rattle.rss_base.specs.LogRecords.{Parses, ArePlaced}
 use Rattle.rss_base.specs.PageMap.{page_count}
-use Rattle.rss_base.specs.Paged.{Held, mapped_pages}
-use Rattle.rss_base.specs.Sizes.{piece_bytes}
+use Rattle.rss_base.specs.Layout.{slots_at}
+use Rattle.rss_base.specs.Paged.{Held, mapped_of, mapped_pages, page_key}
+use Rattle.rss_base.specs.Sizes.{piece_bytes, system_pages}
 use Rattle.rss_base.specs.StoredPages.{mapped_by}
+use Rattle.rss_base.specs.declared.key.Space.TheVariants.{Home, Overflow, Image, System}
 use Rattle.rss_base.proofs.Counts.{mapped_pages-owners}
 use Rattle.rss_log.specs.Logs.{LogView, piece_start, bytes_from}
 use Rattle.rss_tuple.specs.Directory.{homes, overflows}
@@ -18,12 +20,12 @@ use Rattle.rss_model.specs.Records.{LogEntry, Changed, Restore, End, Abort, Chec
 use Rattle.rss_model.specs.Restart.{stays}
 use Rattle.rss_model.specs.Recovers.{WayFits}
 use Rattle.rss_model.specs.Meanings.{Logged, as_bytes, as_entries, is_change, is_redone, IsLogged}
-use Rattle.rss_model.specs.Spares.{change_counts, page_counts, HasMade}
-use Rattle.rss_model.specs.Store.{Stored, SpellsTables, held_in, listed_at, meter_of, IsStore}
+use Rattle.rss_model.specs.Spares.{ChangeCounts, change_counts, page_counts, HasMade}
+use Rattle.rss_model.specs.Store.{Stored, SpellsTables, held_in, listed_at, meter_of, pages_of_space, IsStore}
 use Rattle.rss_model.proofs.Counts.{one_if}
 use Rattle.rss_model.proofs.LogLists.{by_test}
 use Rattle.rss_model.proofs.Sparing.{number_leaves_room, spare_in_restart}
-use Rattle.rss_model.proofs.StorePages.{map_allowed, pages_counted}
+use Rattle.rss_model.proofs.StorePages.{held_mapped, map_allowed, pages_counted, pages_split}
 use Rattle.rss_entries.specs.Rooms.{image_places}
 use Rattle.rss_access.specs.Changes.{AccessView}
 use Rattle.rss_restart.specs.Surveys.{redone_at}
@@ -64,18 +66,37 @@ module _ {pages : Pages} {stored : Stored} {at : AccessView} {log : LogView} (st
       (λ i. mapped_pages (opened.slots i) (opened.mapped i))
       ∙ mapped_pages-owners stored.root.slots stored.owners (mapped_by stored.owners) (λ slot key owned. map_allowed store.map slot key owned) store.map.begins.distinct (λ key. refl)
 
-  none_made : HasMade (change_counts (meter_of stored)) 0 (page_counts at.pages)
-  none_made =
-      let count = pages_counted stored.root stored.owners pages store.map store.system store.spells in
-      record {
-        before = omega (arith, ap page_count opened.shadow, count);
-        now = omega (arith, mapped_once, count);
-        all = opened.counted;
-      }
+  -- those of each space
+  split : page_count stored.owners ≡ pages_of_space Home stored + pages_of_space Overflow stored + pages_of_space Image stored + system_pages
+  split =
+      let first : ℕ = slots_at stored.root.slots stored.root.log_pages in
+      sym (mapped_pages-owners stored.root.slots stored.owners (mapped_by stored.owners) (λ slot key owned. map_allowed store.map slot key owned) store.map.begins.distinct (λ key. refl))
+      ∙ pages_split (mapped_by stored.owners) stored.root.slots (λ n low. sym (held_mapped first pages stored.owners (page_key 0 System n)) ∙ ap is_some (store.system n low))
+
+  abbrev counts : ChangeCounts
+  counts = change_counts stored.saved.definitions (meter_of stored)
+
+  images_saved : (page_counts at.pages).saved_images ≡ pages_of_space Image stored
+  images_saved = λ i. mapped_of (mapped_by (opened.shadow i)) Image (opened.slots i)
+
+  images_mapped : (page_counts at.pages).images ≡ pages_of_space Image stored
+  images_mapped = λ i. mapped_of (opened.mapped i) Image (opened.slots i)
+
+  none_made : HasMade counts 0 (page_counts at.pages)
+  none_made = record {
+    before = omega (arith, ap page_count opened.shadow, split, images_saved);
+    now = omega (arith, mapped_once, split, images_mapped);
+    all = opened.counted;
+  }
+
+  few_images : (page_counts at.pages).saved_images ≤ counts.images
+  few_images = omega (arith, images_saved, split, pages_counted stored.root stored.owners pages store.map store.system store.spells)
 
   room : 2 * changes_made stored.older stored.newer ≤ image_places at.pages
-  room = let spare = spare_in_restart (change_counts (meter_of stored)) (page_counts at.pages) 0 (changes_made stored.older stored.newer)
-      (number_leaves_room stored.saved.definitions (meter_of stored) (page_counts at.pages) (omega (arith, store.room, opened.slots))) none_made (omega (arith, few_changes stored)) in omega (arith, spare)
+  room =
+      let enough = number_leaves_room stored.saved.definitions (meter_of stored) (page_counts at.pages) (omega (arith, store.room, opened.slots)) in
+      let spare = spare_in_restart counts (page_counts at.pages) 0 (changes_made stored.older stored.newer) enough none_made few_images (omega (arith, few_changes stored)) in
+      omega (arith, spare)
 
   -- ---- its log
 
