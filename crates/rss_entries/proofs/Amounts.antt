@@ -22,7 +22,7 @@ use Rattle.rss_model.proofs.Mixing.{In}
 use Rattle.rss_model.proofs.Relisted.{number_within_list}
 use Rattle.rss_entries.specs.Rooms.{width_of, room_of, image_room, images_room}
 use Rattle.rss_entries.specs.Images.{image_of}
-use Rattle.rss_entries.proofs.Counting.{HasMapped, mapped_at_most, keys_from, among_keys, keys_few, keys_but}
+use Rattle.rss_model.proofs.MappedKeys.{HasMapped, mapped_at_most, keys_from, among_keys, keys_few, keys_but}
 use Rattle.rss_entries.proofs.Showing.{same_entry, at_same, at_its_place}
 
 -- ---- an image has room for its pages

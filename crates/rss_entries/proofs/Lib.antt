@@ -2,15 +2,12 @@ pub mod Swaps
 pub mod Composed
 pub mod Entries
 pub mod Orders
-pub mod Fields
 pub mod Shown
-pub mod Counted
 pub mod Lists
 pub mod Kept
 pub mod Standing
 pub mod Fitting
 pub mod Showing
-pub mod Counting
 pub mod Amounts
 pub mod Places
 pub mod Telling

@@ -29,8 +29,8 @@ use Rattle.rss_entries.specs.Rooms.{width_of}
 use Rattle.rss_entries.specs.Moving.{KeyKinds, pair_with, less, more, moved_pairs, HoldsEntry}
 use Rattle.rss_entries.specs.Images.{key_of, AreTuples, TupleMove, after_move, CanMove}
 use Rattle.rss_entries.proofs.Orders.{Rise, same_pairs, each_of_in, in_contains, with_in, in_with, with_rises, without_in, in_without, without_rises}
-use Rattle.rss_entries.proofs.Counted.{entries_counted}
-use Rattle.rss_entries.proofs.Fields.{numbers_back}
+use Rattle.rss_model.proofs.ImageCounts.{entries_counted}
+use Rattle.rss_model.proofs.ImageFields.{fields_are, numbers_are}
 use Rattle.rss_entries.proofs.Shown.{same_tid, Shows, pair_there, tuple_pair, pairs_rise, pairs_said}
 pub use Rattle.rss_entries.proofs.Shown.{byte_list}
 
@@ -76,29 +76,17 @@ if_some P None a all is = none_some is
 if_some P (Some b) a all is = subst P (same_Some _ _ is) all
 
 module _ {listing : Listing} (tables : Tables) (fits : ListingFits listing) (defines : Defines listing tables.definitions) {number : ℕ} {image : ImageEntry} {relation : RelationEntry} (at : IsListedImage listing number image relation) where
-  fields_are : fields_in tables.definitions relation.name ≡ relation.fields
-  fields_are =
-      let so = listed fits defines image.relation relation at.within in
-      ap (λ (o : Option RelationDef). unwrap_or (option_map (λ (r : RelationDef). r.fields) o) []) (defines.relations image.relation relation so.0 so.1)
-
   kinds_are : fields_of tables relation.name ≡ Some (kinds relation.fields)
   kinds_are =
       let so = listed fits defines image.relation relation at.within in
       ap (option_map (λ (r : RelationDef). kinds r.fields)) (defines.relations image.relation relation so.0 so.1)
 
-  numbers_are : numbers_of relation.fields (field_names (chosen (field_numbers image) relation.fields)) ≡ field_numbers image
-  numbers_are =
-      let its = fits.paths.images number image at.at in
-      let same : its.relation ≡ relation = same_Some _ _ (sym its.listed ∙ at.within) in
-      numbers_back relation.fields (fits.relations image.relation relation at.within).fields.apart (field_numbers image)
-      (subst (λ (r : RelationEntry). All (IsFieldNumber (length r.fields)) (field_numbers image)) same its.within)
-
   -- where the tuples are their relations', and their values and identifiers can be spelled
   pub listed_shows : AreTuples tables → ((name : Name) (tid : Tid) (values : List Value) → content tables.contents (TupleItem name tid) ≡ Some (Values values) → All IsStorable values)
       → ((name : Name) (tid : Tid) → is_some (content tables.contents (TupleItem name tid)) ≡ true → IsSpelledTid tid) → Shows tables image relation
   listed_shows tuples storable tids = record {
-    fields = fields_are;
-    numbers = numbers_are;
+    fields = fields_are fits defines at;
+    numbers = numbers_are fits defines at;
     tuples = λ tid values there.
         let of = tuples relation.name tid (Values values) there in
         let same : of.values ≡ values = sym (same_Some _ _ (values_of (Some values) of.values (ap (λ (c : Content). Some c) of.tuple))) in

@@ -32,11 +32,11 @@ use Rattle.rss_model.proofs.Relisted.{number_within_list}
 use Rattle.rss_entries.specs.Moving.{KeyKinds, MayMove, pair_with, moved_pairs}
 use Rattle.rss_entries.specs.Rooms.{width_of, room_of, image_room, images_room, image_places}
 use Rattle.rss_entries.specs.Images.{TupleMove, CanMove, AreTuples, after_move, image_of, key_of, ShowBelow}
-use Rattle.rss_entries.proofs.Counted.{entries_counted}
+use Rattle.rss_model.proofs.ImageCounts.{entries_counted}
 use Rattle.rss_entries.proofs.Lists.{byte_list, moved_list, holds_entry, kept_list, list_long}
 use Rattle.rss_entries.proofs.Standing.{AreLow, IsRowed, rowed, contained}
 use Rattle.rss_entries.proofs.Fitting.{fitting_nodes, nodes_fit}
-use Rattle.rss_entries.proofs.Counting.{same_mapped_of, same_mapped_in}
+use Rattle.rss_model.proofs.MappedKeys.{same_mapped_of, same_mapped_in}
 use Rattle.rss_entries.proofs.Amounts.{AreHeld, IsHeldIn, pairs_room, room_fits, mapped_few, mapped_but}
 use Rattle.rss_entries.proofs.Showing.{at_its_place}
 

@@ -40,7 +40,7 @@ use Rattle.rss_entries.specs.Rooms.{width_of}
 use Rattle.rss_entries.specs.Moving.{pair_with}
 use Rattle.rss_entries.specs.Images.{key_of}
 use Rattle.rss_entries.proofs.Orders.{Rise, each_of_in, in_map, of_map, map_rises}
-use Rattle.rss_entries.proofs.Fields.{chosen_kinds}
+use Rattle.rss_model.proofs.ImageFields.{chosen_kinds}
 
 -- ---- the entries of a list rise
 

@@ -1,11 +1,10 @@
 -- How many pages have identifiers of tuples, and what a page's entries say of its bodies.
 use Rattle.std.proofs.Common.{◌≡◌, ℕ, Bool, false, List, [], ◌∷◌, length, refl, sym, ◌∙◌, ap, arith}
-use Rattle.std.specs.Prelude.{None, count_by, map as list_map}
+use Rattle.std.specs.Prelude.{None, count_by}
 use Rattle.std.specs.FinMap as map
 use Rattle.std.specs.FinMap.{len-entries, len-empty}
 use Rattle.std.proofs.lemmas.List.Sums.{sum_by-cons}
 use Rattle.std.proofs.lemmas.Option.{none-some}
-use Rattle.rss_base.specs.declared.name.Name.{Name}
 use Rattle.rss_page.specs.Content.{Content as Entry, Empty, Here, Forward}
 use Rattle.rss_tuple.specs.Directory.{Entries, body_in, body_by}
 use Rattle.rss_tuple.specs.Heaps.{AreLinked}
@@ -27,8 +26,8 @@ pub nothing : {A : Type 0} (list : List A) → length list ≡ 0 → list ≡ []
 nothing [] is = refl
 nothing (a ∷ list) is = absurd (omega arith)
 
-pub no_keys : (X : Type 0) → map.keys (map.empty {X = X} {R = name_cmp}) ≡ []
-no_keys X = ap (λ (es : List (Name × X)). list_map (λ e. e.0) es) (nothing _ (sym (len-entries map.empty) ∙ len-empty name_cmp X))
+pub no_entries : (X : Type 0) → map.entries (map.empty {X = X} {R = name_cmp}) ≡ []
+no_entries X = nothing _ (sym (len-entries map.empty) ∙ len-empty name_cmp X)
 
 -- ---- entries and bodies
 

@@ -52,6 +52,11 @@ pub mod TupleKeeping
 pub mod ChainKeeping
 pub mod EndKeeping
 pub mod ImageLists
+pub mod ImageCounts
+pub mod ImageFields
+pub mod ImagePages
+pub mod MappedKeys
+pub mod ImageRooms
 pub mod ScanKeeping
 pub mod Redefining
 pub mod StepKeeping

@@ -1,6 +1,6 @@
 -- A store whose definitions are listed: what it defines, by the numbers, and which pages it has.
 use Rattle.std.proofs.Common.{◌≡◌, ◌≢◌, inl, inr, ℕ, zero, suc, ◌+◌, ◌-◌, ◌<◌, true, false, List, [], ◌∷◌, length, get_or, refl, sym, ◌∙◌, ap, arith}
-use Rattle.std.specs.Prelude.{Option, Some, None, is_some, option_map, option_and_then, slice_get, sum_by, ◌==◌}
+use Rattle.std.specs.Prelude.{Option, Some, None, is_some, option_map, option_and_then, slice_get, sum_by, map as list_map, ◌==◌}
 use Rattle.std.specs.FinMap as map
 use Rattle.std.specs.FinMap.{FinMap, get-empty, same_map}
 use Rattle.std.specs.List.{range_with_len}
@@ -27,7 +27,7 @@ use Rattle.rss_model.specs.Fits.{Fits}
 use Rattle.rss_model.specs.Meter.{is_heap_page, heap_pages}
 use Rattle.rss_model.specs.Store.{plain_body as body_of, Defines, IsListed, SpellsTables}
 use Rattle.rss_model.proofs.Codes.{name_total, name_apart}
-use Rattle.rss_model.proofs.Heap.{count_same, count_none, no_keys, empty_entry}
+use Rattle.rss_model.proofs.Heap.{count_same, count_none, no_entries, empty_entry}
 use Rattle.rss_model.proofs.HeapPages.{same_bool, has_tuples_at, has_tuples_of, heap_page_of, heap_page_at, pages_in}
 use Rattle.rss_model.proofs.MapSums.{removed_sum}
 use Rattle.rss_model.proofs.Named.{gone, gone_other}
@@ -92,18 +92,23 @@ module _ {X : Type 0} (items : List (Option Name)) (m : FinMap name_cmp X) where
       later name other (zero, at) = absurd (other (sym (same_Some _ _ at)))
       later name other (suc k, at) = (k, at)
 
--- a sum over the names of the map
-pub sum_listed : {X : Type 0} (f : Name → ℕ) (items : List (Option Name)) (m : FinMap name_cmp X) → IsListOf items m → sum_by f (map.keys m) ≡ sum_by (of_name f) items
-sum_listed {X = X} f [] m list = ap (λ (n : FinMap name_cmp X). sum_by f (map.keys n)) (same_map name_total name_apart m map.empty (λ q. none q (map.get m q) refl ∙ sym (get-empty name_cmp q))) ∙ ap (sum_by f) (no_keys X)
+-- a sum over what the map has, where each name gives as much as what it names
+pub sum_found : {X B : Type 0} (f : B → ℕ) (pick : Name × X → B) (h : Name → ℕ) (items : List (Option Name)) (m : FinMap name_cmp X) → IsListOf items m → ((name : Name) (x : X) → map.get m name ≡ Some x → f (pick (name, x)) ≡ h name) → sum_by f (list_map pick (map.entries m)) ≡ sum_by (of_name h) items
+sum_found {X = X} f pick h [] m list each = ap (λ (n : FinMap name_cmp X). sum_by f (list_map pick (map.entries n))) (same_map name_total name_apart m map.empty (λ q. none q (map.get m q) refl ∙ sym (get-empty name_cmp q))) ∙ ap (λ (es : List (Name × X)). sum_by f (list_map pick es)) (no_entries X)
   where
     none : (q : Name) (found : Option X) → map.get m q ≡ found → map.get m q ≡ None
     none q None is = is
     none q (Some x) is = absurd (none-some q (list.only q (ap is_some is)).1)
-sum_listed f (None ∷ items) m list = omega (arith, sum_by-cons (of_name f) None items, sum_listed f items m (rest_of items m list))
-sum_listed f (Some first ∷ items) m list =
+sum_found f pick h (None ∷ items) m list each = omega (arith, sum_by-cons (of_name h) None items, sum_found f pick h items m (rest_of items m list) each)
+sum_found f pick h (Some first ∷ items) m list each =
     let there = some_of (map.get m first) (list.each zero first refl) in
-    let gone : sum_by f (map.keys m) ≡ f first + sum_by f (map.keys (map.remove m first)) = removed_sum f (λ e. e.0) m first there.0 there.1 in
-    omega (arith, gone, sum_by-cons (of_name f) (Some first) items, sum_listed f items (map.remove m first) (rest_without items m first list))
+    let gone_sum = removed_sum f pick m first there.0 there.1 in
+    let rest = sum_found f pick h items (map.remove m first) (rest_without items m first list) (λ name x is. let was = gone m first name (ap is_some is) in each name x (sym was.1 ∙ is)) in
+    omega (arith, gone_sum, each first there.0 there.1, sum_by-cons (of_name h) (Some first) items, rest)
+
+-- and over its names
+pub sum_listed : {X : Type 0} (f : Name → ℕ) (items : List (Option Name)) (m : FinMap name_cmp X) → IsListOf items m → sum_by f (map.keys m) ≡ sum_by (of_name f) items
+sum_listed f items m list = sum_found f (λ e. e.0) f items m list (λ name x is. refl)
 
 -- a sum over numbers from one on
 pub sum_places : (g : Option Name → ℕ) (items : List (Option Name)) (a : ℕ) (h : ℕ → ℕ) → ((k : ℕ) → h (a + k) ≡ g (get_or items k None)) → sum_by h (range_with_len a (length items)) ≡ sum_by g items

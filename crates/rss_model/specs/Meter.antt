@@ -177,10 +177,16 @@ least_position end (stamp ∷ stamps) = min stamp.at (least_position end stamps)
 
 -- ---- the room number
 
--- how many pages an image may have: by its entries at the last checkpoint, and the changes that may add to them
+-- how many pages an image may have, by how many bytes its keys have and how many entries it has
+abbrev pub bound_of : ℕ → ℕ → ℕ
+bound_of width entries = entries / (node_least width - 1) + 2
+
+-- how many entries it may have: those at the last checkpoint, and as many as changes may add to them
+abbrev pub entries_most : Traffic → ℕ
+entries_most traffic = traffic.entries + traffic.surviving + 2 * traffic.since
+
 abbrev pub image_pages : ℕ → Traffic → ℕ
-image_pages width traffic =
-    (traffic.entries + traffic.surviving + 2 * traffic.since) / (node_least width - 1) + 2
+image_pages width traffic = bound_of width (entries_most traffic)
 
 abbrev pub pages_of_image : Definitions → Meter → ImageDef → ℕ
 pages_of_image definitions meter image =

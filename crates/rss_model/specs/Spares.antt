@@ -1,14 +1,46 @@
 -- That there is always room: two spare pages for each change that is made, undone or made again, beside those that images may need.
-use Rattle.std.specs.Prelude.{◌≡◌, ℕ, ◌+◌, ◌-◌, ◌*◌, ◌≤◌, sum_by}
+use Rattle.std.specs.Prelude.{◌≡◌, ℕ, ◌+◌, ◌-◌, ◌*◌, ◌≤◌, sum_by, Option, Some, None, option_map, unwrap_or}
 use Rattle.std.specs.FinMap.{values}
 use Rattle.rss_base.specs.PageMap.{page_count}
 use Rattle.rss_base.specs.Paged.{mapped_of, mapped_pages}
 use Rattle.rss_base.specs.Sizes.{system_pages}
 use Rattle.rss_base.specs.Steps.{PagesView}
 use Rattle.rss_base.specs.StoredPages.{mapped_by}
+use Rattle.rss_base.specs.TupleTypes.{kinds, chosen, key_width}
+use Rattle.rss_base.specs.Listings.{Listing, field_numbers, relation_at}
 use Rattle.rss_base.specs.declared.key.Space.TheVariants.{Image}
+use Rattle.rss_base.specs.declared.name.Name.{Name}
+use Rattle.rss_base.specs.declared.image.ImageEntry.{ImageEntry}
+use Rattle.rss_base.specs.declared.relation.RelationEntry.{RelationEntry}
 use Rattle.rss_model.specs.Tables.{Definitions}
-use Rattle.rss_model.specs.Meter.{Meter, pages_of_image, room_number}
+use Rattle.rss_model.specs.Meter.{Traffic, Meter, bound_of, entries_most, pages_of_image, room_number}
+
+-- ---- pages of the images of a listing
+
+-- how many pages an image of this relation may have, where a relation's number gives how many entries its images have
+abbrev pub bound_by : (ℕ → ℕ) → ImageEntry → Option RelationEntry → ℕ
+bound_by entries image None = 0
+bound_by entries image (Some relation) =
+    bound_of (key_width (kinds (chosen (field_numbers image) relation.fields))) (entries image.relation)
+
+abbrev pub bound_at : Listing → (ℕ → ℕ) → Option ImageEntry → ℕ
+bound_at listing entries None = 0
+bound_at listing entries (Some image) = bound_by entries image (relation_at listing image.relation)
+
+-- and all images
+abbrev pub listed_bound : Listing → (ℕ → ℕ) → ℕ
+listed_bound listing entries = sum_by (bound_at listing entries) listing.images
+
+-- how many tuples the relation of a number has
+abbrev pub live_of : Listing → ℕ → ℕ
+live_of listing number = unwrap_or (option_map (λ relation. relation.live) (relation_at listing number)) 0
+
+-- and how many entries the meter allows its images
+abbrev pub most_of : Listing → (Name → Traffic) → ℕ → ℕ
+most_of listing traffic number =
+    unwrap_or (option_map (λ relation. entries_most (traffic relation.name)) (relation_at listing number)) 0
+
+-- ---- what is counted
 
 -- heap: how many home and overflow pages there were at the last checkpoint.
 -- surviving: how many changes of open transactions survived there.

@@ -7,7 +7,7 @@ use Rattle.rss_image.specs.declared.image.Image.{Image}
 use Rattle.rss_entries.specs.Moving.{KeyKinds}
 use Rattle.rss_entries.specs.Seeking.{kinds_in}
 use Rattle.rss_entries.proofs.Entries.{length-key}
-use Rattle.rss_entries.proofs.Fields.{chosen_kinds}
+use Rattle.rss_model.proofs.ImageFields.{chosen_kinds}
 use Rattle.rss_entries.proofs.Owners.{owner_found}
 use Rattle.rss_entries.proofs.Telling.{shown, shown_tree}
 use Rattle.rss_entries.proofs.seeking.find_owner.Goals as goal

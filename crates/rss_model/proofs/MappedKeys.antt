@@ -1,5 +1,5 @@
 -- No more image pages are mapped than a list of keys has that has each of them.
-use Rattle.std.proofs.Common.{◌≡◌, ◌≢◌, ◌<◌, ◌≤◌, ◌+◌, ℕ, zero, suc, Bool, true, false, cond, List, [], ◌∷◌, ◌++◌, length, get_or, refl, sym, ◌∙◌, ap, subst, arith, inl, inr, ⊎_elim, length-append}
+use Rattle.std.proofs.Common.{◌≡◌, ◌≢◌, ◌<◌, ◌≤◌, ◌+◌, ℕ, zero, suc, Bool, true, false, cond, List, [], ◌∷◌, ◌++◌, length, get_or, refl, sym, ◌∙◌, ap, subst, arith, ⊎_elim, length-append}
 use Rattle.std.specs.Prelude.{sum_by}
 use Rattle.std.specs.List.{range_with_len}
 use Rattle.std.proofs.lemmas.Bool.{cond-true, cond-false, true≢false}
@@ -9,7 +9,7 @@ use Rattle.rss_base.specs.declared.key.PageKey.{PageKey}
 use Rattle.rss_base.specs.declared.key.Space.{Space}
 use Rattle.rss_base.proofs.Keys.{is_same-itself, is_same-other}
 use Rattle.rss_model.proofs.LogLists.{by_test, by_same}
-use Rattle.rss_model.proofs.Mixing.{In}
+use Rattle.rss_model.proofs.Mixing.{In, in_left, in_right}
 
 -- ---- sums over a range of numbers
 
@@ -120,19 +120,11 @@ abbrev pub keys_from : {A : Type 0} → (ℕ → List PageKey) → ℕ → List 
 keys_from pages n [] = []
 keys_from pages n (item ∷ items) = pages n ++ keys_from pages (n + 1) items
 
-in_front : (xs ys : List PageKey) (key : PageKey) → In key xs → In key (xs ++ ys)
-in_front [] ys key is = absurd is
-in_front (x ∷ xs) ys key is = ⊎_elim (λ (here : x ≡ key). inl here) (λ (more : In key xs). inr (in_front xs ys key more)) is
-
-in_behind : (xs ys : List PageKey) (key : PageKey) → In key ys → In key (xs ++ ys)
-in_behind [] ys key is = is
-in_behind (x ∷ xs) ys key is = inr (in_behind xs ys key is)
-
 module _ {A : Type 0} (pages : ℕ → List PageKey) where
   pub among_keys : (n : ℕ) (items : List A) (j : ℕ) (key : PageKey) → j < length items → In key (pages (n + j)) → In key (keys_from pages n items)
   among_keys n [] j key low is = absurd (omega (arith, low))
-  among_keys n (item ∷ items) zero key low is = in_front (pages n) (keys_from pages (n + 1) items) key (subst (λ (m : ℕ). In key (pages m)) (omega arith) is)
-  among_keys n (item ∷ items) (suc j) key low is = in_behind (pages n) (keys_from pages (n + 1) items) key
+  among_keys n (item ∷ items) zero key low is = in_left (pages n) (keys_from pages (n + 1) items) key (subst (λ (m : ℕ). In key (pages m)) (omega arith) is)
+  among_keys n (item ∷ items) (suc j) key low is = in_right (pages n) (keys_from pages (n + 1) items) key
       (among_keys (n + 1) items j key (omega (arith, low)) (subst (λ (m : ℕ). In key (pages m)) (omega arith) is))
 
   module _ (room : A → ℕ) (none : A) where

@@ -1,18 +1,23 @@
 -- The fields that an image's numbers choose have these numbers by their names.
-use Rattle.std.proofs.Common.{◌≡◌, ℕ, zero, suc, ◌+◌, ◌-◌, ◌<◌, List, [], ◌∷◌, length, get_or, refl, sym, ◌∙◌, ap, arith}
-use Rattle.std.specs.Prelude.{Option, Some, None, All, option_map, slice_get}
+use Rattle.std.proofs.Common.{◌≡◌, ℕ, zero, suc, ◌+◌, ◌-◌, ◌<◌, List, [], ◌∷◌, length, get_or, refl, sym, ◌∙◌, ap, subst, arith}
+use Rattle.std.specs.Prelude.{Option, Some, None, All, option_map, unwrap_or, slice_get}
 use Rattle.std.specs.List.{cons_option}
 use Rattle.std.proofs.lemmas.Option.{same_Some}
 use Rattle.std.proofs.lemmas.List.Elements.{All-head, All-tail}
 use Rattle.rss_base.specs.Names.{AreApart}
-use Rattle.rss_base.specs.Listings.{IsFieldNumber}
-use Rattle.rss_base.specs.TupleTypes.{kinds, field_names, chosen}
+use Rattle.rss_base.specs.Listings.{Listing, ListingFits, IsFieldNumber, field_numbers}
+use Rattle.rss_base.specs.TupleTypes.{kinds, field_names, chosen, key_width}
 use Rattle.rss_base.specs.declared.name.Name.{Name}
 use Rattle.rss_base.specs.declared.value.FieldKind.{FieldKind}
 use Rattle.rss_base.specs.declared.field.FieldDef.{FieldDef}
-use Rattle.rss_model.specs.Images.{number_from, field_number, numbers_of}
+use Rattle.rss_base.specs.declared.image.ImageEntry.{ImageEntry}
+use Rattle.rss_base.specs.declared.relation.RelationEntry.{RelationEntry}
+use Rattle.rss_model.specs.Tables.{RelationDef, Definitions, fields_in}
+use Rattle.rss_model.specs.Images.{number_from, field_number, numbers_of, key_kinds}
+use Rattle.rss_model.specs.Store.{Defines, IsListedImage, image_definition}
 use Rattle.rss_model.proofs.Codes.{name_total, name_apart}
 use Rattle.rss_model.proofs.Contents.{tied, not_tied}
+use Rattle.rss_model.proofs.Listed.{listed}
 use Rattle.rss_model.proofs.LogLists.{none_some}
 
 -- ---- the name of a field
@@ -77,3 +82,26 @@ chosen_kinds (number ∷ numbers) fields =
     kind_first : (o : Option FieldDef) (fields : List FieldDef) → cons_option (option_map (λ (f : FieldDef). f.kind) o) (kinds fields) ≡ kinds (cons_option o fields)
     kind_first None fields = refl
     kind_first (Some f) fields = refl
+
+-- ---- the fields of an image
+
+module _ {listing : Listing} {definitions : Definitions} (fits : ListingFits listing) (defines : Defines listing definitions) {number : ℕ} {image : ImageEntry} {relation : RelationEntry} (at : IsListedImage listing number image relation) where
+  -- its relation is defined with the fields that are listed
+  pub fields_are : fields_in definitions relation.name ≡ relation.fields
+  fields_are =
+      let so = listed fits defines image.relation relation at.within in
+      ap (λ (o : Option RelationDef). unwrap_or (option_map (λ (r : RelationDef). r.fields) o) []) (defines.relations image.relation relation so.0 so.1)
+
+  -- and its fields have by their names the numbers that are listed
+  pub numbers_are : numbers_of relation.fields (field_names (chosen (field_numbers image) relation.fields)) ≡ field_numbers image
+  numbers_are =
+      let its = fits.paths.images number image at.at in
+      let same : its.relation ≡ relation = same_Some _ _ (sym its.listed ∙ at.within) in
+      numbers_back relation.fields (fits.relations image.relation relation at.within).fields.apart (field_numbers image)
+      (subst (λ (r : RelationEntry). All (IsFieldNumber (length r.fields)) (field_numbers image)) same its.within)
+
+  -- so keys have as many bytes by names as by numbers
+  pub width_is : key_width (key_kinds (fields_in definitions relation.name) (image_definition image relation).fields) ≡ key_width (kinds (chosen (field_numbers image) relation.fields))
+  width_is =
+      ap (λ (fields : List FieldDef). key_width (key_kinds fields (image_definition image relation).fields)) fields_are
+      ∙ ap (λ (numbers : List ℕ). key_width (kinds (chosen numbers relation.fields))) numbers_are

@@ -1,5 +1,5 @@
 -- The list of an image has as many entries as its relation has tuples.
-use Rattle.std.proofs.Common.{◌≡◌, inl, inr, ⊎_elim, ℕ, suc, ◌+◌, Bool, true, false, cond, List, [], ◌∷◌, length, refl, sym, ◌∙◌, ap, arith}
+use Rattle.std.proofs.Common.{◌≡◌, inl, inr, ⊎_elim, ℕ, suc, ◌+◌, ◌≤◌, Bool, true, false, cond, List, [], ◌∷◌, length, refl, sym, ◌∙◌, ap, arith}
 use Rattle.std.specs.Prelude.{Option, Some, None, is_some, filter, flat_map, ⊤, if◌then◌else◌}
 use Rattle.std.specs.Cmp.{Equal-is}
 use Rattle.std.specs.FinMap as map
@@ -122,6 +122,20 @@ module _ (relation : Name) (fields : List FieldDef) (names : List Name) where
   counted ((Chain link parent, held) ∷ es) sorted all = counted es (T_parts _ _ sorted).1 (later _ es all)
   counted ((Key image values, held) ∷ es) sorted all = counted es (T_parts _ _ sorted).1 (later _ es all)
 
+  -- and each entry is that of a tuple
+  few : (es : List (Item × Content)) → T (is_sorted item_cmp es) → long es ≤ length (held_of relation es)
+  few [] sorted = omega (arith, len-empty entry_cmp ⊤)
+  few ((Segment name, held) ∷ es) sorted = few es (T_parts _ _ sorted).1
+  few ((Relation name, held) ∷ es) sorted = few es (T_parts _ _ sorted).1
+  few ((Tuple name tid, Tuples tids) ∷ es) sorted = by_test (is_name relation name)
+      (λ on. rw on (omega (arith, few es (T_parts _ _ sorted).1)))
+      (λ off. rw off (few es (T_parts _ _ sorted).1))
+  few ((Tuple name tid, Values values) ∷ es) sorted = by_test (is_name relation name)
+      (λ on. rw on (omega (arith, one_more es tid values (first_below name tid es on (T_parts _ _ sorted).0), few es (T_parts _ _ sorted).1)))
+      (λ off. rw off (few es (T_parts _ _ sorted).1))
+  few ((Chain link parent, held) ∷ es) sorted = few es (T_parts _ _ sorted).1
+  few ((Key image values, held) ∷ es) sorted = few es (T_parts _ _ sorted).1
+
 -- ---- the list of an image
 
 pub entries_counted : (tables : Tables) (relation : Name) (names : List Name) → ((tid : Tid) (held : Content) → content tables.contents (Tuple relation tid) ≡ Some held → (values : List Value) × (held ≡ Values values))
@@ -131,3 +145,10 @@ entries_counted tables relation names all =
     ∙ counted relation (fields_in tables.definitions relation) names (map.entries tables.contents) (entries_sorted tables.contents)
     (λ tid held is. all tid held (got_in item_total item_apart tables.contents (Tuple relation tid) held is))
     ∙ sym (tuples_counted tables.contents relation)
+
+-- whatever its relation's tuples hold, it has no more entries than there are tuples
+pub entries_few : (tables : Tables) (relation : Name) (names : List Name) → length (entries_by tables relation names) ≤ tuple_count tables.contents relation
+entries_few tables relation names =
+    let its : length (entries_by tables relation names) ≡ long relation (fields_in tables.definitions relation) names (map.entries tables.contents) =
+    length-map (map.entries (the_map tables relation names)) (λ e. e.0) ∙ sym (len-entries (the_map tables relation names)) in
+    omega (arith, its, few relation (fields_in tables.definitions relation) names (map.entries tables.contents) (entries_sorted tables.contents), tuples_counted tables.contents relation)
