@@ -1,6 +1,6 @@
 -- A store that was opened can be restarted: its log is the one in memory, and there is room for each change.
 use Rattle.std.proofs.Common.{◌≡◌, ℕ, ◌+◌, ◌-◌, ◌*◌, ◌%◌, ◌≤◌, Bool, true, List, [], ◌∷◌, ◌++◌, length, refl, sym, ◌∙◌, ap, subst, arith}
-use Rattle.std.specs.Prelude.{count_by, drop, filter, is_some, not, ◌&&◌, Option, Some, option_map, unwrap_or}
+use Rattle.std.specs.Prelude.{count_by, drop, filter, not, ◌&&◌, Option, Some, option_map, unwrap_or}
 use Rattle.std.proofs.lemmas.Bool.{and_parts}
 use Rattle.std.proofs.lemmas.List.Sums.{sum_by-cons, length-filter, count_by-le-length}
 use Rattle.rss_base.specs.DiskRule.{Pages}
@@ -8,11 +8,10 @@ use Rattle.rss_base.specs.Listings.{Listing, relation_at}
 use Rattle.rss_base.specs.LogPages.{log_bytes}
 use Rattle.rss_base.specs.LogRecords.{Parses, ArePlaced}
 use Rattle.rss_base.specs.PageMap.{page_count}
-use Rattle.rss_base.specs.Layout.{slots_at}
-use Rattle.rss_base.specs.Paged.{Held, mapped_of, mapped_pages, page_key}
+use Rattle.rss_base.specs.Paged.{Held, mapped_of, mapped_pages}
 use Rattle.rss_base.specs.Sizes.{piece_bytes, system_pages}
 use Rattle.rss_base.specs.StoredPages.{mapped_by}
-use Rattle.rss_base.specs.declared.key.Space.TheVariants.{Home, Overflow, Image, System}
+use Rattle.rss_base.specs.declared.key.Space.TheVariants.{Home, Overflow, Image}
 use Rattle.rss_base.specs.declared.name.Name.{Name}
 use Rattle.rss_base.specs.declared.relation.RelationEntry.{RelationEntry}
 use Rattle.rss_base.proofs.Counts.{mapped_pages-owners}
@@ -25,13 +24,13 @@ use Rattle.rss_model.specs.Records.{LogEntry, Changed, Restore, End, Abort, Chec
 use Rattle.rss_model.specs.Restart.{stays}
 use Rattle.rss_model.specs.Recovers.{WayFits}
 use Rattle.rss_model.specs.Meanings.{Logged, as_bytes, as_entries, is_change, is_change_of, is_redone, IsLogged}
-use Rattle.rss_model.specs.Spares.{ChangeCounts, change_counts, page_counts, HasMade, listed_bound, live_of, most_of}
+use Rattle.rss_model.specs.Spares.{ChangeCounts, change_counts, page_counts, HasMade, listed_bound, most_of}
 use Rattle.rss_model.specs.Store.{Stored, SpellsTables, held_in, listed_at, meter_of, pages_of_space, IsStore}
 use Rattle.rss_model.proofs.Counts.{one_if}
-use Rattle.rss_model.proofs.ImageRooms.{bound_rises, images_few, listed_same}
+use Rattle.rss_model.proofs.ImageRooms.{bound_rises, listed_same}
 use Rattle.rss_model.proofs.LogLists.{by_test}
 use Rattle.rss_model.proofs.Sparing.{number_leaves_room, spare_in_restart}
-use Rattle.rss_model.proofs.StorePages.{held_mapped, map_allowed, pages_split}
+use Rattle.rss_model.proofs.StorePages.{map_allowed, owners_split, saved_few}
 use Rattle.rss_entries.specs.Rooms.{image_places}
 use Rattle.rss_access.specs.Changes.{AccessView}
 use Rattle.rss_restart.specs.Surveys.{redone_at}
@@ -95,15 +94,11 @@ module _ {pages : Pages} {stored : Stored} {at : AccessView} {log : LogView} (st
       (λ i. mapped_pages (opened.slots i) (opened.mapped i))
       ∙ mapped_pages-owners stored.root.slots stored.owners (mapped_by stored.owners) (λ slot key owned. map_allowed store.map slot key owned) store.map.begins.distinct (λ key. refl)
 
-  -- those of each space
-  split : page_count stored.owners ≡ pages_of_space Home stored + pages_of_space Overflow stored + pages_of_space Image stored + system_pages
-  split =
-      let first : ℕ = slots_at stored.root.slots stored.root.log_pages in
-      sym (mapped_pages-owners stored.root.slots stored.owners (mapped_by stored.owners) (λ slot key owned. map_allowed store.map slot key owned) store.map.begins.distinct (λ key. refl))
-      ∙ pages_split (mapped_by stored.owners) stored.root.slots (λ n low. sym (held_mapped first pages stored.owners (page_key 0 System n)) ∙ ap is_some (store.system n low))
-
   abbrev counts : ChangeCounts
   counts = change_counts stored.saved.definitions (meter_of stored)
+
+  split : page_count stored.owners ≡ pages_of_space Home stored + pages_of_space Overflow stored + pages_of_space Image stored + system_pages
+  split = owners_split stored.root stored.owners pages store.map stored.listing store.system
 
   images_saved : (page_counts at.pages).saved_images ≡ pages_of_space Image stored
   images_saved = λ i. mapped_of (mapped_by (opened.shadow i)) Image (opened.slots i)
@@ -140,19 +135,8 @@ module _ {pages : Pages} {stored : Stored} {at : AccessView} {log : LogView} (st
   images_made : listed_bound stored.listing (entries_with stored.listing made) ≤ counts.images
   images_made = let rises = bound_rises stored.listing (entries_with stored.listing made) most allowed in omega (arith, rises, images_same)
 
-  images_then : listed_bound stored.listing (live_of stored.listing) ≤ counts.images
-  images_then =
-      let rises = bound_rises stored.listing (live_of stored.listing) (entries_with stored.listing made) (λ n relation is. omega (
-        arith,
-        entries_are stored.listing made n relation is,
-        ap (λ (o : Option RelationEntry). unwrap_or (option_map (λ r. r.live) o) 0) is,
-      )) in
-      omega (arith, rises, images_made)
-
   few_images : (page_counts at.pages).saved_images ≤ counts.images
-  few_images =
-      let few = images_few store.spells (held_mapped (slots_at stored.root.slots stored.root.log_pages) pages stored.owners) stored.root.slots in
-      omega (arith, images_saved, few, images_then)
+  few_images = omega (arith, images_saved, saved_few store)
 
   room : 2 * changes_made stored.older stored.newer + listed_bound at.catalog.listing (entries_with at.catalog.listing made) ≤ image_places at.pages
   room =
