@@ -267,6 +267,14 @@ impl Catalog {
         self.last_image
     }
 
+    /// No relation has a number above this one.
+    pub fn last_relation(&self) -> u8
+        ensures none { (number : ℕ) → result < number → relation_at self.now.listing number ≡ None }
+        ensures few { result ≤ relations_most }
+    {
+        self.relations.len() as u8
+    }
+
     /// Whether a relation of this segment is defined.
     pub fn has_relation_in(&self, segment: u8) -> bool
         ensures { IsTrue result ↔ HasRelationIn self.now.listing segment }
