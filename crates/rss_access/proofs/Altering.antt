@@ -31,7 +31,7 @@ use Rattle.rss_model.proofs.Codes.{name_total, name_apart}
 use Rattle.rss_model.proofs.Contents.{tied, not_tied}
 use Rattle.rss_model.proofs.Counts.{one_if, counts_same, counts_put}
 use Rattle.rss_model.proofs.Listed.{listed, stands_within}
-use Rattle.rss_model.proofs.PlainStores.{spelled_contents, contents_spelled, PlainContents}
+use Rattle.rss_model.proofs.PlainStores.{spelled_contents, contents_spelled, no_links_defined, PlainContents}
 use Rattle.rss_access.specs.Changes.{IsTupleRecord, number_told, tid_told, body_before, body_after, count_after, reversed, turned, AccessView, HasRoom, CanApply, Applies, Undoes, NoneUndoes, Alters, Makes, Misfits, pages_of_relation, pages_told, applied, HasTables}
 use Rattle.rss_access.specs.Tuples.{body_at, size_of_body, SetsBody}
 use Rattle.rss_access.specs.Written.{content_of}
@@ -41,7 +41,7 @@ use Rattle.rss_access.proofs.Recounting.{Recounts, recounts_itself, contents_cha
 use Rattle.rss_access.proofs.Rerooting.{recounts_by, plain_still, defines_still}
 use Rattle.rss_access.proofs.Telling.{some_body, no_body, count_of_some, count_of_none, Reads, reads, shows_move, can_turned, none_applies, reversed_tuple, same_number, can_become}
 use Rattle.rss_access.proofs.TupleChanges.{range-le}
-use Rattle.rss_access.proofs.Weighing.{links_defined, values_size, bytes_less}
+use Rattle.rss_access.proofs.Weighing.{values_size, bytes_less}
 
 -- ---- how many tuples there are
 
@@ -150,7 +150,7 @@ module _ {cost : ℕ} {old new : AccessView} {told_change : told.Change} (step :
       plain = plain_still alters.counts alters.listed spells.plain;
       defines = defines_still alters.counts alters.listed spells.defines;
       counts = counts_are;
-      contents = spelled_contents (plain_still alters.counts alters.listed spells.plain) (contents_by recounts);
+      contents = spelled_contents (alters.counts.fits spells.listed).no_links (contents_by recounts);
       images = alters.images told move tables (record {
         tells = record { number = refl; tid = refl; before = before; after = after };
         can = can;
@@ -173,7 +173,7 @@ module _ {cost : ℕ} {old new : AccessView} {told_change : told.Change} (step :
 
         size_of : (w : Option (List Value)) → size_of_body (option_map (body_of number) w) ≡ held_size tables.definitions relation.name (option_map Values w)
         size_of None = refl
-        size_of (Some values) = sym (values_size tables.definitions (links_defined spells.listed.no_links spells.defines) relation.name number values)
+        size_of (Some values) = sym (values_size tables.definitions (no_links_defined spells.listed.no_links spells.defines) relation.name number values)
 
         -- what the tuple held, by its body
         size_was : size_of_body (body_at old.pages relation.segment tid) ≡ held_size tables.definitions relation.name (option_map Values was)

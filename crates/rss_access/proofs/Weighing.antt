@@ -2,14 +2,12 @@
 use Rattle.std.proofs.Common.{◌≡◌, inl, inr, ℕ, ◌+◌, ◌≤◌, Bool, true, List, [], ◌∷◌, replicate, refl, sym, ◌∙◌, ap, arith}
 use Rattle.std.specs.Prelude.{Option, Some, None, is_some, filter, sum_by}
 use Rattle.std.specs.FinMap as map
-use Rattle.std.specs.FinMap.{get-empty}
 use Rattle.std.specs.List.{list_any, range_with_len}
 use Rattle.std.specs.Ordering.{eq_by_cmp}
 use Rattle.std.specs.Cmp.{Equal-is}
 use Rattle.std.proofs.lemmas.Bool.{cases_Bool, or_cases, cond-true, cond-false, true≢false}
 use Rattle.std.proofs.lemmas.List.Sums.{sum_by-cons, sum_by-le-sum_by}
-use Rattle.rss_base.specs.Sizes.{images_most}
-use Rattle.rss_base.specs.Listings.{Listing, ListingFits, IsPlain, HasNoLinks, segment_at}
+use Rattle.rss_base.specs.Listings.{Listing, ListingFits, segment_at}
 use Rattle.rss_base.specs.declared.name.Name.{Name}
 use Rattle.rss_base.specs.declared.tid.Tid.{Tid}
 use Rattle.rss_base.specs.declared.value.Value.{Value}
@@ -19,7 +17,7 @@ use Rattle.rss_model.specs.Items.{Values, name_cmp}
 use Rattle.rss_model.specs.Tables.{Definitions, Tables, content}
 use Rattle.rss_model.specs.Meter.{is_in_segment, relations_in, held_size, bytes_of, bytes_on}
 use Rattle.rss_model.specs.Store.{Defines, plain_body as body_of}
-use Rattle.rss_model.proofs.PlainStores.{no_image_at, no_blocks, plain_defined, PlainContents as SpellsContents}
+use Rattle.rss_model.proofs.PlainStores.{no_links_defined, no_blocks, PlainContents as SpellsContents}
 use Rattle.rss_model.proofs.Codes.{name_apart}
 use Rattle.rss_model.proofs.Frees.{stands_in, is_listed}
 use Rattle.rss_model.proofs.Listed.{stands_within}
@@ -65,33 +63,9 @@ le_by less same = omega (arith, less, same)
 
 -- ---- the bytes of a page
 
--- a listing without its images
-abbrev bare_listing : Listing → Listing
-bare_listing listing = record listing { images = replicate images_most None }
-
-bare : (listing : Listing) → HasNoLinks listing → IsPlain (bare_listing listing)
-bare listing none = record { no_images = refl; no_links = none }
-
-bare_defines : {listing : Listing} {definitions : Definitions} → HasNoLinks listing → Defines listing definitions → Defines (bare_listing listing) (record definitions { images = map.empty })
-bare_defines {listing = listing} none defines = record {
-  segments = defines.segments;
-  relations = λ number relation segment l. defines.relations number relation segment (record { at = l.at; within = l.within });
-  only_relations = defines.only_relations;
-  paths = record {
-    images = λ number image relation l. absurd (no_image_at (bare listing none) number image l.at);
-    only_images = λ name there. absurd (true≢false (sym there ∙ ap is_some (get-empty name_cmp name)));
-    links = λ number link child l. defines.paths.links number link child (record { at = l.at; within = l.within });
-    only_links = defines.paths.only_links;
-  };
-}
-
--- where no link is listed, none is defined
-pub links_defined : {listing : Listing} {definitions : Definitions} → HasNoLinks listing → Defines listing definitions → definitions.links ≡ map.empty
-links_defined {listing = listing} none defines = (plain_defined (bare listing none) (bare_defines none defines)).no_links
-
 -- a tuple has as many bytes as its body
 pub values_size : (definitions : Definitions) → definitions.links ≡ map.empty → (relation : Name) (number : ℕ) (values : List Value) → held_size definitions relation (Some (Values values)) ≡ size_of_body (Some (body_of number values))
-values_size definitions none relation number values = let blocks = no_blocks {definitions = record definitions { images = map.empty }} (record { no_images = refl; no_links = none }) relation in omega (arith, blocks)
+values_size definitions none relation number values = let blocks = no_blocks definitions none relation in omega (arith, blocks)
 
 module _ {listing : Listing} {bodies : Bodies} (tables : Tables) (fits : ListingFits listing) (defines : Defines listing tables.definitions) (spells : SpellsContents listing bodies tables.contents) (n : ℕ) (segment : Name) (named : segment_at listing n ≡ Some segment) where
   -- how many bytes a tuple of a relation has
@@ -104,7 +78,7 @@ module _ {listing : Listing} {bodies : Bodies} (tables : Tables) (fits : Listing
   body_less tid (Some body) is =
       let of = spells.bodies_are n tid body is in
       let stands = stands_within tables fits defines of.number of.relation of.at segment (ap (segment_at listing) of.within ∙ named) in
-      let size : size_at tid of.relation.name ≡ size_of_body (Some body) = ap (held_size tables.definitions of.relation.name) of.holds ∙ values_size tables.definitions (links_defined fits.no_links defines) of.relation.name of.number of.values ∙ ap (λ (b : List ℕ). size_of_body (Some b)) (sym of.is) in
+      let size : size_at tid of.relation.name ≡ size_of_body (Some body) = ap (held_size tables.definitions of.relation.name) of.holds ∙ values_size tables.definitions (no_links_defined fits.no_links defines) of.relation.name of.number of.values ∙ ap (λ (b : List ℕ). size_of_body (Some b)) (sym of.is) in
       omega (arith, size, kept_less (is_in_segment tables segment) (size_at tid) (map.keys tables.definitions.relations) of.relation.name (is_listed tables segment of.relation.name stands) (stands_in tables segment of.relation.name stands))
 
   -- the tuples of the segment's relations have all bytes of its bodies

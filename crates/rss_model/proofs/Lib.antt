@@ -32,6 +32,7 @@ pub mod Listed
 pub mod Spelled
 pub mod ByNumber
 pub mod Relisted
+pub mod ImageMade
 pub mod RelationLists
 pub mod Scanning
 pub mod ListedOnce

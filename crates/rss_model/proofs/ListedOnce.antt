@@ -1,9 +1,9 @@
 -- The pages of the system space spell one listing.
-use Rattle.std.proofs.Common.{◌≡◌, ℕ, zero, suc, ◌+◌, ◌-◌, ◌*◌, ◌^◌, ◌<◌, ◌≤◌, List, [], ◌∷◌, ◌++◌, length, take, drop, replicate, refl, sym, ◌∙◌, ap, arith, length-append, append_assoc, append-nil, suc-mul, subst}
-use Rattle.std.specs.Prelude.{Option, Some, None, All, flat_map, nat_le, ◌&&◌, ◌==◌, min}
+use Rattle.std.proofs.Common.{◌≡◌, ℕ, zero, suc, ◌+◌, ◌-◌, ◌*◌, ◌^◌, ◌<◌, ◌≤◌, List, [], ◌∷◌, ◌++◌, length, take, drop, replicate, refl, sym, ◌∙◌, ap, arith, length-append, append_assoc, append-nil, suc-mul, mul-suc, mul-zero, subst}
+use Rattle.std.specs.Prelude.{Option, Some, None, Bool, true, false, All, flat_map, nat_le, ◌&&◌, ◌==◌, min}
 use Rattle.std.specs.List.{list_all}
 use Rattle.std.specs.Int.{w32, to_be_bytes, from_be_bytes}
-use Rattle.std.proofs.lemmas.Bool.{and_parts, leb-true, le-leb, cond-true, cond-false, ne_eqb}
+use Rattle.std.proofs.lemmas.Bool.{and_parts, leb-true, le-leb, lt-leb, cond-true, cond-false, ne_eqb}
 use Rattle.std.proofs.lemmas.List.{get_or-map, length-replicate, length-take, length-drop, length-map, take-append-drop, drop-drop, get_or_default}
 use Rattle.std.proofs.lemmas.List.Elements.{All-take, All-drop}
 use Rattle.std.proofs.lemmas.Nat.{from_be_bytes-to_be_bytes_4}
@@ -12,12 +12,13 @@ use Rattle.rss_base.specs.Sizes.{page_bytes, system_pages}
 use Rattle.rss_base.specs.Paged.{Held}
 use Rattle.rss_base.specs.Names.{IsName}
 use Rattle.rss_base.specs.TupleTypes.{kinds, most_fields, is_kind, AreFields}
-use Rattle.rss_base.specs.Listings.{Listing, ListingFits, IsPlain, HoldsListing, catalog_page, padded, segment_spelled, kind_spelled, field_spelled, relation_spelled, relations_on, relation_bytes, relation_pages}
+use Rattle.rss_base.specs.Listings.{Listing, ListingFits, HoldsListing, catalog_page, padded, flag_byte, segment_spelled, kind_spelled, field_spelled, relation_spelled, image_spelled, relations_on, images_on, relation_bytes, image_bytes, relation_pages, image_pages}
 use Rattle.rss_base.specs.declared.name.Name.{Name}
 use Rattle.rss_base.specs.declared.field.FieldDef.{FieldDef}
 use Rattle.rss_base.specs.declared.value.FieldKind.{FieldKind}
 use Rattle.rss_base.specs.declared.value.FieldKind.TheVariants.{Int as IntField, Text as TextField}
 use Rattle.rss_base.specs.declared.relation.RelationEntry.{RelationEntry}
+use Rattle.rss_base.specs.declared.image.ImageEntry.{ImageEntry}
 use Rattle.rss_model.proofs.Listed.{at_place}
 use Rattle.rss_model.proofs.Spelled.{front_parts}
 use Rattle.rss_model.proofs.Codes.{same_name}
@@ -171,23 +172,111 @@ relation_same (Some a) (Some b) is other same =
     let parts = front_parts a.name.bytes b.name.bytes (tail_of a ++ zeros_of a) (tail_of b ++ zeros_of b) (name_length a.name (is a refl).name ∙ sym (name_length b.name (other b refl).name)) (sym (entry_bytes a) ∙ same ∙ entry_bytes b) in
     ap Some (tails_same a b (same_name a.name b.name parts.0) (is a refl) (other b refl) parts.1)
 
--- ---- listings
+-- ---- images
 
--- a list by its parts of eight
-by_eights : {A : Type 0} (n : ℕ) (x y : List A) → length x ≡ 8 * n → length y ≡ 8 * n → ((j : ℕ) → j < n → take 8 (drop (8 * j) x) ≡ take 8 (drop (8 * j) y)) → x ≡ y
-by_eights zero [] [] long too each = refl
-by_eights zero [] (b ∷ y) long too each = absurd (omega (arith, too))
-by_eights zero (a ∷ x) y long too each = absurd (omega (arith, long))
-by_eights (suc n) x y long too each =
-    let first : take 8 x ≡ take 8 y = each zero (omega arith) in
-    let rest = by_eights n (drop 8 x) (drop 8 y) (omega (arith, long, length-drop 8 x)) (omega (arith, too, length-drop 8 y)) (λ j low. ap (take 8) (later x j) ∙ each (suc j) (omega (arith, low)) ∙ sym (ap (take 8) (later y j))) in
-    sym (take-append-drop 8 x) ∙ (λ i. first i ++ rest i) ∙ take-append-drop 8 y
+-- what a listing asks of an image, as far as its own bytes go
+pub record IsImageEntry (image : ImageEntry) : Type 0 where
+  pub name : IsName image.name
+  pub fields : length image.fields ≡ most_fields
+  pub root : image.root < 2 ^ 32
+
+abbrev four_of : ImageEntry → List ℕ
+four_of image = image.relation ∷ flag_byte image.is_unique ∷ image.count ∷ image.levels ∷ []
+
+-- the bytes of an image before the zeros
+abbrev image_body : ImageEntry → List ℕ
+image_body image = image.name.bytes ++ four_of image ++ to_be_bytes w32 image.root ++ image.fields
+
+abbrev image_zeros : ImageEntry → List ℕ
+image_zeros image = replicate (image_bytes - length (image_body image)) 0
+
+-- what stands behind its name
+abbrev image_tail : ImageEntry → List ℕ
+image_tail image = four_of image ++ (to_be_bytes w32 image.root ++ image.fields)
+
+image_body_is : (image : ImageEntry) → image_body image ≡ image.name.bytes ++ image_tail image
+image_body_is image = regroup image.name.bytes (four_of image) (to_be_bytes w32 image.root) image.fields
   where
-    further : (j : ℕ) → 8 + 8 * j ≡ 8 * suc j
-    further j = omega arith
+    regroup : (n h b f : List ℕ) → n ++ h ++ b ++ f ≡ n ++ (h ++ (b ++ f))
+    regroup n h b f = simp append_assoc
 
-    later : {A : Type 0} (z : List A) (j : ℕ) → drop (8 * j) (drop 8 z) ≡ drop (8 * suc j) z
-    later z j = drop-drop (8 * j) 8 z ∙ ap (λ (k : ℕ). drop k z) (further j)
+image_entry_bytes : (image : ImageEntry) → image_spelled (Some image) ≡ image.name.bytes ++ (image_tail image ++ image_zeros image)
+image_entry_bytes image = ap (λ (bytes : List ℕ). bytes ++ image_zeros image) (image_body_is image) ∙ append_assoc image.name.bytes (image_tail image) (image_zeros image)
+
+image_body_length : (image : ImageEntry) → IsImageEntry image → length (image_body image) ≤ image_bytes
+image_body_length image is = omega (arith, ap length (image_body_is image), length-append image.name.bytes (image_tail image), name_length image.name is.name, is.fields)
+
+abbrev pub IsImage : Option ImageEntry → Type 0
+IsImage found = (image : ImageEntry) → found ≡ Some image → IsImageEntry image
+
+image_length : (found : Option ImageEntry) → IsImage found → length (image_spelled found) ≡ image_bytes
+image_length None is = length-replicate {A = ℕ} image_bytes 0
+image_length (Some image) is = omega (arith, length-append (image_body image) (image_zeros image), length-replicate {A = ℕ} (image_bytes - length (image_body image)) 0, image_body_length image (is image refl))
+
+flag_same : (a b : Bool) → flag_byte a ≡ flag_byte b → a ≡ b
+flag_same false false same = refl
+flag_same false true same = absurd (omega (arith, same))
+flag_same true false same = absurd (omega (arith, same))
+flag_same true true same = refl
+
+-- of two images, what stands behind their names
+image_tails_same : (a b : ImageEntry) → a.name ≡ b.name → IsImageEntry a → IsImageEntry b → image_tail a ++ image_zeros a ≡ image_tail b ++ image_zeros b → a ≡ b
+image_tails_same a b name is other same =
+    let relation : a.relation ≡ b.relation = cc in
+    let unique = flag_same a.is_unique b.is_unique (cc) in
+    let count : a.count ≡ b.count = cc in
+    let levels : a.levels ≡ b.levels = cc in
+    let later : (to_be_bytes w32 a.root ++ a.fields) ++ image_zeros a ≡ (to_be_bytes w32 b.root ++ b.fields) ++ image_zeros b = ap (drop 4) same in
+    let roots = front_parts (to_be_bytes w32 a.root) (to_be_bytes w32 b.root) (a.fields ++ image_zeros a) (b.fields ++ image_zeros b) refl later in
+    let root : a.root ≡ b.root = sym (from_be_bytes-to_be_bytes_4 a.root is.root) ∙ ap (from_be_bytes w32) roots.0 ∙ from_be_bytes-to_be_bytes_4 b.root other.root in
+    let fields = (front_parts a.fields b.fields (image_zeros a) (image_zeros b) (is.fields ∙ sym other.fields) roots.1).0 in
+    λ i. record { name = name i; relation = relation i; is_unique = unique i; count = count i; fields = fields i; levels = levels i; root = root i }
+
+image_same : (a b : Option ImageEntry) → IsImage a → IsImage b → image_spelled a ≡ image_spelled b → a ≡ b
+image_same None None is other same = refl
+image_same None (Some b) is other same = absurd (name_not_zeros b.name image_bytes (image_tail b ++ image_zeros b) (other b refl).name (sym (image_entry_bytes b) ∙ sym same))
+image_same (Some a) None is other same = absurd (name_not_zeros a.name image_bytes (image_tail a ++ image_zeros a) (is a refl).name (sym (image_entry_bytes a) ∙ same))
+image_same (Some a) (Some b) is other same =
+    let parts = front_parts a.name.bytes b.name.bytes (image_tail a ++ image_zeros a) (image_tail b ++ image_zeros b) (name_length a.name (is a refl).name ∙ sym (name_length b.name (other b refl).name)) (sym (image_entry_bytes a) ∙ same ∙ image_entry_bytes b) in
+    ap Some (image_tails_same a b (same_name a.name b.name parts.0) (is a refl) (other b refl) parts.1)
+
+-- ---- lists of which each page of the catalog has a part
+
+-- a list by its parts of one size
+by_parts : {A : Type 0} (size n : ℕ) (x y : List A) → length x ≡ size * n → length y ≡ size * n → ((j : ℕ) → j < n → take size (drop (size * j) x) ≡ take size (drop (size * j) y)) → x ≡ y
+by_parts size zero [] [] long too each = refl
+by_parts size zero [] (b ∷ y) long too each = absurd (omega (arith, too))
+by_parts size zero (a ∷ x) y long too each = absurd (omega (arith, long))
+by_parts size (suc n) x y long too each =
+    let first = front x ∙ each zero (omega arith) ∙ sym (front y) in
+    let rest = by_parts size n (drop size x) (drop size y) (less x long) (less y too) (λ j low. ap (take size) (later x j) ∙ each (suc j) (omega (arith, low)) ∙ sym (ap (take size) (later y j))) in
+    sym (take-append-drop size x) ∙ (λ i. first i ++ rest i) ∙ take-append-drop size y
+  where
+    front : {A : Type 0} (z : List A) → take size z ≡ take size (drop (size * zero) z)
+    front z = ap (λ (k : ℕ). take size (drop k z)) (sym (mul-zero size))
+
+    less : {A : Type 0} (z : List A) → length z ≡ size * suc n → length (drop size z) ≡ size * n
+    less z long = omega (arith, long, mul-suc size n, length-drop size z)
+
+    later : {A : Type 0} (z : List A) (j : ℕ) → drop (size * j) (drop size z) ≡ drop (size * suc j) z
+    later z j = drop-drop (size * j) size z ∙ ap (λ (k : ℕ). drop k z) (omega (arith, mul-suc size j))
+
+module _ {A : Type 0} (spell : A → List ℕ) (width : ℕ) (Fit : A → Type 0) (wide : (a : A) → Fit a → length (spell a) ≡ width) (same : (a b : A) → Fit a → Fit b → spell a ≡ spell b → a ≡ b) (size n : ℕ) (x y : List A) (long : length x ≡ size * n) (too : length y ≡ size * n) (fit : All Fit x) (fits : All Fit y) where
+  abbrev part_of : ℕ → List A → List A
+  part_of j list = take size (drop (size * j) list)
+
+  pub parts_same : ((j : ℕ) → j < n → padded page_bytes (flat_map spell (part_of j x)) ≡ padded page_bytes (flat_map spell (part_of j y))) → x ≡ y
+  parts_same each = by_parts size n x y long too part_same
+    where
+      part_long : (j : ℕ) → length (part_of j x) ≡ length (part_of j y)
+      part_long j = length-take size (drop (size * j) x) ∙ ap (λ (n : ℕ). min size n) (length-drop (size * j) x ∙ ap (λ (n : ℕ). n - size * j) (long ∙ sym too) ∙ sym (length-drop (size * j) y)) ∙ sym (length-take size (drop (size * j) y))
+
+      part_same : (j : ℕ) → j < n → part_of j x ≡ part_of j y
+      part_same j low = spelled_same spell width Fit wide same (part_of j x) (part_of j y)
+          (replicate (page_bytes - length (flat_map spell (part_of j x))) 0) (replicate (page_bytes - length (flat_map spell (part_of j y))) 0)
+          (part_long j) (All-take Fit size (drop (size * j) x) (All-drop Fit (size * j) x fit)) (All-take Fit size (drop (size * j) y) (All-drop Fit (size * j) y fits)) (each j low)
+
+-- ---- listings
 
 module _ (listing : Listing) (fits : ListingFits listing) where
   listed_segments : All IsSegment listing.segments
@@ -198,7 +287,12 @@ module _ (listing : Listing) (fits : ListingFits listing) where
       let entry = fits.relations (suc k) relation (at_place listing.relations k ∙ get_or_default listing.relations k None d lt ∙ is) in
       record { name = entry.name; fields = entry.fields; live = entry.live }
 
--- what a page of relations spells
+  listed_images : All IsImage listing.images
+  listed_images k d lt image is =
+      let entry = fits.paths.images (suc k) image (at_place listing.images k ∙ get_or_default listing.images k None d lt ∙ is) in
+      record { name = entry.name; fields = entry.long; root = entry.root }
+
+-- what a page of relations spells, and a page of images
 page_is : (listing : Listing) (j : ℕ) → j < 6 → catalog_page listing (suc j) ≡ padded page_bytes (flat_map relation_spelled (take 8 (drop (8 * j) listing.relations)))
 page_is listing j low = ap (padded page_bytes) (cond-false (suc j == 0) (flat_map segment_spelled listing.segments) _ (ne_eqb (suc j) 0 (λ e. absurd (omega (arith, e))))
     ∙ cond-true (nat_le (suc j) relation_pages) (flat_map relation_spelled (relations_on listing (suc j))) _ (le-leb (suc j) 6 (omega (arith, low)))
@@ -207,7 +301,16 @@ page_is listing j low = ap (padded page_bytes) (cond-false (suc j == 0) (flat_ma
     less : (j : ℕ) → suc j - 1 ≡ j
     less j = omega arith
 
-module _ (held : Held) {a b : Listing} (fit : ListingFits a) (fits : ListingFits b) (plain : IsPlain a) (other_plain : IsPlain b) (one : HoldsListing held a) (other : HoldsListing held b) where
+image_page_is : (listing : Listing) (j : ℕ) → j < 2 → catalog_page listing (7 + j) ≡ padded page_bytes (flat_map image_spelled (take 64 (drop (64 * j) listing.images)))
+image_page_is listing j low = ap (padded page_bytes) (cond-false (7 + j == 0) (flat_map segment_spelled listing.segments) _ (ne_eqb (7 + j) 0 (λ e. absurd (omega (arith, e))))
+    ∙ cond-false (nat_le (7 + j) relation_pages) (flat_map relation_spelled (relations_on listing (7 + j))) _ (lt-leb (7 + j) 6 (omega arith))
+    ∙ cond-true (nat_le (7 + j) (relation_pages + image_pages)) (flat_map image_spelled (images_on listing (7 + j))) _ (le-leb (7 + j) 8 (omega (arith, low)))
+    ∙ ap (λ (k : ℕ). flat_map image_spelled (take 64 (drop (64 * k) listing.images))) (less j))
+  where
+    less : (j : ℕ) → 7 + j - 1 - 6 ≡ j
+    less j = omega arith
+
+module _ (held : Held) {a b : Listing} (fit : ListingFits a) (fits : ListingFits b) (one : HoldsListing held a) (other : HoldsListing held b) where
   page_same : (page : ℕ) → page < system_pages → catalog_page a page ≡ catalog_page b page
   page_same page low = same_Some _ _ (sym (one page low) ∙ other page low)
 
@@ -216,23 +319,19 @@ module _ (held : Held) {a b : Listing} (fit : ListingFits a) (fits : ListingFits
       (replicate (page_bytes - length (flat_map segment_spelled a.segments)) 0) (replicate (page_bytes - length (flat_map segment_spelled b.segments)) 0)
       (fit.segment_places ∙ sym fits.segment_places) (listed_segments a fit) (listed_segments b fits) (page_same 0 (omega arith))
 
-  same_eighth : (j : ℕ) → j < 6 → take 8 (drop (8 * j) a.relations) ≡ take 8 (drop (8 * j) b.relations)
-  same_eighth j low =
-      let x = take 8 (drop (8 * j) a.relations) in
-      let y = take 8 (drop (8 * j) b.relations) in
-      let long : length x ≡ length y = length-take 8 (drop (8 * j) a.relations) ∙ ap (λ (n : ℕ). min 8 n) (length-drop (8 * j) a.relations ∙ ap (λ (n : ℕ). n - 8 * j) (fit.relation_places ∙ sym fits.relation_places) ∙ sym (length-drop (8 * j) b.relations)) ∙ sym (length-take 8 (drop (8 * j) b.relations)) in
-      spelled_same relation_spelled 512 IsRelation relation_length relation_same x y (replicate (page_bytes - length (flat_map relation_spelled x)) 0) (replicate (page_bytes - length (flat_map relation_spelled y)) 0)
-      long (All-take IsRelation 8 (drop (8 * j) a.relations) (All-drop IsRelation (8 * j) a.relations (listed_relations a fit))) (All-take IsRelation 8 (drop (8 * j) b.relations) (All-drop IsRelation (8 * j) b.relations (listed_relations b fits)))
-      (sym (page_is a j low) ∙ page_same (suc j) (omega (arith, low)) ∙ page_is b j low)
-
   same_relations : a.relations ≡ b.relations
-  same_relations = by_eights 6 a.relations b.relations fit.relation_places fits.relation_places same_eighth
+  same_relations = parts_same relation_spelled 512 IsRelation relation_length relation_same 8 6 a.relations b.relations fit.relation_places fits.relation_places (listed_relations a fit) (listed_relations b fits)
+      (λ j low. sym (page_is a j low) ∙ page_same (suc j) (omega (arith, low)) ∙ page_is b j low)
+
+  same_images : a.images ≡ b.images
+  same_images = parts_same image_spelled 64 IsImage image_length image_same 64 2 a.images b.images fit.paths.image_places fits.paths.image_places (listed_images a fit) (listed_images b fits)
+      (λ j low. sym (image_page_is a j low) ∙ page_same (7 + j) (omega (arith, low)) ∙ image_page_is b j low)
 
   -- one listing alone is spelled
   pub listing_once : a ≡ b
   listing_once =
       let segments = same_segments in
       let relations = same_relations in
-      let images : a.images ≡ b.images = plain.no_images ∙ sym other_plain.no_images in
+      let images = same_images in
       let links : a.links ≡ b.links = fit.no_links ∙ sym fits.no_links in
       λ i. record { segments = segments i; relations = relations i; images = images i; links = links i }

@@ -50,15 +50,15 @@ plain_keys tables plain name image one other key there unique first second = abs
 abbrev pub NoChains : Tables → Type 0
 NoChains tables = (link : Name) (parent : Option Tid) → content tables.contents (Chain link parent) ≡ None
 
-pub no_chains : {slots : ℕ} (tables : Tables) → Fits slots tables → ArePlain tables.definitions → NoChains tables
-no_chains tables fit plain link parent = none_there (content tables.contents (Chain link parent)) (λ held is. held_is held is)
+pub no_chains : {slots : ℕ} (tables : Tables) → Fits slots tables → tables.definitions.links ≡ finite.empty → NoChains tables
+no_chains tables fit none link parent = none_there (content tables.contents (Chain link parent)) (λ held is. held_is held is)
   where
     none_there : (o : Option Content) → ((held : Content) → o ≡ Some held → ⊥) → o ≡ None
     none_there None not = refl
     none_there (Some held) not = absurd (not held refl)
 
     held_is : (held : Content) → content tables.contents (Chain link parent) ≡ Some held → ⊥
-    held_is held is = let of = fit.links.chains link parent held is in none_found tables.definitions.links link of.definition plain.no_links of.defined
+    held_is held is = let of = fit.links.chains link parent held is in none_found tables.definitions.links link of.definition none of.defined
 
 pub plain_links : (tables : Tables) → NoChains tables → LinksFit tables
 plain_links tables none = record {

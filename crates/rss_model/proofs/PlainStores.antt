@@ -1,4 +1,4 @@
--- Stores without images and links, as all are as yet: what their listings, definitions and pages come to.
+-- Stores without links, as all are as yet: what their listings, definitions and contents come to. And what those without images come to.
 use Rattle.std.proofs.Common.{◌≡◌, ◌⊎◌, inl, inr, ℕ, zero, suc, ◌+◌, ◌-◌, ◌*◌, true, false, List, [], ◌∷◌, ◌++◌, replicate, refl, sym, ◌∙◌, ap, arith}
 use Rattle.std.specs.List.{list_any}
 use Rattle.std.specs.Prelude.{Option, Some, None, is_some, option_map, option_and_then, slice_get, sum_by, count_by, nat_le, filter, find, ◌&&◌, flat_map, map as list_map, All, ◌==◌}
@@ -10,7 +10,7 @@ use Rattle.std.proofs.lemmas.Option.{none-some}
 use Rattle.rss_base.specs.Sizes.{images_most, links_most, system_pages}
 use Rattle.rss_base.specs.Paged.{Held, page_key}
 use Rattle.rss_base.specs.TupleTypes.{tuple_bytes, IsStorable}
-use Rattle.rss_base.specs.Listings.{Listing, IsPlain, numbered, relation_at, image_at, link_at, IsNumberOf}
+use Rattle.rss_base.specs.Listings.{Listing, IsPlain, HasNoLinks, numbered, relation_at, image_at, link_at, IsNumberOf}
 use Rattle.rss_base.specs.declared.key.PageKey.{PageKey}
 use Rattle.rss_base.specs.declared.key.Space.TheVariants.{Image as ImageSpace}
 use Rattle.rss_base.specs.declared.name.Name.{Name}
@@ -48,22 +48,23 @@ none_numbered {A = A} count (suc k) = cond-false (suc k == 0) None _ (ne_eqb (su
     none (suc count) zero = refl
     none (suc count) (suc k) = none count k
 
+module _ (listing : Listing) (none : HasNoLinks listing) where
+  pub no_link_at : (number : ℕ) (link : LinkEntry) → link_at listing number ≡ Some link → ⊥
+  no_link_at number link is =
+      none-some link (sym (none_numbered links_most number) ∙ sym (ap (λ (l : List (Option LinkEntry)). numbered l number) none) ∙ is)
+
+  pub no_link_named : (name : Name) (number : ℕ) → IsNumberOf LinkKind listing name number → ⊥
+  no_link_named name number is =
+      none-some name (sym (none_numbered links_most number) ∙ sym (ap (λ (l : List (Option LinkEntry)). numbered (list_map (option_map (λ (link : LinkEntry). link.name)) l) number) none) ∙ is)
+
 module _ {listing : Listing} (plain : IsPlain listing) where
   pub no_image_at : (number : ℕ) (image : ImageEntry) → image_at listing number ≡ Some image → ⊥
   no_image_at number image is =
       none-some image (sym (none_numbered images_most number) ∙ sym (ap (λ (l : List (Option ImageEntry)). numbered l number) plain.no_images) ∙ is)
 
-  pub no_link_at : (number : ℕ) (link : LinkEntry) → link_at listing number ≡ Some link → ⊥
-  no_link_at number link is =
-      none-some link (sym (none_numbered links_most number) ∙ sym (ap (λ (l : List (Option LinkEntry)). numbered l number) plain.no_links) ∙ is)
-
   no_image_named : (name : Name) (number : ℕ) → IsNumberOf ImageKind listing name number → ⊥
   no_image_named name number is =
       none-some name (sym (none_numbered images_most number) ∙ sym (ap (λ (l : List (Option ImageEntry)). numbered (list_map (option_map (λ (image : ImageEntry). image.name)) l) number) plain.no_images) ∙ is)
-
-  no_link_named : (name : Name) (number : ℕ) → IsNumberOf LinkKind listing name number → ⊥
-  no_link_named name number is =
-      none-some name (sym (none_numbered links_most number) ∙ sym (ap (λ (l : List (Option LinkEntry)). numbered (list_map (option_map (λ (link : LinkEntry). link.name)) l) number) plain.no_links) ∙ is)
 
 -- ---- definitions
 
@@ -74,17 +75,22 @@ empty_map {X = X} m none = same_map name_total name_apart m map.empty (λ q. abs
     absent q None is = is
     absent q (Some x) is = absurd (none q (ap is_some is))
 
+-- no link is defined where none is listed
+pub no_links_defined : {listing : Listing} {definitions : Definitions} → HasNoLinks listing → Defines listing definitions → definitions.links ≡ map.empty
+no_links_defined {listing = listing} {definitions = definitions} none defines = empty_map definitions.links (λ name there. let has = defines.paths.only_links name there in no_link_named listing none name has.0 has.1)
+
+-- nor an image
 pub plain_defined : {listing : Listing} {definitions : Definitions} → IsPlain listing → Defines listing definitions → ArePlain definitions
 plain_defined {definitions = definitions} plain defines = record {
   no_images = empty_map definitions.images (λ name there. let has = defines.paths.only_images name there in no_image_named plain name has.0 has.1);
-  no_links = empty_map definitions.links (λ name there. let has = defines.paths.only_links name there in no_link_named plain name has.0 has.1);
+  no_links = no_links_defined plain.no_links defines;
 }
 
 pub plain_defines : {listing : Listing} {definitions : Definitions} → IsPlain listing → ArePlain definitions → DefinesPaths listing definitions
-plain_defines {definitions = definitions} plain are = record {
+plain_defines {listing = listing} {definitions = definitions} plain are = record {
   images = λ number image relation l. absurd (no_image_at plain number image l.at);
   only_images = λ name there. absurd (none_some definitions.images name are.no_images there);
-  links = λ number link child l. absurd (no_link_at plain number link l.at);
+  links = λ number link child l. absurd (no_link_at listing plain.no_links number link l.at);
   only_links = λ name there. absurd (none_some definitions.links name are.no_links there);
 }
 
@@ -92,8 +98,8 @@ no_values : {X : Type 0} (m : FinMap name_cmp X) → m ≡ map.empty → map.val
 no_values {X = X} m none = nothing (map.values m) (length-map (map.entries m) (λ (e : Name × X). e.1) ∙ (sym (len-entries m) ∙ (ap map.len none ∙ len-empty name_cmp X)))
 
 -- no tuple has blocks
-pub no_blocks : {definitions : Definitions} → ArePlain definitions → (relation : Name) → blocks_size definitions relation ≡ 0
-no_blocks {definitions = definitions} are relation = ap (λ (links : List LinkDef). sum_by (block_of_link relation) links) (no_values definitions.links are.no_links)
+pub no_blocks : (definitions : Definitions) → definitions.links ≡ map.empty → (relation : Name) → blocks_size definitions relation ≡ 0
+no_blocks definitions none relation = ap (λ (links : List LinkDef). sum_by (block_of_link relation) links) (no_values definitions.links none)
 
 -- only the heap and the catalog need room
 pub plain_room : {definitions : Definitions} → ArePlain definitions → (meter : Meter) → room_number definitions meter ≡ 2 * (meter.heap + 2 * meter.surviving + 4 * meter.since + system_pages)
@@ -105,8 +111,8 @@ plain_room {definitions = definitions} are meter =
 pub no_image_of : {definitions : Definitions} → ArePlain definitions → (relation : Name) → list_any (is_image_of relation) (map.values definitions.images) ≡ false
 no_image_of {definitions = definitions} are relation = ap (list_any (is_image_of relation)) (no_values definitions.images are.no_images)
 
-pub no_link_of : {definitions : Definitions} → ArePlain definitions → (relation : Name) → nat_le 1 (parts_of definitions relation) ≡ false
-no_link_of {definitions = definitions} are relation = ap (λ (links : List LinkDef). nat_le 1 (count_by (has_part relation) links)) (no_values definitions.links are.no_links)
+pub no_link_of : (definitions : Definitions) → definitions.links ≡ map.empty → (relation : Name) → nat_le 1 (parts_of definitions relation) ≡ false
+no_link_of definitions none relation = ap (λ (links : List LinkDef). nat_le 1 (count_by (has_part relation) links)) (no_values definitions.links none)
 
 pub no_entries : {X : Type 0} (m : FinMap name_cmp X) → m ≡ map.empty → map.entries m ≡ []
 no_entries {X = X} m none = nothing (map.entries m) (sym (len-entries m) ∙ (ap map.len none ∙ len-empty name_cmp X))
@@ -116,9 +122,9 @@ pub none_duplicate : (state : State) → ArePlain state.base.definitions → (re
 none_duplicate state are relation but values =
     ap (λ (images : List (Name × ImageDef)). first_of (list_map (if_owned state but values) (filter (λ image. image.1.is_unique && is_name relation image.1.relation) images))) (no_entries state.base.definitions.images are.no_images)
 
-pub none_connected : (state : State) → ArePlain state.base.definitions → (relation : Name) (tid : Tid) → if_connected state relation tid ≡ None
-none_connected state are relation tid =
-    ap (λ (links : List (Name × LinkDef)). option_map Connected (option_map (λ (link : Name × LinkDef). link.0) (find (is_connected (now state).contents relation tid) links))) (no_entries state.base.definitions.links are.no_links)
+pub none_connected : (state : State) → state.base.definitions.links ≡ map.empty → (relation : Name) (tid : Tid) → if_connected state relation tid ≡ None
+none_connected state none relation tid =
+    ap (λ (links : List (Name × LinkDef)). option_map Connected (option_map (λ (link : Name × LinkDef). link.0) (find (is_connected (now state).contents relation tid) links))) (no_entries state.base.definitions.links none)
 
 -- ---- tuples
 
@@ -142,31 +148,31 @@ pub record PlainContents (listing : Listing) (bodies : Bodies) (contents : Conte
       → PlainBody listing contents segment tid body
   pub only : (item : Item) → is_some (content contents item) ≡ true → IsTupleItem listing item
 
-same_body : (listing : Listing) (contents : Contents) → IsPlain listing → (number : ℕ) (tid : Tid) (values : List Value) → body_of listing contents number tid values ≡ plain_body number values
-same_body listing contents plain number tid values = ap (λ (links : List (Option LinkEntry)). number ∷ (flat_map (listed_block contents number tid) links ++ tuple_bytes values)) plain.no_links
+same_body : (listing : Listing) (contents : Contents) → HasNoLinks listing → (number : ℕ) (tid : Tid) (values : List Value) → body_of listing contents number tid values ≡ plain_body number values
+same_body listing contents none number tid values = ap (λ (links : List (Option LinkEntry)). number ∷ (flat_map (listed_block contents number tid) links ++ tuple_bytes values)) none
 
-tuple_alone : {listing : Listing} {item : Item} → IsPlain listing → IsTupleItem listing item ⊎ IsChainItem listing item → IsTupleItem listing item
-tuple_alone plain (inl is) = is
-tuple_alone plain (inr chain) = absurd (no_link_at plain chain.number chain.link chain.at)
+tuple_alone : {listing : Listing} {item : Item} → HasNoLinks listing → IsTupleItem listing item ⊎ IsChainItem listing item → IsTupleItem listing item
+tuple_alone none (inl is) = is
+tuple_alone {listing = listing} none (inr chain) = absurd (no_link_at listing none chain.number chain.link chain.at)
 
-module _ {listing : Listing} {bodies : Bodies} {contents : Contents} (plain : IsPlain listing) where
+module _ {listing : Listing} {bodies : Bodies} {contents : Contents} (none : HasNoLinks listing) where
   pub plain_contents : SpellsContents listing bodies contents → PlainContents listing bodies contents
   plain_contents spells = record {
-    stands = λ number relation tid values at holds. spells.stands number relation tid values at holds ∙ ap Some (same_body listing contents plain number tid values);
+    stands = λ number relation tid values at holds. spells.stands number relation tid values at holds ∙ ap Some (same_body listing contents none number tid values);
     bodies_are = λ segment tid body is.
         let of = spells.bodies_are segment tid body is in
-        record { number = of.number; relation = of.relation; values = of.values; at = of.at; within = of.within; is = of.is ∙ same_body listing contents plain of.number tid of.values; storable = of.storable; holds = of.holds };
-    only = λ item is. tuple_alone plain (spells.only item is);
+        record { number = of.number; relation = of.relation; values = of.values; at = of.at; within = of.within; is = of.is ∙ same_body listing contents none of.number tid of.values; storable = of.storable; holds = of.holds };
+    only = λ item is. tuple_alone none (spells.only item is);
   }
 
   pub spelled_contents : PlainContents listing bodies contents → SpellsContents listing bodies contents
   spelled_contents spells = record {
-    stands = λ number relation tid values at holds. spells.stands number relation tid values at holds ∙ ap Some (sym (same_body listing contents plain number tid values));
+    stands = λ number relation tid values at holds. spells.stands number relation tid values at holds ∙ ap Some (sym (same_body listing contents none number tid values));
     bodies_are = λ segment tid body is.
         let of = spells.bodies_are segment tid body is in
-        record { number = of.number; relation = of.relation; values = of.values; at = of.at; within = of.within; is = of.is ∙ sym (same_body listing contents plain of.number tid of.values); storable = of.storable; holds = of.holds };
+        record { number = of.number; relation = of.relation; values = of.values; at = of.at; within = of.within; is = of.is ∙ sym (same_body listing contents none of.number tid of.values); storable = of.storable; holds = of.holds };
     only = λ item is. inl (spells.only item is);
-    ends = λ number link at. absurd (no_link_at plain number link at);
+    ends = λ number link at. absurd (no_link_at listing none number link at);
   }
 
 -- ---- pages
@@ -193,7 +199,7 @@ module _ {held : Held} {listing : Listing} {tables : Tables} (spells : SpellsTab
   still_plain images links = record { no_images = images ∙ spells.plain.no_images; no_links = links ∙ spells.plain.no_links }
 
   pub contents_spelled : PlainContents listing (bodies_of held) tables.contents
-  contents_spelled = plain_contents spells.plain spells.contents
+  contents_spelled = plain_contents spells.listed.no_links spells.contents
 
   pub tables_plain : ArePlain tables.definitions
   tables_plain = plain_defined spells.plain spells.defines

@@ -1,35 +1,41 @@
 -- Pages that spell tables spell what a definition makes of them, by the listing with that definition.
-use Rattle.std.proofs.Common.{◌≡◌, ◌≢◌, ◌⊎◌, inl, inr, ℕ, zero, suc, ◌-◌, ◌≤◌, true, false, List, [], ◌∷◌, length, get_or, refl, sym, ◌∙◌, ap, arith}
-use Rattle.std.specs.Prelude.{Option, Some, None, is_some, option_map, slice_set, map as list_map}
+use Rattle.std.proofs.Common.{◌≡◌, ◌≢◌, ◌⊎◌, inl, inr, ℕ, zero, suc, ◌-◌, ◌≤◌, true, false, List, length, get_or, refl, sym, ◌∙◌, ap, arith}
+use Rattle.std.specs.Prelude.{Option, Some, None, is_some, option_map, slice_set, flat_map, map as list_map}
 use Rattle.std.specs.FinMap as map
+use Rattle.std.specs.FinMap.{FinMap}
 use Rattle.std.proofs.lemmas.Bool.{cases_eq, cases_lt, true≢false}
 use Rattle.std.proofs.lemmas.List.{get_or_past, get_or-set_same, get_or-set_other, length-map}
 use Rattle.std.proofs.lemmas.Option.{none-some, same_Some}
 use Rattle.rss_base.specs.Paged.{Held, page_key}
-use Rattle.rss_base.specs.Listings.{Listing, ListingFits, IsLeastUnused, IsNumberOf, numbered, with_number, segment_at, relation_at, with_segment, with_relation}
+use Rattle.rss_base.specs.Listings.{Listing, ListingFits, HasNoLinks, IsLeastUnused, IsNumberOf, numbered, with_number, segment_at, relation_at, image_at, with_segment, with_relation}
 use Rattle.rss_base.specs.declared.key.PageKey.{PageKey}
 use Rattle.rss_base.specs.declared.key.Space.{Space}
 use Rattle.rss_base.specs.declared.key.Space.TheVariants.{Home, Overflow, Image, System}
 use Rattle.rss_base.specs.declared.name.Name.{Name}
 use Rattle.rss_base.specs.declared.tid.Tid.{Tid}
 use Rattle.rss_base.specs.declared.item.Item.TheVariants.{Tuple}
+use Rattle.rss_base.specs.declared.field.FieldDef.{FieldDef}
 use Rattle.rss_base.specs.declared.relation.RelationEntry.{RelationEntry}
+use Rattle.rss_base.specs.declared.image.ImageEntry.{ImageEntry}
 use Rattle.rss_base.specs.declared.refusal.Kind.TheVariants.{Segment as SegmentKind, Relation as RelationKind}
 use Rattle.rss_page.specs.Content.{Content as Entry, Empty, Here, Forward}
 use Rattle.rss_page.specs.Slotted.{IsHeapKey}
 use Rattle.rss_page.specs.Surveyed.{held_at}
 use Rattle.rss_tuple.specs.Directory.{Bodies, contents_in, homes, overflows, bodies_of}
 use Rattle.rss_tuple.specs.Heaps.{IsLed}
-use Rattle.rss_model.specs.Tables.{Contents, Tables, content, tuple_count}
+use Rattle.rss_model.specs.Items.{name_cmp}
+use Rattle.rss_model.specs.Images.{entry_cmp, entry_of, image_list}
+use Rattle.rss_model.specs.Tables.{ImageDef, LinkDef, Definitions, Contents, Tables, content, tuple_count}
 use Rattle.rss_model.specs.Defining.{with_definitions}
-use Rattle.rss_model.specs.Store.{Defines, HasNumber, IsStorePage, SpellsTables, definition_of}
+use Rattle.rss_model.specs.Store.{Defines, DefinesPaths, HasNumber, IsListedImage, IsStorePage, SpellsImage, SpellsImages, SpellsTables, definition_of, image_definition, pair_spelled}
 use Rattle.rss_model.proofs.Counts.{none_counted, count_of_none}
 use Rattle.rss_model.proofs.Heap.{empty_entry}
-use Rattle.rss_model.proofs.Listed.{at_place}
+use Rattle.rss_model.proofs.Listed.{at_place, listed}
 use Rattle.rss_model.proofs.Named.{made, made_here, made_other, made_still, gone, gone_other}
-use Rattle.rss_model.proofs.PlainStores.{still_plain, PlainContents, plain_defines, spelled_contents, plain_images, contents_spelled, tables_plain, none_imaged}
+use Rattle.rss_model.proofs.PlainStores.{still_plain, PlainContents, no_link_at, no_link_named, spelled_contents, contents_spelled}
 use Rattle.rss_model.proofs.LogLists.{some_of}
-use Rattle.rss_model.proofs.Spelled.{named_relation}
+use Rattle.rss_model.proofs.Redefining.{same_fields}
+use Rattle.rss_model.proofs.Spelled.{name_numbered, named_relation}
 
 -- ---- one number of a listing
 
@@ -63,13 +69,7 @@ module _ {A : Type 0} (items : List (Option A)) (number : ℕ) (item : Option A)
 
 -- a relation's number is that of its name
 pub number_of : (listing : Listing) (number : ℕ) (relation : RelationEntry) → relation_at listing number ≡ Some relation → IsNumberOf RelationKind listing relation.name number
-number_of listing zero relation at = absurd (none-some relation at)
-number_of listing (suc k) relation at = at_place (list_map (option_map (λ (r : RelationEntry). r.name)) listing.relations) k ∙ got listing.relations k (sym (at_place listing.relations k) ∙ at)
-  where
-    got : (relations : List (Option RelationEntry)) (k : ℕ) → get_or relations k None ≡ Some relation → get_or (list_map (option_map (λ (r : RelationEntry). r.name)) relations) k None ≡ Some relation.name
-    got [] k is = absurd (none-some relation is)
-    got (first ∷ relations) zero is = ap (option_map (λ (r : RelationEntry). r.name)) is
-    got (first ∷ relations) (suc k) is = got relations k is
+number_of listing number relation at = name_numbered (λ (r : RelationEntry). r.name) listing.relations number relation at
 
 -- a number that no name has is that of no relation
 pub no_relation_at : (listing : Listing) (number : ℕ) → numbered (list_map (option_map (λ (r : RelationEntry). r.name)) listing.relations) number ≡ None → relation_at listing number ≡ None
@@ -86,7 +86,7 @@ abbrev pub IsTupleThere : Contents → RelationEntry → Tid → Type 0
 IsTupleThere contents relation tid = is_some (content contents (Tuple relation.name tid)) ≡ true
 
 module _ (a b : Listing) (bodies : Bodies) (contents : Contents) where
-  contents_relisted : ((k : ℕ) (relation : RelationEntry) (tid : Tid) → relation_at a k ≡ Some relation → IsTupleThere contents relation tid → relation_at b k ≡ Some relation) → ((k : ℕ) (relation : RelationEntry) (tid : Tid) → relation_at b k ≡ Some relation → IsTupleThere contents relation tid → relation_at a k ≡ Some relation) → PlainContents a bodies contents → PlainContents b bodies contents
+  pub contents_relisted : ((k : ℕ) (relation : RelationEntry) (tid : Tid) → relation_at a k ≡ Some relation → IsTupleThere contents relation tid → relation_at b k ≡ Some relation) → ((k : ℕ) (relation : RelationEntry) (tid : Tid) → relation_at b k ≡ Some relation → IsTupleThere contents relation tid → relation_at a k ≡ Some relation) → PlainContents a bodies contents → PlainContents b bodies contents
   contents_relisted into back old = record {
     stands = λ number relation tid values at holds. old.stands number relation tid values (back number relation tid at (ap is_some holds)) holds;
     bodies_are = λ segment tid body is.
@@ -96,6 +96,53 @@ module _ (a b : Listing) (bodies : Bodies) (contents : Contents) where
         let on = old.only item is in
         record { number = on.number; relation = on.relation; tid = on.tid; at = into on.number on.relation on.tid on.at (ap (λ i. is_some (content contents i)) (sym on.is) ∙ is); is = on.is };
   }
+
+-- ---- images that keep their relations
+
+-- each image that the first listing has, the second one has, with the same relation
+abbrev pub KeepsImages : Listing → Listing → Type 0
+KeepsImages a b =
+    (number : ℕ) (image : ImageEntry) (relation : RelationEntry)
+    → IsListedImage a number image relation → IsListedImage b number image relation
+
+-- the list of an image is determined by its relation's fields
+pub same_list : (tables : Tables) (definitions : Definitions) (image : ImageDef) → map.get definitions.relations image.relation ≡ map.get tables.definitions.relations image.relation → image_list (with_definitions definitions tables) image ≡ image_list tables image
+same_list tables definitions image same =
+    ap (λ (fields : List FieldDef). map.keys (map.from_entries {R = entry_cmp} (flat_map (λ held. entry_of image.relation fields image.fields held.0 held.1) (map.entries tables.contents))))
+    (same_fields tables.definitions definitions image.relation same)
+
+module _ {a b : Listing} (into : KeepsImages a b) (back : KeepsImages b a) where
+  -- the pages that spell them do so still, where their lists are the same
+  pub images_kept : {held : Held} {one two : Tables} → ((number : ℕ) (image : ImageEntry) (relation : RelationEntry) → IsListedImage a number image relation → image_list two (image_definition image relation) ≡ image_list one (image_definition image relation)) → SpellsImages held a one → SpellsImages held b two
+  images_kept {held = held} {one = one} {two = two} same images = record {
+    each = λ number image relation l. let shown = images.each number image relation (back number image relation l) in (shown.0, still (back number image relation l) shown.1);
+    reached = λ key is there.
+        let of = images.reached key is there in
+        record { number = of.number; image = of.image; relation = of.relation; pages = of.pages; at = into of.number of.image of.relation of.at; spells = still of.at of.spells; segment = of.segment; among = of.among };
+  }
+    where
+      still : {number : ℕ} {image : ImageEntry} {relation : RelationEntry} {pages : List ℕ} → IsListedImage a number image relation → SpellsImage held one number image relation pages → SpellsImage held two number image relation pages
+      still {number = number} {image = image} {relation = relation} l is = record { pairs = is.pairs; tree = is.tree; once = is.once; list = is.list ∙ ap (list_map (pair_spelled image relation)) (sym (same number image relation l)) }
+
+  -- and they are defined as they were
+  pub paths_kept : {one two : Definitions} → b.images ≡ a.images → HasNoLinks a → HasNoLinks b → two.images ≡ one.images → two.links ≡ one.links → DefinesPaths a one → DefinesPaths b two
+  paths_kept {one = one} {two = two} listed none none_now images links paths = record {
+    images = λ number image relation l. ap (λ (m : FinMap name_cmp ImageDef). map.get m image.name) images ∙ paths.images number image relation (back number image relation l);
+    only_images = λ name there.
+        let had = paths.only_images name (ap (λ (m : FinMap name_cmp ImageDef). is_some (map.get m name)) (sym images) ∙ there) in
+        (had.0, ap (λ (l : List (Option ImageEntry)). numbered (list_map (option_map (λ (i : ImageEntry). i.name)) l) had.0) listed ∙ had.1);
+    links = λ number link child l. absurd (no_link_at b none_now number link l.at);
+    only_links = λ name there.
+        let had = paths.only_links name (ap (λ (m : FinMap name_cmp LinkDef). is_some (map.get m name)) (sym links) ∙ there) in
+        absurd (no_link_named a none name had.0 had.1);
+  }
+
+-- a segment comes or goes
+segment_into : (listing : Listing) (number : ℕ) (segment : Option Name) → KeepsImages listing (with_segment listing number segment)
+segment_into listing number segment k image relation l = record { at = l.at; within = l.within }
+
+segment_back : (listing : Listing) (number : ℕ) (segment : Option Name) → KeepsImages (with_segment listing number segment) listing
+segment_back listing number segment k image relation l = record { at = l.at; within = l.within }
 
 -- ---- a segment is made
 
@@ -114,7 +161,7 @@ module _ {held : Held} {listing : Listing} {tables : Tables} (spells : SpellsTab
     segments = λ q. (to q, from q);
     relations = λ k relation segment l. spells.defines.relations k relation segment (record { at = l.at; within = sym (still relation.segment (spells.listed.relations k relation l.at).segment) ∙ l.within });
     only_relations = spells.defines.only_relations;
-    paths = plain_defines (still_plain spells refl refl) (record { no_images = (tables_plain spells).no_images; no_links = (tables_plain spells).no_links });
+    paths = paths_kept (segment_into listing number (Some name)) (segment_back listing number (Some name)) refl spells.listed.no_links fits.no_links refl refl spells.defines.paths;
   }
     where
       to : (q : Name) → is_some (map.get (map.insert tables.definitions.segments name tt) q) ≡ true → HasNumber SegmentKind listed_now q
@@ -143,8 +190,8 @@ module _ {held : Held} {listing : Listing} {tables : Tables} (spells : SpellsTab
     plain = still_plain spells refl refl;
     defines = segment_made_defines;
     counts = spells.counts;
-    contents = spelled_contents (still_plain spells refl refl) (contents_relisted listing listed_now (bodies_of held) tables.contents (λ k relation tid at there. at) (λ k relation tid at there. at) (contents_spelled spells));
-    images = plain_images (still_plain spells refl refl) (none_imaged spells);
+    contents = spelled_contents fits.no_links (contents_relisted listing listed_now (bodies_of held) tables.contents (λ k relation tid at there. at) (λ k relation tid at there. at) (contents_spelled spells));
+    images = images_kept (segment_into listing number (Some name)) (segment_back listing number (Some name)) (λ k image relation l. refl) spells.images;
   }
 
 -- ---- a segment is dropped
@@ -214,7 +261,7 @@ module _ {held : Held} {listing : Listing} {tables : Tables} (spells : SpellsTab
     segments = λ q. (to q, from q);
     relations = λ k relation segment l. spells.defines.relations k relation segment (record { at = l.at; within = sym (others relation.segment (none k relation l.at)) ∙ l.within });
     only_relations = spells.defines.only_relations;
-    paths = plain_defines (still_plain spells refl refl) (record { no_images = (tables_plain spells).no_images; no_links = (tables_plain spells).no_links });
+    paths = paths_kept (segment_into listing number None) (segment_back listing number None) refl spells.listed.no_links fits.no_links refl refl spells.defines.paths;
   }
     where
       to : (q : Name) → is_some (map.get (map.remove tables.definitions.segments name) q) ≡ true → HasNumber SegmentKind listed_less q
@@ -229,9 +276,16 @@ module _ {held : Held} {listing : Listing} {tables : Tables} (spells : SpellsTab
           let had : segment_at listing n ≡ Some q = sym (others n other) ∙ has in
           ap is_some (gone_other tables.definitions.segments name q (λ same. other (spells.listed.segments_once n number q had (at ∙ ap Some (sym same))))) ∙ (spells.defines.segments q).1 (n, had)
 
+  -- an image's page is that of a relation
+  no_image_page : (key : PageKey) → is_some (held key) ≡ true → key.space ≡ Image → key.segment ≢ number
+  no_image_page key there space same =
+      let of = spells.images.reached key space there in
+      none of.image.relation of.relation of.at.within (sym of.segment ∙ same)
+
   page_stays : (key : PageKey) → is_some (held key) ≡ true → (key.space ≡ System) ⊎ ((key.space ≡ Image) ⊎ IsHeapKey key) → IsStorePage listing key → IsStorePage listed_less key
   page_stays key there (inl system) on = inl system
-  page_stays key there (inr (inl image)) on = absurd (none_imaged spells key image there)
+  page_stays key there (inr (inl image)) (inl system) = inl system
+  page_stays key there (inr (inl image)) (inr segment) = inr (ap is_some (others key.segment (no_image_page key there image)) ∙ segment)
   page_stays key there (inr (inr heap)) (inl system) = inl system
   page_stays key there (inr (inr heap)) (inr segment) = inr (ap is_some (others key.segment (no_page key there heap)) ∙ segment)
 
@@ -244,8 +298,8 @@ module _ {held : Held} {listing : Listing} {tables : Tables} (spells : SpellsTab
     plain = still_plain spells refl refl;
     defines = segment_gone_defines;
     counts = spells.counts;
-    contents = spelled_contents (still_plain spells refl refl) (contents_relisted listing listed_less (bodies_of held) tables.contents (λ k relation tid at there. at) (λ k relation tid at there. at) (contents_spelled spells));
-    images = plain_images (still_plain spells refl refl) (none_imaged spells);
+    contents = spelled_contents fits.no_links (contents_relisted listing listed_less (bodies_of held) tables.contents (λ k relation tid at there. at) (λ k relation tid at there. at) (contents_spelled spells));
+    images = images_kept (segment_into listing number None) (segment_back listing number None) (λ k image relation l. refl) spells.images;
   }
 
 -- ---- a relation is made
@@ -276,6 +330,20 @@ module _ {held : Held} {listing : Listing} {tables : Tables} (spells : SpellsTab
   no_tuple : (tid : Tid) → IsTupleThere tables.contents new tid → ⊥
   no_tuple tid lives = true≢false (sym (defined tid lives) ∙ fresh)
 
+  -- a name that is listed is another than the new one
+  other_name : (k : ℕ) (relation : RelationEntry) → relation_at listing k ≡ Some relation → relation.name ≢ new.name
+  other_name k relation at same =
+      let so = listed spells.listed spells.defines k relation at in
+      true≢false (sym (ap is_some (spells.defines.relations k relation so.0 so.1)) ∙ ap (λ (n : Name). is_some (map.get tables.definitions.relations n)) same ∙ fresh)
+
+  made_into : KeepsImages listing listed_more
+  made_into k image relation l = record { at = l.at; within = other_kept image.relation (was_another image.relation relation l.within) ∙ l.within }
+
+  made_back : KeepsImages listed_more listing
+  made_back k image relation l =
+      let fit = spells.listed.paths.images k image l.at in
+      record { at = l.at; within = sym (other_kept image.relation (was_another image.relation fit.relation fit.listed)) ∙ l.within }
+
   relation_made_defines : Defines listed_more (record tables.definitions { relations = map.insert tables.definitions.relations new.name (definition_of segment new) })
   relation_made_defines = record {
     segments = spells.defines.segments;
@@ -285,11 +353,10 @@ module _ {held : Held} {listing : Listing} {tables : Tables} (spells : SpellsTab
           let get = λ (n : Name). map.get (map.insert tables.definitions.relations new.name (definition_of segment new)) n in
           ap (λ (r : RelationEntry). get r.name) (sym same) ∙ made_here tables.definitions.relations new.name (definition_of segment new) ∙ (λ i. Some (definition_of (stands i) (same i)))
       | inr was ↦
-          let had = spells.defines.relations k relation stood (record { at = was; within = l.within }) in
-          made_other tables.definitions.relations new.name (definition_of segment new) relation.name (λ same. true≢false (sym (ap is_some had) ∙ ap (λ (n : Name). is_some (map.get tables.definitions.relations n)) same ∙ fresh)) ∙ had
+          made_other tables.definitions.relations new.name (definition_of segment new) relation.name (other_name k relation was) ∙ spells.defines.relations k relation stood (record { at = was; within = l.within })
     ];
     only_relations = only;
-    paths = plain_defines (still_plain spells refl refl) (record { no_images = (tables_plain spells).no_images; no_links = (tables_plain spells).no_links });
+    paths = paths_kept made_into made_back refl spells.listed.no_links fits.no_links refl refl spells.defines.paths;
   }
     where
       only : (q : Name) → is_some (map.get (map.insert tables.definitions.relations new.name (definition_of segment new)) q) ≡ true → HasNumber RelationKind listed_more q
@@ -312,11 +379,12 @@ module _ {held : Held} {listing : Listing} {tables : Tables} (spells : SpellsTab
       | inl same ↦ ap (λ (r : RelationEntry). tuple_count tables.contents r.name) (sym same) ∙ count_of_none tables.contents new.name (λ tid. none_from _ (no_tuple tid)) ∙ sym empty ∙ ap (λ (r : RelationEntry). r.live) same
       | inr was ↦ spells.counts k relation was
     ];
-    contents = spelled_contents (still_plain spells refl refl) (contents_relisted listing listed_more (bodies_of held) tables.contents (λ k relation tid at there. other_kept k (was_another k relation at) ∙ at) (λ k relation tid at there. elim (now_or_old k relation at) [
+    contents = spelled_contents fits.no_links (contents_relisted listing listed_more (bodies_of held) tables.contents (λ k relation tid at there. other_kept k (was_another k relation at) ∙ at) (λ k relation tid at there. elim (now_or_old k relation at) [
       | inl same ↦ absurd (no_tuple tid (ap (λ (r : RelationEntry). is_some (content tables.contents (Tuple r.name tid))) same ∙ there))
       | inr was ↦ was
     ]) (contents_spelled spells));
-    images = plain_images (still_plain spells refl refl) (none_imaged spells);
+    images = images_kept made_into made_back (λ k image relation l. same_list tables (record tables.definitions { relations = map.insert tables.definitions.relations new.name (definition_of segment new) }) (image_definition image relation)
+        (made_other tables.definitions.relations new.name (definition_of segment new) relation.name (other_name image.relation relation l.within))) spells.images;
   }
     where
       none_from : {A : Type 0} (o : Option A) → (is_some o ≡ true → ⊥) → o ≡ None
@@ -325,7 +393,7 @@ module _ {held : Held} {listing : Listing} {tables : Tables} (spells : SpellsTab
 
 -- ---- a relation is dropped
 
-module _ {held : Held} {listing : Listing} {tables : Tables} (spells : SpellsTables held listing tables) (number : ℕ) (old : RelationEntry) (at : relation_at listing number ≡ Some old) (empty : tuple_count tables.contents old.name ≡ 0) (fits : ListingFits (with_relation listing number None)) where
+module _ {held : Held} {listing : Listing} {tables : Tables} (spells : SpellsTables held listing tables) (number : ℕ) (old : RelationEntry) (at : relation_at listing number ≡ Some old) (empty : tuple_count tables.contents old.name ≡ 0) (none_of : (k : ℕ) (image : ImageEntry) → image_at listing k ≡ Some image → image.relation ≢ number) (fits : ListingFits (with_relation listing number None)) where
   abbrev listed_fewer : Listing
   listed_fewer = with_relation listing number None
 
@@ -341,19 +409,29 @@ module _ {held : Held} {listing : Listing} {tables : Tables} (spells : SpellsTab
       let other : k ≢ number = λ same. none-some relation (sym none_here ∙ ap (relation_at listed_fewer) (sym same) ∙ is) in
       (other, sym (rest_kept k other) ∙ is)
 
+  -- another number has another name
+  other_named : (k : ℕ) (relation : RelationEntry) → k ≢ number → relation_at listing k ≡ Some relation → relation.name ≢ old.name
+  other_named k relation other is same = other (spells.listed.relations_once k number relation.name (number_of listing k relation is) (number_of listing number old at ∙ ap Some (sym same)))
+
+  gone_into : KeepsImages listing listed_fewer
+  gone_into k image relation l = record { at = l.at; within = rest_kept image.relation (none_of k image l.at) ∙ l.within }
+
+  gone_back : KeepsImages listed_fewer listing
+  gone_back k image relation l = record { at = l.at; within = (had_it image.relation relation l.within).1 }
+
   relation_gone_defines : Defines listed_fewer (record tables.definitions { relations = map.remove tables.definitions.relations old.name })
   relation_gone_defines = record {
     segments = spells.defines.segments;
     relations = λ k relation segment l.
         let was = had_it k relation l.at in
-        gone_other tables.definitions.relations old.name relation.name (λ same. was.0 (spells.listed.relations_once k number relation.name (number_of listing k relation was.1) (number_of listing number old at ∙ ap Some (sym same))))
+        gone_other tables.definitions.relations old.name relation.name (other_named k relation was.0 was.1)
         ∙ spells.defines.relations k relation segment (record { at = was.1; within = l.within });
     only_relations = λ q there.
         let was = gone tables.definitions.relations old.name q there in
         let had = named_relation listing q (spells.defines.only_relations q (ap is_some (sym was.1) ∙ there)) in
         let other : had.number ≢ number = λ same. was.0 (sym had.named ∙ ap (λ (r : RelationEntry). r.name) (same_Some _ _ (sym had.at ∙ ap (relation_at listing) same ∙ at))) in
         (had.number, number_of listed_fewer had.number had.relation (rest_kept had.number other ∙ had.at) ∙ ap Some had.named);
-    paths = plain_defines (still_plain spells refl refl) (record { no_images = (tables_plain spells).no_images; no_links = (tables_plain spells).no_links });
+    paths = paths_kept gone_into gone_back refl spells.listed.no_links fits.no_links refl refl spells.defines.paths;
   }
 
   pub relation_gone_spells : SpellsTables held listed_fewer (with_definitions (record tables.definitions { relations = map.remove tables.definitions.relations old.name }) tables)
@@ -365,8 +443,9 @@ module _ {held : Held} {listing : Listing} {tables : Tables} (spells : SpellsTab
     plain = still_plain spells refl refl;
     defines = relation_gone_defines;
     counts = λ k relation is. spells.counts k relation (had_it k relation is).1;
-    contents = spelled_contents (still_plain spells refl refl) (contents_relisted listing listed_fewer (bodies_of held) tables.contents (λ k relation tid is there.
+    contents = spelled_contents fits.no_links (contents_relisted listing listed_fewer (bodies_of held) tables.contents (λ k relation tid is there.
         let other : k ≢ number = λ same. let one : relation ≡ old = same_Some _ _ (sym is ∙ ap (relation_at listing) same ∙ at) in true≢false (sym there ∙ ap (λ (r : RelationEntry). is_some (content tables.contents (Tuple r.name tid))) one ∙ ap is_some (none_counted tables.contents old.name empty tid)) in
         rest_kept k other ∙ is) (λ k relation tid is there. (had_it k relation is).1) (contents_spelled spells));
-    images = plain_images (still_plain spells refl refl) (none_imaged spells);
+    images = images_kept gone_into gone_back (λ k image relation l. same_list tables (record tables.definitions { relations = map.remove tables.definitions.relations old.name }) (image_definition image relation)
+        (gone_other tables.definitions.relations old.name relation.name (other_named image.relation relation (none_of k image l.at) l.within))) spells.images;
   }

@@ -6,7 +6,7 @@ use Rattle.std.specs.FinMap.{same_map}
 use Rattle.std.proofs.lemmas.Option.{none-some, same_Some}
 use Rattle.rss_base.specs.Paged.{Held}
 use Rattle.rss_base.specs.TupleTypes.{kinds, misfit, misfit_from, fits, tuple_bytes, value_bytes, int_bytes, IsStorable}
-use Rattle.rss_base.specs.Listings.{Listing, ListingFits, IsPlain, IsNumberOf, relation_at}
+use Rattle.rss_base.specs.Listings.{Listing, ListingFits, HasNoLinks, numbered, relation_at, image_at}
 use Rattle.rss_base.specs.declared.name.Name.{Name}
 use Rattle.rss_base.specs.declared.tid.Tid.{Tid}
 use Rattle.rss_base.specs.declared.item.Item.{Item}
@@ -16,17 +16,18 @@ use Rattle.rss_base.specs.declared.value.Value.TheVariants.{Int, Text}
 use Rattle.rss_base.specs.declared.value.FieldKind.{FieldKind}
 use Rattle.rss_base.specs.declared.value.FieldKind.TheVariants.{Int as IntField, Text as TextField}
 use Rattle.rss_base.specs.declared.relation.RelationEntry.{RelationEntry}
-use Rattle.rss_base.specs.declared.refusal.Kind.TheVariants.{Relation as RelationKind}
+use Rattle.rss_base.specs.declared.image.ImageEntry.{ImageEntry}
+use Rattle.rss_base.specs.declared.refusal.Kind.TheVariants.{Relation as RelationKind, Image as ImageKind}
 use Rattle.rss_base.proofs.Numbers.{int_bytes_same}
 use Rattle.rss_tuple.specs.Directory.{bodies_of}
 use Rattle.rss_model.specs.Items.{Content, Values}
-use Rattle.rss_model.specs.Tables.{RelationDef, Definitions, Tables, content, fields_of}
+use Rattle.rss_model.specs.Tables.{RelationDef, ImageDef, Definitions, Tables, content, fields_of}
 use Rattle.rss_model.specs.Fits.{Fits}
-use Rattle.rss_model.specs.Store.{plain_body as body_of, Defines, SpellsTables, definition_of}
+use Rattle.rss_model.specs.Store.{plain_body as body_of, Defines, HasNumber, IsListedImage, SpellsTables, definition_of, image_definition}
 use Rattle.rss_model.proofs.Codes.{item_total, item_apart, name_total, name_apart}
 use Rattle.rss_model.proofs.Lengths.{first_fits}
 use Rattle.rss_model.proofs.Listed.{at_place, listed}
-use Rattle.rss_model.proofs.PlainStores.{contents_spelled, plain_defined}
+use Rattle.rss_model.proofs.PlainStores.{contents_spelled, no_links_defined}
 use Rattle.rss_model.proofs.LogLists.{some_of}
 
 -- ---- the bytes of tuples
@@ -71,7 +72,34 @@ tuple_bytes_same k (field ∷ fields) (x ∷ a) (y ∷ b) one other stored store
     let rest = tuple_bytes_same (k + 1) fields a b mine.1 theirs.1 (λ j d lt. stored (suc j) d (omega (arith, lt))) (λ j d lt. stored_too (suc j) d (omega (arith, lt))) parts.1 in
     λ i. parts.0 i ∷ rest i
 
--- ---- relations that have a number
+-- ---- relations and images that have a number
+
+-- what has a number by its name
+module _ {A : Type 0} (name_of : A → Name) where
+  pub named_at : (items : List (Option A)) (number : ℕ) (name : Name) → numbered (list_map (option_map name_of) items) number ≡ Some name → (item : A) × (numbered items number ≡ Some item) × (name_of item ≡ name)
+  named_at items zero name at = absurd (none-some name at)
+  named_at items (suc k) name at =
+      let some = entry items k (sym (at_place (list_map (option_map name_of) items) k) ∙ at) in
+      (some.0, at_place items k ∙ some.1, some.2)
+    where
+      named : (found : Option A) → option_map name_of found ≡ Some name → (item : A) × (found ≡ Some item) × (name_of item ≡ name)
+      named None is = absurd (cc)
+      named (Some item) is = (item, refl, same_Some _ _ is)
+
+      entry : (items : List (Option A)) (k : ℕ) → get_or (list_map (option_map name_of) items) k None ≡ Some name → (item : A) × (get_or items k None ≡ Some item) × (name_of item ≡ name)
+      entry [] k is = absurd (cc)
+      entry (first ∷ items) zero is = named first is
+      entry (first ∷ items) (suc k) is = entry items k is
+
+  -- and the other way round
+  pub name_numbered : (items : List (Option A)) (number : ℕ) (item : A) → numbered items number ≡ Some item → numbered (list_map (option_map name_of) items) number ≡ Some (name_of item)
+  name_numbered items zero item at = absurd (none-some item at)
+  name_numbered items (suc k) item at = at_place (list_map (option_map name_of) items) k ∙ got items k (sym (at_place items k) ∙ at)
+    where
+      got : (items : List (Option A)) (k : ℕ) → get_or items k None ≡ Some item → get_or (list_map (option_map name_of) items) k None ≡ Some (name_of item)
+      got [] k is = absurd (none-some item is)
+      got (first ∷ items) zero is = ap (option_map name_of) is
+      got (first ∷ items) (suc k) is = got items k is
 
 -- the relation of a number, by its name
 pub record HasName (listing : Listing) (name : Name) : Type 0 where
@@ -80,20 +108,22 @@ pub record HasName (listing : Listing) (name : Name) : Type 0 where
   pub at : relation_at listing number ≡ Some relation
   pub named : relation.name ≡ name
 
-pub named_relation : (listing : Listing) (name : Name) → (number : ℕ) × IsNumberOf RelationKind listing name number → HasName listing name
-named_relation listing name (zero, at) = absurd (none-some name at)
-named_relation listing name (suc k, at) =
-    let some = entry listing.relations k (sym (at_place (list_map (option_map (λ (r : RelationEntry). r.name)) listing.relations) k) ∙ at) in
-    record { number = suc k; relation = some.0; at = at_place listing.relations k ∙ some.1; named = some.2 }
-  where
-    named : (found : Option RelationEntry) → option_map (λ (r : RelationEntry). r.name) found ≡ Some name → (relation : RelationEntry) × (found ≡ Some relation) × (relation.name ≡ name)
-    named None is = absurd (cc)
-    named (Some relation) is = (relation, refl, same_Some _ _ is)
+pub named_relation : (listing : Listing) (name : Name) → HasNumber RelationKind listing name → HasName listing name
+named_relation listing name has =
+    let some = named_at (λ (r : RelationEntry). r.name) listing.relations has.0 name has.1 in
+    record { number = has.0; relation = some.0; at = some.1; named = some.2 }
 
-    entry : (relations : List (Option RelationEntry)) (k : ℕ) → get_or (list_map (option_map (λ (r : RelationEntry). r.name)) relations) k None ≡ Some name → (relation : RelationEntry) × (get_or relations k None ≡ Some relation) × (relation.name ≡ name)
-    entry [] k is = absurd (cc)
-    entry (first ∷ relations) zero is = named first is
-    entry (first ∷ relations) (suc k) is = entry relations k is
+-- the image of a number
+pub record IsImageNamed (listing : Listing) (name : Name) : Type 0 where
+  pub number : ℕ
+  pub image : ImageEntry
+  pub at : image_at listing number ≡ Some image
+  pub named : image.name ≡ name
+
+pub named_image : (listing : Listing) (name : Name) → HasNumber ImageKind listing name → IsImageNamed listing name
+named_image listing name has =
+    let some = named_at (λ (i : ImageEntry). i.name) listing.images has.0 name has.1 in
+    record { number = has.0; image = some.0; at = some.1; named = some.2 }
 
 -- ---- definitions
 
@@ -115,13 +145,23 @@ module _ {listing : Listing} (fits : ListingFits listing) where
       let same : definition_of so.0 has.relation ≡ x = same_Some _ _ (sym mine ∙ ap (map.get a.relations) has.named ∙ is) in
       ap (map.get b.relations) (sym has.named) ∙ theirs ∙ ap Some same
 
+  images_too : {a b : Definitions} → Defines listing a → Defines listing b → (name : Name) (x : ImageDef) → map.get a.images name ≡ Some x → map.get b.images name ≡ Some x
+  images_too {a = a} {b = b} one other name x is =
+      let has = named_image listing name (one.paths.only_images name (ap is_some is)) in
+      let fit = fits.paths.images has.number has.image has.at in
+      let l : IsListedImage listing has.number has.image fit.relation = record { at = has.at; within = fit.listed } in
+      let mine = one.paths.images has.number has.image fit.relation l in
+      let theirs = other.paths.images has.number has.image fit.relation l in
+      let same : image_definition has.image fit.relation ≡ x = same_Some _ _ (sym mine ∙ ap (map.get a.images) has.named ∙ is) in
+      ap (map.get b.images) (sym has.named) ∙ theirs ∙ ap Some same
+
   -- what is listed is defined in one way
-  pub defines_once : IsPlain listing → {a b : Definitions} → Defines listing a → Defines listing b → a ≡ b
-  defines_once plain {a = a} {b = b} one other =
+  pub defines_once : HasNoLinks listing → {a b : Definitions} → Defines listing a → Defines listing b → a ≡ b
+  defines_once none {a = a} {b = b} one other =
       let segments : a.segments ≡ b.segments = same_map name_total name_apart _ _ (λ q. same_options _ _ (segments_too one other q) (segments_too other one q)) in
       let relations : a.relations ≡ b.relations = same_map name_total name_apart _ _ (λ q. same_options _ _ (relations_too one other q) (relations_too other one q)) in
-      let images : a.images ≡ b.images = (plain_defined plain one).no_images ∙ sym (plain_defined plain other).no_images in
-      let links : a.links ≡ b.links = (plain_defined plain one).no_links ∙ sym (plain_defined plain other).no_links in
+      let images : a.images ≡ b.images = same_map name_total name_apart _ _ (λ q. same_options _ _ (images_too one other q) (images_too other one q)) in
+      let links : a.links ≡ b.links = no_links_defined none one ∙ sym (no_links_defined none other) in
       λ i. record { segments = segments i; relations = relations i; images = images i; links = links i }
 
 -- ---- tuples
@@ -181,7 +221,7 @@ module _ {held : Held} {listing : Listing} {a b : Tables} {m n : ℕ} (one : Spe
       let relation : body.relation ≡ mine.relation = same_Some _ _ (sym body.at ∙ ap (relation_at listing) (sym parts.0) ∙ mine.at) in
       let holds : content b.contents (Tuple mine.relation.name mine.tid) ≡ Some (Values body.values) = ap (λ (r : RelationEntry). content b.contents (Tuple r.name mine.tid)) (sym relation) ∙ body.holds in
       let of = fits.tuples mine.relation.name mine.tid (Values body.values) holds in
-      let definitions : a.definitions ≡ b.definitions = defines_once one.listed one.plain one.defines other.defines in
+      let definitions : a.definitions ≡ b.definitions = defines_once one.listed one.listed.no_links one.defines other.defines in
       let fields : of.fields ≡ mine.fields = same_Some _ _ (sym of.defined ∙ ap (λ (d : Definitions). option_map (λ (r : RelationDef). kinds r.fields) (map.get d.relations mine.relation.name)) (sym definitions) ∙ mine.defined) in
       let theirs : misfit mine.fields body.values ≡ None = ap (λ (f : List FieldKind). misfit f body.values) (sym fields) ∙ ap (misfit of.fields) (same_values _ _ of.tuple) ∙ of.fit in
       let values = tuple_bytes_same 1 mine.fields mine.values body.values mine.fit theirs mine.storable body.storable parts.1 in
@@ -194,6 +234,6 @@ module _ {held : Held} {listing : Listing} {a b : Tables} {m n : ℕ} (one : Spe
   -- no two tables are spelled alike
   pub spells_once : a ≡ b
   spells_once =
-      let definitions : a.definitions ≡ b.definitions = defines_once one.listed one.plain one.defines other.defines in
+      let definitions : a.definitions ≡ b.definitions = defines_once one.listed one.listed.no_links one.defines other.defines in
       let contents : a.contents ≡ b.contents = same_map item_total item_apart _ _ (λ q. same_options _ _ (content_too one other fit fits q) (content_too other one fits fit q)) in
       λ i. record { definitions = definitions i; contents = contents i }

@@ -51,7 +51,7 @@ module _ {pages : Pages} {one two : Stored} (first : IsStore pages one) (second 
   held_same = λ i. held_at (slots_at (sym same_roots i).slots (sym same_roots i).log_pages) pages (sym same_owners i)
 
   pub same_listing : two.listing ≡ one.listing
-  same_listing = listing_once (held_in pages one) second.spells.listed first.spells.listed second.spells.plain first.spells.plain (subst (λ (h : Held). HoldsListing h two.listing) held_same second.system) first.system
+  same_listing = listing_once (held_in pages one) second.spells.listed first.spells.listed (subst (λ (h : Held). HoldsListing h two.listing) held_same second.system) first.system
 
   same_saved : one.saved ≡ two.saved
   same_saved = spells_once first.spells

@@ -97,7 +97,7 @@ module _ (state : State) (closed : least_open state ≡ None) where
   drop_relation_full name there full = goes_on _ none_is_open ∙ goes_on _ (passes_unless (NoSuch RelationKind) there) ∙ refuses_at _ (refuses_if NotEmpty (first_on (has_image state name) (has_link state name) full))
 
   pub drop_relation_passes : (name : Name) → ArePlain state.base.definitions → is_relation state name ≡ true → nat_le 1 (tuple_count state.base.contents name) ≡ false → refusal state (DropRelation name) ≡ None
-  drop_relation_passes name plain there none = goes_on _ none_is_open ∙ goes_on _ (passes_unless (NoSuch RelationKind) there) ∙ goes_on _ (passes_if NotEmpty (none_on none (no_image_of plain name) (no_link_of plain name)))
+  drop_relation_passes name plain there none = goes_on _ none_is_open ∙ goes_on _ (passes_unless (NoSuch RelationKind) there) ∙ goes_on _ (passes_if NotEmpty (none_on none (no_image_of plain name) (no_link_of state.base.definitions plain.no_links name)))
 
   pub make_relation_lacks : (name segment : Name) (fields : List FieldDef) → is_segment state segment ≡ false → refusal state (MakeRelation name segment fields) ≡ Some (NoSuch SegmentKind)
   make_relation_lacks name segment fields absent = goes_on _ none_is_open ∙ refuses_at _ (refuses_unless (NoSuch SegmentKind) absent)

@@ -169,7 +169,7 @@ module _ (state : State) (t : ℕ) (relation : Name) where
         pub delete_there : ArePlain state.base.definitions → IsThere → refusal state (Delete t relation tid) ≡ if_full state (Delete t relation tid)
         delete_there plain there =
             delete_comes ∙ goes_on (drop 4 (tests state (Delete t relation tid))) (live there)
-            ∙ goes_on (drop 5 (tests state (Delete t relation tid))) (none_connected state plain relation tid)
+            ∙ goes_on (drop 5 (tests state (Delete t relation tid))) (none_connected state plain.no_links relation tid)
             ∙ last_test (if_full state (Delete t relation tid))
 
     -- ---- an update

@@ -20,8 +20,8 @@ use Rattle.rss_model.specs.Steps.{refusal}
 use Rattle.rss_model.specs.Store.{SpellsTables, size_of}
 use Rattle.rss_model.proofs.BothRooms.{definitions_keep_rooms}
 use Rattle.rss_model.proofs.ByNumber.{relation_unnamed}
-use Rattle.rss_model.proofs.Redefining.{defined_fits}
-use Rattle.rss_model.proofs.Redefining.{live_defined}
+use Rattle.rss_model.proofs.PlainStores.{no_image_at}
+use Rattle.rss_model.proofs.Redefining.{defined_fits, live_defined}
 use Rattle.rss_model.proofs.Relisted.{segment_made_spells, segment_gone_spells, relation_made_spells, relation_gone_spells}
 use Rattle.rss_model.proofs.StepKeeping.{kept_fit}
 use Rattle.rss_trans.specs.Tables.{told}
@@ -55,7 +55,7 @@ relisted spells fit (drop_segment name number at none) fits = record {
   so = refl;
   spells = segment_gone_spells spells number name at (λ k r is within. none (record { number = k; relation = r; at = is; within = within })) fits;
 }
-relisted spells fit (drop_relation number entry at empty) fits = record { definitions = _; so = refl; spells = relation_gone_spells spells number entry at (spells.counts number entry at ∙ empty) fits }
+relisted spells fit (drop_relation number entry at empty) fits = record { definitions = _; so = refl; spells = relation_gone_spells spells number entry at (spells.counts number entry at ∙ empty) (λ k image is same. no_image_at spells.plain k image is) fits }
 
 -- neither images nor links are listed
 plain_relisted : {old new : Listing} {call : Call} → Relists old call new → IsPlain old → IsPlain new

@@ -185,7 +185,7 @@ module _ (held : Held) (slots : ℕ) (listing : Listing) (fits : ListingFits lis
     plain = plain;
     defines = defines;
     counts = found_counts;
-    contents = spelled_contents plain (record { stands = stands_found; bodies_are = body_found; only = item_found });
+    contents = spelled_contents fits.no_links (record { stands = stands_found; bodies_are = body_found; only = item_found });
     images = plain_images plain (λ key image there. no_image key image (only key there));
   }
     where
@@ -381,4 +381,4 @@ module _ {held : Held} {slots : ℕ} {listing : Listing} {tables : Tables} (allo
 -- The pages of a listing's system space spell tables by no other listing.
 pub none_by : (held : Held) (slots : ℕ) (listing : Listing) → ListingFits listing → IsPlain listing → HoldsListing held listing → ((tables : Tables) → SpellsTables held listing tables → Fits slots tables → ⊥) → HoldsNone held slots
 none_by held slots listing fits plain system none other tables there spells fit =
-    none tables (subst (λ (l : Listing). SpellsTables held l tables) (listing_once held spells.listed fits spells.plain plain there system) spells) fit
+    none tables (subst (λ (l : Listing). SpellsTables held l tables) (listing_once held spells.listed fits there system) spells) fit

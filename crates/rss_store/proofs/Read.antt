@@ -195,7 +195,7 @@ module _ {root : Root} {number frames writes : ℕ} {owners : List (Option PageK
               shadow = new_shadow;
               slots = new_size;
               counted = counted;
-              listing = listing_once old.held finds.loaded.fits is.spells.listed finds.loaded.plain is.spells.plain (finds.loaded.holds told) (listing_here told stored store);
+              listing = listing_once old.held finds.loaded.fits is.spells.listed (finds.loaded.holds told) (listing_here told stored store);
               head = read.behind.head;
               end = read.end;
               kept = bytes told.pages told.is;
