@@ -328,6 +328,7 @@ impl Catalog {
         ensures least { IsLeastUnused Relation self.old.listing result }
         ensures lists { Lists (with_relation self.old.listing result (Some relation))
             (page_of Relation result) self.old self.new }
+        ensures none { HasImageOf self.old.listing result → ⊥ }
         ensures fits { ListingFits self.old.listing → ListingFits self.new.listing }
     {
         let number = self.first_unused(Kind::Relation).unwrap();
@@ -473,8 +474,9 @@ impl Catalog {
         requires fits { IfSome relation (EntryFits self.old.listing) }
         requires no_image { is_some (relation_at self.old.listing number) ≡ true
             → HasImageOf self.old.listing number → ⊥ }
-        ensures { Lists (with_relation self.old.listing number relation) (page_of Relation number)
+        ensures lists { Lists (with_relation self.old.listing number relation) (page_of Relation number)
             self.old self.new }
+        ensures none { HasImageOf self.old.listing number → ⊥ }
     {
         self.relations[usize::from(number) - 1] = relation;
         self.pending[usize::from(page_of(number))] = true;
