@@ -9,6 +9,7 @@ pub mod Standing
 pub mod Fitting
 pub mod Showing
 pub mod Amounts
+pub mod Rooms
 pub mod Places
 pub mod Telling
 pub mod Owners

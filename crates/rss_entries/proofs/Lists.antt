@@ -1,11 +1,11 @@
 -- What the list of an image is where a tuple changes, and that it is as long as its relation has tuples.
-use Rattle.std.proofs.Common.{◌≡◌, ◌≢◌, ◌⊎◌, inl, inr, ⊎_elim, ℕ, true, List, [], length, refl, sym, ◌∙◌, ap, subst}
-use Rattle.std.specs.Prelude.{Option, Some, None, All, Contains, IfSome, is_some, option_map, unwrap_or, map as list_map}
+use Rattle.std.proofs.Common.{◌≡◌, ◌≢◌, ◌⊎◌, inl, inr, ⊎_elim, ℕ, true, List, length, refl, sym, ◌∙◌, ap, subst}
+use Rattle.std.specs.Prelude.{Option, Some, None, All, Contains, IfSome, is_some, option_map, map as list_map}
 use Rattle.std.proofs.lemmas.List.{length-map}
 use Rattle.std.proofs.lemmas.Option.{same_Some}
 use Rattle.rss_base.specs.Trees.{Pair}
-use Rattle.rss_base.specs.TupleTypes.{kinds, field_names, chosen, misfit, IsStorable}
-use Rattle.rss_base.specs.Listings.{Listing, ListingFits, IsNumberOf, IsFieldNumber, field_numbers}
+use Rattle.rss_base.specs.TupleTypes.{kinds, misfit, IsStorable}
+use Rattle.rss_base.specs.Listings.{Listing, ListingFits, IsNumberOf}
 use Rattle.rss_base.specs.declared.name.Name.{Name}
 use Rattle.rss_base.specs.declared.tid.Tid.{Tid}
 use Rattle.rss_base.specs.declared.value.Value.{Value}
@@ -15,8 +15,8 @@ use Rattle.rss_base.specs.declared.relation.RelationEntry.{RelationEntry}
 use Rattle.rss_base.specs.declared.refusal.Kind.TheVariants.{Relation as RelationKind}
 use Rattle.rss_node.specs.Pairs.{pair_bytes, pair_from, IsSpelledTid}
 use Rattle.rss_model.specs.Items.{Content, Values}
-use Rattle.rss_model.specs.Tables.{RelationDef, Tables, content, fields_in, fields_of}
-use Rattle.rss_model.specs.Images.{image_list, numbers_of}
+use Rattle.rss_model.specs.Tables.{RelationDef, Tables, content, fields_of}
+use Rattle.rss_model.specs.Images.{image_list}
 use Rattle.rss_model.specs.Store.{Defines, IsListedImage, image_definition, pair_spelled}
 use Rattle.rss_model.proofs.Listed.{listed}
 use Rattle.rss_model.proofs.LogChanging.{by_item, put_here, put_other}

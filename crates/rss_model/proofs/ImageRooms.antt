@@ -14,7 +14,7 @@ use Rattle.rss_base.specs.declared.name.Name.{Name}
 use Rattle.rss_base.specs.declared.image.ImageEntry.{ImageEntry}
 use Rattle.rss_base.specs.declared.relation.RelationEntry.{RelationEntry}
 use Rattle.rss_base.specs.declared.refusal.Kind.TheVariants.{Image as ImageKind}
-use Rattle.rss_model.specs.Tables.{ImageDef, Definitions, Tables}
+use Rattle.rss_model.specs.Tables.{ImageDef, Definitions, Tables, tuple_count}
 use Rattle.rss_model.specs.Images.{image_list}
 use Rattle.rss_model.specs.Meter.{Meter, bound_of, entries_most, pages_of_image}
 use Rattle.rss_model.specs.Spares.{change_counts, bound_by, bound_at, listed_bound, live_of, most_of}
@@ -194,3 +194,13 @@ module _ {held : Held} {listing : Listing} {tables : Tables} (fits : ListingFits
 -- no more image pages are mapped than the images may have by the tuples of their relations
 pub images_few : {held : Held} {listing : Listing} {tables : Tables} → SpellsTables held listing tables → {mapped : Mapped} → ((key : PageKey) → is_some (held key) ≡ mapped key) → (slots : ℕ) → mapped_of mapped ImageSpace slots ≤ listed_bound listing (live_of listing)
 images_few spells holds slots = mapped_few spells.listed spells.counts spells.images holds slots
+
+-- nor more than a meter allows them, where it allows each relation its tuples
+pub images_allowed : {held : Held} {listing : Listing} {tables : Tables} → SpellsTables held listing tables → {mapped : Mapped} → ((key : PageKey) → is_some (held key) ≡ mapped key) → (slots : ℕ) (meter : Meter)
+    → ((relation : Name) → tuple_count tables.contents relation ≤ entries_most (meter.traffic relation)) → mapped_of mapped ImageSpace slots ≤ (change_counts tables.definitions meter).images
+images_allowed {listing = listing} spells holds slots meter covers =
+    let rises = bound_rises listing (live_of listing) (most_of listing meter.traffic) (λ number relation at.
+    let live : live_of listing number ≡ relation.live = ap (λ (o : Option RelationEntry). unwrap_or (option_map (λ r. r.live) o) 0) at in
+    let most : most_of listing meter.traffic number ≡ entries_most (meter.traffic relation.name) = ap (λ (o : Option RelationEntry). unwrap_or (option_map (λ r. entries_most (meter.traffic r.name)) o) 0) at in
+    omega (arith, live, most, spells.counts number relation at, covers relation.name)) in
+    omega (arith, images_few spells holds slots, rises, listed_same spells.defines spells.listed meter)

@@ -80,6 +80,7 @@ pub mod Changers
 pub mod BothRooms
 pub mod StepRooms
 pub mod LogOnce
+pub mod Restarted
 pub mod StorePages
 pub mod Stores
 pub mod LogGrowing

@@ -153,11 +153,17 @@ undone_heap slots none = omega arith
 undone_heap slots {tables = tables} (more {change = c} {changes = ds} lead rest) =
     omega (arith, undone_heap slots rest, heap_put slots tables.definitions tables.contents c.old c.item, lead.one)
 
--- and a relation as many tuples more at most
+-- what counts of the contents one more at most where an item is put that counts, counts so many more where changes are undone
+module _ (measure : Contents → ℕ) (counts : Item → Bool) (puts : (contents : Contents) (item : Item) (held : Option Content) → measure (put contents item held) ≤ measure contents + one_if (counts item)) where
+  pub undone_most : (contents : Contents) (ds : List Change) → measure (undone contents ds) ≤ measure contents + count_by (λ d. counts d.item) ds
+  undone_most contents [] = omega arith
+  undone_most contents (c ∷ ds) = omega (arith, undone_most (undo contents c) ds, puts contents c.item c.old, sum_by-cons (λ (d : Change). one_if (counts d.item)) c ds)
+
+-- so a relation has as many tuples more at most
+pub put_count : (relation : Name) (contents : Contents) (item : Item) (held : Option Content) → tuple_count (put contents item held) relation ≤ tuple_count contents relation + one_if (counts_for item relation)
+put_count relation contents item held = by_test (is_tuple_of relation item)
+    (λ on. omega (arith, counts_put contents item held relation on, one_test (is_some held) true, ap one_if on))
+    (λ off. omega (arith, counts_same contents item held relation off, ap one_if off))
+
 pub undone_count : (relation : Name) (contents : Contents) (ds : List Change) → tuple_count (undone contents ds) relation ≤ tuple_count contents relation + changes_of ds relation
-undone_count relation contents [] = omega arith
-undone_count relation contents (c ∷ ds) =
-    let more' = sum_by-cons (λ (d : Change). one_if (counts_for d.item relation)) c ds in
-    by_test (is_tuple_of relation c.item)
-    (λ on. omega (arith, undone_count relation (undo contents c) ds, counts_put contents c.item c.old relation on, one_test (is_some c.old) true, more', ap one_if on))
-    (λ off. omega (arith, undone_count relation (undo contents c) ds, counts_same contents c.item c.old relation off, more', ap one_if off))
+undone_count relation contents ds = undone_most (λ held. tuple_count held relation) (λ item. counts_for item relation) (put_count relation) contents ds

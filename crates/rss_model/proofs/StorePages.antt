@@ -1,10 +1,12 @@
 -- The pages of a store: how many there are, and that each has room in two slots.
 use Rattle.std.proofs.Common.{◌≡◌, ◌⊎◌, inl, inr, ⊎_elim, ℕ, zero, suc, ◌+◌, ◌*◌, ◌<◌, ◌≤◌, Bool, true, false, cond, List, [], ◌∷◌, length, Option, Some, None, refl, sym, ◌∙◌, ap, subst, arith}
-use Rattle.std.specs.Prelude.{IfSome, is_some, option_map, not, filter, count_by, sum_by, map as list_map}
+use Rattle.std.specs.Prelude.{IfSome, is_some, option_map, count_by, sum_by, map as list_map}
+use Rattle.std.specs.FinMap as finite
+use Rattle.std.specs.FinMap.{FinMap}
 use Rattle.std.specs.List.{range_with_len}
 use Rattle.std.proofs.lemmas.Bool.{cases_lt, false_from_ne_true}
 use Rattle.std.proofs.lemmas.List.{get_or_past}
-use Rattle.std.proofs.lemmas.List.Sums.{sum_by-cons, length-filter, count_by-le-length}
+use Rattle.std.proofs.lemmas.List.Sums.{sum_by-cons, sum_by-le-sum_by}
 use Rattle.std.proofs.lemmas.Option.{none-some}
 use Rattle.rss_base.specs.DiskRule.{Pages, page}
 use Rattle.rss_base.specs.Layout.{map_at, slots_at, log_free}
@@ -15,28 +17,29 @@ use Rattle.rss_base.specs.Sizes.{system_pages}
 use Rattle.rss_base.specs.StoredPages.{slot_of, mapped_by, held_at}
 use Rattle.rss_base.specs.declared.key.PageKey.{PageKey}
 use Rattle.rss_base.specs.declared.key.Space.TheVariants.{Home, Overflow, Image, System}
+use Rattle.rss_base.specs.declared.name.Name.{Name}
 use Rattle.rss_base.specs.declared.root.Root.{Root}
 use Rattle.rss_base.proofs.Counts.{mapped_pages-owners}
 use Rattle.rss_page.specs.Slotted.{IsHeapKey}
-use Rattle.rss_model.specs.Tables.{Definitions, Contents, Tables, tuple_count}
-use Rattle.rss_model.specs.Changes.{Change, maker, undo, undone}
+use Rattle.rss_model.specs.Items.{name_cmp}
+use Rattle.rss_model.specs.Tables.{ImageDef, Definitions, Tables, tuple_count}
+use Rattle.rss_model.specs.Changes.{Change, maker}
 use Rattle.rss_model.specs.Fits.{ArePlain}
 use Rattle.rss_model.specs.Kept.{AreStamps, IsMetered}
 use Rattle.rss_model.specs.Steps.{stamp_by}
 use Rattle.rss_model.specs.Machine.{StoreSize, State, IsAtRest, with_changes, now}
 use Rattle.rss_model.specs.Meanings.{Logged, as_entries, is_change}
-use Rattle.rss_model.specs.Meter.{Meter, heap_pages, changes_of, room_number, owed, log_room, free_between}
-use Rattle.rss_model.specs.Records.{LogEntry, Changed, Restore, End, Abort, Checkpoint, Placed, Listed, changes_in}
+use Rattle.rss_model.specs.Meter.{Meter, heap_pages, changes_of, entries_most, pages_of_image, room_number, owed, log_room, free_between}
+use Rattle.rss_model.specs.Spares.{change_counts}
 use Rattle.rss_model.specs.Recovers.{lists_at}
-use Rattle.rss_model.specs.Restart.{survives, stays, losers, redo, redone, restarted}
-use Rattle.rss_model.specs.Store.{IsStorePage, SpellsTables, Stored, first_record, listed_at, HasLog, meter_of, overflow_pages, IsStore, StoresHaveRoom, OpeningsHaveRoom, OpeningsAreMetered}
-use Rattle.rss_model.proofs.Counts.{one_if}
+use Rattle.rss_model.specs.Store.{IsStorePage, SpellsTables, Stored, first_record, meter_of, overflow_pages, pages_of_space, IsStore, StoresHaveRoom, OpeningsHaveRoom, OpeningsAreMetered}
+use Rattle.rss_model.proofs.Heap.{no_entries}
 use Rattle.rss_model.proofs.Listed.{heap_is}
-use Rattle.rss_model.proofs.LogLists.{by_test}
-use Rattle.rss_model.proofs.LogPlaced.{restarts_log}
-use Rattle.rss_model.proofs.Rooming.{heap_put}
-use Rattle.rss_model.proofs.PlainStores.{tables_plain, none_imaged, plain_room}
+use Rattle.rss_model.proofs.ImageRooms.{images_allowed}
+use Rattle.rss_model.proofs.PlainStores.{none_imaged}
 use Rattle.rss_model.proofs.Relisted.{page_kind}
+use Rattle.rss_model.proofs.Restarted.{recovered_pages, recovered_count}
+use Rattle.rss_model.proofs.Saving.{more_pages}
 
 -- ---- how many pages are mapped
 
@@ -103,79 +106,58 @@ map_allowed {slots = slots} {owners = owners} map s key owned = elim (cases_lt s
   | inr past ↦ absurd (none-some key (sym (get_or_past owners s None past) ∙ owned))
 ]
 
--- they are the home and overflow pages, and those of the system space
-pub pages_counted : (root : Root) (owners : List (Option PageKey)) (pages : Pages) → IsMap root.slots pages (map_at root.slots root.area) owners → {listing : Listing} {tables : Tables} → HoldsListing (held_at (slots_at root.slots root.log_pages) pages owners) listing → SpellsTables (held_at (slots_at root.slots root.log_pages) pages owners) listing tables
-    → page_count owners ≡ mapped_of (mapped_by owners) Home root.slots + mapped_of (mapped_by owners) Overflow root.slots + system_pages
-pages_counted root owners pages map {listing = listing} {tables = tables} listed spells =
+-- they are the pages of each space, and all those of the system space
+pub owners_split : (root : Root) (owners : List (Option PageKey)) (pages : Pages) → IsMap root.slots pages (map_at root.slots root.area) owners → (listing : Listing) → HoldsListing (held_at (slots_at root.slots root.log_pages) pages owners) listing
+    → page_count owners ≡ mapped_of (mapped_by owners) Home root.slots + mapped_of (mapped_by owners) Overflow root.slots + mapped_of (mapped_by owners) Image root.slots + system_pages
+owners_split root owners pages map listing listed =
     sym (mapped_pages-owners root.slots owners (mapped_by owners) (λ slot key owned. map_allowed map slot key owned) map.begins.distinct (λ key. refl))
-    ∙ pages_are (mapped_by owners) (λ key is. plain_kind listing key (plain_page spells key (held_mapped first pages owners key ∙ is))) root.slots
-    (λ n low. sym (held_mapped first pages owners (page_key 0 System n)) ∙ ap is_some (listed n low))
+    ∙ pages_split (mapped_by owners) root.slots (λ n low. sym (held_mapped first pages owners (page_key 0 System n)) ∙ ap is_some (listed n low))
   where
     first : ℕ
     first = slots_at root.slots root.log_pages
 
--- so the rule of room asks for each page twice
-module _ (is : Stored) (plain : ArePlain is.saved.definitions) (older : is.older ≡ []) (newer : is.newer ≡ first_record ∷ []) where
-  meter_is : room_number is.saved.definitions (meter_of is) ≡ 2 * (mapped_of (mapped_by is.owners) Home is.root.slots + mapped_of (mapped_by is.owners) Overflow is.root.slots + system_pages)
+-- without images they are the home and overflow pages, and those of the system space
+pub pages_counted : (root : Root) (owners : List (Option PageKey)) (pages : Pages) → IsMap root.slots pages (map_at root.slots root.area) owners → {listing : Listing} {tables : Tables} → HoldsListing (held_at (slots_at root.slots root.log_pages) pages owners) listing → SpellsTables (held_at (slots_at root.slots root.log_pages) pages owners) listing tables
+    → page_count owners ≡ mapped_of (mapped_by owners) Home root.slots + mapped_of (mapped_by owners) Overflow root.slots + system_pages
+pages_counted root owners pages map {listing = listing} {tables = tables} listed spells =
+    omega (arith, owners_split root owners pages map listing listed, no_images (mapped_by owners) (λ key is. plain_kind listing key (plain_page spells key (held_mapped first pages owners key ∙ is))) root.slots)
+  where
+    first : ℕ
+    first = slots_at root.slots root.log_pages
+
+-- the pages beside those of images
+abbrev pages_beside : Stored → ℕ
+pages_beside is = mapped_of (mapped_by is.owners) Home is.root.slots + mapped_of (mapped_by is.owners) Overflow is.root.slots + system_pages
+
+-- where no image is defined and nothing is logged, the rule of room asks for each of them twice
+module _ (is : Stored) (none : is.saved.definitions.images ≡ finite.empty) (older : is.older ≡ []) (newer : is.newer ≡ first_record ∷ []) where
+  meter_is : room_number is.saved.definitions (meter_of is) ≡ 2 * pages_beside is
   meter_is =
-      let none : (meter_of is).surviving ≡ 0 = ap (λ (l : List Logged). length (lists_at (as_entries l))) older in
+      let images : (change_counts is.saved.definitions (meter_of is)).images ≡ 0 =
+      ap (λ (m : FinMap name_cmp ImageDef). sum_by (pages_of_image is.saved.definitions (meter_of is)) (finite.values m)) none
+      ∙ ap (λ (es : List (Name × ImageDef)). sum_by (pages_of_image is.saved.definitions (meter_of is)) (list_map (λ e. e.1) es)) (no_entries ImageDef) in
+      let surviving : (meter_of is).surviving ≡ 0 = ap (λ (l : List Logged). length (lists_at (as_entries l))) older in
       let since : (meter_of is).since ≡ 0 = ap (λ (l : List Logged). count_by (λ m. is_change m.is) l) newer in
-      omega (arith, plain_room plain (meter_of is), none, since)
+      omega (arith, images, surviving, since)
 
-  pub room_least : 2 * page_count is.owners ≤ is.root.slots → page_count is.owners ≡ mapped_of (mapped_by is.owners) Home is.root.slots + mapped_of (mapped_by is.owners) Overflow is.root.slots + system_pages → room_number is.saved.definitions (meter_of is) ≤ is.root.slots
-  room_least room count = omega (arith, meter_is, room, count)
+  pub first_room : 2 * page_count is.owners ≤ is.root.slots → pages_beside is ≤ page_count is.owners → room_number is.saved.definitions (meter_of is) ≤ is.root.slots
+  first_room room few = omega (arith, meter_is, room, few)
 
--- each page has room in two slots
+pub room_least : (is : Stored) → ArePlain is.saved.definitions → is.older ≡ [] → is.newer ≡ first_record ∷ [] → 2 * page_count is.owners ≤ is.root.slots → page_count is.owners ≡ pages_beside is → room_number is.saved.definitions (meter_of is) ≤ is.root.slots
+room_least is plain older newer room count = first_room is plain.no_images older newer room (omega (arith, count))
+
+-- the images of a store have no more pages than the meter of its checkpoint allows them
+pub saved_few : {pages : Pages} {is : Stored} → IsStore pages is → pages_of_space Image is ≤ (change_counts is.saved.definitions (meter_of is)).images
+saved_few {pages = pages} {is = is} store =
+    images_allowed store.spells (held_mapped (slots_at is.root.slots is.root.log_pages) pages is.owners) is.root.slots (meter_of is) (λ relation. omega arith)
+
+-- so each page has room in two slots
 pub store_room : {pages : Pages} {is : Stored} → IsStore pages is → 2 * page_count is.owners ≤ is.root.slots
 store_room {pages = pages} {is = is} store =
-    let count = pages_counted is.root is.owners pages store.map store.system store.spells in
-    omega (arith, store.room, plain_room (tables_plain store.spells) (meter_of is), count)
+    omega (arith, store.room, saved_few store, owners_split is.root is.owners pages store.map is.listing store.system)
 
 pub stores_have_room : StoresHaveRoom
 stores_have_room pages stored store = store_room store
-
--- ---- what restart adds to the heap
-
--- each change that is undone, and each that is done again, takes one page more at most
-module _ (slots : ℕ) (definitions : Definitions) where
-  abbrev heap_of : Contents → ℕ
-  heap_of contents = heap_pages slots (record { definitions = definitions; contents = contents })
-
-  undone_pages : (contents : Contents) (ls : List Listed) → heap_of (undone contents (changes_in ls)) ≤ heap_of contents + length ls
-  undone_pages contents [] = omega arith
-  undone_pages contents (l ∷ ls) = omega (arith, undone_pages (undo contents l.change) ls, heap_put slots definitions contents l.change.old l.change.item)
-
-  redo_pages : (contents : Contents) (at : ℕ) (e : LogEntry) (ps : List Placed) → heap_of (redo contents at e ps) ≤ heap_of contents + one_if (is_change e)
-  redo_pages contents at (Changed c) ps = by_test (survives c.by at ps)
-      (λ e. rw e (omega (arith, heap_put slots definitions contents c.new c.item)))
-      (λ e. rw e (omega arith))
-  redo_pages contents at (Restore t first) ps = omega arith
-  redo_pages contents at (End t) ps = omega arith
-  redo_pages contents at (Abort t) ps = omega arith
-  redo_pages contents at (Checkpoint named) ps = omega arith
-
-  redone_pages : (contents : Contents) (ls : List Logged) → heap_of (redone contents (as_entries ls)) ≤ heap_of contents + count_by (λ l. is_change l.is) ls
-  redone_pages contents [] = omega arith
-  redone_pages contents (l ∷ ls) = omega (
-    arith,
-    redone_pages (redo contents l.at l.is (as_entries ls)) ls,
-    redo_pages contents l.at l.is (as_entries ls),
-    sum_by-cons (λ (m : Logged). one_if (is_change m.is)) l ls,
-  )
-
-  restarted_pages : (contents : Contents) (lists : List Listed) (newer : List Logged) → heap_of (restarted contents lists (as_entries newer)) ≤ heap_of contents + length lists + count_by (λ l. is_change l.is) newer
-  restarted_pages contents lists newer =
-      let lost = losers (as_entries newer) lists in
-      omega (arith, undone_pages contents lost, redone_pages (undone contents (changes_in lost)) newer, fewer (λ l. not (stays (as_entries newer) l)) lists)
-    where
-      fewer : (p : Listed → Bool) (ls : List Listed) → length (filter p ls) ≤ length ls
-      fewer p ls = omega (arith, length-filter p ls, count_by-le-length p ls)
-
--- so it has no more pages than the meter of the checkpoint has room for
-recovered_pages : {pages : Pages} {is : Stored} → HasLog pages is → heap_pages is.root.slots is.tables ≤ heap_pages is.root.slots is.saved + (meter_of is).surviving + (meter_of is).since
-recovered_pages {is = is} log =
-    let same : record is.saved { contents = restarted is.saved.contents (listed_at is) (as_entries is.newer) } ≡ is.tables = λ i. record { definitions = sym log.definitions i; contents = (restarts_log log).gives i } in
-    omega (arith, ap (heap_pages is.root.slots) same, restarted_pages is.root.slots is.saved.definitions is.saved.contents (listed_at is) is.newer)
 
 -- ---- a store that was opened
 
@@ -184,18 +166,26 @@ openings_have_room pages size tables state opens at =
     let is : Stored = opens.stored in
     let store = opens.store in
     let definitions : tables.definitions ≡ is.saved.definitions = ap (λ (t : Tables). t.definitions) opens.holds ∙ store.log.definitions in
-    let plain : ArePlain tables.definitions = subst ArePlain (sym definitions) (tables_plain store.spells) in
     let slots : size.slots ≡ is.root.slots = ap (λ (s : StoreSize). s.slots) opens.same_size in
     let over : state.meter.over ≡ overflow_pages is = at.over is store in
     let held = heap_is store.spells store.fit (mapped_by is.owners) (held_mapped (slots_at is.root.slots is.root.log_pages) pages is.owners) in
     let heap : heap_pages size.slots tables ≡ heap_pages is.root.slots is.tables = λ i. heap_pages (slots i) (opens.holds i) in
     let free : log_room size.log_pages state.meter ≡ log_free is.root = λ i. free_between (opens.same_size i).log_pages (at.head is store i) (at.end is store i) in
+    let covers : (relation : Name) → entries_most (state.meter.traffic relation) ≤ entries_most ((meter_of is).traffic relation) = λ relation. omega (
+      arith,
+      recovered_count store.log relation,
+      ap (λ (t : Tables). tuple_count t.contents relation) opens.holds,
+      ap (λ (m : Meter). entries_most (m.traffic relation)) at.rest.meter,
+    ) in
+    let images : (change_counts is.saved.definitions state.meter).images ≤ (change_counts is.saved.definitions (meter_of is)).images =
+    sum_by-le-sum_by (pages_of_image is.saved.definitions state.meter) (pages_of_image is.saved.definitions (meter_of is)) (finite.values is.saved.definitions.images)
+    (λ image. more_pages _ (state.meter.traffic image.relation) ((meter_of is).traffic image.relation) (covers image.relation)) in
     record {
       pages = omega (
         arith,
-        plain_room plain state.meter,
+        images,
+        ap (λ (d : Definitions). (change_counts d state.meter).images) definitions,
         store.room,
-        plain_room (tables_plain store.spells) (meter_of is),
         recovered_pages store.log,
         slots,
         over,

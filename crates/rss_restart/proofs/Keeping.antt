@@ -1,36 +1,35 @@
 -- The catalog, while changes are made: what is kept of it.
-use Rattle.std.proofs.Common.{◌≡◌, inl, inr, ℕ, zero, suc, Option, Some, None, List, [], ◌∷◌, replicate, refl, sym, ◌∙◌, ap}
-use Rattle.std.specs.Prelude.{true, is_some, option_map, map, Result, Ok, Err}
+use Rattle.std.proofs.Common.{◌≡◌, inl, inr, ℕ, Some, refl, sym, ◌∙◌, ap}
+use Rattle.std.specs.Prelude.{Result, Ok, Err}
 use Rattle.rss_base.specs.DiskRule.{IsTold}
 use Rattle.rss_base.specs.Paged.{page_key}
 use Rattle.rss_base.specs.Steps.{PagesStep}
-use Rattle.rss_base.specs.Listings.{Listing, ListingFits, IsPlain, numbered}
-use Rattle.rss_base.specs.Sizes.{images_most}
-use Rattle.rss_base.specs.declared.image.ImageEntry.{ImageEntry}
+use Rattle.rss_base.specs.Listings.{Listing, ListingFits, IsPlain}
 use Rattle.rss_base.specs.declared.fault.PageFault.{PageFault}
 use Rattle.rss_base.specs.declared.key.Space.TheVariants.{System, Image}
 use Rattle.rss_base.specs.declared.change.Change as told
-use Rattle.rss_catalog.proofs.Numbered.{numbered_map}
-use Rattle.rss_model.specs.Meanings.{rootless}
-use Rattle.rss_model.proofs.LogLists.{some_of}
 use Rattle.rss_access.specs.Changes.{AccessView, Makes}
 use Rattle.rss_access.specs.Relisted.{KeepsSpelled}
-use Rattle.rss_access.specs.Written.{HasImage, content_of}
-use Rattle.rss_access.proofs.Rerooting.{unrooted, same_images, still_plain}
+use Rattle.rss_access.specs.Written.{content_of}
+use Rattle.rss_access.proofs.Rerooting.{unrooted, still_plain}
 use Rattle.rss_access.proofs.Writing.{off_system}
 use Rattle.rss_restart.specs.Restarting.{KeepsCatalog}
 
 pub keeps_itself : (view : AccessView) → KeepsCatalog view view
-keeps_itself view = record { fits = λ fits. fits; images = λ has. has; plain = λ plain. plain; places = refl; written = λ told places written. written }
+keeps_itself view = record { fits = λ fits. fits; images = refl; no_links = λ none. none; places = refl; written = λ told places written. written }
 
 pub keeps_then : {old mid new : AccessView} → KeepsCatalog old mid → (IsTold old.pages.disk → IsTold mid.pages.disk) → KeepsCatalog mid new → KeepsCatalog old new
 keeps_then one still two = record {
   fits = λ fits. two.fits (one.fits fits);
-  images = λ has. one.images (two.images has);
-  plain = λ plain. two.plain (one.plain plain);
+  images = two.images ∙ one.images;
+  no_links = λ none. two.no_links (one.no_links none);
   places = two.places ∙ one.places;
   written = λ told places written. two.written (still told) (one.places ∙ places) (one.written told places written);
 }
+
+-- a listing without images has none afterwards
+pub plain_kept : {old new : AccessView} → KeepsCatalog old new → IsPlain old.catalog.listing → IsPlain new.catalog.listing
+plain_kept keeps plain = still_plain keeps.images (keeps.no_links plain.no_links ∙ sym plain.no_links) plain
 
 module _ {asks outs : ℕ} (old new : AccessView) {listing : Listing} (step : PagesStep (content_of listing) asks outs old.pages new.pages) where
   content_off : (page : ℕ) → content_of listing (page_key 0 System page) → ⊥
@@ -44,8 +43,8 @@ module _ {asks outs : ℕ} (old new : AccessView) {listing : Listing} (step : Pa
   keeps_spelled : (ListingFits old.catalog.listing → ListingFits new.catalog.listing) → unrooted new.catalog.listing.images ≡ unrooted old.catalog.listing.images → new.catalog.listing.links ≡ old.catalog.listing.links → KeepsSpelled old.catalog new.catalog → KeepsCatalog old new
   keeps_spelled fits images links keeps = record {
     fits = fits;
-    images = same_images images;
-    plain = λ plain. still_plain images links plain;
+    images = images;
+    no_links = λ none. links ∙ none;
     places = keeps.places;
     written = λ told places written page low not.
         system_same told page ∙ written page low (λ was. not (keeps.still page was)) ∙ ap Some (sym (keeps.same places page low not));

@@ -20,6 +20,7 @@ use Rattle.rss_model.specs.Tables.{Tables}
 use Rattle.rss_access.specs.Written.{content_of}
 use Rattle.rss_access.specs.Changes.{AccessView, alter_cost, Takes, HasRoom, applied, pages_of_relation, number_told, Makes, NoneApplies, CanApply}
 use Rattle.rss_access.proofs.Altering.{applies_by}
+use Rattle.rss_access.proofs.Rerooting.{same_images}
 use Rattle.rss_access.proofs.Telling.{none_applies}
 use Rattle.rss_restart.specs.declared.restarting.Way.{Way}
 use Rattle.rss_restart.specs.Walks.{Turn, turn, directed, recorded, Move, turns_of, moved, TellsAt, TellsNone, StepsTo, NoStep, CanWalk, Leads, NoWalk, Walks}
@@ -120,7 +121,7 @@ turns_all way positions i low =
 -- pages that images may have now are those that they had
 content_was : {old mid : AccessView} → KeepsCatalog old mid → (key : PageKey) → content_of mid.catalog.listing key → content_of old.catalog.listing key
 content_was keeps key (inl heap) = inl heap
-content_was keeps key (inr image) = inr (image.0, keeps.images image.1)
+content_was keeps key (inr image) = inr (image.0, same_images keeps.images image.1)
 
 takes_none : (pages : PagesView) → Takes 0 pages pages
 takes_none pages = record { heap = omega arith; places = omega arith }

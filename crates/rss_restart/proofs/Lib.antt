@@ -2,6 +2,7 @@ pub mod Bounding
 pub mod Standing
 pub mod Deciding
 pub mod Surveying
+pub mod Rooming
 pub mod Moving
 pub mod Keeping
 pub mod Leading

@@ -1,18 +1,19 @@
 -- A change that is made: what the log tells of the others means the same afterwards.
-use Rattle.std.proofs.Common.{◌≡◌, inl, inr, ℕ, zero, suc, ◌≤◌, List, [], ◌∷◌, get_or, refl, sym, ◌∙◌, ap, subst, arith}
-use Rattle.std.specs.Prelude.{Option, Some, None, unwrap_or, replicate, sum_by}
+use Rattle.std.proofs.Common.{◌≡◌, inl, inr, ℕ, zero, suc, ◌+◌, ◌≤◌, List, [], ◌∷◌, get_or, refl, sym, ◌∙◌, ap, subst, arith}
+use Rattle.std.specs.Prelude.{true, Option, Some, None, unwrap_or, replicate}
 use Rattle.std.specs.List.{AllByRecursion}
 use Rattle.std.proofs.lemmas.Bool.{cases_eq, cases_lt}
 use Rattle.std.proofs.lemmas.List.{get_or_past, get_or-replicate, length-replicate}
+use Rattle.std.proofs.lemmas.List.Sums.{sum_by-cons}
 use Rattle.std.proofs.lemmas.Option.{none-some, same_Some}
-use Rattle.rss_base.specs.Sizes.{images_most, links_most}
+use Rattle.rss_base.specs.Sizes.{links_most}
 use Rattle.rss_base.specs.DiskRule.{IsTold}
 use Rattle.rss_base.specs.TupleTypes.{kinds, Spells}
-use Rattle.rss_base.specs.Listings.{Listing, IsPlain, numbered, relation_at, link_at, with_count}
+use Rattle.rss_base.specs.Listings.{Listing, HasNoLinks, numbered, relation_at, link_at, with_count}
 use Rattle.rss_base.specs.declared.name.Name.{Name}
 use Rattle.rss_base.specs.declared.field.FieldDef.{FieldDef}
-use Rattle.rss_base.specs.declared.image.ImageEntry.{ImageEntry}
 use Rattle.rss_base.specs.declared.link.LinkEntry.{LinkEntry}
+use Rattle.rss_base.specs.declared.item.Item.{Item}
 use Rattle.rss_base.specs.declared.item.Item.TheVariants.{Tuple as TupleItem}
 use Rattle.rss_base.specs.declared.relation.RelationEntry.{RelationEntry}
 use Rattle.rss_base.specs.declared.refusal.Kind.TheVariants.{Relation as RelationKind}
@@ -22,23 +23,27 @@ use Rattle.rss_base.specs.declared.log_record.LogRecord.TheVariants as records
 use Rattle.rss_record.proofs.Records.{one_front}
 use Rattle.rss_log.specs.Logs.{LogView}
 use Rattle.rss_catalog.specs.Catalogs.{CatalogView}
-use Rattle.rss_model.specs.Items.{Content}
+use Rattle.rss_model.specs.Items.{Content, is_name}
 use Rattle.rss_model.specs.Tables.{Tables}
 use Rattle.rss_model.specs.Changes.{Change}
 use Rattle.rss_model.specs.Fits.{Fits}
-use Rattle.rss_model.specs.Meanings.{IsChangeTold, Means, TellsValues, name_at, nameless}
+use Rattle.rss_model.specs.Meanings.{IsChangeTold, Means, TellsValues, item_told, name_at, nameless}
+use Rattle.rss_model.specs.Meter.{counts_for}
+use Rattle.rss_model.proofs.Codes.{name_total, name_apart}
+use Rattle.rss_model.proofs.Contents.{tied}
+use Rattle.rss_model.proofs.Counts.{one_if}
 use Rattle.rss_model.proofs.Listed.{at_place}
 use Rattle.rss_model.proofs.Relisted.{number_of}
-use Rattle.rss_access.specs.Changes.{AccessView, IsTupleRecord, HasRoom, number_told, Alters, Applies, CanApply, applied}
+use Rattle.rss_access.specs.Changes.{AccessView, IsTupleRecord, HasRoom, number_told, count_after, Alters, Applies, CanApply, applied}
 use Rattle.rss_access.specs.Relisted.{Recounted}
-use Rattle.rss_entries.specs.Rooms.{images_room, image_room, image_places}
 use Rattle.rss_access.proofs.Numbered.{counted_here, counted_else}
 use Rattle.rss_access.proofs.Recounting.{Recounts}
 use Rattle.rss_access.proofs.Rerooting.{recounts_by}
 use Rattle.rss_access.proofs.Telling.{reversed_tuple}
 use Rattle.rss_restart.specs.declared.restarting.Way.{Way}
 use Rattle.rss_restart.specs.declared.restarting.Way.TheVariants.{Back, Again}
-use Rattle.rss_restart.specs.Walks.{Move, TellsAt, StepsTo, NoStep, IsMove, CanWalk, MovesFit, directed}
+use Rattle.rss_restart.specs.Walks.{Move, TellsAt, StepsTo, NoStep, IsMove, CanWalk, MovesFit, directed, moves_of}
+use Rattle.rss_restart.proofs.Rooming.{has_room, bound_left}
 
 -- ---- a listing in which a relation has another count
 
@@ -125,18 +130,31 @@ pub told_once : {log : LogView} {at : ℕ} {one two : told.Change} → TellsAt l
 told_once {one = one} {two = two} first second =
     same_change first.by second.by one two (one_front (records.Change first.by one) (records.Change second.by two) first.rest second.rest first.begins.spellable second.begins.spellable (sym first.begins.is ∙ second.begins.is)).0
 
--- ---- room
+-- ---- the relation of a change
 
--- without images, two places are room enough
-rooms_none : (listing : Listing) (number : ℕ) → IsPlain listing → images_room listing number ≡ 0
-rooms_none listing number plain = ap (λ (images : List (Option ImageEntry)). sum_by (image_room listing number) images) plain.no_images ∙ none images_most
+-- how many tuples it may have behind the change
+pub count_most : (change : told.Change) (live : ℕ) → count_after change live ≤ live + 1
+count_most (Insert number tid values) live = omega arith
+count_most (Delete number tid values) live = omega arith
+count_most (Update number tid from to) live = omega arith
+count_most (Connect link parent child left) live = omega arith
+count_most (Disconnect link parent child left) live = omega arith
+
+-- it is the relation that the machine's change counts for
+tells_of : (listing : Listing) (told_change : told.Change) → IsTupleRecord told_change → (relation : RelationEntry) → relation_at listing (number_told told_change) ≡ Some relation → counts_for (item_told listing told_change) relation.name ≡ true
+tells_of listing told_change is relation at = by told_change is (named at)
   where
-    none : (count : ℕ) → sum_by (image_room listing number) (replicate count None) ≡ 0
-    none zero = refl
-    none (suc count) = none count
+    named : {number : ℕ} → relation_at listing number ≡ Some relation → is_name relation.name (name_at RelationKind listing number) ≡ true
+    named {number = number} at =
+        let name : name_at RelationKind listing number ≡ relation.name = ap (λ (name : Option Name). unwrap_or name (nameless number)) (number_of listing number relation at) in
+        ap (is_name relation.name) name ∙ tied name_total name_apart relation.name
 
-pub plain_room : (at : AccessView) (number : ℕ) → IsPlain at.catalog.listing → 2 ≤ image_places at.pages → HasRoom at number
-plain_room at number plain room = omega (arith, rooms_none at.catalog.listing number plain, room)
+    by : (told_change : told.Change) → IsTupleRecord told_change → is_name relation.name (name_at RelationKind listing (number_told told_change)) ≡ true → counts_for (item_told listing told_change) relation.name ≡ true
+    by (Insert number tid values) is same = same
+    by (Delete number tid values) is same = same
+    by (Update number tid from to) is same = same
+    by (Connect link parent child left) is same = absurd is
+    by (Disconnect link parent child left) is same = absurd is
 
 -- ---- the first of the changes that can be made
 
@@ -155,9 +173,22 @@ module _ {log : LogView} {at : AccessView} {tables : Tables} {m : Move} {moves :
     fit_next = fits_now at.pages.slots (applied tables m.change) moves can.fit.1;
   }
 
+  -- it counts for its relation
+  counts_one : (relation : RelationEntry) → relation_at at.catalog.listing (number_told (directed m.next.way m.told_change)) ≡ Some relation → moves_of (m ∷ moves) relation.name ≡ 1 + moves_of moves relation.name
+  counts_one relation is =
+      let counts : counts_for m.change.item relation.name ≡ true =
+      ap (λ (item : Item). counts_for item relation.name) can.are.0.is.item
+      ∙ tells_of at.catalog.listing (directed m.next.way m.told_change) (directed_tuple m.next.way m.told_change can.are.0.tells.tuple) relation is in
+      omega (arith, sum_by-cons (λ (k : Move). one_if (counts_for k.change.item relation.name)) m moves, ap one_if counts)
+
+  room_first : HasRoom at (number_told (directed m.next.way m.told_change))
+  room_first = has_room at (number_told (directed m.next.way m.told_change)) (moves_of (m ∷ moves))
+      (λ relation is. omega (arith, counts_one relation is))
+      (omega (arith, can.room))
+
   -- it is one that can be made
   pub no_step_walks : NoStep log m.next at → ⊥
-  no_step_walks none = none m.told_change can.are.0.tells (plain_room at (number_told (directed m.next.way m.told_change)) can.spells.plain (omega (arith, can.room))) tables m.change can_make
+  no_step_walks none = none m.told_change can.are.0.tells room_first tables m.change can_make
 
   -- once it is made, the others can be
   pub walks_on : {now : AccessView} → StepsTo log m.next at now → IsTold at.pages.disk → now.pages.slots ≡ at.pages.slots → CanWalk log now (applied tables m.change) moves
@@ -170,7 +201,12 @@ module _ {log : LogView} {at : AccessView} {tables : Tables} {m : Move} {moves :
         are = moves_still log alters.listed (recounts_by alters.counts alters.listed) moves can.are.1;
         find = can.find.1;
         fit = subst (λ (slots : ℕ). MovesFit slots (applied tables m.change) moves) (sym slots) can.fit.1;
-        room = omega (arith, can.room, step.takes.places);
+        room =
+            let change = directed m.next.way m.told_change in
+            let left = bound_left alters.counts alters.listed (moves_of (m ∷ moves)) (moves_of moves)
+            (omega (arith, count_most change alters.relation.live, counts_one alters.relation alters.listed))
+            (λ name. omega (arith, sum_by-cons (λ (k : Move). one_if (counts_for k.change.item name)) m moves)) in
+            omega (arith, can.room, step.takes.places, left);
       }
 
 -- ---- without links no record of a chain means anything
@@ -181,13 +217,13 @@ no_entry k = elim (cases_lt k links_most) [
   | inr past ↦ get_or_past (replicate links_most None) k None (omega (arith, past, length-replicate {A = Option LinkEntry} links_most None))
 ]
 
-no_link : (listing : Listing) (k : ℕ) (link : LinkEntry) → IsPlain listing → link_at listing k ≡ Some link → ⊥
-no_link listing zero link plain at = absurd (none-some link at)
-no_link listing (suc k) link plain at = absurd (none-some link (sym (no_entry k) ∙ ap (λ (links : List (Option LinkEntry)). get_or links k None) (sym plain.no_links) ∙ sym (at_place listing.links k) ∙ at))
+no_link : (listing : Listing) (k : ℕ) (link : LinkEntry) → HasNoLinks listing → link_at listing k ≡ Some link → ⊥
+no_link listing zero link none at = absurd (none-some link at)
+no_link listing (suc k) link none at = absurd (none-some link (sym (no_entry k) ∙ ap (λ (links : List (Option LinkEntry)). get_or links k None) (sym none) ∙ sym (at_place listing.links k) ∙ at))
 
-pub meant_tuple : (listing : Listing) (told_change : told.Change) (change : Change) → IsPlain listing → Means listing told_change change → IsTupleRecord told_change
-meant_tuple listing (Insert number tid values) change plain means = tt
-meant_tuple listing (Delete number tid values) change plain means = tt
-meant_tuple listing (Update number tid from to) change plain means = tt
-meant_tuple listing (Connect link parent child left) change plain means = no_link listing link means.link plain means.at
-meant_tuple listing (Disconnect link parent child left) change plain means = no_link listing link means.link plain means.at
+pub meant_tuple : (listing : Listing) (told_change : told.Change) (change : Change) → HasNoLinks listing → Means listing told_change change → IsTupleRecord told_change
+meant_tuple listing (Insert number tid values) change none means = tt
+meant_tuple listing (Delete number tid values) change none means = tt
+meant_tuple listing (Update number tid from to) change none means = tt
+meant_tuple listing (Connect link parent child left) change none means = no_link listing link means.link none means.at
+meant_tuple listing (Disconnect link parent child left) change none means = no_link listing link means.link none means.at

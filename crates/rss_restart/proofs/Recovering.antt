@@ -13,6 +13,7 @@ use Rattle.rss_base.proofs.Steps.{rests}
 use Rattle.rss_log.specs.Logs.{LogView}
 use Rattle.rss_model.specs.Tables.{Contents, Tables}
 use Rattle.rss_model.specs.Changes.{undone}
+use Rattle.rss_model.specs.Meter.{changes_of}
 use Rattle.rss_model.specs.Records.{Placed, Listed, Rise, changes_in}
 use Rattle.rss_model.specs.Restart.{losers, redone, stays}
 use Rattle.rss_model.specs.Recovers.{lists_at, Restarts}
@@ -24,7 +25,7 @@ use Rattle.rss_model.proofs.LogTying.{restarts}
 use Rattle.rss_access.specs.Changes.{AccessView}
 use Rattle.rss_restart.specs.declared.restarting.Way.TheVariants.{Back, Again}
 use Rattle.rss_restart.specs.Surveys.{IsLogOf, IsLogPlace, Surveys, redone_at}
-use Rattle.rss_restart.specs.Restarting.{Recovery, CanRestart, RestartPasses, recovered_tables, changes_made}
+use Rattle.rss_restart.specs.Restarting.{Recovery, CanRestart, RestartPasses, recovered_tables, changes_made, redone_of}
 use Rattle.rss_restart.specs.Walks.{Turn, turn, Move, turns_of, moved, CanWalk, Leads, NoWalk, Walks}
 use Rattle.rss_restart.specs.Walks.{Counted, turns_in}
 use Rattle.rss_catalog.specs.Catalogs.{CatalogView}
@@ -63,11 +64,11 @@ module _ {at : AccessView} {log : LogView} {checkpoint : ℕ} {r : Recovery} (ca
   restart : Restarts r.saved.contents (as_entries r.older) (as_entries r.newer) r.base
   restart = restarts log.head log.end r.saved.contents r.base (as_entries r.older) (as_entries r.newer) rise can.recovers
 
-  backs : Runs (ground_of at log) r.saved (middle r) (map (turn Back) (map (λ l. l.at) (lost r)))
-  backs = undo_runs (ground_of at log) can.spells.plain r.saved r.saved.contents (lost r) have_sources restart.undo can.way.undo
+  backs : Runs (ground_of at log) r.saved (middle r) (map (turn Back) (map (λ l. l.at) (lost r))) (changes_of (changes_in (lost r)))
+  backs = undo_runs (ground_of at log) can.spells.listed.no_links r.saved r.saved.contents (lost r) have_sources restart.undo can.way.undo
 
-  agains : Runs (ground_of at log) (middle r) (record r.saved { contents = redone (middle r).contents (as_entries r.newer) }) (map (turn Again) (redone_at r.newer))
-  agains = redo_runs (ground_of at log) can.spells.plain r.saved (middle r).contents r.newer (all_back (Stands log) r.older r.newer stand) (all_back (λ l. Says at.catalog.listing l.told l.is) r.older r.newer say) can.means.later restart.redo can.way.redo
+  agains : Runs (ground_of at log) (middle r) (record r.saved { contents = redone (middle r).contents (as_entries r.newer) }) (map (turn Again) (redone_at r.newer)) (redone_of r.newer)
+  agains = redo_runs (ground_of at log) can.spells.listed.no_links r.saved (middle r).contents r.newer (all_back (Stands log) r.older r.newer stand) (all_back (λ l. Says at.catalog.listing l.told l.is) r.older r.newer say) can.means.later restart.redo can.way.redo
 
   -- all of them can be made
   walk : CanWalk log at r.saved (backs.moves ++ agains.moves)

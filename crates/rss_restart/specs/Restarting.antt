@@ -1,22 +1,26 @@
 -- Restart: the pages have the tables of the log's last checkpoint before it, and those that the log recovers after it.
-use Rattle.std.specs.Prelude.{◌≡◌, ℕ, ◌+◌, ◌*◌, ◌≤◌, List, length, Result, Err, IsErrOf, OnOk}
+use Rattle.std.specs.Prelude.{◌≡◌, ℕ, ◌+◌, ◌*◌, ◌≤◌, ◌&&◌, if◌then◌else◌, List, [], ◌∷◌, map, length, option_map, unwrap_or, Result, Err, IsErrOf, OnOk}
 use Rattle.rss_base.specs.DiskRule.{IsTold}
 use Rattle.rss_base.specs.Faults.{Rises}
 use Rattle.rss_base.specs.Sizes.{system_pages}
 use Rattle.rss_base.specs.Steps.{PagesStep, no_page}
-use Rattle.rss_base.specs.Listings.{ListingFits, IsPlain}
+use Rattle.rss_base.specs.Listings.{Listing, ListingFits, HasNoLinks, relation_at}
 use Rattle.rss_base.specs.declared.fault.PageFault.{PageFault}
 use Rattle.rss_base.specs.declared.fault.PageFault.TheVariants.{Device as DeviceFailed, Damaged, NoMemory}
+use Rattle.rss_base.specs.declared.name.Name.{Name}
 use Rattle.rss_base.specs.declared.place.Place.{Place}
 use Rattle.rss_log.specs.Logs.{LogView}
 use Rattle.rss_model.specs.Tables.{Contents, Tables}
+use Rattle.rss_model.specs.Meter.{changes_of}
+use Rattle.rss_model.specs.Records.{changes_in}
 use Rattle.rss_model.specs.Restart.{losers}
 use Rattle.rss_model.specs.Recovers.{lists_at, Recovers, WayFits}
-use Rattle.rss_model.specs.Meanings.{Logged, as_entries, IsLogged}
+use Rattle.rss_model.specs.Meanings.{Logged, as_entries, is_redone, is_change_of, rootless, IsLogged}
+use Rattle.rss_model.specs.Spares.{listed_bound}
 use Rattle.rss_model.specs.Store.{SpellsTables}
 use Rattle.rss_access.specs.Changes.{AccessView, alter_cost, Takes}
 use Rattle.rss_entries.specs.Rooms.{image_places}
-use Rattle.rss_access.specs.Written.{HasImage, content_of, AreWritten}
+use Rattle.rss_access.specs.Written.{content_of, AreWritten}
 use Rattle.rss_restart.specs.Surveys.{IsLogOf, IsLogPlace, redone_at}
 
 -- saved: the tables of the checkpoint.
@@ -37,14 +41,33 @@ abbrev pub changes_made : List Logged → List Logged → ℕ
 changes_made older newer =
     length (losers (as_entries newer) (lists_at (as_entries older))) + length (redone_at newer)
 
--- The pages spell the tables of the checkpoint by the catalog's listing, the log over these tables recovers the contents, all tables on the way fit, and there is room for two pages more at each change.
+-- how many of these are changes of a relation's tuples
+abbrev pub redone_of : List Logged → Name → ℕ
+redone_of [] relation = 0
+redone_of (l ∷ later) relation =
+    if is_redone l.is l.at later && is_change_of relation l.is then redone_of later relation + 1
+    else redone_of later relation
+
+abbrev pub made_of : List Logged → List Logged → Name → ℕ
+made_of older newer relation =
+    changes_of (changes_in (losers (as_entries newer) (lists_at (as_entries older)))) relation
+    + redone_of newer relation
+
+-- how many entries the images of the relation of a number may come to have, with so many changes of its tuples
+abbrev pub entries_with : Listing → (Name → ℕ) → ℕ → ℕ
+entries_with listing changes number =
+    unwrap_or (option_map (λ relation. relation.live + changes relation.name) (relation_at listing number)) 0
+
+-- The pages spell the tables of the checkpoint by the catalog's listing, the log over these tables recovers the contents, all tables on the way fit, and there is room for two pages more at each change, beside those that images may come to have.
 pub record CanRestart (at : AccessView) (log : LogView) (checkpoint : ℕ) (r : Recovery) : Type 0 where
   pub spells : SpellsTables at.pages.held at.catalog.listing r.saved
   pub records : IsLogOf at.catalog.listing log checkpoint r.older r.newer
   pub means : IsLogged at.catalog.listing (lists_at (as_entries r.older)) r.older r.newer
   pub recovers : Recovers r.saved.contents (as_entries r.older) (as_entries r.newer) r.base
   pub way : WayFits at.pages.slots r.saved (as_entries r.older) (as_entries r.newer)
-  pub room : 2 * changes_made r.older r.newer ≤ image_places at.pages
+  pub room : 2 * changes_made r.older r.newer
+      + listed_bound at.catalog.listing (entries_with at.catalog.listing (made_of r.older r.newer))
+      ≤ image_places at.pages
 
 -- whatever the log recovers over the old pages, the new pages spell it
 abbrev pub Recovered : LogView → ℕ → AccessView → AccessView → Type 0
@@ -56,11 +79,12 @@ Recovered log checkpoint old new =
 abbrev pub NoneRecovered : LogView → ℕ → AccessView → Type 0
 NoneRecovered log checkpoint at = (r : Recovery) → CanRestart at log checkpoint r → ⊥
 
--- What is kept of the catalog, whatever was done: its listing is sound still, it lists images only where it did, neither images nor links where it listed none, and each of its pages that isn't to be written is as it spells it.
+-- What is kept of the catalog, whatever was done: its listing is sound still, it lists the same images, but for where their trees begin and how many levels they have, no link where it listed none, and each of its pages that isn't to be written is as it spells it.
 pub record KeepsCatalog (old new : AccessView) : Type 0 where
   pub fits : ListingFits old.catalog.listing → ListingFits new.catalog.listing
-  pub images : HasImage new.catalog.listing → HasImage old.catalog.listing
-  pub plain : IsPlain old.catalog.listing → IsPlain new.catalog.listing
+  pub images : map (option_map rootless) new.catalog.listing.images
+      ≡ map (option_map rootless) old.catalog.listing.images
+  pub no_links : HasNoLinks old.catalog.listing → HasNoLinks new.catalog.listing
   pub places : length new.catalog.pending ≡ length old.catalog.pending
   pub written : IsTold old.pages.disk → length old.catalog.pending ≡ system_pages
       → AreWritten old.pages.held old.catalog → AreWritten new.pages.held new.catalog

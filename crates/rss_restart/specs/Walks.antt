@@ -1,10 +1,11 @@
 -- The way of a restart: one change after another is undone, or done again, as the log tells it.
-use Rattle.std.specs.Prelude.{◌≡◌, ℕ, ◌*◌, ◌≤◌, List, [], ◌∷◌, ◌++◌, map, length, Result, Err, IsErrOf, OnOk, ⊤, Some}
+use Rattle.std.specs.Prelude.{◌≡◌, ℕ, ◌+◌, ◌*◌, ◌≤◌, List, [], ◌∷◌, ◌++◌, map, length, count_by, Result, Err, IsErrOf, OnOk, ⊤, Some}
 use Rattle.std.specs.List.{AllByRecursion}
 use Rattle.rss_base.specs.DiskRule.{IsTold}
 use Rattle.rss_base.specs.Faults.{Rises}
 use Rattle.rss_base.specs.Steps.{PagesStep}
 use Rattle.rss_base.specs.Listings.{Listing, relation_at}
+use Rattle.rss_base.specs.declared.name.Name.{Name}
 use Rattle.rss_base.specs.declared.relation.RelationEntry.{RelationEntry}
 use Rattle.rss_base.specs.LogRecords.{BeginsWith}
 use Rattle.rss_base.specs.declared.fault.PageFault.{PageFault}
@@ -18,6 +19,8 @@ use Rattle.rss_catalog.specs.Catalogs.{CatalogView}
 use Rattle.rss_model.specs.Tables.{Tables, content}
 use Rattle.rss_model.specs.Changes.{Change}
 use Rattle.rss_model.specs.Fits.{Fits}
+use Rattle.rss_model.specs.Meter.{counts_for}
+use Rattle.rss_model.specs.Spares.{listed_bound}
 use Rattle.rss_model.specs.Restart.{losers}
 use Rattle.rss_model.specs.Recovers.{lists_at}
 use Rattle.rss_model.specs.Meanings.{IsChangeTold, Means, Logged, as_entries}
@@ -29,7 +32,7 @@ use Rattle.rss_access.specs.Written.{content_of}
 use Rattle.rss_restart.specs.declared.restarting.Way.{Way}
 use Rattle.rss_restart.specs.declared.restarting.Way.TheVariants.{Back, Again}
 use Rattle.rss_restart.specs.Surveys.{IsLogPlace, redone_at}
-use Rattle.rss_restart.specs.Restarting.{KeepsCatalog}
+use Rattle.rss_restart.specs.Restarting.{KeepsCatalog, entries_with}
 
 -- ---- one change
 
@@ -111,13 +114,19 @@ abbrev pub MovesFit : ℕ → Tables → List Move → Type 0
 MovesFit slots tables [] = Fits slots tables
 MovesFit slots tables (m ∷ moves) = Fits slots tables × MovesFit slots (applied tables m.change) moves
 
--- The pages spell these tables, and from them these changes can be made, one after another.
+-- how many of them are of a relation's tuples
+abbrev pub moves_of : List Move → Name → ℕ
+moves_of moves relation = count_by (λ m. counts_for m.change.item relation) moves
+
+-- The pages spell these tables, and from them these changes can be made, one after another: there is room for two pages more at each, beside those that images may come to have.
 pub record CanWalk (log : LogView) (at : AccessView) (tables : Tables) (moves : List Move) : Type 0 where
   pub spells : SpellsTables at.pages.held at.catalog.listing tables
   pub are : AllByRecursion (IsMove at.catalog.listing log) moves
   pub find : MovesFind tables moves
   pub fit : MovesFit at.pages.slots tables moves
-  pub room : 2 * length moves ≤ image_places at.pages
+  pub room : 2 * length moves
+      + listed_bound at.catalog.listing (entries_with at.catalog.listing (moves_of moves))
+      ≤ image_places at.pages
 
 -- What was made is the front of what can be made: the rest can be made from the tables that are then there.
 abbrev pub Leads : LogView → List Turn → AccessView → AccessView → Type 0

@@ -19,7 +19,7 @@ use Rattle.rss_model.specs.Meanings.{SameDefinitions}
 use Rattle.rss_model.specs.Spares.{page_counts, TakesTwo}
 use Rattle.rss_model.specs.Store.{Stored}
 use Rattle.rss_model.proofs.Sparing.{takes_two}
-use Rattle.rss_model.proofs.StorePages.{pages_are}
+use Rattle.rss_model.proofs.StorePages.{pages_split}
 use Rattle.rss_catalog.specs.Catalogs.{HasSystemPages}
 use Rattle.rss_access.specs.Changes.{alter_cost, number_told, Makes}
 use Rattle.rss_access.specs.Written.{IsSystemOrHeap, content_of, AreWritten}
@@ -115,7 +115,7 @@ module _ {T : Type 0} {change : told.Change} (old new : StoreView) {value : T} (
   tuples_step ready = heap_step ready.plain (content_step old new makes)
 
   system_made : IsReady old → HasSystemPages new.pages.mapped
-  system_made ready = system_kept (tuples_step ready) ready.system
+  system_made ready = system_kept (content_step old new makes) ready.system
 
   only_made : IsReady old → (key : PageKey) → new.pages.mapped key ≡ true → IsSystemOrHeap key
   only_made ready = only_kept (tuples_step ready) ready.only
@@ -154,13 +154,13 @@ module _ {T : Type 0} {change : told.Change} (old new : StoreView) {value : T} (
   pub definitions_made : {listing : Listing} → SameDefinitions listing old.catalog.listing → SameDefinitions listing new.catalog.listing
   definitions_made same = same_then same (counts_same makes.alters.listed makes.alters.counts)
 
-  -- two pages more are mapped at most
+  -- two home or overflow pages more are mapped at most
   pub two_made : IsReady old → AreCounted new.pages → TakesTwo (page_counts old.pages) (page_counts new.pages)
   two_made ready counted = takes_two makes.step counted (omega (
     arith,
     makes.takes.heap,
-    pages_are old.pages.mapped ready.only old.pages.slots ready.system,
-    pages_are new.pages.mapped (only_made ready) new.pages.slots (system_made ready),
+    pages_split old.pages.mapped old.pages.slots ready.system,
+    pages_split new.pages.mapped new.pages.slots (system_made ready),
   ))
 
 -- by the result

@@ -249,7 +249,7 @@ module _ {T : Type 0} {old : StoreView} {pages : PagesView} {catalog : CatalogVi
   mid_step = heap_step ready.plain passes.step
 
   pub mid_system : HasSystemPages pages.mapped
-  mid_system = system_kept mid_step ready.system
+  mid_system = system_kept passes.step ready.system
 
   pub mid_only : (key : PageKey) → pages.mapped key ≡ true → IsSystemOrHeap key
   mid_only = only_kept mid_step ready.only

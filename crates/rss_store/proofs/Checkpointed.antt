@@ -14,7 +14,7 @@ use Rattle.rss_base.specs.Notes.{Noted}
 use Rattle.rss_base.specs.StoredPages.{mapped_by, SavesPages}
 use Rattle.rss_base.specs.Steps.{PagesView, PagesStep, AreCounted}
 use Rattle.rss_base.specs.declared.key.PageKey.{PageKey}
-use Rattle.rss_base.specs.declared.key.Space.TheVariants.{Home, Overflow, System}
+use Rattle.rss_base.specs.declared.key.Space.TheVariants.{Home, Overflow, Image, System}
 use Rattle.rss_base.specs.declared.log_record.LogRecord.TheVariants as records
 use Rattle.rss_base.specs.declared.root.Root.{Root}
 use Rattle.rss_base.proofs.Counts.{mapped_pages-owners}
@@ -43,7 +43,7 @@ use Rattle.rss_model.proofs.LogPlaced.{bytes_append}
 use Rattle.rss_model.proofs.LogStored.{disk_has_log, disk_has_room}
 use Rattle.rss_model.proofs.PlainStores.{none_imaged, plain_nodes}
 use Rattle.rss_model.proofs.Sparing.{session_begins}
-use Rattle.rss_model.proofs.StorePages.{pages_are}
+use Rattle.rss_model.proofs.StorePages.{pages_split}
 use Rattle.rss_store.specs.Stores.{StoreView, IsReady, IsSaved, IsLogBehind}
 use Rattle.rss_store.specs.Commits.{HasLogRoom, CanCheckpoint, IsSavedStore, least_mark, Saves}
 use Rattle.rss_store.specs.Selecting.{IsMeant, CanSelect, IsNextStore}
@@ -360,9 +360,9 @@ module _ {view : StoreView} {marks : List (ℕ × ℕ)} {mid saved : PagesView} 
         (subst (λ (r : Root). IsLogBehind r new.log) (sym root_is) (saved_behind checkpoint log.end (tail_of log) refl refl moved))
         slots_last mapped_last log_pages_last pending listing can_last
 
-    -- as many pages are saved as are mapped: those of the system space and of the heap
-    counted_pages : mapped_pages view.pages.slots view.pages.mapped ≡ heap_now view.pages + system_pages
-    counted_pages = pages_are view.pages.mapped (λ key there. ready.only key there) view.pages.slots ready.system
+    -- as many pages are saved as are mapped: those of each space
+    counted_pages : mapped_pages view.pages.slots view.pages.mapped ≡ heap_now view.pages + mapped_of view.pages.mapped Image view.pages.slots + system_pages
+    counted_pages = pages_split view.pages.mapped view.pages.slots ready.system
 
     saved_pages : page_count new.pages.backing.shadow ≡ mapped_pages new.pages.slots new.pages.mapped
     saved_pages =
@@ -370,10 +370,13 @@ module _ {view : StoreView} {marks : List (ℕ × ℕ)} {mid saved : PagesView} 
         sym (mapped_pages-owners new.pages.slots saving_last.current new.pages.mapped (λ slot key owned. subst (λ (n : ℕ). IsKey n key) (sym saveable_last.slots) (saveable_last.table.allowed slot key owned)) saveable_last.table.distinct (λ key. ap (λ (m : Mapped). m key) saveable_last.mapped)) in
         ap page_count (shadow ∙ sym both.current) ∙ owners
 
+    pages_saved : new.pages.mapped ≡ mapped_by new.pages.backing.shadow
+    pages_saved = saveable_last.mapped ∙ ap mapped_by (both.current ∙ sym shadow)
+
     pub saved_all : new.root ≡ next_root → IsSaved new
     saved_all root = record {
       log = ap (λ (r : Root). r.end) (root ∙ root_is) ∙ ap (λ (l : LogView). l.end) (sym moved);
-      pages = saveable_last.mapped ∙ ap mapped_by (both.current ∙ sym shadow);
+      pages = pages_saved;
       count = saved_pages;
     }
 
@@ -413,12 +416,15 @@ module _ {view : StoreView} {marks : List (ℕ × ℕ)} {mid saved : PagesView} 
           length-changes [] = refl
           length-changes (l ∷ ls) = omega (arith, length-changes ls)
 
-      made_none : AreCounted new.pages → HasMade (change_counts next.meter) 0 (page_counts new.pages)
-      made_none counted = record {
-        before = omega (arith, saved_pages, mapped_same, counted_pages, can.heap);
-        now = omega (arith, mapped_same, counted_pages, can.heap);
-        all = counted;
-      }
+      made_none : AreCounted new.pages → HasMade (change_counts next.base.definitions next.meter) 0 (page_counts new.pages)
+      made_none counted =
+          let images : (page_counts new.pages).images ≡ mapped_of view.pages.mapped Image view.pages.slots = λ i. mapped_of (mapped_last i) Image (slots_last i) in
+          let saved_images : (page_counts new.pages).images ≡ (page_counts new.pages).saved_images = ap (λ (m : Mapped). mapped_of m Image new.pages.slots) pages_saved in
+          record {
+            before = omega (arith, saved_pages, mapped_same, counted_pages, can.heap, images, saved_images);
+            now = omega (arith, mapped_same, counted_pages, can.heap, images);
+            all = counted;
+          }
 
       held_last : new.pages.held ≡ mid.held
       held_last = both.held (is.step.passes.leaves.told.0 told)
@@ -439,7 +445,7 @@ module _ {view : StoreView} {marks : List (ℕ × ℕ)} {mid saved : PagesView} 
         spells = subst (λ (l : Listing). SpellsTables new.pages.held l (tables_now next)) (sym listing) (subst (λ (h : Held). SpellsTables h view.catalog.listing (tables_now next)) (sym held_last) (spelled_now can told holds next_root checkpoint at_checkpoint root_is));
         written = λ page within pending. ap (λ (h : Held). h (page_key 0 System page)) held_last ∙ listed_now can told holds next_root checkpoint at_checkpoint root_is page within ∙ ap (λ (l : Listing). Some (catalog_page l page)) (sym listing);
         heap = heap_same can told holds next_root checkpoint at_checkpoint root_is;
-        session = subst (λ (n : ℕ). IsInSession (change_counts next.meter) n (page_counts new.pages)) (sym surviving_is) (session_begins (change_counts next.meter) (page_counts new.pages) (made_none counted));
+        session = subst (λ (n : ℕ). IsInSession (change_counts next.base.definitions next.meter) n (page_counts new.pages)) (sym surviving_is) (session_begins (change_counts next.base.definitions next.meter) (page_counts new.pages) (made_none counted));
         over_is = can.over ∙ (λ i. mapped_of (sym mapped_last i) Overflow (sym slots_last i));
       }
         where

@@ -80,6 +80,6 @@ module _ (view : StoreView) (log : LogView) (at t : ℕ) (low : t < 2 ^ 32) wher
         spells = subst (λ (cs : List Change). SpellsTables view.pages.held view.catalog.listing (with_changes state.base cs)) none_kept shown.spells;
         written = shown.written;
         heap = shown.heap;
-        session = subst (λ (cs : List Change). IsInSession (change_counts state.meter) (length cs) (page_counts view.pages)) none_kept shown.session;
+        session = subst (λ (cs : List Change). IsInSession (change_counts state.base.definitions state.meter) (length cs) (page_counts view.pages)) none_kept shown.session;
         over_is = shown.over_is;
       }

@@ -263,8 +263,8 @@ module _ {view : StoreView} {log : LogView} {t at : ℕ} {state : State} (append
             (subst (SpellsTables view.pages.held view.catalog.listing) (sym tables_now) shows.spells));
         written = subst (AreWritten new.pages.held) (sym catalog) (subst (λ (h : Held). AreWritten h view.catalog) (sym held) shows.written);
         heap = heap_now (3 - view.number) next (ap (λ (r : Root). r.slots) is) (ap (λ (r : Root). r.log_pages) is);
-        session = subst (IsInSession (change_counts state.meter) (length (others t state.changes))) (sym (counts_still view.pages new.pages counted counted_now slots mapped selected.shadow))
-            (session_forgets (change_counts state.meter) (length state.changes) (length (others t state.changes)) (page_counts view.pages) shows.session
+        session = subst (IsInSession (change_counts state.base.definitions state.meter) (length (others t state.changes))) (sym (counts_still view.pages new.pages counted counted_now slots mapped selected.shadow))
+            (session_forgets (change_counts state.base.definitions state.meter) (length state.changes) (length (others t state.changes)) (page_counts view.pages) shows.session
             (omega (arith, length-filter (λ (c : Change). not (c.by == t)) state.changes, count_by-le-length (λ (c : Change). not (c.by == t)) state.changes)));
         over_is = shows.over_is ∙ (λ i. mapped_of (sym mapped i) Overflow (sym slots i));
       }

@@ -15,7 +15,7 @@ use Rattle.rss_model.specs.Machine.{StoreSize, State, with_changes, now}
 use Rattle.rss_model.specs.Meter.{MayLead}
 use Rattle.rss_model.specs.Kept.{up_to, FitMixed}
 use Rattle.rss_model.specs.Records.{Changed}
-use Rattle.rss_model.specs.Spares.{change_counts, page_counts, with_one, IsInSession}
+use Rattle.rss_model.specs.Spares.{ChangeCounts, change_counts, page_counts, with_one, IsInSession}
 use Rattle.rss_model.specs.EngineLogs.{appended}
 use Rattle.rss_model.specs.LogLaws.{IsStoredOf, ChangeTies, noted}
 use Rattle.rss_model.proofs.LogLists.{by_same}
@@ -98,11 +98,16 @@ module _ {T : Type 0} (told_change : told.Change) (old new : StoreView) {value :
     tables = shown.tied.tables;
   }
 
-  session : IsInSession (with_one (change_counts state.meter)) (length (change ∷ state.changes)) (page_counts new.pages)
+  abbrev next : State
+  next = noted change over state
+
+  session : IsInSession (change_counts next.base.definitions next.meter) (length next.changes) (page_counts new.pages)
   session =
+      let counts : ChangeCounts = change_counts state.base.definitions state.meter in
+      let images : ℕ = (change_counts next.base.definitions next.meter).images in
       let more : length state.changes + 1 ≡ length (change ∷ state.changes) = omega arith in
-      subst (λ (n : ℕ). IsInSession (with_one (change_counts state.meter)) n (page_counts new.pages)) more
-      (session_changes (change_counts state.meter) (length state.changes) (page_counts old.pages) (page_counts new.pages) shown.session (two_made old new makes root ready counted))
+      subst (λ (n : ℕ). IsInSession (with_one images counts) n (page_counts new.pages)) more
+      (session_changes counts images (length state.changes) (page_counts old.pages) (page_counts new.pages) shown.session (two_made old new makes root ready counted))
 
   pub makes_one : MakesOne new state change
   makes_one = record {

@@ -7,9 +7,11 @@ use Rattle.rss_base.specs.DiskRule.{Pages, Told, IsTold, Leaves}
 use Rattle.rss_base.specs.Sizes.{piece_bytes, system_pages}
 use Rattle.rss_base.specs.Layout.{slots_at, IsWellFormed}
 use Rattle.rss_base.specs.Listings.{IsPlain}
-use Rattle.rss_base.specs.Paged.{Fixed, Mapped, HasFixed, mapped_pages}
+use Rattle.rss_base.specs.Paged.{Fixed, Mapped, HasFixed, mapped_of, mapped_pages}
 use Rattle.rss_base.specs.PageMap.{page_count}
 use Rattle.rss_base.specs.Steps.{PagesView, AreCounted}
+use Rattle.rss_base.specs.StoredPages.{mapped_by}
+use Rattle.rss_base.specs.declared.key.Space.TheVariants.{Image}
 use Rattle.rss_base.specs.declared.root.Root.{Root}
 use Rattle.rss_log.specs.Logs.{LogView, IsLog, bytes_from, piece_start, tail_of}
 use Rattle.rss_buffer.specs.Slots.{fixed_by}
@@ -71,7 +73,14 @@ counts_still old new counted counted_now slots mapped shadow =
     let same : mapped_pages new.slots new.mapped ≡ mapped_pages old.slots old.mapped = λ i. mapped_pages (slots i) (mapped i) in
     let saved : page_count new.backing.shadow ≡ page_count old.backing.shadow = ap page_count shadow in
     let spare : new.spare ≡ old.spare = omega (arith, counted, counted_now, same, saved, slots) in
-    λ i. record { slots = slots i; saved = saved i; mapped = same i; spare = spare i }
+    λ i. record {
+      slots = slots i;
+      saved = saved i;
+      saved_images = mapped_of (mapped_by (shadow i)) Image (slots i);
+      mapped = same i;
+      images = mapped_of (mapped i) Image (slots i);
+      spare = spare i;
+    }
 
 -- a call may be made again
 pub ready_now : {old new : StoreView} {next : Root} → IsReady old → IsWellFormed next → next.slots ≡ old.root.slots → next.log_pages ≡ old.root.log_pages → new.root ≡ next → new.number ≡ 3 - old.number → new.pages.backing.area ≡ next.area → new.pages.settled ≡ true → IsLogBehind next new.log

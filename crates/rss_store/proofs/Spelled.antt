@@ -35,16 +35,20 @@ heap_or_other Overflow = inl (inr refl)
 heap_or_other Image = inr (λ is. elim is [ inl home ↦ absurd (cc) | inr over ↦ absurd (cc) ])
 heap_or_other System = inr (λ is. elim is [ inl home ↦ absurd (cc) | inr over ↦ absurd (cc) ])
 
--- the pages of the system space stay, and all others are of tuples
-module _ {asks outs : ℕ} {old new : PagesView} (step : PagesStep IsHeapKey asks outs old new) where
-  pub system_kept : HasSystemPages old.mapped → HasSystemPages new.mapped
-  system_kept system page low = step.mapped_off (page_key 0 System page) (λ heap. off_system (page_key 0 System page) heap refl) ∙ system page low
+-- all pages but those of the system space are of tuples
+pub only_kept : {asks outs : ℕ} {old new : PagesView} → PagesStep IsHeapKey asks outs old new → ((key : PageKey) → old.mapped key ≡ true → IsSystemOrHeap key) → (key : PageKey) → new.mapped key ≡ true → IsSystemOrHeap key
+only_kept step only key is = elim (heap_or_other key.space) [
+  | inl heap ↦ inr heap
+  | inr other ↦ only key (sym (step.mapped_off key other) ∙ is)
+]
 
-  pub only_kept : ((key : PageKey) → old.mapped key ≡ true → IsSystemOrHeap key) → (key : PageKey) → new.mapped key ≡ true → IsSystemOrHeap key
-  only_kept only key is = elim (heap_or_other key.space) [
-    | inl heap ↦ inr heap
-    | inr other ↦ only key (sym (step.mapped_off key other) ∙ is)
-  ]
+content_off_system : {listing : Listing} (key : PageKey) → content_of listing key → key.space ≡ System → ⊥
+content_off_system key (inl heap) system = off_system key heap system
+content_off_system key (inr image) system = let not : Image ≡ System = sym image.0 ∙ system in absurd (cc)
+
+-- the pages of the system space stay
+pub system_kept : {listing : Listing} {asks outs : ℕ} {old new : PagesView} → PagesStep (content_of listing) asks outs old new → HasSystemPages old.mapped → HasSystemPages new.mapped
+system_kept step system page low = step.mapped_off (page_key 0 System page) (λ content. content_off_system (page_key 0 System page) content refl) ∙ system page low
 
 -- ---- tables that are spelled
 

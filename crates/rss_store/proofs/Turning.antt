@@ -148,8 +148,8 @@ module _ {old : StoreView} (turns : ChangesTurnBack) (ready : IsReady old) (stat
         spells = subst (SpellsTables new.pages.held new.catalog.listing) same_leaves (undoes on tables back.change can_take_back);
         written = written_made old new makes root on ready shown.written;
         heap = shown.heap;
-        session = session_goes_back (change_counts state.meter) (length (kept_to maker t n state.changes)) (page_counts old.pages) (page_counts new.pages)
-            (subst (λ (count : ℕ). IsInSession (change_counts state.meter) count (page_counts old.pages)) fewer shown.session) (two_made old new makes root ready counted);
+        session = session_goes_back (change_counts state.base.definitions state.meter) (length (kept_to maker t n state.changes)) (page_counts old.pages) (page_counts new.pages)
+            (subst (λ (count : ℕ). IsInSession (change_counts state.base.definitions state.meter) count (page_counts old.pages)) fewer shown.session) (two_made old new makes root ready counted);
         over_is = refl;
       };
       way = subst (λ (cs : List Change). MayUndo (now state) cs state.meter.over over) (sym back.last)

@@ -52,7 +52,7 @@ pub record ShowsWith (view : StoreView) (state : State) (there : List Change) (o
   pub spells : SpellsTables view.pages.held view.catalog.listing (with_changes state.base there)
   pub written : AreWritten view.pages.held view.catalog
   pub heap : state.meter.heap ≡ (meter_of stored).heap
-  pub session : IsInSession (change_counts state.meter) (length there) (page_counts view.pages)
+  pub session : IsInSession (change_counts state.base.definitions state.meter) (length there) (page_counts view.pages)
   pub over_is : over ≡ mapped_of view.pages.mapped Overflow view.pages.slots
 
 -- it is in this state
