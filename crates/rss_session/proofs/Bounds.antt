@@ -1,14 +1,14 @@
 -- How many pages images may have, by the numbers of their relations.
-use Rattle.std.proofs.Common.{◌≡◌, ℕ, ◌+◌, ◌<◌, ◌≤◌, ◌^◌, List, [], ◌∷◌, refl, sym, ◌∙◌, ap, arith}
-use Rattle.std.specs.Prelude.{Option, Some, None, map, option_map, sum_by}
-use Rattle.std.proofs.lemmas.List.Sums.{sum_by-cons}
+use Rattle.std.proofs.Common.{◌≡◌, ℕ, ◌<◌, ◌≤◌, ◌^◌, List, refl, sym, ◌∙◌, ap, arith}
+use Rattle.std.specs.Prelude.{Option, Some, None, option_map, sum_by}
 use Rattle.rss_base.specs.Listings.{Listing, numbered, relation_at, with_count}
 use Rattle.rss_base.specs.declared.image.ImageEntry.{ImageEntry}
 use Rattle.rss_base.specs.declared.relation.RelationEntry.{RelationEntry}
 use Rattle.rss_catalog.proofs.Numbered.{numbered_map}
-use Rattle.rss_model.specs.Meanings.{rootless, SameDefinitions}
-use Rattle.rss_model.specs.Spares.{bound_by, bound_at, listed_bound}
+use Rattle.rss_model.specs.Meanings.{SameDefinitions}
+use Rattle.rss_model.specs.Spares.{ChangeCounts, PageCounts, bound_by, bound_at, listed_bound, IsInSession}
 use Rattle.rss_model.proofs.ImageRooms.{bound_rises}
+use Rattle.rss_restart.proofs.Rooming.{rootless_bounds}
 use Rattle.rss_session.specs.Sessions.{few}
 
 pub few_is : (n : ℕ) → n < 2 ^ 32 → few n ≡ n
@@ -21,24 +21,20 @@ bound_same listing one other same =
     let high = bound_rises listing other one (λ number relation at. omega (arith, same number relation at)) in
     omega (arith, low, high)
 
+-- the pages of a session go by the other counts alone
+pub session_of : {one other : ChangeCounts} {listed : ℕ} {pages : PageCounts} → other.heap ≡ one.heap → other.surviving ≡ one.surviving → other.since ≡ one.since → IsInSession one listed pages → IsInSession other listed pages
+session_of heap surviving since is = record {
+  most = omega (arith, is.most, surviving, since);
+  made = record {
+    before = omega (arith, is.made.before, heap);
+    now = omega (arith, is.made.now, heap, surviving, since);
+    all = is.made.all;
+  };
+}
+
 -- ---- the same definitions
 
 -- neither where an image's tree stands matters, nor how many tuples its relation has
-module _ (listing : Listing) (entries : ℕ → ℕ) where
-  rootless_one : (image : Option ImageEntry) → bound_at listing entries (option_map rootless image) ≡ bound_at listing entries image
-  rootless_one None = refl
-  rootless_one (Some image) = refl
-
-  rootless_all : (images : List (Option ImageEntry)) → sum_by (bound_at listing entries) (map (option_map rootless) images) ≡ sum_by (bound_at listing entries) images
-  rootless_all [] = refl
-  rootless_all (image ∷ images) = omega (
-    arith,
-    rootless_one image,
-    rootless_all images,
-    sum_by-cons (bound_at listing entries) image images,
-    sum_by-cons (bound_at listing entries) (option_map rootless image) (map (option_map rootless) images),
-  )
-
 countless_one : (entries : ℕ → ℕ) (image : ImageEntry) (relation : Option RelationEntry) → bound_by entries image (option_map (with_count 0) relation) ≡ bound_by entries image relation
 countless_one entries image None = refl
 countless_one entries image (Some relation) = refl
@@ -46,9 +42,9 @@ countless_one entries image (Some relation) = refl
 pub bound_still : {one other : Listing} → SameDefinitions one other → (entries : ℕ → ℕ) → listed_bound other entries ≡ listed_bound one entries
 bound_still {one = one} {other = other} same entries =
     ap (λ (bound : Option ImageEntry → ℕ). sum_by bound other.images) (λ i image. relations image i)
-    ∙ sym (rootless_all one entries other.images)
+    ∙ sym (rootless_bounds one entries other.images)
     ∙ ap (sum_by (bound_at one entries)) same.images
-    ∙ rootless_all one entries one.images
+    ∙ rootless_bounds one entries one.images
   where
     its : (number : ℕ) → option_map (with_count 0) (relation_at other number) ≡ option_map (with_count 0) (relation_at one number)
     its number =

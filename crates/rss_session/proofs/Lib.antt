@@ -6,6 +6,8 @@ pub mod Passing
 mod NextTuples
 pub mod Noted
 pub mod Changed
+pub mod Bounds
+pub mod Traffic
 pub mod Weighed
 pub mod Outcomes
 pub mod Saved

@@ -178,7 +178,7 @@ owed_told listing view marks ls since is =
 -- ---- of a relation
 
 module _ (listing : Listing) (once : AreListedOnce kinds.Relation listing) (relation : Name) (number : ℕ) (numbered : IsNumberOf kinds.Relation listing relation number) where
-  in_relation : (item : Item) (noted : Option ℕ) → IsNumbered listing item noted → is_in number noted ≡ is_tuple_of relation item
+  pub in_relation : (item : Item) (noted : Option ℕ) → IsNumbered listing item noted → is_in number noted ≡ is_tuple_of relation item
   in_relation (Segment name) noted is = ap (is_in number) is
   in_relation (Relation name) noted is = ap (is_in number) is
   in_relation (Chain link parent) noted is = ap (is_in number) is

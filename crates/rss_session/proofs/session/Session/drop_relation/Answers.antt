@@ -52,6 +52,6 @@ returns g c =
     let empty : entry.live ≡ 0 = omega (arith, c.if-relation-gt0.false) in record {
       tests = λ told state shows. relation_drops shows c.in_ok-test_rest.ensures.closed c.args.name.now number c.in-Some.ensures.some entry c.relation.ensures.is named empty;
       redefines = redefines _ (λ fits. relation_page number (omega (arith, within.1, fits.relation_places))) (subst (λ (n : Name). Relists listing (DropRelation n) (with_relation listing number None)) named (drop_relation number entry c.relation.ensures.is empty)) c.remove.ensures.lists (page_same listing number None) (c.remove.ensures.fits (λ e. absurd (cc))) c.in_ok-test_rest.ensures.closed
-          (record { tuples = refl; log = refl; root = refl; number = refl; opened = refl; heap = refl; surviving = refl });
+          (record { tuples = refl; log = refl; root = refl; number = refl; opened = refl; heap = refl; surviving = refl; entries = refl; survived = refl });
       same = tt;
     }

@@ -15,14 +15,14 @@ change-requires-2-clause-place g c = omega (arith, c.requires.place, ap (λ (roo
 pub change-requires-2-clause-weighed : goal.change-requires-2-clause-weighed
 change-requires-2-clause-weighed g c =
     let saves : c.args.saves_first ≡ true = c.if-not-saves_first.false in
-    weighed_again c.in_ok-checkpoint.ensures.anew c.in_ok-checkpoint.ensures.goes.slots c.args.transaction _ (c.requires.weighed ∙ ap (λ (b : Bool). Ok b) saves)
+    weighed_again c.in_ok-checkpoint.ensures.anew c.in_ok-checkpoint.ensures.goes.slots c.args.transaction _ _ (c.requires.weighed ∙ ap (λ (b : Bool). Ok b) saves)
 
 pub returns-clause-makes : goal.returns-clause-makes
 returns-clause-makes g c =
     let saves : c.args.saves_first ≡ true = c.if-not-saves_first.false in
     let checkpoint = c.in_ok-checkpoint.ensures in
     let weighed_so = c.requires.weighed ∙ ap (λ (b : Bool). Ok b) saves in
-    let goes = weighed_again checkpoint.anew checkpoint.goes.slots c.args.transaction _ weighed_so in
+    let goes = weighed_again checkpoint.anew checkpoint.goes.slots c.args.transaction _ _ weighed_so in
     on_ok_weaker c.change-2.result (λ makes told state change by kept shows may.
     let mid = checkpoint.shows told state kept shows in
     let may_mid = may_then checkpoint.anew c.requires.ready checkpoint.ready weighed_so goes state change by shows may mid in
@@ -34,7 +34,7 @@ returns-clause-sound g c = λ place is told state change by kept shows may.
     let saves : c.args.saves_first ≡ true = c.if-not-saves_first.false in
     let checkpoint = c.in_ok-checkpoint.ensures in
     let weighed_so = c.requires.weighed ∙ ap (λ (b : Bool). Ok b) saves in
-    let goes = weighed_again checkpoint.anew checkpoint.goes.slots c.args.transaction _ weighed_so in
+    let goes = weighed_again checkpoint.anew checkpoint.goes.slots c.args.transaction _ _ weighed_so in
     let mid = checkpoint.shows told state kept shows in
     c.change-2.ensures.sound place is (checkpoint.goes.told.0 told) (record state { meter = saved_now state }) change by (keeps_meter kept (saved_now state)) mid
     (may_then checkpoint.anew c.requires.ready checkpoint.ready weighed_so goes state change by shows may mid)
