@@ -3,6 +3,7 @@ use Rattle.std.proofs.Common.{◌≡◌, inl, inr, ℕ, ◌+◌, ◌*◌, ◌^�
 use Rattle.std.specs.Prelude.{Option, Some, None, is_some, option_map, Result, Ok, Err, IsErrAnd}
 use Rattle.std.specs.Ordering.{eq_by_cmp}
 use Rattle.std.specs.Cmp.{Equal-is}
+use Rattle.std.proofs.Math.Logic.{∥∥₁_map}
 use Rattle.std.proofs.lemmas.Bool.{cases_Bool, true≢false}
 use Rattle.rss_base.specs.DiskRule.{IsTold}
 use Rattle.rss_base.specs.Paged.{page_key}
@@ -245,10 +246,10 @@ module _ (change : TupleChange) {first mid put : PagesView} {before : CatalogVie
   }
 
   -- so the entries of the tuple can be moved
-  pub may_move : IsTold put.disk → HasImageOf before.listing change.number → MayMoveAll (both put before) (told_by change)
+  pub may_move : IsTold put.disk → HasImageOf before.listing change.number → ∥ MayMoveAll (both put before) (told_by change) ∥₁
   may_move told_put image =
       let told = put_step.passes.leaves.told.1 told_put in
-      let has = can.tables told (record { number = image.number; image = image.image; at = image.at }) in
+      ∥∥₁_map (can.tables told (record { number = image.number; image = image.image; at = image.at })) (λ has.
       let values = told_move (told_by change) relation listed (found_told told) may small has in
       record {
         move = move (told_by change) relation listed (found_told told) may small has;
@@ -259,7 +260,7 @@ module _ (change : TupleChange) {first mid put : PagesView} {before : CatalogVie
           images = has.spells.images;
           room = subst (λ (n : ℕ). images_room before.listing n ≤ image_places first) (sym (number_by change)) (omega (arith, room));
         });
-      }
+      })
 
   module _ {moved : PagesView} {between after : CatalogView} (counted_moved : AreCounted moved) (moves : IsTold put.disk → MovesAll (both put before) (both moved between) (told_by change)) (rerooted : Rerooted before between) (step : PagesStep (own_image_pages before.listing change.number) images_cost images_cost put moved) (count : ℕ) (count_is_so : count ≡ count_after (told_by change) relation.live) (may_count : MayCount (told_by change) relation.live)
       (lists : (entry : RelationEntry) → relation_at between.listing change.number ≡ Some entry → after.listing ≡ with_relation between.listing change.number (Some (with_count count entry))) (keeps : KeepsSpelled between after) (fits : ListingFits between.listing → ListingFits after.listing) where
@@ -342,5 +343,5 @@ module _ (change : TupleChange) {first mid put : PagesView} {before : CatalogVie
     pub made : Makes {T = Unit {0}} (told_by change) (both first before) (both moved after) (Ok tt)
     made = done_makes tt places all_steps alters (record {
       heaps = λ told. (alters.changes.sets (all_steps.passes.leaves.told.1 told)).heaps;
-      tables = λ told image. let told_first = all_steps.passes.leaves.told.1 told in has_still told_first (can.tables told_first (same_images counts.images image));
+      tables = λ told image. let told_first = all_steps.passes.leaves.told.1 told in ∥∥₁_map (can.tables told_first (same_images counts.images image)) (has_still told_first);
     })

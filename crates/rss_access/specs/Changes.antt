@@ -138,7 +138,7 @@ pub record HasTables (at : AccessView) : Type 0 where
 -- On a device that tells its contents, the pages are those of a tuple store, and where an image is listed, they spell tables.
 pub record CanAlter (at : AccessView) : Type 0 where
   pub heaps : IsTold at.pages.disk → AreHeaps at.pages
-  pub tables : IsTold at.pages.disk → HasImage at.catalog.listing → HasTables at
+  pub tables : IsTold at.pages.disk → HasImage at.catalog.listing → ∥ HasTables at ∥₁
 
 -- There is room for two pages more, and for a pair more in each image of the relation.
 abbrev pub HasRoom : AccessView → ℕ → Type 0

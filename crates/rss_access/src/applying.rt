@@ -178,7 +178,7 @@ fn move_entries<P: Pages>(
         → AreValuesOf relation.fields (told_by change) }
     requires may { IsTold (P.view pages.old).disk
         → HasImageOf catalog.old.listing change.number
-        → MayMoveAll (both (P.view pages.old) catalog.old) (told_by change) }
+        → ∥ MayMoveAll (both (P.view pages.old) catalog.old) (told_by change) ∥₁ }
     ensures moves { OnOk result (IsTold (P.view pages.old).disk
         → MovesAll (both (P.view pages.old) catalog.old) (both (P.view pages.new) catalog.new)
         (told_by change.entry)) }

@@ -31,7 +31,7 @@ pub(crate) fn move_images<P: Pages>(
         → relation_at catalog.old.listing change.number ≡ Some relation
         → AreValuesOf relation.fields (told_by change) }
     requires may { IsTold (P.view pages.old).disk
-        → MayMoveAll (both (P.view pages.old) catalog.old) (told_by change) }
+        → ∥ MayMoveAll (both (P.view pages.old) catalog.old) (told_by change) ∥₁ }
     ensures moves { OnOk result (IsTold (P.view pages.old).disk
         → MovesAll (both (P.view pages.old) catalog.old) (both (P.view pages.new) catalog.new)
         (told_by change.entry)) }
@@ -58,7 +58,7 @@ fn move_at<P: Pages>(
         → relation_at catalog.old.listing change.number ≡ Some relation
         → AreValuesOf relation.fields (told_by change) }
     requires may { IsTold (P.view pages.old).disk
-        → MayMoveAt number (both (P.view pages.old) catalog.old) (told_by change) }
+        → ∥ MayMoveAt number (both (P.view pages.old) catalog.old) (told_by change) ∥₁ }
     ensures moves { OnOk result (IsTold (P.view pages.old).disk
         → MovesAt number (both (P.view pages.old) catalog.old) (both (P.view pages.new) catalog.new)
         (told_by change.entry)) }
@@ -94,7 +94,7 @@ fn move_image<P: Pages>(
         → relation_at catalog.old.listing change.number ≡ Some relation
         → AreValuesOf relation.fields (told_by change) }
     requires may { IsTold (P.view pages.old).disk
-        → MayMoveAt number (both (P.view pages.old) catalog.old) (told_by change) }
+        → ∥ MayMoveAt number (both (P.view pages.old) catalog.old) (told_by change) ∥₁ }
     ensures moves { OnOk result (IsTold (P.view pages.old).disk
         → MovesAt number (both (P.view pages.old) catalog.old) (both (P.view pages.new) catalog.new)
         (told_by change.entry)) }

@@ -1,5 +1,5 @@
 -- What the pages of the system space are found to hold, one page after another.
-use Rattle.std.proofs.Common.{◌≡◌, ◌↔◌, ℕ, ◌+◌, ◌-◌, ◌*◌, ◌<◌, ◌≤◌, Bool, true, false, not, cond, List, [], ◌++◌, length, take, drop, get_or, replicate, Option, Some, None, All, refl, sym, ◌∙◌, ap, subst, inl, inr, arith, add-one, mul-zero, mul-suc, length-append}
+use Rattle.std.proofs.Common.{◌≡◌, ◌↔◌, ℕ, ◌+◌, ◌-◌, ◌*◌, ◌<◌, ◌≤◌, Bool, true, false, not, cond, List, [], ◌++◌, length, take, drop, get_or, Option, Some, None, All, refl, sym, ◌∙◌, ap, subst, inl, inr, arith, add-one, mul-zero, mul-suc, length-append}
 use Rattle.std.specs.Prelude.{IsTrue, Result, Ok, Err, map, flat_map, min, ◌==◌}
 use Rattle.std.proofs.lemmas.Bool.{cases_eq, cases_lt}
 use Rattle.std.proofs.lemmas.Option.{none-some, same_Some}
@@ -76,11 +76,11 @@ pub loads_segments : (old : PagesView) (items now : List (Option Name)) (page sp
 loads_segments old items now page spelled has is same equal form = record {
   places = ap length is ∙ length-map (pieces 16 8 page) segment_of ∙ length-pieces 16 8 page;
   has = subst (λ (bytes : List ℕ). HasPage old 0 bytes) (equal ∙ form ∙ ap (λ (l : List (Option Name)). padded page_bytes (flat_map segment_spelled l)) same) has;
-  only = λ told listing fits plain holds. is ∙ ap (λ (bytes : List ℕ). map segment_of (pieces 16 8 bytes)) (spelled_so old 0 page listing has (omega arith) told holds) ∙ segments_back listing fits;
+  only = λ told listing fits holds. is ∙ ap (λ (bytes : List ℕ). map segment_of (pieces 16 8 bytes)) (spelled_so old 0 page listing has (omega arith) told holds) ∙ segments_back listing fits;
 }
 
 pub no_segments : (old : PagesView) (items now : List (Option Name)) (page spelled : List ℕ) → HasPage old 0 page → items ≡ map segment_of (pieces 16 8 page) → now ≡ items → (page ≡ spelled → ⊥) → spelled ≡ padded page_bytes (flat_map segment_spelled now) → SpellsNone old
-no_segments old items now page spelled has is same other form = λ told listing fits plain holds.
+no_segments old items now page spelled has is same other form = λ told listing fits holds.
     let so = spelled_so old 0 page listing has (omega arith) told holds in
     let it : now ≡ listing.segments = same ∙ is ∙ ap (λ (bytes : List ℕ). map segment_of (pieces 16 8 bytes)) so ∙ segments_back listing fits in
     other (so ∙ sym (form ∙ ap (λ (l : List (Option Name)). padded page_bytes (flat_map segment_spelled l)) it))
@@ -109,9 +109,9 @@ last_read items read now new first is same here =
 
 -- a page that isn't what its entries are spelled by is no listing's
 pub misspelled : {X : Type 0} (form : Form X) (old : PagesView) (number : ℕ) (page : List ℕ) → IsFormed form number → HasPage old number page → number < system_pages → (page ≡ page_with form (form.read page) → ⊥) → SpellsNone old
-misspelled form old number page formed has low other = λ told listing fits plain holds.
+misspelled form old number page formed has low other = λ told listing fits holds.
     let so = spelled_so old number page listing has low told holds in
-    other (so ∙ formed listing fits plain ∙ ap (λ (bytes : List ℕ). page_with form (form.read bytes)) (sym so))
+    other (so ∙ formed listing fits ∙ ap (λ (bytes : List ℕ). page_with form (form.read bytes)) (sym so))
 
 -- one page more of a width
 width_more : (n k : ℕ) → n * (k + 1) ≡ n * k + n
@@ -140,10 +140,10 @@ loads_more form first count before old items new has low so adds =
             (subst (λ (bytes : List ℕ). HasPage old (first + before) bytes) (adds.formed ∙ ap (page_with form) (sym (ap (part form before) adds.added ∙ part_next form items read before so.places long))) adds.has)
         | inr off ↦ subst (λ (l : List (Option _)). HasPage old (first + page) (page_with form l)) (sym (ap (part form page) adds.added ∙ part_before form items read page before so.places (omega (arith, less, off)))) (so.has page (omega (arith, less, off)))
       ];
-      only = λ told listing fits plain holds.
+      only = λ told listing fits holds.
           let here = spelled_so old (first + before) adds.bytes listing adds.has (omega (arith, has.within, low)) told holds in
-          let next : read ≡ part form before (form.listed listing) = ap form.read here ∙ has.back before low listing fits plain in
-          adds.added ∙ (λ i. so.only told listing fits plain holds i ++ next i) ∙ sym (take-add (form.count * before) form.count (form.listed listing)) ∙ ap (λ (n : ℕ). take n (form.listed listing)) (sym more);
+          let next : read ≡ part form before (form.listed listing) = ap form.read here ∙ has.back before low listing fits in
+          adds.added ∙ (λ i. so.only told listing fits holds i ++ next i) ∙ sym (take-add (form.count * before) form.count (form.listed listing)) ∙ ap (λ (n : ℕ). take n (form.listed listing)) (sym more);
     }
 
 -- ---- the same pages, before and after a look
@@ -166,7 +166,7 @@ has_after {number = number} same has = record {
 }
 
 pub spells_after : {old new : PagesView} → SamePages old new → SpellsNone old → SpellsNone new
-spells_after same none = λ told listing fits plain holds. none (same.told.1 told) listing fits plain (subst (λ (h : Held). HoldsListing h listing) (same.held (same.told.1 told)) holds)
+spells_after same none = λ told listing fits holds. none (same.told.1 told) listing fits (subst (λ (h : Held). HoldsListing h listing) (same.held (same.told.1 told)) holds)
 
 pub flawed_after : {old new : PagesView} {place : Place} → SamePages old new → IsFlawed old place → IsFlawed new place
 flawed_after same flawed = record { named = flawed.named; none = spells_after same flawed.none }
@@ -178,14 +178,14 @@ pub entries_after : {X : Type 0} {form : Form X} {first count : ℕ} {items : Li
 entries_after same so = record {
   places = so.places;
   has = λ page low. has_after same (so.has page low);
-  only = λ told listing fits plain holds. so.only (same.told.1 told) listing fits plain (subst (λ (h : Held). HoldsListing h listing) (same.held (same.told.1 told)) holds);
+  only = λ told listing fits holds. so.only (same.told.1 told) listing fits (subst (λ (h : Held). HoldsListing h listing) (same.held (same.told.1 told)) holds);
 }
 
 pub entries_none : {X : Type 0} (form : Form X) (first : ℕ) (view : PagesView) (items : List (Option X)) → items ≡ [] → LoadsEntries form first 0 view items
 entries_none form first view items none = record {
   places = ap length none ∙ sym (mul-zero form.count);
   has = λ page low. absurd (omega arith);
-  only = λ told listing fits plain holds. none ∙ ap (λ (n : ℕ). take n (form.listed listing)) (sym (mul-zero form.count));
+  only = λ told listing fits holds. none ∙ ap (λ (n : ℕ). take n (form.listed listing)) (sym (mul-zero form.count));
 }
 
 -- ---- looks in a row
@@ -209,7 +209,7 @@ no_device {fault = fault} {place = place} is error = let same : Damaged place �
 -- ---- the last page
 
 pub no_zeros : (old : PagesView) (page : List ℕ) → HasPage old 9 page → (page ≡ zero_page → ⊥) → SpellsNone old
-no_zeros old page has other = λ told listing fits plain holds.
+no_zeros old page has other = λ told listing fits holds.
     other (spelled_so old 9 page listing has (omega arith) told holds ∙ links_page_is listing 9 fits.no_links (omega arith))
 
 -- ---- the whole catalog
@@ -218,7 +218,7 @@ pub segments_after : {old new : PagesView} {items : List (Option Name)} → Same
 segments_after same so = record {
   places = so.places;
   has = has_after same so.has;
-  only = λ told listing fits plain holds. so.only (same.told.1 told) listing fits plain (subst (λ (h : Held). HoldsListing h listing) (same.held (same.told.1 told)) holds);
+  only = λ told listing fits holds. so.only (same.told.1 told) listing fits (subst (λ (h : Held). HoldsListing h listing) (same.held (same.told.1 told)) holds);
 }
 
 -- all pages of a listing were found
@@ -250,25 +250,24 @@ holds_all old names items images all zeros page low =
       ]
     ]
 
-pub loads_all : (old : PagesView) (names : List (Option Name)) (items : List (Option RelationEntry)) (images : List (Option ImageEntry)) → LoadsAll old names items images → HasPage old 9 zero_page → ListingFits (listing_of names items images) → images ≡ replicate 128 None
+pub loads_all : (old : PagesView) (names : List (Option Name)) (items : List (Option RelationEntry)) (images : List (Option ImageEntry)) → LoadsAll old names items images → HasPage old 9 zero_page → ListingFits (listing_of names items images)
     → Loads old (record { listing = listing_of names items images; pending = none_pending })
-loads_all old names items images all zeros fits none =
+loads_all old names items images all zeros fits =
     let has = holds_all old names items images all zeros in
     record {
       mapped = λ page low. (has page low).mapped;
       fits = fits;
-      plain = record { no_images = none; no_links = refl };
       holds = λ told page low. (has page low).holds told;
       written = refl;
     }
 
--- a listing that doesn't fit, or has images, was found, so that none that fits is spelled
-pub no_listing_fits : (old : PagesView) (names : List (Option Name)) (items : List (Option RelationEntry)) (images : List (Option ImageEntry)) → LoadsAll old names items images → (ListingFits (listing_of names items images) → images ≡ replicate 128 None → ⊥) → SpellsNone old
-no_listing_fits old names items images all other = λ told listing fits plain holds.
-    let same_names = all.segments.only told listing fits plain holds in
-    let same_items : items ≡ listing.relations = all.relations.only told listing fits plain holds ∙ take_all 48 listing.relations (omega (arith, fits.relation_places)) in
-    let same_images : images ≡ listing.images = all.images.only told listing fits plain holds ∙ take_all 128 listing.images (omega (arith, fits.paths.image_places)) in
-    other (subst ListingFits (sym (λ i. record { segments = same_names i; relations = same_items i; images = same_images i; links = sym fits.no_links i })) fits) (same_images ∙ plain.no_images)
+-- a listing that doesn't fit was found, so that none that fits is spelled
+pub no_listing_fits : (old : PagesView) (names : List (Option Name)) (items : List (Option RelationEntry)) (images : List (Option ImageEntry)) → LoadsAll old names items images → (ListingFits (listing_of names items images) → ⊥) → SpellsNone old
+no_listing_fits old names items images all other = λ told listing fits holds.
+    let same_names = all.segments.only told listing fits holds in
+    let same_items : items ≡ listing.relations = all.relations.only told listing fits holds ∙ take_all 48 listing.relations (omega (arith, fits.relation_places)) in
+    let same_images : images ≡ listing.images = all.images.only told listing fits holds ∙ take_all 128 listing.images (omega (arith, fits.paths.image_places)) in
+    other (subst ListingFits (sym (λ i. record { segments = same_names i; relations = same_items i; images = same_images i; links = sym fits.no_links i })) fits)
 
 -- what was loaded in a row was there before
 pub all_after : {T U : Type 0} {asks asks_relations : ℕ} {old mid next : PagesView} {names : List (Option Name)} {entries : List (Option RelationEntry)} {images : List (Option ImageEntry)} {first : Result T PageFault} {second : Result U PageFault} → LoadsSegments old names → ChecksPages no_page asks old mid first → LoadsEntries relation_form 1 6 mid entries → ChecksPages no_page asks_relations mid next second → LoadsEntries image_form 7 2 next images → LoadsAll old names entries images

@@ -1,8 +1,8 @@
 -- A listing without links, and one without images too.
-use Rattle.std.proofs.Common.{◌≡◌, ◌⊎◌, ℕ, zero, suc, ◌+◌, ◌-◌, ◌*◌, ◌<◌, ◌≤◌, true, List, ◌++◌, length, take, drop, get_or, map, replicate, zero-mul, inl, inr, refl, sym, ◌∙◌, ap, subst, arith}
-use Rattle.std.specs.Prelude.{Option, Some, None, is_some, option_map, count_by, flat_map, min, nat_le, ◌==◌, if◌then◌else◌}
-use Rattle.std.proofs.lemmas.List.{length-replicate, take-replicate, drop-replicate, replicate-append-replicate, take_all, same_lists, get_or_default, get_or-replicate}
-use Rattle.std.proofs.lemmas.Bool.{false≢true, cases_lt, cond-true, cond-false, ne_eqb, lt-leb, le-leb}
+use Rattle.std.proofs.Common.{◌≡◌, ◌⊎◌, ℕ, zero, suc, ◌+◌, ◌-◌, ◌*◌, ◌<◌, ◌≤◌, List, ◌++◌, length, take, drop, map, replicate, zero-mul, inl, inr, refl, sym, ◌∙◌, ap, subst, arith}
+use Rattle.std.specs.Prelude.{Option, Some, None, option_map, count_by, flat_map, min, nat_le, ◌==◌, if◌then◌else◌}
+use Rattle.std.proofs.lemmas.List.{length-replicate, take-replicate, drop-replicate, replicate-append-replicate, take_all}
+use Rattle.std.proofs.lemmas.Bool.{cases_lt, cond-true, cond-false, ne_eqb, lt-leb, le-leb}
 use Rattle.std.proofs.lemmas.Option.{none-some}
 use Rattle.rss_base.specs.declared.name.Name.{Name}
 use Rattle.rss_base.specs.declared.link.LinkEntry.{LinkEntry}
@@ -24,16 +24,6 @@ none_at {A = A} items count number none = ap (λ (l : List (Option A)). numbered
 none_named : {A B : Type 0} (f : A → B) (items : List (Option A)) (count number : ℕ) (name : B) → items ≡ replicate count None → numbered (map (option_map f) items) number ≡ Some name → ⊥
 none_named {A = A} f items count number name none is =
     none-some name (sym (numbered_map f items number ∙ ap (λ (l : List (Option A)). option_map f (numbered l number)) none ∙ ap (option_map f) (none_numbered count number)) ∙ is)
-
--- where each place has none
-pub all_none : {A : Type 0} (items : List (Option A)) (count : ℕ) → length items ≡ count → ((k : ℕ) → k < count → get_or items k None ≡ None) → items ≡ replicate count None
-all_none {A = A} items count long none = same_lists items (replicate count None) (long ∙ sym (length-replicate {A = Option A} count None)) (λ k d low. get_or_default items k d None low ∙ none k (omega (arith, low, long)) ∙ sym (get_or-replicate count k None d (omega (arith, low, long))))
-
--- one place that has something
-pub some_there : {A : Type 0} (items : List (Option A)) (count place : ℕ) → place < count → is_some (get_or items place None) ≡ true → items ≡ replicate count None → ⊥
-some_there {A = A} items count place low some none =
-    let here : get_or items place None ≡ None = ap (λ (l : List (Option A)). get_or l place None) none ∙ get_or-replicate count place None None low in
-    false≢true (ap is_some (sym here) ∙ some)
 
 no_roles : (number count : ℕ) → count_by (has_role number) (replicate count None) ≡ 0
 no_roles number zero = refl
@@ -96,7 +86,7 @@ take_some {A = A} n count = elim (cases_lt n count) [
 ]
 
 -- a page of images where there are none
-pub no_images_on : (listing : Listing) → IsPlain listing → (page : ℕ) → images_on listing page ≡ replicate (min 64 (128 - 64 * (page - 1 - 6))) None
+no_images_on : (listing : Listing) → IsPlain listing → (page : ℕ) → images_on listing page ≡ replicate (min 64 (128 - 64 * (page - 1 - 6))) None
 no_images_on listing plain page =
     let from = 64 * (page - 1 - 6) in
     ap (λ (l : List (Option ImageEntry)). take 64 (drop from l)) plain.no_images ∙ (ap (take 64) (drop-replicate from 128 None) ∙ take_some 64 (128 - from))

@@ -1,10 +1,10 @@
 -- What the pages of a listing read as.
-use Rattle.std.proofs.Common.{◌≡◌, ℕ, ◌+◌, ◌-◌, ◌*◌, ◌<◌, ◌≤◌, suc, zero, List, [], ◌∷◌, length, take, drop, get_or, replicate, Option, Some, None, refl, sym, ◌∙◌, ap, arith}
-use Rattle.std.specs.Prelude.{map, flat_map, min, option_map, ◌==◌, nat_le}
+use Rattle.std.proofs.Common.{◌≡◌, ℕ, ◌+◌, ◌-◌, ◌*◌, ◌<◌, ◌≤◌, suc, List, [], ◌∷◌, length, take, drop, get_or, replicate, Option, Some, None, refl, sym, ◌∙◌, ap, arith}
+use Rattle.std.specs.Prelude.{map, flat_map, ◌==◌, nat_le}
 use Rattle.std.proofs.lemmas.Bool.{cond-true, cond-false, ne_eqb, le-leb}
-use Rattle.std.proofs.lemmas.List.{length-map, length-take, length-drop, take_all, get_or_default, get_or-take, get_or-drop, map-id}
+use Rattle.std.proofs.lemmas.List.{length-map, length-take, length-drop, take_all, get_or_default, get_or-take, get_or-drop}
 use Rattle.rss_base.specs.Sizes.{page_bytes}
-use Rattle.rss_base.specs.Listings.{Listing, ListingFits, IsPlain, catalog_page, padded, segment_spelled, relation_spelled, image_spelled, relations_on, images_on, numbered}
+use Rattle.rss_base.specs.Listings.{Listing, ListingFits, catalog_page, padded, segment_spelled, relation_spelled, image_spelled, relations_on, images_on, numbered}
 use Rattle.rss_base.specs.declared.name.Name.{Name}
 use Rattle.rss_base.specs.declared.relation.RelationEntry.{RelationEntry}
 use Rattle.rss_base.specs.declared.image.ImageEntry.{ImageEntry}
@@ -13,9 +13,9 @@ use Rattle.rss_catalog.specs.Loading.{HasForm, relation_form, image_form}
 use Rattle.rss_catalog.proofs.Numbered.{numbered_at}
 use Rattle.rss_catalog.proofs.Listed.{few_of}
 use Rattle.rss_catalog.proofs.Pieces.{pieces_of, length-pieces}
-use Rattle.rss_catalog.proofs.Plain.{no_images_on, images_page_is}
+use Rattle.rss_catalog.proofs.Plain.{images_page_is}
 use Rattle.rss_catalog.proofs.Spelled.{IsNamed, segment_long, segment_back, AreFormed, names_long, relation_long, relation_back}
-use Rattle.rss_catalog.proofs.Imaged.{filled, AreDrawn, drawn_of, image_long, image_back}
+use Rattle.rss_catalog.proofs.Imaged.{AreDrawn, drawn_of, image_long, image_back}
 
 -- ---- a listing's items
 
@@ -36,25 +36,24 @@ drawn_at : (listing : Listing) → ListingFits listing → (k : ℕ) (d : Option
 drawn_at listing fits k d low entry is = drawn_of listing entry (fits.paths.images (k + 1) entry (at_number listing.images k d entry low is))
 
 -- what is read of each item that is spelled
-all_read : {X Y : Type 0} (read : List ℕ → Y) (spell : X → List ℕ) (f : X → Y) (xs : List X) → ((k : ℕ) (d : X) → k < length xs → read (spell (get_or xs k d)) ≡ f (get_or xs k d)) → map read (map spell xs) ≡ map f xs
-all_read read spell f [] back = refl
-all_read read spell f (x ∷ xs) back =
-    let here : read (spell x) ≡ f x = back 0 x (omega arith) in
-    let rest = all_read read spell f xs (λ k d low. back (suc k) d (omega arith)) in
+all_read : {X : Type 0} (read : List ℕ → X) (spell : X → List ℕ) (xs : List X) → ((k : ℕ) (d : X) → k < length xs → read (spell (get_or xs k d)) ≡ get_or xs k d) → map read (map spell xs) ≡ xs
+all_read read spell [] back = refl
+all_read read spell (x ∷ xs) back =
+    let here : read (spell x) ≡ x = back 0 x (omega arith) in
+    let rest = all_read read spell xs (λ k d low. back (suc k) d (omega arith)) in
     λ i. here i ∷ rest i
 
 -- what is read of a page that spells items of one width
-page_read : {X Y : Type 0} (read : List ℕ → Y) (spell : X → List ℕ) (f : X → Y) (width count : ℕ) (items : List X) (d : X) → length items ≡ count → ((k : ℕ) (d : X) → k < length items → length (spell (get_or items k d)) ≡ width) → ((k : ℕ) (d : X) → k < length items → read (spell (get_or items k d)) ≡ f (get_or items k d))
-    → map read (pieces width count (padded page_bytes (flat_map spell items))) ≡ map f items
-page_read read spell f width count items d long each back =
+page_read : {X : Type 0} (read : List ℕ → X) (spell : X → List ℕ) (width count : ℕ) (items : List X) (d : X) → length items ≡ count → ((k : ℕ) (d : X) → k < length items → length (spell (get_or items k d)) ≡ width) → ((k : ℕ) (d : X) → k < length items → read (spell (get_or items k d)) ≡ get_or items k d)
+    → map read (pieces width count (padded page_bytes (flat_map spell items))) ≡ items
+page_read read spell width count items d long each back =
     ap (map read) (pieces_of spell width items (replicate (4096 - length (flat_map spell items)) 0) count d each (omega (arith, long)) ∙ ap (map spell) (take_all count items (omega (arith, long))))
-    ∙ all_read read spell f items back
+    ∙ all_read read spell items back
 
 -- the page of the segments reads as them
 pub segments_back : (listing : Listing) → ListingFits listing → map segment_of (pieces 16 8 (catalog_page listing 0)) ≡ listing.segments
 segments_back listing fits =
-    page_read segment_of segment_spelled (λ item. item) 16 8 listing.segments None fits.segment_places (λ k d low. segment_long (get_or listing.segments k d) (named_at listing fits k d low)) (λ k d low. segment_back (get_or listing.segments k d) (named_at listing fits k d low))
-    ∙ map-id listing.segments
+    page_read segment_of segment_spelled 16 8 listing.segments None fits.segment_places (λ k d low. segment_long (get_or listing.segments k d) (named_at listing fits k d low)) (λ k d low. segment_back (get_or listing.segments k d) (named_at listing fits k d low))
 
 -- the page of a number that has relations
 pub relations_page_is : (listing : Listing) (page : ℕ) → 1 ≤ page → page ≤ 6 → catalog_page listing page ≡ padded page_bytes (flat_map relation_spelled (relations_on listing page))
@@ -73,8 +72,7 @@ relations_back listing page fits low high =
     let items = relations_on listing page in
     let long : length items ≡ 8 = length-take 8 (drop (8 * (page - 1)) listing.relations) ∙ omega (arith, length-drop (8 * (page - 1)) listing.relations, fits.relation_places) in
     ap (λ (bytes : List ℕ). map relation_of (pieces 512 8 bytes)) (relations_page_is listing page low high)
-    ∙ page_read relation_of relation_spelled (λ item. item) 512 8 items None long (λ k d within. relation_long (get_or items k d) (on_formed listing fits page k d within)) (λ k d within. relation_back (get_or items k d) (on_formed listing fits page k d within))
-    ∙ map-id items
+    ∙ page_read relation_of relation_spelled 512 8 items None long (λ k d within. relation_long (get_or items k d) (on_formed listing fits page k d within)) (λ k d within. relation_back (get_or items k d) (on_formed listing fits page k d within))
 
 -- the images of a page are some of the listing
 on_drawn : (listing : Listing) → ListingFits listing → (page : ℕ) → (k : ℕ) (d : Option ImageEntry) → k < length (images_on listing page) → AreDrawn (get_or (images_on listing page) k d)
@@ -84,23 +82,13 @@ on_drawn listing fits page k d low entry is =
     let rest = length-drop from listing.images in
     drawn_at listing fits (from + k) d (omega (arith, few, rest, low)) entry (sym (get_or-take 64 (drop from listing.images) k d (omega (arith, few, low)) ∙ get_or-drop from listing.images k d) ∙ is)
 
--- a page of images reads as them, with their field numbers filled up
-pub images_read : (listing : Listing) (page : ℕ) → ListingFits listing → 6 < page → page ≤ 8 → map image_of (pieces 64 64 (catalog_page listing page)) ≡ map (option_map filled) (images_on listing page)
-images_read listing page fits low high =
+pub images_back : (listing : Listing) (page : ℕ) → ListingFits listing → 6 < page → page ≤ 8 → map image_of (pieces 64 64 (catalog_page listing page)) ≡ images_on listing page
+images_back listing page fits low high =
     let items = images_on listing page in
     let from = 64 * (page - 1 - 6) in
     let long : length items ≡ 64 = length-take 64 (drop from listing.images) ∙ omega (arith, length-drop from listing.images, fits.paths.image_places) in
     ap (λ (bytes : List ℕ). map image_of (pieces 64 64 bytes)) (images_page_is listing page low high)
-    ∙ page_read image_of image_spelled (option_map filled) 64 64 items None long (λ k d within. image_long (get_or items k d) (on_drawn listing fits page k d within)) (λ k d within. image_back (get_or items k d) (on_drawn listing fits page k d within))
-
-nones_filled : (count : ℕ) → map (option_map filled) (replicate count None) ≡ replicate count None
-nones_filled zero = refl
-nones_filled (suc count) = ap (λ (l : List (Option ImageEntry)). None ∷ l) (nones_filled count)
-
-images_back : (listing : Listing) (page : ℕ) → ListingFits listing → IsPlain listing → 6 < page → page ≤ 8 → map image_of (pieces 64 64 (catalog_page listing page)) ≡ images_on listing page
-images_back listing page fits plain low high =
-    let none = no_images_on listing plain page in
-    images_read listing page fits low high ∙ ap (map (option_map filled)) none ∙ nones_filled (min 64 (128 - 64 * (page - 1 - 6))) ∙ sym none
+    ∙ page_read image_of image_spelled 64 64 items None long (λ k d within. image_long (get_or items k d) (on_drawn listing fits page k d within)) (λ k d within. image_back (get_or items k d) (on_drawn listing fits page k d within))
 
 -- ---- how entries stand on pages
 
@@ -109,9 +97,9 @@ pub has_relations : HasForm relation_form 1 6
 has_relations = record {
   within = omega arith;
   long = λ bytes. length-map (pieces 512 8 bytes) relation_of ∙ length-pieces 512 8 bytes;
-  formed = λ before low listing fits plain.
+  formed = λ before low listing fits.
       relations_page_is listing (1 + before) (omega arith) (omega arith) ∙ ap (λ (l : List (Option RelationEntry)). padded page_bytes (flat_map relation_spelled l)) (sym (relations_back listing (1 + before) fits (omega arith) (omega arith)));
-  back = λ before low listing fits plain. relations_back listing (1 + before) fits (omega arith) (omega arith) ∙ ap (λ (n : ℕ). take 8 (drop (8 * n) listing.relations)) (omega arith);
+  back = λ before low listing fits. relations_back listing (1 + before) fits (omega arith) (omega arith) ∙ ap (λ (n : ℕ). take 8 (drop (8 * n) listing.relations)) (omega arith);
 }
 
 -- pages 7 and 8 have images
@@ -119,7 +107,7 @@ pub has_images : HasForm image_form 7 2
 has_images = record {
   within = omega arith;
   long = λ bytes. length-map (pieces 64 64 bytes) image_of ∙ length-pieces 64 64 bytes;
-  formed = λ before low listing fits plain.
-      images_page_is listing (7 + before) (omega arith) (omega arith) ∙ ap (λ (l : List (Option ImageEntry)). padded page_bytes (flat_map image_spelled l)) (sym (images_back listing (7 + before) fits plain (omega arith) (omega arith)));
-  back = λ before low listing fits plain. images_back listing (7 + before) fits plain (omega arith) (omega arith) ∙ ap (λ (n : ℕ). take 64 (drop (64 * n) listing.images)) (omega arith);
+  formed = λ before low listing fits.
+      images_page_is listing (7 + before) (omega arith) (omega arith) ∙ ap (λ (l : List (Option ImageEntry)). padded page_bytes (flat_map image_spelled l)) (sym (images_back listing (7 + before) fits (omega arith) (omega arith)));
+  back = λ before low listing fits. images_back listing (7 + before) fits (omega arith) (omega arith) ∙ ap (λ (n : ℕ). take 64 (drop (64 * n) listing.images)) (omega arith);
 }

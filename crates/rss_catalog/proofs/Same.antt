@@ -1,19 +1,16 @@
 -- Listings that give the same pages are the same, and the pages of the empty one are zeros.
-use Rattle.std.proofs.Common.{◌≡◌, ℕ, ◌+◌, ◌-◌, ◌*◌, ◌/◌, ◌%◌, ◌<◌, ◌≤◌, List, length, take, drop, get_or, replicate, Option, Some, None, refl, sym, ◌∙◌, ap, inl, inr, arith}
-use Rattle.std.specs.Prelude.{map, flat_map, option_map, min}
+use Rattle.std.proofs.Common.{◌≡◌, ℕ, ◌+◌, ◌-◌, ◌*◌, ◌/◌, ◌%◌, ◌<◌, ◌≤◌, List, length, take, drop, get_or, replicate, None, refl, sym, ◌∙◌, ap, inl, inr, arith}
+use Rattle.std.specs.Prelude.{map, flat_map, min}
 use Rattle.std.proofs.lemmas.Bool.{cases_eq, cases_lt}
-use Rattle.std.proofs.lemmas.Option.{none-some, same_Some}
-use Rattle.std.proofs.lemmas.List.{same_lists, get_or-take, get_or-drop, get_or-map, get_or_default, length-map, drop-replicate, take-map, drop-map}
+use Rattle.std.proofs.lemmas.Option.{same_Some}
+use Rattle.std.proofs.lemmas.List.{same_lists, get_or-take, get_or-drop, drop-replicate}
 use Rattle.std.proofs.Math.Nat.{mul-le-mul_left}
 use Rattle.rss_base.specs.Sizes.{system_pages, zero_page}
 use Rattle.rss_base.specs.Paged.{Held}
-use Rattle.rss_base.specs.Listings.{Listing, ListingFits, ImageFits, HoldsListing, catalog_page, relations_on, no_listing, segment_spelled, relation_spelled}
-use Rattle.rss_base.specs.declared.image.ImageEntry.{ImageEntry}
+use Rattle.rss_base.specs.Listings.{Listing, ListingFits, HoldsListing, catalog_page, relations_on, no_listing, segment_spelled, relation_spelled}
 use Rattle.rss_catalog.specs.Reading.{pieces, segment_of, relation_of, image_of}
-use Rattle.rss_catalog.proofs.Numbered.{numbered_at}
 use Rattle.rss_catalog.proofs.Plain.{nones_spelled, padded_zeros, take_some, zeros_past}
-use Rattle.rss_catalog.proofs.Imaged.{filled, same_filled}
-use Rattle.rss_catalog.proofs.Read.{segments_back, relations_back, relations_page_is, images_read}
+use Rattle.rss_catalog.proofs.Read.{segments_back, relations_back, relations_page_is, images_back}
 
 -- a page of one is a page of the other
 same_page : (held : Held) (one other : Listing) → HoldsListing held one → HoldsListing held other → (page : ℕ) → page < system_pages → catalog_page one page ≡ catalog_page other page
@@ -43,31 +40,8 @@ same_parts {X = X} count parts one other some long long_other same = same_lists 
 relations_part : (listing : Listing) (part : ℕ) → ListingFits listing → part < 6 → take 8 (drop (8 * part) listing.relations) ≡ map relation_of (pieces 512 8 (catalog_page listing (1 + part)))
 relations_part listing part fits low = ap (λ (n : ℕ). take 8 (drop (8 * n) listing.relations)) (omega arith) ∙ sym (relations_back listing (1 + part) fits (omega arith) (omega arith))
 
-images_part : (listing : Listing) (part : ℕ) → ListingFits listing → part < 2 → take 64 (drop (64 * part) (map (option_map filled) listing.images)) ≡ map image_of (pieces 64 64 (catalog_page listing (7 + part)))
-images_part listing part fits low =
-    let from = 64 * part in
-    ap (take 64) (drop-map (option_map filled) from listing.images) ∙ take-map (option_map filled) 64 (drop from listing.images)
-    ∙ ap (λ (n : ℕ). map (option_map filled) (take 64 (drop (64 * n) listing.images))) (omega arith)
-    ∙ sym (images_read listing (7 + part) fits (omega arith) (omega arith))
-
--- what two places have that are filled up to the same
-same_option : (one other : Option ImageEntry) (listing_one listing_other : Listing) → ((image : ImageEntry) → one ≡ Some image → ImageFits listing_one image) → ((image : ImageEntry) → other ≡ Some image → ImageFits listing_other image) → option_map filled one ≡ option_map filled other → one ≡ other
-same_option None None listing_one listing_other fits_one fits_other same = refl
-same_option None (Some image) listing_one listing_other fits_one fits_other same = absurd (none-some (filled image) same)
-same_option (Some image) None listing_one listing_other fits_one fits_other same = absurd (none-some (filled image) (sym same))
-same_option (Some image) (Some another) listing_one listing_other fits_one fits_other same =
-    ap Some (same_filled listing_one listing_other image another (fits_one image refl) (fits_other another refl) (same_Some (filled image) (filled another) same))
-
-image_fits_at : (listing : Listing) → ListingFits listing → (k : ℕ) (d : Option ImageEntry) → k < length listing.images → (image : ImageEntry) → get_or listing.images k d ≡ Some image → ImageFits listing image
-image_fits_at listing fits k d low image is =
-    fits.paths.images (k + 1) image (numbered_at listing.images (k + 1) (omega arith) (omega (arith, low)) ∙ ap (λ (n : ℕ). get_or listing.images n None) (omega arith) ∙ get_or_default listing.images k None d low ∙ is)
-
--- images that fit are the same where they are filled up to the same
-same_images : (one other : Listing) → ListingFits one → ListingFits other → map (option_map filled) one.images ≡ map (option_map filled) other.images → one.images ≡ other.images
-same_images one other fits_one fits_other same = same_lists one.images other.images (fits_one.paths.image_places ∙ sym fits_other.paths.image_places) (λ k d low.
-    let least : k < length other.images = omega (arith, low, fits_one.paths.image_places, fits_other.paths.image_places) in
-    same_option (get_or one.images k d) (get_or other.images k d) one other (image_fits_at one fits_one k d low) (image_fits_at other fits_other k d least)
-    (sym (get_or-map (option_map filled) one.images k d (option_map filled d) low) ∙ ap (λ (l : List (Option ImageEntry)). get_or l k (option_map filled d)) same ∙ get_or-map (option_map filled) other.images k d (option_map filled d) least))
+images_part : (listing : Listing) (part : ℕ) → ListingFits listing → part < 2 → take 64 (drop (64 * part) listing.images) ≡ map image_of (pieces 64 64 (catalog_page listing (7 + part)))
+images_part listing part fits low = ap (λ (n : ℕ). take 64 (drop (64 * n) listing.images)) (omega arith) ∙ sym (images_back listing (7 + part) fits (omega arith) (omega arith))
 
 -- two listings that fit and are spelled by the same pages are the same
 pub same_listing : (held : Held) (one other : Listing) → HoldsListing held one → HoldsListing held other → ListingFits one → ListingFits other → one ≡ other
@@ -76,8 +50,8 @@ same_listing held one other holds_one holds_other fits_one fits_other =
     let names : one.segments ≡ other.segments = sym (segments_back one fits_one) ∙ ap (λ (bytes : List ℕ). map segment_of (pieces 16 8 bytes)) (pages 0 (omega arith)) ∙ segments_back other fits_other in
     let relations : one.relations ≡ other.relations = same_parts 8 6 one.relations other.relations (omega arith) fits_one.relation_places fits_other.relation_places (λ part low.
     relations_part one part fits_one low ∙ ap (λ (bytes : List ℕ). map relation_of (pieces 512 8 bytes)) (pages (1 + part) (omega (arith, low))) ∙ sym (relations_part other part fits_other low)) in
-    let images : one.images ≡ other.images = same_images one other fits_one fits_other (same_parts 64 2 (map (option_map filled) one.images) (map (option_map filled) other.images) (omega arith) (length-map one.images (option_map filled) ∙ fits_one.paths.image_places) (length-map other.images (option_map filled) ∙ fits_other.paths.image_places) (λ part low.
-    images_part one part fits_one low ∙ ap (λ (bytes : List ℕ). map image_of (pieces 64 64 bytes)) (pages (7 + part) (omega (arith, low))) ∙ sym (images_part other part fits_other low))) in
+    let images : one.images ≡ other.images = same_parts 64 2 one.images other.images (omega arith) fits_one.paths.image_places fits_other.paths.image_places (λ part low.
+    images_part one part fits_one low ∙ ap (λ (bytes : List ℕ). map image_of (pieces 64 64 bytes)) (pages (7 + part) (omega (arith, low))) ∙ sym (images_part other part fits_other low)) in
     let links : one.links ≡ other.links = fits_one.no_links ∙ sym fits_other.no_links in
     λ i. record { segments = names i; relations = relations i; images = images i; links = links i }
 

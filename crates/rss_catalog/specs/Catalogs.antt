@@ -5,7 +5,7 @@ use Rattle.rss_base.specs.DiskRule.{IsTold}
 use Rattle.rss_base.specs.Paged.{Mapped, page_key}
 use Rattle.rss_base.specs.Steps.{PagesView}
 use Rattle.rss_base.specs.TupleTypes.{kinds, width, key_width, chosen, most_fields, most_width, most_key_width, are_kinds}
-use Rattle.rss_base.specs.Listings.{Listing, ListingFits, IsPlain, IsFieldNumber, HoldsListing, catalog_page, relation_at, image_at, field_numbers, with_segment, with_relation, with_image, relations_of_page, relation_pages, images_of_page}
+use Rattle.rss_base.specs.Listings.{Listing, ListingFits, IsFieldNumber, HoldsListing, catalog_page, relation_at, image_at, field_numbers, with_segment, with_relation, with_image, relations_of_page, relation_pages, images_of_page}
 use Rattle.rss_base.specs.declared.relation.RelationEntry.{RelationEntry}
 use Rattle.rss_base.specs.declared.image.ImageEntry.{ImageEntry}
 use Rattle.rss_base.specs.declared.refusal.Kind.{Kind}
@@ -45,7 +45,6 @@ HasSystemPages mapped = (page : ℕ) → page < system_pages → mapped (page_ke
 pub record Loads (pages : PagesView) (catalog : CatalogView) : Type 0 where
   pub mapped : HasSystemPages pages.mapped
   pub fits : ListingFits catalog.listing
-  pub plain : IsPlain catalog.listing
   pub holds : IsTold pages.disk → HoldsListing pages.held catalog.listing
   pub written : catalog.pending ≡ none_pending
 

@@ -4,7 +4,7 @@ use Rattle.rss_base.specs.Sizes.{page_bytes, segments, system_pages}
 use Rattle.rss_base.specs.DiskRule.{IsTold}
 use Rattle.rss_base.specs.Paged.{page_key}
 use Rattle.rss_base.specs.Steps.{PagesView}
-use Rattle.rss_base.specs.Listings.{Listing, ListingFits, IsPlain, HoldsListing, catalog_page, padded, segment_spelled, relation_spelled, image_spelled}
+use Rattle.rss_base.specs.Listings.{Listing, ListingFits, HoldsListing, catalog_page, padded, segment_spelled, relation_spelled, image_spelled}
 use Rattle.rss_base.specs.Listings.{relation_bytes, relations_of_page, relation_pages, image_bytes, images_of_page, image_pages}
 use Rattle.rss_base.specs.declared.name.Name.{Name}
 use Rattle.rss_base.specs.declared.relation.RelationEntry.{RelationEntry}
@@ -16,7 +16,7 @@ use Rattle.rss_catalog.specs.Reading.{pieces, relation_of, image_of}
 
 -- No listing of a store is spelled by the pages.
 abbrev pub SpellsNone : PagesView → Type 0
-SpellsNone pages = IsTold pages.disk → (listing : Listing) → ListingFits listing → IsPlain listing → HoldsListing pages.held listing → ⊥
+SpellsNone pages = IsTold pages.disk → (listing : Listing) → ListingFits listing → HoldsListing pages.held listing → ⊥
 
 -- So it is, and this is a page of them.
 pub record IsFlawed (pages : PagesView) (place : Place) : Type 0 where
@@ -36,7 +36,7 @@ link_page = 1 + relation_pages + image_pages
 pub record LoadsSegments (pages : PagesView) (items : List (Option Name)) : Type 0 where
   pub places : length items ≡ segments
   pub has : HasPage pages 0 (padded page_bytes (flat_map segment_spelled items))
-  pub only : IsTold pages.disk → (listing : Listing) → ListingFits listing → IsPlain listing → HoldsListing pages.held listing → items ≡ listing.segments
+  pub only : IsTold pages.disk → (listing : Listing) → ListingFits listing → HoldsListing pages.held listing → items ≡ listing.segments
 
 -- ---- entries
 
@@ -74,7 +74,7 @@ part form before items = take form.count (drop (form.count * before) items)
 -- the page of this number of a listing is what its entries are spelled by, as they are read
 abbrev pub IsFormed : {X : Type 0} → Form X → ℕ → Type 0
 IsFormed form page =
-    (listing : Listing) → ListingFits listing → IsPlain listing
+    (listing : Listing) → ListingFits listing
     → catalog_page listing page ≡ page_with form (form.read (catalog_page listing page))
 
 -- so many pages, from this one on, have entries of this form, and read as those of the listing
@@ -82,7 +82,7 @@ pub record HasForm {X : Type 0} (form : Form X) (first count : ℕ) : Type 0 whe
   pub within : first + count ≤ system_pages
   pub long : (bytes : List ℕ) → length (form.read bytes) ≡ form.count
   pub formed : (before : ℕ) → before < count → IsFormed form (first + before)
-  pub back : (before : ℕ) → before < count → (listing : Listing) → ListingFits listing → IsPlain listing
+  pub back : (before : ℕ) → before < count → (listing : Listing) → ListingFits listing
       → form.read (catalog_page listing (first + before)) ≡ part form before (form.listed listing)
 
 -- the page is in form, and what it reads as stands behind what was there
@@ -96,5 +96,5 @@ pub record AddsPage {X : Type 0} (form : Form X) (pages : PagesView) (page : ℕ
 pub record LoadsEntries {X : Type 0} (form : Form X) (first count : ℕ) (pages : PagesView) (items : List (Option X)) : Type 0 where
   pub places : length items ≡ form.count * count
   pub has : (before : ℕ) → before < count → HasPage pages (first + before) (page_with form (part form before items))
-  pub only : IsTold pages.disk → (listing : Listing) → ListingFits listing → IsPlain listing → HoldsListing pages.held listing
+  pub only : IsTold pages.disk → (listing : Listing) → ListingFits listing → HoldsListing pages.held listing
       → items ≡ take (form.count * count) (form.listed listing)

@@ -6,9 +6,9 @@ ghost use Rattle.rss_base.specs.Names.{IsName};
 ghost use Rattle.rss_base.specs.Sizes.{segments as segments_most, relations_most, images_most, system_pages};
 ghost use Rattle.rss_base.specs.Steps.{PagesCall, no_page};
 ghost use Rattle.rss_base.specs.Listings.{Listing, numbered, names_of, segment_at, relation_at, image_at, IsNumberOf, IsUnlisted};
-ghost use Rattle.rss_base.specs.Listings.{IsLeastUnused, AreAllUsed, EntryFits, ImageFits, ListingFits, IsPlain, HoldsListing};
+ghost use Rattle.rss_base.specs.Listings.{IsLeastUnused, AreAllUsed, EntryFits, ImageFits, ListingFits, HoldsListing};
 ghost use Rattle.rss_base.specs.Listings.{no_listing, with_segment, with_relation, with_image, with_count, with_root, catalog_page};
-ghost use Rattle.rss_base.specs.declared.fault.PageFault.TheVariants.{Damaged as PageDamaged, Device as PageDevice};
+ghost use Rattle.rss_base.specs.declared.fault.PageFault.TheVariants.{Damaged as PageDamaged};
 ghost use Rattle.rss_base.specs.declared.name.Name.{Name as AnyName};
 ghost use Rattle.rss_base.specs.declared.place.Place.{Place as AnyPlace};
 ghost use Rattle.rss_base.specs.declared.relation.RelationEntry.{RelationEntry as Entry};
@@ -48,31 +48,13 @@ pub(crate) fn page_of(number: u8) -> u8
 }
 
 /// The page that spells an image.
-pub(crate) fn image_page_of(number: u8) -> u8
+pub fn image_page_of(number: u8) -> u8
     requires low { 1 ≤ number }
     requires high { number ≤ images_most }
     ensures page { result ≡ page_of Image number }
     ensures within { result < system_pages }
 {
     1 + RELATION_PAGES + (number - 1) / IMAGES_OF_PAGE
-}
-
-/// As yet a store has no images, so that one is damage.
-fn refuse_images(images: &[Option<ImageEntry>]) -> Result<(), PageFault>
-    requires { length images.now ≡ images_most }
-    ensures none { OnOk result (images.now ≡ replicate images_most None) }
-    ensures some { (place : AnyPlace) → result ≡ Err (PageDamaged place)
-        → images.now ≡ replicate images_most None → ⊥ }
-    ensures named { (place : AnyPlace) → result ≡ Err (PageDamaged place)
-        → IsCatalogPlace place }
-    ensures no_device { result ≡ Err PageDevice → ⊥ }
-{
-    for (place, image) in images.iter().enumerate() {
-        if image.is_some() {
-            return Err(damaged(image_page_of(place as u8 + 1)));
-        }
-    }
-    Ok(())
 }
 
 /// So many places, with nothing at any of them.
@@ -96,6 +78,18 @@ pub(crate) fn at<T>(items: &[Option<T>], number: u8) -> Option<&T>
         return None;
     }
     items[number - 1].as_ref()
+}
+
+/// The number of the last of these, or 0 where there is none.
+fn last_used<T>(items: &[Option<T>]) -> u8
+    requires { length items.now ≤ images_most }
+    ensures none { (number : ℕ) → result < number → numbered items.now number ≡ None }
+    ensures few { result ≤ images_most }
+{
+    match items.iter().rposition(|item| item.is_some()) {
+        Some(place) => place as u8 + 1,
+        None => 0,
+    }
 }
 
 /// The definitions of a store by their numbers, which count from 1, and the counts of its tuples.
@@ -151,12 +145,13 @@ impl Catalog {
 
     /// The catalog in the pages of the system space. `Damaged` names one of them that isn't there or
     /// isn't in form: an entry that isn't spelled as `docs/CATALOG.md` says, a name that stands twice,
-    /// a relation of no segment or with fields that no relation has; or that has an image.
+    /// a relation of no segment or with fields that no relation has, an image of no relation or with
+    /// a key that no image has.
     pub fn load<P: Pages>(alloc: Global, pages: &mut P) -> Result<Self, PageFault>
         ensures loaded { IfOk result (λ catalog. Loads (P.view pages.old) catalog) }
         ensures flawed { (place : AnyPlace) → result ≡ Err (PageDamaged place)
             → IsTold (P.view pages.old).disk → (listing : Listing) → ListingFits listing
-            → IsPlain listing → HoldsListing (P.view pages.old).held listing → ⊥ }
+            → HoldsListing (P.view pages.old).held listing → ⊥ }
         ensures named { (place : AnyPlace) → result ≡ Err (PageDamaged place)
             → IsCatalogPlace place }
         ensures did { ChecksPages no_page system_pages
@@ -169,12 +164,12 @@ impl Catalog {
         if let Some(page) = flaw(&segments, &relations, &images) {
             return Err(damaged(page));
         }
-        refuse_images(&images)?;
+        let last_image = last_used(&images);
         Ok(Catalog {
             segments,
             relations,
             images,
-            last_image: 0,
+            last_image,
             pending: [false; PAGES],
         })
     }

@@ -1,40 +1,30 @@
 -- How many pages images have in all, where each has no more than it has room for.
-use Rattle.std.proofs.Common.{◌≡◌, ◌<◌, ◌≤◌, ◌+◌, ◌-◌, ◌/◌, ℕ, suc, true, List, [], ◌∷◌, length, get_or, map as list_map, refl, sym, ◌∙◌, ap, subst, arith, inl, inr, ⊎_elim}
+use Rattle.std.proofs.Common.{◌≡◌, ◌≤◌, ◌+◌, ◌-◌, ℕ, suc, true, List, [], ◌∷◌, length, get_or, map as list_map, refl, sym, ◌∙◌, ap, subst, arith, inl, inr, ⊎_elim}
 use Rattle.std.specs.Prelude.{Option, Some, None, is_some, if◌then◌else◌, ◌==◌}
 use Rattle.std.proofs.lemmas.List.{length-map}
 use Rattle.std.proofs.lemmas.Option.{none-some}
-use Rattle.std.proofs.lemmas.Nat.{le-div}
-use Rattle.std.proofs.Math.Nat.{div-mul-le_self}
 use Rattle.rss_base.specs.Paged.{Held, Mapped, page_key, mapped_of}
 use Rattle.rss_base.specs.Listings.{Listing, ListingFits, image_at}
 use Rattle.rss_base.specs.declared.key.PageKey.{PageKey}
 use Rattle.rss_base.specs.declared.key.Space.TheVariants.{Image as ImageSpace}
 use Rattle.rss_base.specs.declared.image.ImageEntry.{ImageEntry}
 use Rattle.rss_base.specs.declared.relation.RelationEntry.{RelationEntry}
-use Rattle.rss_levels.specs.Entries.{IsIn, capacity, least}
+use Rattle.rss_levels.specs.Entries.{IsIn}
 use Rattle.rss_node.specs.Nodes.{AreNodes}
-use Rattle.rss_image.specs.Images.{nodes_of, ImageTree, pages_of, page_bound}
+use Rattle.rss_image.specs.Images.{nodes_of, ImageTree, pages_of}
 use Rattle.rss_image.proofs.Halves.{many}
 use Rattle.rss_image.proofs.Putting.{few_pages, spell_one}
 use Rattle.rss_model.specs.Store.{IsListedImage}
 use Rattle.rss_model.proofs.Listed.{at_place}
 use Rattle.rss_model.proofs.Mixing.{In}
 use Rattle.rss_model.proofs.Relisted.{number_within_list}
+use Rattle.rss_model.proofs.Saving.{more_bound}
 use Rattle.rss_entries.specs.Rooms.{width_of, room_of, image_room, images_room}
 use Rattle.rss_entries.specs.Images.{image_of}
 use Rattle.rss_model.proofs.MappedKeys.{HasMapped, mapped_at_most, keys_from, among_keys, keys_few, keys_but}
 use Rattle.rss_entries.proofs.Showing.{same_entry, at_same, at_its_place}
 
 -- ---- an image has room for its pages
-
-quotients_rise : (m n k : ℕ) → m ≤ n → 0 < k → m / k ≤ n / k
-quotients_rise m n k low some = le-div (m / k) n k some (omega (arith, low, div-mul-le_self m k))
-
--- more pairs may have more pages
-bound_rises : (width m n : ℕ) → width ≤ 120 → m ≤ n → page_bound width m ≤ page_bound width n
-bound_rises width m n narrow low =
-    let much : 31 ≤ capacity width = many width narrow in
-    omega (arith, quotients_rise m n (least width - 1) low (omega (arith, much)))
 
 -- how many pairs it may have
 abbrev pub pairs_room : ℕ → ImageEntry → RelationEntry → ℕ
@@ -43,7 +33,7 @@ pairs_room number image relation = if image.relation == number then relation.liv
 pub room_fits : (held : Held) (number m : ℕ) (image : ImageEntry) (relation : RelationEntry) → AreNodes (nodes_of (image_of m image relation)) → (pairs : List (List ℕ)) (tree : ImageTree (image_of m image relation) held pairs) → length pairs ≤ pairs_room number image relation → length (pages_of tree) ≤ room_of number image (Some relation)
 room_fits held number m image relation fit pairs tree few =
     let low = few_pages (image_of m image relation) held (many (width_of image relation) fit.narrow) pairs tree in
-    let high = bound_rises (width_of image relation) (length pairs) (pairs_room number image relation) fit.narrow few in
+    let high = more_bound (width_of image relation) (length pairs) (pairs_room number image relation) few in
     omega (arith, low, high)
 
 -- ---- what each image has

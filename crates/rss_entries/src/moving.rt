@@ -45,7 +45,7 @@ pub fn move_entry<P: Pages>(
         → (was_values next_values : Option (List FieldValue))
         → AreSpelled (kinds key.fields.now) (option_copied was) was_values
         → AreSpelled (kinds key.fields.now) (option_copied next) next_values
-        → MayMove (kinds_of key) tid was_values image.old (P.view pages.old) }
+        → ∥ MayMove (kinds_of key) tid was_values image.old (P.view pages.old) ∥₁ }
     ensures of { nodes_of image.new ≡ nodes_of image.old }
     ensures low { 1 ≤ image.new.levels }
     ensures moves { OnOk result (IsTold (P.view pages.old).disk
@@ -109,7 +109,7 @@ fn cut<P: Pages>(
     requires low { 1 ≤ image.old.levels }
     requires long { IfSome key.now (λ bytes. length bytes ≡ image.old.width) }
     requires may { IsTold (P.view pages.old).disk
-        → MayCutKey key.now tid image.old (P.view pages.old) }
+        → ∥ MayCutKey key.now tid image.old (P.view pages.old) ∥₁ }
     ensures of { nodes_of image.new ≡ nodes_of image.old }
     ensures low { 1 ≤ image.new.levels }
     ensures cuts { OnOk result (IsTold (P.view pages.old).disk
@@ -137,7 +137,7 @@ fn put<P: Pages>(
     requires long { IfSome key.now (λ bytes. length bytes ≡ image.old.width) }
     requires slot { tid.slot < page_entries }
     requires may { IsTold (P.view pages.old).disk
-        → MayPutKey key.now tid image.old (P.view pages.old) }
+        → ∥ MayPutKey key.now tid image.old (P.view pages.old) ∥₁ }
     requires room { IsTold (P.view pages.old).disk → HasSpare image.old (P.view pages.old) }
     ensures of { nodes_of image.new ≡ nodes_of image.old }
     ensures low { 1 ≤ image.new.levels }

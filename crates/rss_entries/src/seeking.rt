@@ -30,7 +30,7 @@ pub fn find_owner<P: Pages>(
     requires width { image.now.width ≡ key_width (chosen key.which.now (kinds key.fields.now)) }
     requires spelled { SpellsSome (kinds key.fields.now) values.now }
     requires there { IsTold (P.view pages.old).disk
-        → HasImage image.now (P.view pages.old).held }
+        → ∥ HasImage image.now (P.view pages.old).held ∥₁ }
     ensures owner { IfOk result (λ found. IsTold (P.view pages.old).disk
         → IsOwnerIn image.now (P.view pages.old).held (kinds_of key.entry) values.now own found) }
     ensures did { PagesCall no_page (2 * (image.now.levels + 1)) (2 * (image.now.levels + 1))
@@ -59,7 +59,7 @@ pub fn next_pair<P: Pages>(
     requires long { length start.now ≡ image.now.width }
     requires last_long { IfSome last.now (λ pair. length pair.0 ≡ image.now.width) }
     requires there { IsTold (P.view pages.old).disk
-        → HasImage image.now (P.view pages.old).held }
+        → ∥ HasImage image.now (P.view pages.old).held ∥₁ }
     ensures next { IfOk result (λ found. IsTold (P.view pages.old).disk
         → IsNextIn image.now (P.view pages.old).held start.now last.now found) }
     ensures wide { IfOk result (λ found. IfSome found (λ pair. length pair.0 ≡ image.now.width)) }

@@ -1,8 +1,12 @@
 -- Two neighbours that are evened out, by what the calls say.
-use Rattle.std.proofs.Common.{◌≡◌, ◌≢◌, inl, inr, ⊎_elim, ◌<◌, ◌≤◌, ◌+◌, ◌-◌, ◌/◌, ℕ, suc, zero, List, [], ◌∷◌, ◌++◌, length, take, drop, refl, sym, ◌∙◌, ap, subst, arith, Some}
+use Rattle.std.proofs.Common.{◌≡◌, ◌≢◌, inl, inr, ⊎_elim, ◌<◌, ◌≤◌, ◌+◌, ◌-◌, ◌/◌, ℕ, suc, zero, List, [], ◌∷◌, ◌++◌, length, take, drop, true, refl, sym, ◌∙◌, ap, subst, arith, Some}
+use Rattle.std.specs.Prelude.{is_some}
 use Rattle.std.proofs.lemmas.List.{append-nil, take_all, drop_all, length-append, length-drop}
-use Rattle.rss_base.specs.Paged.{Held}
-use Rattle.rss_base.specs.Steps.{PagesView}
+use Rattle.rss_base.specs.DiskRule.{IsTold}
+use Rattle.rss_base.specs.Paged.{Held, page_key}
+use Rattle.rss_base.specs.Steps.{PagesView, PagesStep, no_page}
+use Rattle.rss_base.specs.declared.key.PageKey.{PageKey}
+use Rattle.rss_base.specs.declared.key.Space.TheVariants.{Image}
 use Rattle.rss_levels.specs.Entries.{Entry, IsIn, zeros, capacity, least}
 use Rattle.rss_levels.specs.Rows.{Part, Row, Cells, HoldsAt, Begins, link, stored}
 use Rattle.rss_levels.specs.Spots.{Keeps, LosesNone}
@@ -12,6 +16,7 @@ use Rattle.rss_node.specs.Nodes.{NodeView, spliced, entry_at}
 use Rattle.rss_node.specs.declared.pair.Nodes.{Nodes}
 use Rattle.rss_image.specs.Trees.{cells_of, node_of, spells, HoldsNode, HasNode, KeepsPages, LosesNoPage, Writes}
 use Rattle.rss_image.specs.Removed.{first_named, AreNeighbours, HasNeighbours, second_names, EvensTo, Joined, Shared}
+use Rattle.rss_image.proofs.Calls.{keeps_none, held_is_mapped}
 use Rattle.rss_image.proofs.Insertion.{same_node}
 use Rattle.rss_image.proofs.Halves.{begins_entry}
 
@@ -117,6 +122,10 @@ shared_of of level number other left right entries left_next right_next old one 
     }
 
 -- ---- the neighbours that were read
+
+-- they stand in two pages
+pub two_apart : {of : Nodes} {cells : Cells} {level number other : ℕ} {pair : List ℕ} → HasNeighbours of cells level number other pair → number ≢ other
+two_apart has same = has.are.near.apart (has.are.left_is ∙ same ∙ sym has.are.right_is)
 
 pub left_node : (of : Nodes) (held : Held) (level number other : ℕ) (pair : List ℕ) → HasNeighbours of (cells_of of held) level number other pair → HasNode of held level number
 left_node of held level number other pair has = record {
@@ -251,3 +260,10 @@ was_holding of level number next entries old new same holds = subst (λ (cs : Ce
 
 pub node_seen : (of : Nodes) (level number : ℕ) (old new : PagesView) → cells_of of new.held ≡ cells_of of old.held → HasNode of old.held level number → HasNode of new.held level number
 node_seen of level number old new same has = record { next = has.next; entries = has.entries; holds = subst (λ (cs : Cells). HoldsAt (spells of) cs level number has.next has.entries) (sym same) has.holds }
+
+-- and its page is mapped still
+pub still_mapped : {asks outs asks_then outs_then : ℕ} (of : Nodes) (level number : ℕ) (node : NodeView) {old one two : PagesView} → PagesStep no_page asks outs old one → PagesStep no_page asks_then outs_then one two → IsTold old.disk
+    → ((key : PageKey) → is_some (two.held key) ≡ two.mapped key) → HoldsNode of old.held level number node.next node.entries → two.mapped (page_key of.segment Image number) ≡ true
+still_mapped of level number node {old = old} {one = one} {two = two} first then told law holds =
+    held_is_mapped of two level number node.next node.entries law
+    (was_holding of level number node.next node.entries two old (sym (keeps_none of one two then (first.passes.leaves.told.0 told) ∙ keeps_none of old one first told)) holds)

@@ -1,5 +1,6 @@
 -- What the bounds and the pairs of an image passed, they pass still.
-use Rattle.std.proofs.Common.{◌≡◌, ◌<◌, ◌≤◌, ◌+◌, ◌-◌, ℕ, suc, List, [], ◌∷◌, ◌++◌, length, Bool, true, sym, ◌∙◌, ap, subst, arith}
+use Rattle.std.proofs.Common.{◌≡◌, ◌<◌, ◌≤◌, ◌+◌, ◌-◌, ℕ, suc, List, [], ◌∷◌, ◌++◌, length, Bool, true, refl, sym, ◌∙◌, ap, subst, arith}
+use Rattle.std.proofs.Math.Bool.{Bool-set}
 use Rattle.std.proofs.lemmas.List.{append-nil}
 use Rattle.std.specs.Ordering.{nat_cmp, is_lt}
 use Rattle.std.specs.Cmp.{nat_cmp_is}
@@ -27,6 +28,14 @@ use Rattle.rss_image.specs.declared.image.Image.{Image}
 use Rattle.rss_image.proofs.Cut.{root_holds, still_one}
 use Rattle.rss_image.proofs.Making.{empty_tree}
 use Rattle.rss_image.proofs.Putting.{no_extra, same_rows, spot_of}
+
+each_prop : {X : Type 0} (P : X → Type 0) → ((x : X) → IsProp (P x)) → (xs : List X) → IsProp (Each P xs)
+each_prop P all [] a b = refl
+each_prop P all (x ∷ xs) a b = λ i. (all x a.0 b.0 i, each_prop P all xs a.1 b.1 i)
+
+-- any two proofs are equal that the bounds and the pairs of a tree pass a test
+pub AreMade-prop : (good : List ℕ → Bool) {image : Image} {held : Held} {pairs : List (List ℕ)} (tree : ImageTree image held pairs) → IsProp (AreMade good ((tree.top ∷ []) ∷ tree.lower))
+AreMade-prop good tree = each_prop (Each (IsMade good)) (each_prop (IsMade good) (λ p a b i. (Bool-set _ _ a.0 b.0 i, each_prop (λ (e : Entry). good e.pair ≡ true) (λ e. Bool-set _ _) p.items a.1 b.1 i))) ((tree.top ∷ []) ∷ tree.lower)
 
 -- the rows of one tree of the pages are those of each
 each_made : (image : Image) (held : Held) (good : List ℕ → Bool) (pairs : List (List ℕ)) (top : Part) (lower : List Row) → IsTree (spells (nodes_of image)) (cells_of (nodes_of image) held) image.width image.root image.levels pairs top lower → AreMade good ((top ∷ []) ∷ lower) → AreAllMade good image held

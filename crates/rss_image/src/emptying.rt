@@ -19,7 +19,7 @@ pub(crate) fn give_under<P: Pages>(
 ) -> Result<(), PageFault>
     requires of { AreNodes of }
     requires there { IsTold (P.view pages.old).disk
-        → HasUnder of (P.view pages.old).held level number }
+        → ∥ HasUnder of (P.view pages.old).held level number ∥₁ }
     ensures gives { OnOk result (IsTold (P.view pages.old).disk
         → GivesUnder of level number (P.view pages.old) (P.view pages.new)) }
     ensures did { PagesCall (pages_in of.segment Image) (inner_most of.width level)

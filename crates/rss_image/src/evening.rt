@@ -149,7 +149,7 @@ pub(crate) fn even<P: Pages>(
     requires of { AreNodes of }
     requires long { length pair.now ≡ of.width + 6 }
     requires there { IsTold (P.view pages.old).disk
-        → HasNeighbours of (cells_of of (P.view pages.old).held) level number other pair.now }
+        → ∥ HasNeighbours of (cells_of of (P.view pages.old).held) level number other pair.now ∥₁ }
     ensures evened { IfOk result (λ second. IsTold (P.view pages.old).disk
         → Evened of level number other pair.now (cells_of of (P.view pages.old).held)
         (cells_of of (P.view pages.new).held) second) }

@@ -86,7 +86,8 @@ impl Image {
     pub fn destroy<P: Pages>(self, pages: &mut P) -> Result<(), PageFault>
         requires of { AreNodes (nodes_of self) }
         requires low { 1 ≤ self.levels }
-        requires there { IsTold (P.view pages.old).disk → HasImage self (P.view pages.old).held }
+        requires there { IsTold (P.view pages.old).disk
+            → ∥ HasImage self (P.view pages.old).held ∥₁ }
         ensures destroyed { OnOk result (IsTold (P.view pages.old).disk
             → DestroysImage self (P.view pages.old) (P.view pages.new)) }
         ensures did { PagesCall (pages_in self.segment ImageSpace)
@@ -108,7 +109,7 @@ impl Image {
         requires long { length key.now ≡ self.old.width }
         requires slot { tid.slot < page_entries }
         requires may { IsTold (P.view pages.old).disk
-            → MayPut self.old (P.view pages.old).held (pair_bytes key.now tid) }
+            → ∥ MayPut self.old (P.view pages.old).held (pair_bytes key.now tid) ∥₁ }
         requires room { IsTold (P.view pages.old).disk
             → HasSpare self.old (P.view pages.old) }
         ensures of { nodes_of self.new ≡ nodes_of self.old }
@@ -149,7 +150,7 @@ impl Image {
         requires low { 1 ≤ self.old.levels }
         requires long { length key.now ≡ self.old.width }
         requires may { IsTold (P.view pages.old).disk
-            → MayCut self.old (P.view pages.old).held (pair_bytes key.now tid) }
+            → ∥ MayCut self.old (P.view pages.old).held (pair_bytes key.now tid) ∥₁ }
         ensures of { nodes_of self.new ≡ nodes_of self.old }
         ensures low { 1 ≤ self.new.levels }
         ensures kept { OnErr result (self.new ≡ self.old) }
@@ -186,7 +187,7 @@ impl Image {
         requires low { 1 ≤ self.now.levels }
         requires long { length key.now ≡ self.now.width }
         requires there { IsTold (P.view pages.old).disk
-            → HasImage self.now (P.view pages.old).held }
+            → ∥ HasImage self.now (P.view pages.old).held ∥₁ }
         ensures found { IfOk result (λ found. IsTold (P.view pages.old).disk
             → Finds false (pair_bytes key.now least_tid) self.now (P.view pages.old) found) }
         ensures wide { IfOk result (λ found. IfSome found (λ pair. length pair.0 ≡ self.now.width)) }
@@ -214,7 +215,7 @@ impl Image {
         requires low { 1 ≤ self.now.levels }
         requires long { length key.now ≡ self.now.width }
         requires there { IsTold (P.view pages.old).disk
-            → HasImage self.now (P.view pages.old).held }
+            → ∥ HasImage self.now (P.view pages.old).held ∥₁ }
         ensures found { IfOk result (λ found. IsTold (P.view pages.old).disk
             → Finds true (pair_bytes key.now tid) self.now (P.view pages.old) found) }
         ensures wide { IfOk result (λ found. IfSome found (λ pair. length pair.0 ≡ self.now.width)) }
@@ -243,7 +244,7 @@ impl Image {
         requires low { 1 ≤ self.now.levels }
         requires long { length key.now ≡ self.now.width }
         requires there { IsTold (P.view pages.old).disk
-            → HasImage self.now (P.view pages.old).held }
+            → ∥ HasImage self.now (P.view pages.old).held ∥₁ }
         ensures found { IfOk result (λ found. IsTold (P.view pages.old).disk
             → FindsAnother key.now own self.now (P.view pages.old) found) }
         ensures did { PagesCall no_page (2 * (self.now.levels + 1)) (2 * (self.now.levels + 1))
@@ -264,7 +265,7 @@ impl Image {
         requires low { 1 ≤ self.now.levels }
         requires long { length key.now ≡ self.now.width }
         requires there { IsTold (P.view pages.old).disk
-            → HasImage self.now (P.view pages.old).held }
+            → ∥ HasImage self.now (P.view pages.old).held ∥₁ }
         ensures found { IfOk result (λ has. IsTold (P.view pages.old).disk
             → Has (pair_bytes key.now tid) self.now (P.view pages.old) has) }
         ensures did { PagesCall no_page (self.now.levels + 1) (self.now.levels + 1)

@@ -23,7 +23,7 @@ pub(crate) fn insert_in<P: Pages>(
     requires of { AreNodes of }
     requires long { length pair.now ≡ of.width + 6 }
     requires there { IsTold (P.view pages.old).disk
-        → MayInsert of (P.view pages.old).held (P.view pages.old).spare level number pair.now }
+        → ∥ MayInsert of (P.view pages.old).held (P.view pages.old).spare level number pair.now ∥₁ }
     ensures inserted { IfOk result (λ split. IsTold (P.view pages.old).disk
         → Inserted of level number pair.now (P.view pages.old) (P.view pages.new) split) }
     ensures long { IfOk result (λ split. IfSome split (λ s. length s.pair ≡ of.width + 6)) }

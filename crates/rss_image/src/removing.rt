@@ -32,7 +32,7 @@ fn take_out<P: Pages>(
     requires node { IsTold (P.view pages.old).disk
         → HoldsNode of (P.view pages.old).held 0 number node.old.next node.old.entries }
     requires there { IsTold (P.view pages.old).disk
-        → MayRemove of (P.view pages.old).held 0 number pair.now }
+        → ∥ MayRemove of (P.view pages.old).held 0 number pair.now ∥₁ }
     ensures removed { IfOk result (λ count. IsTold (P.view pages.old).disk
         → Removed of 0 number pair.now (P.view pages.old) (P.view pages.new) count) }
     ensures did { PagesCall (pages_in of.segment Image) 0 1
@@ -65,7 +65,8 @@ fn mend<P: Pages>(
     requires is { IsNodeOf of level number node.old }
     requires within { place < length node.old.entries }
     requires there { IsTold (P.view pages.old).disk
-        → MayMend of (cells_of of (P.view pages.old).held) level number place node.old.entries }
+        → ∥ MayMend of (cells_of of (P.view pages.old).held) level number place
+        node.old.entries ∥₁ }
     ensures mended { OnOk result (IsTold (P.view pages.old).disk
         → Mended of level number node.old.next place node.old.entries
         (cells_of of (P.view pages.old).held) (cells_of of (P.view pages.new).held)
@@ -99,7 +100,7 @@ pub(crate) fn remove_in<P: Pages>(
     requires of { AreNodes of }
     requires long { length pair.now ≡ of.width + 6 }
     requires there { IsTold (P.view pages.old).disk
-        → MayRemove of (P.view pages.old).held level number pair.now }
+        → ∥ MayRemove of (P.view pages.old).held level number pair.now ∥₁ }
     ensures removed { IfOk result (λ count. IsTold (P.view pages.old).disk
         → Removed of level number pair.now (P.view pages.old) (P.view pages.new) count) }
     ensures did { PagesCall (pages_in of.segment Image) (3 * level + 1) (6 * level + 2)

@@ -48,7 +48,8 @@ pub(crate) fn drop_root<P: Pages>(
     root: u32,
 ) -> Result<u32, PageFault>
     requires of { AreNodes of }
-    requires there { IsTold (P.view pages.old).disk → HasRoot of (P.view pages.old).held level root }
+    requires there { IsTold (P.view pages.old).disk
+        → ∥ HasRoot of (P.view pages.old).held level root ∥₁ }
     ensures dropped { IfOk result (λ child. IsTold (P.view pages.old).disk
         → Dropped of level root child (P.view pages.old) (P.view pages.new)) }
     ensures given { IfOk result (λ child. (P.view pages.new).mapped

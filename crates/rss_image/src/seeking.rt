@@ -22,7 +22,7 @@ fn first_in<P: Pages>(
 ) -> Result<Option<Pair>, PageFault>
     requires of { AreNodes of }
     requires there { IsTold (P.view pages.old).disk
-        → HasPlace of (P.view pages.old).held 0 number pair.now }
+        → ∥ HasPlace of (P.view pages.old).held 0 number pair.now ∥₁ }
     requires is { IsNodeOf of 0 number node.now }
     requires node { IsTold (P.view pages.old).disk
         → HoldsNode of (P.view pages.old).held 0 number node.now.next node.now.entries }
@@ -59,7 +59,7 @@ pub(crate) fn seek_in<P: Pages>(
     requires of { AreNodes of }
     requires long { length pair.now ≡ of.width + 6 }
     requires there { IsTold (P.view pages.old).disk
-        → HasPlace of (P.view pages.old).held level number pair.now }
+        → ∥ HasPlace of (P.view pages.old).held level number pair.now ∥₁ }
     ensures found { IfOk result (λ found. IsTold (P.view pages.old).disk
         → (pairs : List (List ℕ)) → MaySeek of (P.view pages.old).held level number pair.now pairs
         → found ≡ first_from beyond pair.now pairs) }

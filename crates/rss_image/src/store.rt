@@ -39,7 +39,8 @@ pub(crate) fn read_node<P: Pages>(
     number: u32,
 ) -> Result<Node, PageFault>
     requires of { AreNodes of }
-    requires there { IsTold (P.view pages.old).disk → HasNode of (P.view pages.old).held level number }
+    requires there { IsTold (P.view pages.old).disk
+        → ∥ HasNode of (P.view pages.old).held level number ∥₁ }
     ensures holds { IfOk result (λ node. IsTold (P.view pages.old).disk
         → HoldsNode of (P.view pages.old).held level number node.next node.entries) }
     ensures is { IfOk result (IsNodeOf of level number) }

@@ -56,7 +56,7 @@ numbered_field k (first ∷ fields) name number is = by_test (is_name name first
     behind low = omega (arith, low)
 
 -- the fields of the numbers that names have, have these names
-pub names_back : (fields : List FieldDef) (names : List Name) → All (λ name. is_field_of fields name ≡ true) names → field_names (chosen (numbers_of fields names) fields) ≡ names
+names_back : (fields : List FieldDef) (names : List Name) → All (λ name. is_field_of fields name ≡ true) names → field_names (chosen (numbers_of fields names) fields) ≡ names
 names_back fields [] all = refl
 names_back fields (name ∷ names) all =
     let some = some_of (number_from 1 fields name) (All-head (λ n. is_field_of fields n ≡ true) name names all) in

@@ -27,6 +27,7 @@ use Rattle.rss_model.proofs.MappedKeys.{HasMapped, mapped_at_most, keys_from, am
 use Rattle.rss_model.proofs.Mixing.{In}
 use Rattle.rss_model.proofs.Relisted.{number_within_list}
 use Rattle.rss_model.proofs.Saving.{more_bound}
+use Rattle.rss_model.proofs.Spelled.{named_image}
 
 -- ---- more entries may need more pages
 
@@ -41,43 +42,34 @@ bound_rises listing few many le = sum_by-le-sum_by (bound_at listing few) (bound
         by None is = omega arith
         by (Some relation) is = more_bound (key_width (kinds (chosen (field_numbers image) relation.fields))) (few image.relation) (many image.relation) (le image.relation relation is)
 
--- ---- names that are listed
-
-module _ {A : Type 0} (name : A → Name) where
-  -- what has a name stands at the name's place
-  named_at : (items : List (Option A)) (k : ℕ) (q : Name) → get_or (list_map (option_map name) items) k None ≡ Some q → (item : A) × (get_or items k None ≡ Some item) × (name item ≡ q)
-  named_at [] k q is = absurd (none-some q is)
-  named_at (None ∷ items) zero q is = absurd (none-some q is)
-  named_at (Some item ∷ items) zero q is = (item, refl, same_Some _ _ is)
-  named_at (item ∷ items) (suc k) q is = named_at items k q is
-
-  -- a sum over the names is one over what has them
-  sum_named : (h : Name → ℕ) (g : Option A → ℕ) (items : List (Option A)) → g None ≡ 0 → ((k : ℕ) (item : A) → get_or items k None ≡ Some item → h (name item) ≡ g (Some item)) → sum_by (of_name h) (list_map (option_map name) items) ≡ sum_by g items
-  sum_named h g [] none each = refl
-  sum_named h g (None ∷ items) none each =
-      omega (arith, none, sum_named h g items none (λ k. each (suc k)), sum_by-cons (of_name h) None (list_map (option_map name) items), sum_by-cons g None items)
-  sum_named h g (Some item ∷ items) none each =
-      omega (arith, each zero item refl, sum_named h g items none (λ k. each (suc k)), sum_by-cons (of_name h) (Some (name item)) (list_map (option_map name) items), sum_by-cons g (Some item) items)
+-- a sum over the names of what is listed is one over what has them
+sum_named : {A : Type 0} (name : A → Name) (h : Name → ℕ) (g : Option A → ℕ) (items : List (Option A)) → g None ≡ 0 → ((k : ℕ) (item : A) → get_or items k None ≡ Some item → h (name item) ≡ g (Some item)) → sum_by (of_name h) (list_map (option_map name) items) ≡ sum_by g items
+sum_named name h g [] none each = refl
+sum_named name h g (None ∷ items) none each =
+    omega (arith, none, sum_named name h g items none (λ k. each (suc k)), sum_by-cons (of_name h) None (list_map (option_map name) items), sum_by-cons g None items)
+sum_named name h g (Some item ∷ items) none each =
+    omega (arith, each zero item refl, sum_named name h g items none (λ k. each (suc k)), sum_by-cons (of_name h) (Some (name item)) (list_map (option_map name) items), sum_by-cons g (Some item) items)
 
 -- ---- the images that are defined are those that are listed
 
 module _ {listing : Listing} {definitions : Definitions} (defines : Defines listing definitions) (fits : ListingFits listing) where
-  -- an image at its place, with its relation
-  record HasImageAt (k : ℕ) (image : ImageEntry) : Type 0 where
+  -- an image with its relation
+  record HasDefinition (number : ℕ) (image : ImageEntry) : Type 0 where
     relation : RelationEntry
-    at : IsListedImage listing (suc k) image relation
+    at : IsListedImage listing number image relation
     defined : map.get definitions.images image.name ≡ Some (image_definition image relation)
 
-  image_there : (k : ℕ) (image : ImageEntry) → get_or listing.images k None ≡ Some image → HasImageAt k image
-  image_there k image is =
-      let at : image_at listing (suc k) ≡ Some image = at_place listing.images k ∙ is in
-      let its = fits.paths.images (suc k) image at in
-      let listed : IsListedImage listing (suc k) image its.relation = record { at = at; within = its.listed } in
-      record { relation = its.relation; at = listed; defined = defines.paths.images (suc k) image its.relation listed }
+  definition_at : (number : ℕ) (image : ImageEntry) → image_at listing number ≡ Some image → HasDefinition number image
+  definition_at number image at =
+      let its = fits.paths.images number image at in
+      let listed : IsListedImage listing number image its.relation = record { at = at; within = its.listed } in
+      record { relation = its.relation; at = listed; defined = defines.paths.images number image its.relation listed }
 
   images_listed : IsListOf (names_of ImageKind listing) definitions.images
   images_listed = record {
-    each = λ k name at. let has = named_at (λ (image : ImageEntry). image.name) listing.images k name at in ap (λ (q : Name). is_some (map.get definitions.images q)) (sym has.2) ∙ ap is_some (image_there k has.0 has.1).defined;
+    each = λ k name at.
+        let has = named_image listing name (suc k, at_place (names_of ImageKind listing) k ∙ at) in
+        ap (λ (q : Name). is_some (map.get definitions.images q)) (sym has.named) ∙ ap is_some (definition_at has.number has.image has.at).defined;
     only = λ name there. place name (defines.paths.only_images name there);
     once = λ j k name one other. less_one j k (fits.paths.images_once (suc j) (suc k) name (at_place (names_of ImageKind listing) j ∙ one) (at_place (names_of ImageKind listing) k ∙ other));
   }
@@ -93,13 +85,13 @@ module _ {listing : Listing} {definitions : Definitions} (defines : Defines list
   pub listed_same : (meter : Meter) → (change_counts definitions meter).images ≡ listed_bound listing (most_of listing meter.traffic)
   listed_same meter =
       sum_found (pages_of_image definitions meter) (λ (e : Name × ImageDef). e.1) of_defined (names_of ImageKind listing) definitions.images images_listed (λ name image is. sym (ap (λ (o : Option ImageDef). unwrap_or (option_map (pages_of_image definitions meter) o) 0) is))
-      ∙ sum_named (λ (image : ImageEntry). image.name) of_defined (bound_at listing (most_of listing meter.traffic)) listing.images refl (λ k image is. each k image (image_there k image is))
+      ∙ sum_named (λ (image : ImageEntry). image.name) of_defined (bound_at listing (most_of listing meter.traffic)) listing.images refl (λ k image is. each (suc k) image (definition_at (suc k) image (at_place listing.images k ∙ is)))
     where
       of_defined : Name → ℕ
       of_defined name = unwrap_or (option_map (pages_of_image definitions meter) (map.get definitions.images name)) 0
 
-      each : (k : ℕ) (image : ImageEntry) → HasImageAt k image → of_defined image.name ≡ bound_at listing (most_of listing meter.traffic) (Some image)
-      each k image has =
+      each : (number : ℕ) (image : ImageEntry) → HasDefinition number image → of_defined image.name ≡ bound_at listing (most_of listing meter.traffic) (Some image)
+      each number image has =
           ap (λ (o : Option ImageDef). unwrap_or (option_map (pages_of_image definitions meter) o) 0) has.defined
           ∙ ap (λ (width : ℕ). bound_of width (entries_most (meter.traffic has.relation.name))) (width_is fits defines has.at)
           ∙ sym (ap (λ (o : Option RelationEntry). bound_by (λ number. unwrap_or (option_map (λ relation. entries_most (meter.traffic relation.name)) o) 0) image o) has.at.within)

@@ -100,20 +100,20 @@ module _ (a b : Listing) (bodies : Bodies) (contents : Contents) where
 -- ---- images that keep their relations
 
 -- each image that the first listing has, the second one has, with the same relation
-abbrev pub KeepsImages : Listing → Listing → Type 0
+abbrev KeepsImages : Listing → Listing → Type 0
 KeepsImages a b =
     (number : ℕ) (image : ImageEntry) (relation : RelationEntry)
     → IsListedImage a number image relation → IsListedImage b number image relation
 
 -- the list of an image is determined by its relation's fields
-pub same_list : (tables : Tables) (definitions : Definitions) (image : ImageDef) → map.get definitions.relations image.relation ≡ map.get tables.definitions.relations image.relation → image_list (with_definitions definitions tables) image ≡ image_list tables image
+same_list : (tables : Tables) (definitions : Definitions) (image : ImageDef) → map.get definitions.relations image.relation ≡ map.get tables.definitions.relations image.relation → image_list (with_definitions definitions tables) image ≡ image_list tables image
 same_list tables definitions image same =
     ap (λ (fields : List FieldDef). map.keys (map.from_entries {R = entry_cmp} (flat_map (λ held. entry_of image.relation fields image.fields held.0 held.1) (map.entries tables.contents))))
     (same_fields tables.definitions definitions image.relation same)
 
 module _ {a b : Listing} (into : KeepsImages a b) (back : KeepsImages b a) where
   -- the pages that spell them do so still, where their lists are the same
-  pub images_kept : {held : Held} {one two : Tables} → ((number : ℕ) (image : ImageEntry) (relation : RelationEntry) → IsListedImage a number image relation → image_list two (image_definition image relation) ≡ image_list one (image_definition image relation)) → SpellsImages held a one → SpellsImages held b two
+  images_kept : {held : Held} {one two : Tables} → ((number : ℕ) (image : ImageEntry) (relation : RelationEntry) → IsListedImage a number image relation → image_list two (image_definition image relation) ≡ image_list one (image_definition image relation)) → SpellsImages held a one → SpellsImages held b two
   images_kept {held = held} {one = one} {two = two} same images = record {
     each = λ number image relation l. let shown = images.each number image relation (back number image relation l) in (shown.0, still (back number image relation l) shown.1);
     reached = λ key is there.
@@ -125,7 +125,7 @@ module _ {a b : Listing} (into : KeepsImages a b) (back : KeepsImages b a) where
       still {number = number} {image = image} {relation = relation} l is = record { pairs = is.pairs; tree = is.tree; once = is.once; list = is.list ∙ ap (list_map (pair_spelled image relation)) (sym (same number image relation l)) }
 
   -- and they are defined as they were
-  pub paths_kept : {one two : Definitions} → b.images ≡ a.images → HasNoLinks a → HasNoLinks b → two.images ≡ one.images → two.links ≡ one.links → DefinesPaths a one → DefinesPaths b two
+  paths_kept : {one two : Definitions} → b.images ≡ a.images → HasNoLinks a → HasNoLinks b → two.images ≡ one.images → two.links ≡ one.links → DefinesPaths a one → DefinesPaths b two
   paths_kept {one = one} {two = two} listed none none_now images links paths = record {
     images = λ number image relation l. ap (λ (m : FinMap name_cmp ImageDef). map.get m image.name) images ∙ paths.images number image relation (back number image relation l);
     only_images = λ name there.

@@ -76,7 +76,7 @@ tuple_bytes_same k (field ∷ fields) (x ∷ a) (y ∷ b) one other stored store
 
 -- what has a number by its name
 module _ {A : Type 0} (name_of : A → Name) where
-  pub named_at : (items : List (Option A)) (number : ℕ) (name : Name) → numbered (list_map (option_map name_of) items) number ≡ Some name → (item : A) × (numbered items number ≡ Some item) × (name_of item ≡ name)
+  named_at : (items : List (Option A)) (number : ℕ) (name : Name) → numbered (list_map (option_map name_of) items) number ≡ Some name → (item : A) × (numbered items number ≡ Some item) × (name_of item ≡ name)
   named_at items zero name at = absurd (none-some name at)
   named_at items (suc k) name at =
       let some = entry items k (sym (at_place (list_map (option_map name_of) items) k) ∙ at) in

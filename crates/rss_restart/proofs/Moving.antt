@@ -9,7 +9,7 @@ use Rattle.std.proofs.lemmas.Option.{none-some, same_Some}
 use Rattle.rss_base.specs.Sizes.{links_most}
 use Rattle.rss_base.specs.DiskRule.{IsTold}
 use Rattle.rss_base.specs.TupleTypes.{kinds, Spells}
-use Rattle.rss_base.specs.Listings.{Listing, HasNoLinks, numbered, relation_at, link_at, with_count}
+use Rattle.rss_base.specs.Listings.{Listing, HasNoLinks, relation_at, link_at, with_count}
 use Rattle.rss_base.specs.declared.name.Name.{Name}
 use Rattle.rss_base.specs.declared.field.FieldDef.{FieldDef}
 use Rattle.rss_base.specs.declared.link.LinkEntry.{LinkEntry}
@@ -22,7 +22,6 @@ use Rattle.rss_base.specs.declared.change.Change.TheVariants.{Insert, Delete, Up
 use Rattle.rss_base.specs.declared.log_record.LogRecord.TheVariants as records
 use Rattle.rss_record.proofs.Records.{one_front}
 use Rattle.rss_log.specs.Logs.{LogView}
-use Rattle.rss_catalog.specs.Catalogs.{CatalogView}
 use Rattle.rss_model.specs.Items.{Content, is_name}
 use Rattle.rss_model.specs.Tables.{Tables}
 use Rattle.rss_model.specs.Changes.{Change}
@@ -35,8 +34,6 @@ use Rattle.rss_model.proofs.Counts.{one_if}
 use Rattle.rss_model.proofs.Listed.{at_place}
 use Rattle.rss_model.proofs.Relisted.{number_of}
 use Rattle.rss_access.specs.Changes.{AccessView, IsTupleRecord, HasRoom, number_told, count_after, Alters, Applies, CanApply, applied}
-use Rattle.rss_access.specs.Relisted.{Recounted}
-use Rattle.rss_access.proofs.Numbered.{counted_here, counted_else}
 use Rattle.rss_access.proofs.Recounting.{Recounts}
 use Rattle.rss_access.proofs.Rerooting.{recounts_by}
 use Rattle.rss_access.proofs.Telling.{reversed_tuple}
@@ -142,10 +139,10 @@ count_most (Disconnect link parent child left) live = omega arith
 
 -- it is the relation that the machine's change counts for
 tells_of : (listing : Listing) (told_change : told.Change) → IsTupleRecord told_change → (relation : RelationEntry) → relation_at listing (number_told told_change) ≡ Some relation → counts_for (item_told listing told_change) relation.name ≡ true
-tells_of listing told_change is relation at = by told_change is (named at)
+tells_of listing told_change is relation at = by told_change is (named (number_told told_change) at)
   where
-    named : {number : ℕ} → relation_at listing number ≡ Some relation → is_name relation.name (name_at RelationKind listing number) ≡ true
-    named {number = number} at =
+    named : (number : ℕ) → relation_at listing number ≡ Some relation → is_name relation.name (name_at RelationKind listing number) ≡ true
+    named number at =
         let name : name_at RelationKind listing number ≡ relation.name = ap (λ (name : Option Name). unwrap_or name (nameless number)) (number_of listing number relation at) in
         ap (is_name relation.name) name ∙ tied name_total name_apart relation.name
 

@@ -1,5 +1,5 @@
 -- Room for the changes that are still to be made, with the images of their relations.
-use Rattle.std.proofs.Common.{◌≡◌, inl, inr, ℕ, ◌+◌, ◌≤◌, List, [], ◌∷◌, refl, sym, ◌∙◌, ap, subst, arith}
+use Rattle.std.proofs.Common.{◌≡◌, ℕ, ◌+◌, ◌≤◌, List, [], ◌∷◌, refl, sym, ◌∙◌, ap, arith}
 use Rattle.std.specs.Prelude.{Bool, true, false, if◌then◌else◌, ◌==◌, Option, Some, None, option_map, unwrap_or, sum_by, map}
 use Rattle.std.proofs.lemmas.Bool.{eqb-true}
 use Rattle.std.proofs.lemmas.List.Sums.{sum_by-cons, sum_by-le-sum_by}
@@ -33,9 +33,9 @@ pub has_room : (at : AccessView) (number : ℕ) (changes : Name → ℕ) → ((r
 has_room at number changes some room =
     let listing : Listing = at.catalog.listing in
     let more = room_within listing number (entries_with listing changes) (λ n relation is.
-        one_more n number relation.live (changes relation.name) (entries_with listing changes n)
-        (λ here. some relation (ap (relation_at listing) (sym (eqb-true n number here)) ∙ is))
-        (entries_are listing changes n relation is)) in
+    one_more n number relation.live (changes relation.name) (entries_with listing changes n)
+    (λ here. some relation (ap (relation_at listing) (sym (eqb-true n number here)) ∙ is))
+    (entries_are listing changes n relation is)) in
     omega (arith, more, room)
   where
     one_if_so : (b : Bool) (live more all : ℕ) → (b ≡ true → 1 ≤ more) → all ≡ live + more → (if b then live + 1 else live) ≤ all
@@ -93,22 +93,22 @@ module _ {number live : ℕ} {relation : RelationEntry} {old new : CatalogView} 
   still : (n : ℕ) (now : RelationEntry) → relation_at new.listing n ≡ Some now → HadMore old.listing n (entries_with new.listing after n) (entries_with old.listing before n) now.fields
   still n now is = by_same n number
       (λ here.
-          let one : with_count live relation ≡ now = same_Some _ _ (sym (ap (λ (l : List (Option RelationEntry)). numbered l number) counted.relations ∙ counted_here old.listing number live relation at) ∙ ap (relation_at new.listing) (sym here) ∙ is) in
-          let was : relation_at old.listing n ≡ Some relation = ap (relation_at old.listing) here ∙ at in
-          record {
-            was = relation;
-            at = was;
-            same = ap (λ (r : RelationEntry). r.fields) one;
-            less = omega (arith, less, entries_are new.listing after n now is, entries_are old.listing before n relation was, ap (λ (r : RelationEntry). r.live) one, ap (λ (r : RelationEntry). after r.name) one);
-          })
+      let one : with_count live relation ≡ now = same_Some _ _ (sym (ap (λ (l : List (Option RelationEntry)). numbered l number) counted.relations ∙ counted_here old.listing number live relation at) ∙ ap (relation_at new.listing) (sym here) ∙ is) in
+      let was : relation_at old.listing n ≡ Some relation = ap (relation_at old.listing) here ∙ at in
+      record {
+        was = relation;
+        at = was;
+        same = ap (λ (r : RelationEntry). r.fields) one;
+        less = omega (arith, less, entries_are new.listing after n now is, entries_are old.listing before n relation was, ap (λ (r : RelationEntry). r.live) one, ap (λ (r : RelationEntry). after r.name) one);
+      })
       (λ other.
-          let was : relation_at old.listing n ≡ Some now = sym (ap (λ (l : List (Option RelationEntry)). numbered l n) counted.relations ∙ counted_else old.listing number live relation at n other) ∙ is in
-          record {
-            was = now;
-            at = was;
-            same = refl;
-            less = omega (arith, fewer now.name, entries_are new.listing after n now is, entries_are old.listing before n now was);
-          })
+      let was : relation_at old.listing n ≡ Some now = sym (ap (λ (l : List (Option RelationEntry)). numbered l n) counted.relations ∙ counted_else old.listing number live relation at n other) ∙ is in
+      record {
+        was = now;
+        at = was;
+        same = refl;
+        less = omega (arith, fewer now.name, entries_are new.listing after n now is, entries_are old.listing before n now was);
+      })
 
   -- images may come to have no more pages than before
   pub bound_left : listed_bound new.listing (entries_with new.listing after) ≤ listed_bound old.listing (entries_with old.listing before)

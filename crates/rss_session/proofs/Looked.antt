@@ -33,6 +33,7 @@ use Rattle.rss_tuple.specs.Placing.{IsNameable, IsChosen, IsFree}
 use Rattle.rss_tuple.specs.TupleSteps.{NoneIs, tuples_in}
 use Rattle.rss_access.specs.Written.{AreWritten}
 use Rattle.rss_access.proofs.Spelling.{found_values, found_none, none_beside}
+use Rattle.rss_store.proofs.Spelled.{has_tables_still}
 use Rattle.rss_session.specs.Sessions.{SessionView, IsReady, sums_in}
 use Rattle.rss_session.specs.Sessions as sessions
 use Rattle.rss_session.specs.Shown.{Shows}
@@ -60,8 +61,8 @@ module _ (old : SessionView) {pages : PagesView} {asks writes : ℕ} (passes : P
     spare = spare_same i;
   }
 
-  pub ready_looked : IsReady old → (IsTold pages.disk → AreHeaps pages) → IsReady (with_pages pages old)
-  ready_looked ready heaps = record {
+  pub ready_looked : IsReady old → (IsTold old.store.pages.disk → pages.held ≡ old.store.pages.held) → (IsTold pages.disk → AreHeaps pages) → IsReady (with_pages pages old)
+  ready_looked ready held heaps = record {
     store = record {
       number_low = ready.store.number_low;
       number_high = ready.store.number_high;
@@ -76,6 +77,7 @@ module _ (old : SessionView) {pages : PagesView} {asks writes : ℕ} (passes : P
       settled_now = passes.leaves.stays_settled ready.store.settled_now;
       plain = ready.store.plain;
       heaps = heaps;
+      tables = has_tables_still passes.slots refl passes.leaves.told.1 (λ told key off. ap (λ (h : Held). h key) (held told)) ready.store.tables;
     };
     pages = subst (IsInSession (sessions.counts old) (sums_in old.opened).p) (sym counts_same) ready.pages;
     room = subst (HasRoomFor (sessions.counts old)) (sym counts_same) ready.room;

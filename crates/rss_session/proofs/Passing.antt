@@ -145,7 +145,7 @@ goes_called passes settled failed memory = record {
 pub looks_on : {T : Type 0} {result : Result T PageFault} {touched : Keys} {asks outs : ℕ} {pages : PagesView} (old : SessionView) → IsReady old → AreCounted old.store.pages → AreCounted pages → PagesCall touched asks outs old.store.pages pages result → pages.mapped ≡ old.store.pages.mapped
     → (IsTold old.store.pages.disk → pages.held ≡ old.store.pages.held) → OnOk result (IsTold old.store.pages.disk → AreHeaps pages) → LooksOn old (with_pages pages old) result
 looks_on {result = result} old ready counted_old counted did mapped held heaps = record {
-  ready = on_ok_weaker result (λ are. ready_looked old did.step.passes mapped counted_old counted ready (λ told. are (did.step.passes.leaves.told.1 told))) heaps;
+  ready = on_ok_weaker result (λ are. ready_looked old did.step.passes mapped counted_old counted ready held (λ told. are (did.step.passes.leaves.told.1 told))) heaps;
   shows = λ told state shows. shows_looked old did.step.passes mapped counted_old counted ready.store.settled_now told (held told) shows;
   catalog = refl;
   log = refl;

@@ -109,6 +109,7 @@ module _ {S : Type 0} (pages_view : S → PagesView) {call : Call} {old new : Se
       settled_now = ready.store.settled_now;
       plain = plain_relisted redefines.relists ready.store.plain;
       heaps = ready.store.heaps;
+      tables = λ told image. absurd (no_image_at (plain_relisted redefines.relists ready.store.plain) image.number image.image image.at);
     };
     pages = ready.pages;
     room = ready.room;

@@ -24,7 +24,7 @@ use Rattle.rss_catalog.specs.Catalogs.{HasSystemPages}
 use Rattle.rss_access.specs.Changes.{alter_cost, number_told, Makes}
 use Rattle.rss_access.specs.Written.{IsSystemOrHeap, content_of, AreWritten}
 use Rattle.rss_restart.specs.Restarting.{KeepsCatalog}
-use Rattle.rss_restart.proofs.Keeping.{keeps_itself, keeps_made}
+use Rattle.rss_restart.proofs.Keeping.{keeps_itself, keeps_made, plain_kept}
 use Rattle.rss_restart.proofs.Leading.{content_told}
 use Rattle.rss_store.specs.Changing.{AltersPages, access}
 use Rattle.rss_store.specs.Shown.{LeavesStore}
@@ -133,8 +133,9 @@ module _ {T : Type 0} {change : told.Change} (old new : StoreView) {value : T} (
     only = only_made ready;
     pending_places = (keeps old new makes).places ∙ ready.pending_places;
     settled_now = makes.step.passes.leaves.stays_settled ready.settled_now;
-    plain = (keeps old new makes).plain ready.plain;
+    plain = plain_kept (keeps old new makes) ready.plain;
     heaps = makes.still.heaps;
+    tables = makes.still.tables;
   }
 
   -- ---- what a stop leaves, and the rest of what is shown

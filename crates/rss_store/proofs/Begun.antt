@@ -2,12 +2,14 @@
 use Rattle.std.proofs.Common.{◌≡◌, ◌⊎◌, ⊎_elim, ℕ, ◌+◌, ◌*◌, ◌≤◌, true, List, [], ◌++◌, append-nil, refl, sym, ◌∙◌, ap, subst, rules, arith}
 use Rattle.std.specs.Prelude.{Bool, false, IsTrue, is_some, Result, Ok, Err, OnOk, IsErrAnd}
 use Rattle.std.specs.FinMap as map
+use Rattle.std.proofs.lemmas.List.Sums.{sum_by-le-sum_by}
 use Rattle.std.proofs.lemmas.Result.{err_from_is_err_and}
 use Rattle.rss_base.specs.declared.fault.PageFault.{PageFault}
 use Rattle.rss_base.specs.declared.fault.PageFault.TheVariants.{Device as PageDevice, Damaged as PageDamaged}
-use Rattle.rss_base.specs.declared.key.Space.TheVariants.{Home, Overflow}
+use Rattle.rss_base.specs.declared.key.Space.TheVariants.{Home, Overflow, Image}
 use Rattle.rss_base.specs.declared.key.PageKey.{PageKey}
 use Rattle.rss_base.specs.declared.log_record.LogRecord.TheVariants as records
+use Rattle.rss_base.specs.declared.name.Name.{Name}
 use Rattle.rss_base.specs.declared.place.Place.{Place}
 use Rattle.rss_base.specs.declared.place.Place.TheVariants.{Log as LogPlace}
 use Rattle.rss_base.specs.declared.root.Root.{Root}
@@ -24,26 +26,30 @@ use Rattle.rss_base.proofs.Moments.{started, then, widened, continues, continues
 use Rattle.rss_page.specs.Slotted.{IsHeapKey}
 use Rattle.rss_catalog.specs.Catalogs.{CatalogView, HasSystemPages}
 use Rattle.rss_log.specs.Logs.{HasRecords}
-use Rattle.rss_model.specs.Tables.{Tables}
+use Rattle.rss_model.specs.Tables.{Definitions, Tables, tuple_count}
 use Rattle.rss_model.specs.Fits.{Fits}
 use Rattle.rss_model.specs.Kept.{IsMetered, HasLogRoom}
 use Rattle.rss_model.specs.Machine.{StoreSize, State, IsAtRest}
 use Rattle.rss_model.specs.Meanings.{Logged, as_bytes, SameDefinitions}
-use Rattle.rss_model.specs.Meter.{heap_pages, at_rest}
+use Rattle.rss_model.specs.Meter.{Meter, heap_pages, entries_most, pages_of_image, at_rest}
 use Rattle.rss_model.specs.EngineLogs.{all_logged}
 use Rattle.rss_model.specs.LogLaws.{log_of, IsRested}
-use Rattle.rss_model.specs.Store.{Stored, SpellsTables, held_in, meter_of, size_of, IsStore}
+use Rattle.rss_model.specs.Spares.{change_counts}
+use Rattle.rss_model.specs.Store.{Stored, SpellsTables, held_in, meter_of, size_of, pages_of_space, IsStore}
+use Rattle.rss_model.proofs.ImageRooms.{images_allowed}
 use Rattle.rss_model.proofs.Listed.{heap_is}
 use Rattle.rss_model.proofs.LogOpening.{rest_ties, restart_ties}
 use Rattle.rss_model.proofs.LogPlaced.{recovered_fit}
-use Rattle.rss_model.proofs.PlainStores.{tables_plain, plain_room}
-use Rattle.rss_model.proofs.StorePages.{pages_are, pages_counted, store_room, rest_metered}
+use Rattle.rss_model.proofs.Restarted.{recovered_count}
+use Rattle.rss_model.proofs.Saving.{more_pages}
+use Rattle.rss_model.proofs.StorePages.{owners_split, pages_split, rest_metered}
 use Rattle.rss_model.proofs.Stores.{same_roots, same_overflow}
 use Rattle.rss_access.specs.Changes.{both, alter_cost, CanAlter}
 use Rattle.rss_access.specs.Written.{heap_now, IsSystemOrHeap}
 use Rattle.rss_restart.specs.Opened.{recovery_of}
 use Rattle.rss_restart.specs.Surveys.{IsLogPlace}
 use Rattle.rss_restart.specs.Restarting.{CanRestart, Recovered, NoneRecovered, RestartPasses}
+use Rattle.rss_restart.proofs.Keeping.{plain_kept}
 use Rattle.rss_restart.proofs.Opening.{few_changes, stores_restart, gives_tables}
 use Rattle.rss_store.specs.Stores.{StoreView, IsReady, IsSaved}
 use Rattle.rss_store.specs.Shown.{HoldsTables, LeavesStore, HoldsLogged, Shows}
@@ -72,7 +78,7 @@ is_at_rest size tables over head end = record {
 }
 
 -- the pages that spell these tables, and the root with their size
-module _ {view : StoreView} (root : Root) (tables : Tables) (ready : IsReady view) (size : view.pages.slots ≡ root.slots) (spells : SpellsTables view.pages.held view.catalog.listing tables) (fit : Fits root.slots tables) (held_are : (key : PageKey) → is_some (view.pages.held key) ≡ view.pages.mapped key) where
+module _ {view : StoreView} (root : Root) (tables : Tables) (size : view.pages.slots ≡ root.slots) (spells : SpellsTables view.pages.held view.catalog.listing tables) (fit : Fits root.slots tables) (held_are : (key : PageKey) → is_some (view.pages.held key) ≡ view.pages.mapped key) where
   abbrev pub resting : ℕ → ℕ → State
   resting head end = rest_state (size_of root) tables (mapped_of view.pages.mapped Overflow view.pages.slots) head end
 
@@ -80,12 +86,16 @@ module _ {view : StoreView} (root : Root) (tables : Tables) (ready : IsReady vie
   heap_rests = ap (λ (n : ℕ). n + mapped_of view.pages.mapped Overflow view.pages.slots)
       (heap_is spells fit view.pages.mapped held_are ∙ ap (λ (n : ℕ). mapped_of view.pages.mapped Home n) (sym size))
 
-  pub pages_rest : mapped_pages view.pages.slots view.pages.mapped ≡ heap_now view.pages + system_pages
-  pages_rest = pages_are view.pages.mapped ready.only view.pages.slots ready.system
+  pub rests_metered : (head end : ℕ) → head ≤ end → 2 * (heap_now view.pages + (change_counts tables.definitions (resting head end).meter).images + system_pages) ≤ root.slots → IsMetered (resting head end)
+  rests_metered head end rises room = rest_metered (size_of root) tables (resting head end) (is_at_rest _ tables _ head end) rises (omega (arith, heap_rests, room))
 
-  pub rests_metered : (head end : ℕ) → head ≤ end → 2 * mapped_pages view.pages.slots view.pages.mapped ≤ view.pages.slots → IsMetered (resting head end)
-  rests_metered head end rises half = rest_metered (size_of root) tables (resting head end) (is_at_rest _ tables _ head end) rises
-      (omega (arith, plain_room (tables_plain spells) (resting head end).meter, heap_rests, pages_rest, half, size))
+-- the images of the tables that are recovered need no more pages than the meter of the checkpoint allows
+images_recovered : {pages : Pages} {stored : Stored} → IsStore pages stored → (meter : Meter) → ((relation : Name) → entries_most (meter.traffic relation) ≡ tuple_count stored.tables.contents relation) → (change_counts stored.tables.definitions meter).images ≤ (change_counts stored.saved.definitions (meter_of stored)).images
+images_recovered {stored = stored} store meter entries =
+    let definitions : Definitions = stored.saved.definitions in
+    let few = sum_by-le-sum_by (pages_of_image definitions meter) (pages_of_image definitions (meter_of stored)) (map.values definitions.images)
+    (λ image. more_pages _ (meter.traffic image.relation) ((meter_of stored).traffic image.relation) (omega (arith, entries image.relation, recovered_count store.log image.relation))) in
+    omega (arith, few, ap (λ (d : Definitions). (change_counts d meter).images) store.log.definitions)
 
 -- ---- a store whose state is at rest, all of which is on the disk, is opened in this state
 
@@ -142,10 +152,17 @@ module _ {stored : Stored} {view : StoreView} (read : IsReadFrom stored view) wh
   read_named none = not_none read_stands (subst (λ (r : Root). NamesNone view.log r.checkpoint) (sym read.root_is) none)
 
   -- the pages of the map
-  count_read : page_count stored.owners ≡ mapped_of view.pages.mapped Home view.pages.slots + mapped_of view.pages.mapped Overflow view.pages.slots + system_pages
-  count_read =
-      pages_counted stored.root stored.owners read.pages read.store.map read.store.system read.store.spells
-      ∙ (λ i. mapped_of (sym read.opened.mapped i) Home (sym read.opened.slots i) + mapped_of (sym read.opened.mapped i) Overflow (sym read.opened.slots i) + system_pages)
+  count_read : page_count stored.owners ≡ pages_of_space Home stored + pages_of_space Overflow stored + pages_of_space Image stored + system_pages
+  count_read = owners_split stored.root stored.owners read.pages read.store.map stored.listing read.store.system
+
+  heap_read : heap_now view.pages ≡ (meter_of stored).heap
+  heap_read = λ i. mapped_of (read.opened.mapped i) Home (read.opened.slots i) + mapped_of (read.opened.mapped i) Overflow (read.opened.slots i)
+
+  images_read : mapped_of view.pages.mapped Image view.pages.slots ≡ pages_of_space Image stored
+  images_read = λ i. mapped_of (read.opened.mapped i) Image (read.opened.slots i)
+
+  images_saved : mapped_of (mapped_by view.pages.backing.shadow) Image view.pages.slots ≡ pages_of_space Image stored
+  images_saved = λ i. mapped_of (mapped_by (read.opened.shadow i)) Image (read.opened.slots i)
 
   spells_read : SpellsTables view.pages.held view.catalog.listing stored.saved
   spells_read =
@@ -182,10 +199,7 @@ module _ {stored : Stored} {view : StoreView} (ready : IsReady view) (saved : Is
   spells_here = subst (λ (t : Tables). SpellsTables view.pages.held view.catalog.listing t) (rest_ties read.pages stored state read.store (read_rested read rests) rest_here refl refl).0 (spells_read read)
 
   heap_here : heap_pages stored.root.slots stored.tables + mapped_of view.pages.mapped Overflow view.pages.slots ≡ heap_now view.pages
-  heap_here = heap_rests stored.root stored.tables ready read.opened.slots spells_here (fit_read read) held_here
-
-  pages_here : mapped_pages view.pages.slots view.pages.mapped ≡ heap_now view.pages + system_pages
-  pages_here = pages_rest stored.root stored.tables ready read.opened.slots spells_here (fit_read read) held_here
+  heap_here = heap_rests stored.root stored.tables read.opened.slots spells_here (fit_read read) held_here
 
   shows_here : Shows view state
   shows_here = record {
@@ -203,11 +217,11 @@ module _ {stored : Stored} {view : StoreView} (ready : IsReady view) (saved : Is
     definitions = subst (SameDefinitions stored.listing) (sym read.opened.listing) (record { segments = refl; relations = refl; images = refl; links = refl });
     spells = spells_here;
     written = read.written;
-    heap = heap_here ∙ (λ i. mapped_of (read.opened.mapped i) Home (read.opened.slots i) + mapped_of (read.opened.mapped i) Overflow (read.opened.slots i));
+    heap = heap_here ∙ heap_read read;
     session = record {
       made = record {
-        before = omega (arith, ap page_count read.opened.shadow, count_read read, heap_here);
-        now = omega (arith, pages_here, heap_here);
+        before = omega (arith, ap page_count read.opened.shadow, count_read read, heap_here, heap_read read, images_saved read);
+        now = omega (arith, pages_split view.pages.mapped view.pages.slots ready.system, heap_here);
         all = read.opened.counted;
       };
       most = omega arith;
@@ -218,12 +232,12 @@ module _ {stored : Stored} {view : StoreView} (ready : IsReady view) (saved : Is
   begins_here : BeginsIn stored view
   begins_here =
       let formed = read.store.root_there.there.formed in
-      let half : 2 * mapped_pages view.pages.slots view.pages.mapped ≤ view.pages.slots = omega (arith, store_room read.store, count_read read, pages_here, read.opened.slots) in
       record {
         state = state;
         shows = shows_here;
         rest = rest_here;
-        metered = rests_metered stored.root stored.tables ready read.opened.slots spells_here (fit_read read) held_here stored.root.head stored.root.end (omega (arith, formed.head_first, formed.before_end)) half;
+        metered = rests_metered stored.root stored.tables read.opened.slots spells_here (fit_read read) held_here stored.root.head stored.root.end (omega (arith, formed.head_first, formed.before_end))
+            (omega (arith, heap_read read, images_recovered read.store state.meter (λ relation. omega arith), read.store.room));
         room = omega (arith, formed.room);
         opens = λ image left. opens_at ready saved shows_here rest_here image (stays (read_told read) image left);
       }
@@ -268,80 +282,84 @@ module _ {T : Type 0} {old : StoreView} {pages : PagesView} {catalog : CatalogVi
     only = mid_only;
     pending_places = passes.keeps.places ∙ ready.pending_places;
     settled_now = passes.step.passes.leaves.stays_settled ready.settled_now;
-    plain = passes.keeps.plain ready.plain;
+    plain = plain_kept passes.keeps ready.plain;
     heaps = still.heaps;
+    tables = still.tables;
   }
 
-  module _ {stored : Stored} (mid_is : IsReady mid) (held_are : IsTold pages.disk → (key : PageKey) → is_some (pages.held key) ≡ pages.mapped key) (half : 2 * mapped_pages pages.slots pages.mapped ≤ pages.slots) (recovers : Recovered old.log old.root.checkpoint (both old.pages old.catalog) (both pages catalog)) (read : IsReadFrom stored old) where
-    mid_size : pages.slots ≡ stored.root.slots
-    mid_size = passes.step.passes.slots ∙ read.opened.slots
+-- by which its tables were recovered
+module _ {T : Type 0} {value : T} {stored : Stored} {old : StoreView} {pages : PagesView} {catalog : CatalogView} (ready : IsReady old) (passes : RestartPasses {T = T} old.log old.root.checkpoint (both old.pages old.catalog) (both pages catalog) (Ok value)) (held_are : IsTold pages.disk → (key : PageKey) → is_some (pages.held key) ≡ pages.mapped key) (recovers : Recovered old.log old.root.checkpoint (both old.pages old.catalog) (both pages catalog)) (read : IsReadFrom stored old) where
+  mid_size : pages.slots ≡ stored.root.slots
+  mid_size = passes.step.passes.slots ∙ read.opened.slots
 
-    mid_spells : SpellsTables pages.held catalog.listing stored.tables
-    mid_spells = subst (λ (t : Tables). SpellsTables pages.held catalog.listing t) (gives_tables read.pages stored read.store)
-        (recovers (read_told read) (recovery_of stored) (can_restart read))
+  mid_spells : SpellsTables pages.held catalog.listing stored.tables
+  mid_spells = subst (λ (t : Tables). SpellsTables pages.held catalog.listing t) (gives_tables read.pages stored read.store)
+      (recovers (read_told read) (recovery_of stored) (can_restart read))
 
-    held_mid : (key : PageKey) → is_some (pages.held key) ≡ pages.mapped key
-    held_mid = held_are (mid_told (read_told read))
+  held_mid : (key : PageKey) → is_some (pages.held key) ≡ pages.mapped key
+  held_mid = held_are (mid_told ready passes (read_told read))
 
-    -- the state behind the checkpoint
-    abbrev pub next : State
-    next = rest_state (size_of stored.root) stored.tables (mapped_of pages.mapped Overflow pages.slots) stored.root.end (stored.root.end + 2)
+  -- the state behind the checkpoint
+  abbrev pub next : State
+  next = rest_state (size_of stored.root) stored.tables (mapped_of pages.mapped Overflow pages.slots) stored.root.end (stored.root.end + 2)
 
-    pub next_rests : IsAtRest (size_of stored.root) stored.tables next
-    next_rests = is_at_rest _ stored.tables _ stored.root.end (stored.root.end + 2)
+  pub next_rests : IsAtRest (size_of stored.root) stored.tables next
+  next_rests = is_at_rest _ stored.tables _ stored.root.end (stored.root.end + 2)
 
-    pub next_metered : IsMetered next
-    next_metered = rests_metered {view = mid} stored.root stored.tables mid_is mid_size mid_spells (fit_read read) held_mid stored.root.end (stored.root.end + 2) (omega arith) half
+  -- a restart takes two home or overflow pages at most for each change
+  heap_mid : heap_now pages ≤ (meter_of stored).heap + 2 * ((meter_of stored).surviving + (meter_of stored).since)
+  heap_mid = omega (arith, passes.takes.heap, passes.most stored.older stored.newer (can_restart read).records, few_changes stored, heap_read read)
 
-    pub next_room : HasLogRoom next
-    next_room = omega (arith, read.store.root_there.there.formed.log_least)
+  images_next : (change_counts stored.tables.definitions next.meter).images ≤ (change_counts stored.saved.definitions (meter_of stored)).images
+  images_next = images_recovered read.store next.meter (λ relation. omega arith)
 
-    mid_leaves : LeavesStore mid stored
-    mid_leaves = record {
-      number_is = read.number_is;
-      root_is = read.root_is;
-      owners_are = sym read.opened.shadow ∙ ap (λ (b : Backing). b.shadow) (sym passes.step.passes.backing);
-      fixes = λ image has. read.fixes image (subst (λ (f : Fixed). HasFixed f image) (passes.step.passes.leaves.same ready.settled_now (read_told read)) has);
-    }
+  pub next_metered : IsMetered next
+  next_metered = rests_metered {view = mid ready passes} stored.root stored.tables mid_size mid_spells (fit_read read) held_mid stored.root.end (stored.root.end + 2) (omega arith) (omega (arith, heap_mid, images_next, read.store.room))
 
-    pub may_checkpoint : CanCheckpoint mid [] stored next
-    may_checkpoint = record {
-      log = log_of stored;
-      disk = mid_leaves;
-      logged = record { head_is = (logged_read read).head_is; end_is = (logged_read read).end_is; records = (logged_read read).records; until = (logged_read read).until };
-      on_disk = refl;
-      dropped = all_logged (log_of stored);
-      kept = [];
-      split = sym (append-nil (all_logged (log_of stored)));
-      gone = subst (λ (newer : List Logged). ArePlaced stored.root.head (as_bytes (stored.older ++ newer)) stored.root.end) (sym (append-nil stored.newer)) read.store.log.parses.placed;
-      stay = refl;
-      spellable = record { bounded = omega arith; fits = tt };
-      size = ap size_of read.root_is;
-      ties = restart_ties catalog.listing stored.tables next stored.root.end next_rests (fit_read read) refl refl;
-      spells = mid_spells;
-      written = passes.keeps.written (read_told read) ready.pending_places read.written;
-      fit = subst (λ (r : Root). Fits r.slots stored.tables) read.root_is (fit_read read);
-      metered = next_metered;
-      heap = heap_rests {view = mid} stored.root stored.tables mid_is mid_size mid_spells (fit_read read) held_mid;
-      over = refl;
-    }
+  -- so each page has room in two slots
+  half_kept : 2 * mapped_pages pages.slots pages.mapped ≤ pages.slots
+  half_kept = omega (
+    arith,
+    heap_mid,
+    images_next,
+    images_allowed mid_spells held_mid pages.slots next.meter (λ relation. omega arith),
+    pages_split pages.mapped pages.slots (mid_system ready passes),
+    read.store.room,
+    mid_size,
+  )
 
--- Each page has room in two slots, where a store was read: a restart takes two pages at most for each change.
-half_kept : {T : Type 0} {value : T} {stored : Stored} {old : StoreView} {pages : PagesView} {catalog : CatalogView} → IsReady old → RestartPasses {T = T} old.log old.root.checkpoint (both old.pages old.catalog) (both pages catalog) (Ok value) → IsReadFrom stored old → 2 * mapped_pages pages.slots pages.mapped ≤ pages.slots
-half_kept {stored = stored} {old = old} {pages = pages} ready passes read = omega (
-  arith,
-  passes.takes.heap,
-  passes.most stored.older stored.newer (can_restart read).records,
-  few_changes stored,
-  pages_are old.pages.mapped ready.only old.pages.slots ready.system,
-  pages_are pages.mapped (mid_only ready passes) pages.slots (mid_system ready passes),
-  count_read read,
-  pages_counted stored.root stored.owners read.pages read.store.map read.store.system read.store.spells,
-  read.store.room,
-  plain_room (tables_plain read.store.spells) (meter_of stored),
-  read.opened.slots,
-  passes.step.passes.slots,
-)
+  pub next_room : HasLogRoom next
+  next_room = omega (arith, read.store.root_there.there.formed.log_least)
+
+  mid_leaves : LeavesStore (mid ready passes) stored
+  mid_leaves = record {
+    number_is = read.number_is;
+    root_is = read.root_is;
+    owners_are = sym read.opened.shadow ∙ ap (λ (b : Backing). b.shadow) (sym passes.step.passes.backing);
+    fixes = λ image has. read.fixes image (subst (λ (f : Fixed). HasFixed f image) (passes.step.passes.leaves.same ready.settled_now (read_told read)) has);
+  }
+
+  pub may_checkpoint : CanCheckpoint (mid ready passes) [] stored next
+  may_checkpoint = record {
+    log = log_of stored;
+    disk = mid_leaves;
+    logged = record { head_is = (logged_read read).head_is; end_is = (logged_read read).end_is; records = (logged_read read).records; until = (logged_read read).until };
+    on_disk = refl;
+    dropped = all_logged (log_of stored);
+    kept = [];
+    split = sym (append-nil (all_logged (log_of stored)));
+    gone = subst (λ (newer : List Logged). ArePlaced stored.root.head (as_bytes (stored.older ++ newer)) stored.root.end) (sym (append-nil stored.newer)) read.store.log.parses.placed;
+    stay = refl;
+    spellable = record { bounded = omega arith; fits = tt };
+    size = ap size_of read.root_is;
+    ties = restart_ties catalog.listing stored.tables next stored.root.end next_rests (fit_read read) refl refl;
+    spells = mid_spells;
+    written = passes.keeps.written (read_told read) ready.pending_places read.written;
+    fit = subst (λ (r : Root). Fits r.slots stored.tables) read.root_is (fit_read read);
+    metered = next_metered;
+    heap = heap_rests {view = mid ready passes} stored.root stored.tables mid_size mid_spells (fit_read read) held_mid;
+    over = refl;
+  }
 
 -- ---- however it ends
 
@@ -451,34 +469,35 @@ begins_unrestarted {U = U} {old = old} {pages = pages} {catalog = catalog} {faul
     (begins_err fault (went_back ready passes) (λ failed. passes.failed (ap Err failed)) (λ place at told. finds_damaged ready passes place (ap Err at) (sound place (ap Err at) told) told))
 
 -- no room
-pub finds_no_room : {T : Type 0} {value : T} {old : StoreView} {pages : PagesView} {catalog : CatalogView} → IsReady old → RestartPasses {T = T} old.log old.root.checkpoint (both old.pages old.catalog) (both pages catalog) (Ok value) → (2 * mapped_pages pages.slots pages.mapped ≤ pages.slots → ⊥) → IsTold old.pages.disk → FindsDamage old (changed_view old pages catalog) (LogPlace old.root.checkpoint)
-finds_no_room ready passes over told = record {
+pub finds_no_room : {T : Type 0} {value : T} {old : StoreView} {pages : PagesView} {catalog : CatalogView} → IsReady old → RestartPasses {T = T} old.log old.root.checkpoint (both old.pages old.catalog) (both pages catalog) (Ok value) → (IsTold pages.disk → (key : PageKey) → is_some (pages.held key) ≡ pages.mapped key) → Recovered old.log old.root.checkpoint (both old.pages old.catalog) (both pages catalog)
+    → (2 * mapped_pages pages.slots pages.mapped ≤ pages.slots → ⊥) → IsTold old.pages.disk → FindsDamage old (changed_view old pages catalog) (LogPlace old.root.checkpoint)
+finds_no_room ready passes held_are recovers over told = record {
   at = at_checkpoint ready;
-  why = λ stored read. over (half_kept ready passes read);
+  why = λ stored read. over (half_kept ready passes held_are recovers read);
   keeps = mid_moments ready passes told;
 }
 
 -- ---- a checkpoint behind a restart
 
-module _ {T : Type 0} {value : T} {old : StoreView} {pages : PagesView} {catalog : CatalogView} (ready : IsReady old) (passes : RestartPasses {T = T} old.log old.root.checkpoint (both old.pages old.catalog) (both pages catalog) (Ok value)) (mid_is : IsReady (changed_view old pages catalog)) (held_are : IsTold pages.disk → (key : PageKey) → is_some (pages.held key) ≡ pages.mapped key) (half : 2 * mapped_pages pages.slots pages.mapped ≤ pages.slots) (recovers : Recovered old.log old.root.checkpoint (both old.pages old.catalog) (both pages catalog)) (marks : List (ℕ × ℕ)) (none : marks ≡ []) where
+module _ {T : Type 0} {value : T} {old : StoreView} {pages : PagesView} {catalog : CatalogView} (ready : IsReady old) (passes : RestartPasses {T = T} old.log old.root.checkpoint (both old.pages old.catalog) (both pages catalog) (Ok value)) (held_are : IsTold pages.disk → (key : PageKey) → is_some (pages.held key) ≡ pages.mapped key) (half : 2 * mapped_pages pages.slots pages.mapped ≤ pages.slots) (recovers : Recovered old.log old.root.checkpoint (both old.pages old.catalog) (both pages catalog)) (marks : List (ℕ × ℕ)) (none : marks ≡ []) where
   -- it may be taken, and leads to this state
   abbrev behind : (stored : Stored) → IsReadFrom stored old → State
-  behind stored read = next ready passes mid_is held_are half recovers read
+  behind stored read = next ready passes held_are recovers read
 
   may : (stored : Stored) (read : IsReadFrom stored old) → CanCheckpoint (changed_view old pages catalog) marks stored (behind stored read)
-  may stored read = subst (λ (m : List (ℕ × ℕ)). CanCheckpoint (changed_view old pages catalog) m stored (behind stored read)) (sym none) (may_checkpoint ready passes mid_is held_are half recovers read)
+  may stored read = subst (λ (m : List (ℕ × ℕ)). CanCheckpoint (changed_view old pages catalog) m stored (behind stored read)) (sym none) (may_checkpoint ready passes held_are recovers read)
 
   begins_behind : {U : Type 0} (new : StoreView) (result : Result U PageFault) → (IsTold new.pages.disk → (image : Pages) → Leaves new.pages.disk image → new.pages.settled ≡ true → HasFixed new.pages.fixed image) → (IsTold old.pages.disk → IsTold new.pages.disk) → OnOk result (IsReady new) → OnOk result (IsSaved new)
       → OnOk result (IsTold pages.disk → (stored : Stored) (next : State) → CanCheckpoint (changed_view old pages catalog) marks stored next → Shows new next) → OnOk result ((stored : Stored) → IsReadFrom stored old → BeginsIn stored new)
   begins_behind new (Ok value) stays told ready_new saved shows = λ stored read.
       let shown = shows (mid_told ready passes (read_told read)) stored (behind stored read) (may stored read) in
-      let rest = next_rests ready passes mid_is held_are half recovers read in
+      let rest = next_rests ready passes held_are recovers read in
       record {
         state = behind stored read;
         shows = shown;
         rest = rest;
-        metered = next_metered ready passes mid_is held_are half recovers read;
-        room = next_room ready passes mid_is held_are half recovers read;
+        metered = next_metered ready passes held_are recovers read;
+        room = next_room ready passes held_are recovers read;
         opens = λ image left. opens_at ready_new saved shown rest image (stays (told (read_told read)) image left ready_new.settled_now);
       }
   begins_behind new (Err fault) stays told ready_new saved shows = tt

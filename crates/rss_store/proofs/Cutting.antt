@@ -34,6 +34,7 @@ ready_with ready behind = record {
   settled_now = ready.settled_now;
   plain = ready.plain;
   heaps = ready.heaps;
+  tables = ready.tables;
 }
 
 module _ (view : StoreView) (log : LogView) (at t : ℕ) (low : t < 2 ^ 32) where

@@ -379,6 +379,6 @@ module _ {held : Held} {slots : ℕ} {listing : Listing} {tables : Tables} (allo
 -- ---- pages of no tables
 
 -- The pages of a listing's system space spell tables by no other listing.
-pub none_by : (held : Held) (slots : ℕ) (listing : Listing) → ListingFits listing → IsPlain listing → HoldsListing held listing → ((tables : Tables) → SpellsTables held listing tables → Fits slots tables → ⊥) → HoldsNone held slots
-none_by held slots listing fits plain system none other tables there spells fit =
+pub none_by : (held : Held) (slots : ℕ) (listing : Listing) → ListingFits listing → HoldsListing held listing → ((tables : Tables) → SpellsTables held listing tables → Fits slots tables → ⊥) → HoldsNone held slots
+none_by held slots listing fits system none other tables there spells fit =
     none tables (subst (λ (l : Listing). SpellsTables held l tables) (listing_once held spells.listed fits there system) spells) fit

@@ -1,14 +1,17 @@
 -- How a look through all pages of a store ends.
-use Rattle.std.proofs.Common.{◌≡◌, inl, inr, ℕ, zero, suc, ◌+◌, ◌-◌, ◌*◌, ◌<◌, ◌≤◌, true, false, refl, sym, ◌∙◌, ap, subst, arith}
+use Rattle.std.proofs.Common.{◌≡◌, inl, inr, ℕ, zero, suc, ◌+◌, ◌-◌, ◌*◌, ◌<◌, ◌≤◌, true, false, length, get_or, replicate, Option, None, refl, sym, ◌∙◌, ap, subst, arith}
 use Rattle.std.specs.Prelude.{Result, Ok, Err, Some, is_some}
 use Rattle.std.proofs.lemmas.Bool.{cases_eq, true≢false}
+use Rattle.std.proofs.lemmas.List.{length-replicate, same_lists, get_or_default, get_or-replicate}
 use Rattle.rss_base.specs.DiskRule.{IsTold}
 use Rattle.rss_base.specs.PageMap.{IsKey, IsSegmentOf as IsSegmentNumber}
 use Rattle.rss_base.specs.Paged.{Held, Mapped, page_key}
 use Rattle.rss_base.specs.Sizes.{segments, system_pages}
 use Rattle.rss_base.specs.Steps.{PagesView, no_page}
 use Rattle.rss_base.specs.Looking.{ChecksPages}
-use Rattle.rss_base.specs.Listings.{Listing, ListingFits, IsPlain, HoldsListing, segment_at}
+use Rattle.rss_base.specs.Listings.{Listing, ListingFits, IsPlain, HoldsListing, numbered, names_of, segment_at, image_at}
+use Rattle.rss_base.specs.declared.image.ImageEntry.{ImageEntry}
+use Rattle.rss_base.specs.declared.refusal.Kind.TheVariants.{Image as ImageKind}
 use Rattle.rss_base.specs.declared.place.Place.{Place}
 use Rattle.rss_base.specs.declared.place.Place.TheVariants.{Room}
 use Rattle.rss_base.specs.declared.fault.PageFault.{PageFault}
@@ -22,6 +25,9 @@ use Rattle.rss_tuple.specs.Directory.{homes, overflows}
 use Rattle.rss_tuple.specs.Heaps.{AreLinked, AreHeaps}
 use Rattle.rss_tuple.specs.Checked.{pages_of, IsNoted, AreNoted}
 use Rattle.rss_catalog.specs.Catalogs.{CatalogView, Loads, IsCatalogPlace}
+use Rattle.rss_catalog.proofs.Numbered.{numbered_at, unused_none}
+use Rattle.rss_catalog.proofs.Plain.{none_at}
+use Rattle.rss_access.proofs.ImageRooms.{image_used}
 use Rattle.rss_model.proofs.LogLists.{some_of}
 use Rattle.rss_model.proofs.Relisted.{number_within_list}
 use Rattle.rss_store.specs.Looks.{IsPlainPage as IsStorePage}
@@ -68,6 +74,25 @@ store_pages listing slots key is each = by key.space refl is.segment
     by Overflow at low = each low.0 low.1
     by Image at low = each low.0 low.1
     by System at low = inl at
+
+-- ---- images
+
+-- a number that is not in use has no image
+pub number_unused : (listing : Listing) (number : ℕ) → is_some (numbered (names_of ImageKind listing) number) ≡ false → image_at listing number ≡ None
+number_unused listing number is = unused_none _ (sym (image_used listing number) ∙ is)
+
+-- and one that is in use has one
+pub number_used : (listing : Listing) (number : ℕ) → is_some (numbered (names_of ImageKind listing) number) ≡ true → IsPlain listing → ⊥
+number_used listing number is plain = true≢false (sym is ∙ image_used listing number ∙ ap is_some (none_at listing.images 128 number plain.no_images))
+
+-- where no number has one, no image is listed
+pub none_numbered : (listing : Listing) → ListingFits listing → ((number : ℕ) → 1 ≤ number → image_at listing number ≡ None) → IsPlain listing
+none_numbered listing fits none = record {
+  no_images = same_lists listing.images (replicate 128 None) (fits.paths.image_places ∙ sym (length-replicate {A = Option ImageEntry} 128 None)) (λ k d low.
+      get_or_default listing.images k d None low ∙ ap (λ (n : ℕ). get_or listing.images n None) (omega arith) ∙ sym (numbered_at listing.images (k + 1) (omega arith) (omega (arith, low))) ∙ none (k + 1) (omega arith)
+      ∙ sym (get_or-replicate 128 k None d (omega (arith, low, fits.paths.image_places))));
+  no_links = fits.no_links;
+}
 
 -- ---- one segment after another
 
@@ -171,9 +196,16 @@ looked_all {listing = listing} fits all so segment there =
 -- ---- all pages
 
 -- the pages of the system space spell no listing
-pub none_listed : {old : PagesView} {place : Place} → (IsTold old.disk → (listing : Listing) → ListingFits listing → IsPlain listing → HoldsListing old.held listing → ⊥) → IsCatalogPlace place → FindsNone old place
+pub none_listed : {old : PagesView} {place : Place} → (IsTold old.disk → (listing : Listing) → ListingFits listing → HoldsListing old.held listing → ⊥) → IsCatalogPlace place → FindsNone old place
 none_listed flawed named = record {
-  none = λ told listing tables system spells fit. flawed told listing spells.listed spells.plain system;
+  none = λ told listing tables system spells fit. flawed told listing spells.listed system;
+  elsewhere = λ room. let at = named.is in absurd (cc);
+}
+
+-- they list an image, as those of no store do as yet
+pub none_imaged : {old : PagesView} {place : Place} {catalog : CatalogView} → Loads old catalog → (IsPlain catalog.listing → ⊥) → IsCatalogPlace place → FindsNone old place
+none_imaged {old = old} {catalog = catalog} loads imaged named = record {
+  none = λ told. none_by old.held old.slots catalog.listing loads.fits (loads.holds told) (λ tables spells fit. imaged spells.plain);
   elsewhere = λ room. let at = named.is in absurd (cc);
 }
 
@@ -187,7 +219,7 @@ module _ {T : Type 0} {old mid : PagesView} {catalog : CatalogView} {first : Res
   -- there is a page that no store with these definitions has
   pub none_foreign : {place : Place} (key : PageKey) → mid.mapped key ≡ true → (IsStorePage catalog.listing key → ⊥) → (place ≡ Room → ⊥) → FindsNone old place
   none_foreign key is foreign elsewhere = record {
-    none = λ told. none_by old.held old.slots catalog.listing loads.fits loads.plain (loads.holds told) (λ tables spells fit. foreign (plain_page spells key (holds told key ∙ was_mapped key is)));
+    none = λ told. none_by old.held old.slots catalog.listing loads.fits (loads.holds told) (λ tables spells fit. foreign (plain_page spells key (holds told key ∙ was_mapped key is)));
     elsewhere = elsewhere;
   }
 
@@ -197,7 +229,7 @@ module _ {T : Type 0} {old mid : PagesView} {catalog : CatalogView} {first : Res
   -- a segment isn't in form
   pub none_sound : {place : Place} → MissesOne catalog.listing mid place → FindsNone old place
   none_sound one = record {
-    none = λ told. none_by old.held old.slots catalog.listing loads.fits loads.plain (loads.holds told) (λ tables spells fit.
+    none = λ told. none_by old.held old.slots catalog.listing loads.fits (loads.holds told) (λ tables spells fit.
         one.misses.is_not (told_then told) (subst (λ (h : Held). IsSegmentOf h mid.slots catalog.listing one.segment) (sym (did.looks.held told))
         (subst (λ (n : ℕ). IsSegmentOf old.held n catalog.listing one.segment) (sym did.looks.step.passes.slots) (spelled_segment (key_held told) spells fit one.segment))));
     elsewhere = one.misses.elsewhere;
@@ -210,7 +242,7 @@ module _ {T : Type 0} {old mid : PagesView} {catalog : CatalogView} {first : Res
         let wide : ChecksPages IsHeapKey system_pages old mid first = checks_within (λ key none. absurd none) (omega arith) did in
         checks_as result is (checks_within (λ key page. page) (omega (arith, did.looks.step.passes.slots)) (checks_then wide did_then))
 
-    module _ (only : (key : PageKey) → mid.mapped key ≡ true → IsStorePage catalog.listing key) (checks : ChecksSegments catalog.listing mid new) where
+    module _ (plain : IsPlain catalog.listing) (only : (key : PageKey) → mid.mapped key ≡ true → IsStorePage catalog.listing key) (checks : ChecksSegments catalog.listing mid new) where
       only_mapped : (key : PageKey) → old.mapped key ≡ true → IsStorePage catalog.listing key
       only_mapped key is = only key (ap (λ (m : Mapped). m key) did.looks.mapped ∙ is)
 
@@ -234,15 +266,16 @@ module _ {T : Type 0} {old mid : PagesView} {catalog : CatalogView} {first : Res
             let was : old.held key ≡ Some bytes = ap (λ (h : Held). h key) (sym (same_held told)) ∙ is in
             (all_noted told key.segment (heap_listed old.held catalog.listing (only_held told) key heap (ap is_some was)) key bytes (refl, heap) is).heap;
         linked = λ segment. subst (λ (h : Held). AreLinked (homes h segment) (overflows h segment)) (sym (same_held told))
-            (linked_found old.held old.slots catalog.listing loads.fits loads.plain (only_held told) (key_held told) (sound_old told) segment);
+            (linked_found old.held old.slots catalog.listing loads.fits plain (only_held told) (key_held told) (sound_old told) segment);
       }
 
       -- all are found
       pub finds_tables : FindsTables old new catalog
       finds_tables = record {
         loaded = loads;
+        plain = plain;
         only = only_mapped;
-        holds = λ told. holds_found old.held old.slots catalog.listing loads.fits loads.plain (only_held told) (key_held told) (sound_old told) (loads.holds told);
+        holds = λ told. holds_found old.held old.slots catalog.listing loads.fits plain (only_held told) (key_held told) (sound_old told) (loads.holds told);
         heaps = heaps_now;
         noted = all_noted;
       }

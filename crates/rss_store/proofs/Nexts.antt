@@ -99,4 +99,5 @@ ready_now {old = old} {new = new} {next = next} ready formed same_slots same_pag
   settled_now = settled;
   plain = subst IsPlain (sym listing) ready.plain;
   heaps = can.heaps;
+  tables = can.tables;
 }

@@ -25,6 +25,7 @@ use Rattle.rss_log.specs.Logs.{LogView}
 use Rattle.rss_model.specs.Fits.{Fits}
 use Rattle.rss_model.specs.Store.{SpellsTables, Stored, IsStore}
 use Rattle.rss_model.proofs.ListedOnce.{listing_once}
+use Rattle.rss_model.proofs.PlainStores.{no_image_at}
 use Rattle.rss_model.proofs.Stores.{one_root, one_map}
 use Rattle.rss_access.specs.Written.{IsSystemOrHeap}
 use Rattle.rss_store.specs.Stores.{StoreView, IsReady, IsSaved}
@@ -165,8 +166,9 @@ module _ {root : Root} {number frames writes : ℕ} {owners : List (Option PageK
         only = λ key is. plain_key catalog key (finds.only key (sym (same_mapped key) ∙ is));
         pending_places = ap (λ (l : List Bool). length l) finds.loaded.written;
         settled_now = did.looks.step.passes.leaves.stays_settled fresh.settled;
-        plain = finds.loaded.plain;
+        plain = finds.plain;
         heaps = λ told. finds.heaps (did.looks.step.passes.leaves.told.1 told);
+        tables = λ told image. absurd (no_image_at finds.plain image.number image.image image.at);
       }
 
       read_saved : IsSaved read_view

@@ -1,8 +1,10 @@
 -- What a store without images spells: its pages are those of tuples, and it stays changeable where these stay.
-use Rattle.std.proofs.Common.{◌≡◌, ◌⊎◌, inl, inr, ℕ, true, refl, sym, ◌∙◌, subst}
+use Rattle.std.proofs.Common.{◌≡◌, ◌⊎◌, inl, inr, ℕ, ◌<◌, true, All, refl, sym, ◌∙◌, subst}
+use Rattle.std.proofs.Math.Logic.{∥∥₁_map}
 use Rattle.rss_base.specs.DiskRule.{IsTold}
 use Rattle.rss_base.specs.Listings.{Listing, IsPlain}
-use Rattle.rss_base.specs.Paged.{page_key}
+use Rattle.rss_base.specs.Nodes.{NodeEntry}
+use Rattle.rss_base.specs.Paged.{Held, page_key}
 use Rattle.rss_base.specs.Steps.{PagesView, PagesStep}
 use Rattle.rss_base.specs.declared.key.PageKey.{PageKey}
 use Rattle.rss_base.specs.declared.key.Space.{Space}
@@ -11,8 +13,8 @@ use Rattle.rss_base.proofs.Steps.{among}
 use Rattle.rss_page.specs.Slotted.{IsHeapKey}
 use Rattle.rss_catalog.specs.Catalogs.{HasSystemPages}
 use Rattle.rss_model.specs.Fits.{IsIdentifier}
-use Rattle.rss_model.specs.Store.{SpellsTables}
-use Rattle.rss_model.proofs.PlainStores.{no_image_at, none_imaged, plain_nodes}
+use Rattle.rss_model.specs.Store.{SpellsTables, AreNodesWithin}
+use Rattle.rss_model.proofs.PlainStores.{no_image_at}
 use Rattle.rss_access.specs.Changes.{AccessView, CanAlter, HasTables}
 use Rattle.rss_access.specs.Written.{IsSystemOrHeap, HasImage, content_of}
 use Rattle.rss_access.proofs.Writing.{SameOffSystem, off_system, heaps_same, spells_same}
@@ -52,6 +54,12 @@ system_kept step system page low = step.mapped_off (page_key 0 System page) (λ 
 
 -- ---- tables that are spelled
 
+-- the nodes of images are those that were there
+nodes_still : {old new : Held} {slots slots_too : ℕ} → slots_too ≡ slots → SameOffSystem old new → AreNodesWithin slots old → AreNodesWithin slots_too new
+nodes_still {slots_too = slots_too} slots same nodes of number node at =
+    subst (λ (n : ℕ). All (λ (entry : NodeEntry). entry.tid.page < n) node.entries) (sym slots)
+    (nodes of number node (record { bytes = at.bytes; there = sym (same (page_key of.segment Image number) (λ system. let not : Image ≡ System = system in absurd (cc))) ∙ at.there; is = at.is }))
+
 module _ {old new : AccessView} (slots : new.pages.slots ≡ old.pages.slots) (listing : new.catalog.listing ≡ old.catalog.listing) where
   -- the same tables, where at most pages of the catalog were written
   tables_still : SameOffSystem old.pages.held new.pages.held → HasTables old → HasTables new
@@ -63,18 +71,23 @@ module _ {old new : AccessView} (slots : new.pages.slots ≡ old.pages.slots) (l
         tuples = has.tuples;
         tids = λ relation tid lives. subst (λ (n : ℕ). IsIdentifier n tid) (sym slots) (has.tids relation tid lives);
         few = has.few;
-        nodes = plain_nodes (none_imaged spells);
+        nodes = nodes_still slots same has.nodes;
       }
+
+  -- so they spell tables where they did
+  pub has_tables_still : (IsTold new.pages.disk → IsTold old.pages.disk) → (IsTold old.pages.disk → SameOffSystem old.pages.held new.pages.held) → (IsTold old.pages.disk → HasImage old.catalog.listing → ∥ HasTables old ∥₁)
+      → IsTold new.pages.disk → HasImage new.catalog.listing → ∥ HasTables new ∥₁
+  has_tables_still told same has is image = ∥∥₁_map (has (told is) (subst HasImage listing image)) (tables_still (same (told is)))
 
   -- they may be changed on then
   pub alter_still : (IsTold new.pages.disk → IsTold old.pages.disk) → (IsTold old.pages.disk → SameOffSystem old.pages.held new.pages.held) → ((key : PageKey) → (key.space ≡ System → ⊥) → new.pages.notes key ≡ old.pages.notes key) → CanAlter old → CanAlter new
   alter_still told same notes can = record {
     heaps = λ is. heaps_same (same (told is)) notes (can.heaps (told is));
-    tables = λ is image. tables_still (same (told is)) (can.tables (told is) (subst HasImage listing image));
+    tables = has_tables_still told same can.tables;
   }
 
 -- ---- a store that is ready
 
 -- its pages may be changed
 pub can_alter : {view : StoreView} → IsReady view → CanAlter (access view)
-can_alter ready = record { heaps = ready.heaps; tables = λ told image. absurd (no_image_at ready.plain image.number image.image image.at) }
+can_alter ready = record { heaps = ready.heaps; tables = ready.tables }

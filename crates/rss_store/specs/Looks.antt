@@ -3,7 +3,7 @@ use Rattle.std.specs.Prelude.{◌≡◌, ◌⊎◌, ℕ, true, is_some}
 use Rattle.rss_base.specs.DiskRule.{IsTold}
 use Rattle.rss_base.specs.Paged.{Held}
 use Rattle.rss_base.specs.Steps.{PagesView}
-use Rattle.rss_base.specs.Listings.{Listing, HoldsListing, segment_at}
+use Rattle.rss_base.specs.Listings.{Listing, IsPlain, HoldsListing, segment_at}
 use Rattle.rss_base.specs.declared.key.PageKey.{PageKey}
 use Rattle.rss_base.specs.declared.key.Space.TheVariants.{System}
 use Rattle.rss_base.specs.declared.place.Place.{Place}
@@ -43,9 +43,10 @@ abbrev pub AreAllNoted : Listing → PagesView → Type 0
 AreAllNoted listing view =
     (segment : ℕ) → is_some (segment_at listing segment) ≡ true → AreNoted segment view
 
--- The pages were looked through, and spell tables with these definitions.
+-- The pages were looked through, and spell tables with these definitions. As yet no image is one of them.
 pub record FindsTables (old new : PagesView) (catalog : CatalogView) : Type 0 where
   pub loaded : Loads old catalog
+  pub plain : IsPlain catalog.listing
   pub only : (key : PageKey) → old.mapped key ≡ true → IsPlainPage catalog.listing key
   pub holds : IsTold old.disk → HoldsTables old.held old.slots catalog.listing
   pub heaps : IsTold old.disk → AreHeaps new

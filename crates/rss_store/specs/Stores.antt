@@ -13,7 +13,8 @@ use Rattle.rss_base.specs.declared.root.Root.{Root}
 use Rattle.rss_tuple.specs.Heaps.{AreHeaps}
 use Rattle.rss_catalog.specs.Catalogs.{CatalogView, HasSystemPages}
 use Rattle.rss_log.specs.Logs.{LogView, IsLog, bytes_from, piece_start}
-use Rattle.rss_access.specs.Written.{IsSystemOrHeap}
+use Rattle.rss_access.specs.Changes.{both, HasTables}
+use Rattle.rss_access.specs.Written.{IsSystemOrHeap, HasImage}
 
 -- pages: those with the tuples and the catalog.
 -- catalog: what is defined, with the counts of tuples.
@@ -53,6 +54,7 @@ pub record IsReady (view : StoreView) : Type 0 where
   pub settled_now : view.pages.settled ≡ true
   pub plain : IsPlain view.catalog.listing
   pub heaps : IsTold view.pages.disk → AreHeaps view.pages
+  pub tables : IsTold view.pages.disk → HasImage view.catalog.listing → ∥ HasTables (both view.pages view.catalog) ∥₁
 
 -- The selected root has the whole log, and the map that it names has each page, once.
 pub record IsSaved (view : StoreView) : Type 0 where

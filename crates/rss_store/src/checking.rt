@@ -1,9 +1,9 @@
 // What the pages of a store hold, as an opening finds it.
-ghost use Rattle.std.specs.Prelude.{◌≡◌, ◌≢◌, ◌+◌, ◌*◌, ◌≤◌, length, true, is_some, IfSome, IfNone, IfOk, IfErr, OnOk, Err};
+ghost use Rattle.std.specs.Prelude.{◌≡◌, ◌≢◌, ◌+◌, ◌*◌, ◌<◌, ◌≤◌, length, true, is_some, IfSome, IfNone, IfOk, IfErr, OnOk, Err};
 ghost use Rattle.rss_base.specs.Looking.{ChecksPages};
 ghost use Rattle.rss_base.specs.PageMap.{IsTable, page_count};
 ghost use Rattle.rss_base.specs.Sizes.{system_pages, relations_most, segments as segments_most};
-ghost use Rattle.rss_base.specs.Listings.{ListingFits, segment_at};
+ghost use Rattle.rss_base.specs.Listings.{ListingFits, IsPlain, segment_at};
 ghost use Rattle.rss_base.specs.declared.fault.PageFault.TheVariants.{Damaged as PageDamaged};
 ghost use Rattle.rss_base.specs.declared.place.Place.{Place as AnyPlace};
 ghost use Rattle.rss_base.specs.declared.place.Place.TheVariants.{Count as CountPlace};
@@ -19,7 +19,7 @@ ghost use Rattle.rss_store.specs.Looks.{FindsTables, FindsNone};
 
 use rss_access::TUPLES_MOST;
 use rss_base::{Kind, PageFault, PageKey, Pages, Place, RELATIONS_MOST, SEGMENTS, Space, Tid};
-use rss_catalog::Catalog;
+use rss_catalog::{Catalog, image_page_of};
 use rss_pagemap::SlotTable;
 use rss_tuple::{Visitor, check};
 use rss_value::spells;
@@ -50,11 +50,29 @@ pub fn look_through<P: Pages>(alloc: Global, pages: &mut P) -> Result<Catalog, P
         (P.view pages.old) (P.view pages.new) result }
 {
     let catalog = Catalog::load(alloc, pages)?;
+    if let Some(page) = page_with_image(&catalog) {
+        return Err(PageFault::Damaged(Place::Catalog(page)));
+    }
     if let Some(key) = first_foreign(pages, &catalog) {
         return Err(PageFault::Damaged(Place::Page(key)));
     }
     look_at_segments(alloc, pages, &catalog)?;
     Ok(catalog)
+}
+
+/// The page of the catalog that lists its first image. As yet a store has none.
+fn page_with_image(catalog: &Catalog) -> Option<u8>
+    requires { ListingFits catalog.now.listing }
+    ensures some { IfSome result (λ page. (page < system_pages)
+        × (IsPlain catalog.now.listing → ⊥)) }
+    ensures none { IfNone result (IsPlain catalog.now.listing) }
+{
+    for number in 1..=catalog.last_image() {
+        if catalog.used(Kind::Image, number) {
+            return Some(image_page_of(number));
+        }
+    }
+    None
 }
 
 /// A page that no store with these definitions has: one of a segment that isn't defined, or of the

@@ -37,7 +37,8 @@ impl<S: Saving> DurableStore<S> {
         requires { IsReady (view S.view self.now) }
         ensures { result ≡ heap_now (view S.view self.now).pages }
     {
-        self.tuples.pages.shadow().mapped() - SYSTEM_PAGES
+        let pages = self.tuples.pages.shadow();
+        pages.mapped() - pages.image_pages() - SYSTEM_PAGES
     }
 
     /// The first position of the log that is kept.

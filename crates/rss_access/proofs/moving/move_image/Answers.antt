@@ -1,6 +1,7 @@
 -- The move is given the image of the catalog's entry, and the values that the change tells; the catalog lists its root then.
 use Rattle.std.proofs.Common.{◌≡◌, ◌<◌, ℕ, true, List, length, take, refl, sym, ◌∙◌, ap, subst, arith}
 use Rattle.std.specs.Prelude.{Some}
+use Rattle.std.proofs.Math.Logic.{∥∥₁_map}
 use Rattle.std.proofs.lemmas.Option.{same_Some}
 use Rattle.rss_base.specs.Listings.{Listing, image_at}
 use Rattle.rss_base.specs.TupleTypes.{kinds, chosen, key_width}
@@ -30,12 +31,11 @@ its_relation change at of = ap (λ (e : ImageEntry). e.relation) (same_Some _ _ 
 pub move_entry-requires-clause-may : goal.move_entry-requires-clause-may
 move_entry-requires-clause-may g c = λ disk values others spelled _.
     let holds = g.met.P.Pages.holds c.args.pages.now disk in
-    let may = c.requires.may disk in
-    may_be_moved c.image.ensures.is c.relation-relation.ensures.is
+    ∥∥₁_map (c.requires.may disk) (λ may. may_be_moved c.image.ensures.is c.relation-relation.ensures.is
     (record { before = c.was.ensures; after = c.next.ensures })
     (record { of = its_relation c.args.change c.image.ensures.is c.requires.of; fields_are = c.as_slice.ensures; which_are = ap (λ (n : ℕ). take n c.image.result.now.fields) c.from.ensures; width_is = c.image_width.ensures.is; tid_is = tid_lent c.args.change })
     (held_low (g.P.Pages.view c.args.pages.now) c.slots-slots.result (omega arith) (sym c.slots-slots.ensures) holds (g.met.P.Pages.allowed c.args.pages.now))
-    may.move may.tables may.shows holds values spelled
+    may.move may.tables may.shows holds values spelled)
 
 pub returns-clause-moves : goal.returns-clause-moves
 returns-clause-moves g c = λ disk move tables shows.

@@ -1,6 +1,7 @@
 -- Each image comes to show the tables after the change, and behind the last one there are none.
 use Rattle.std.proofs.Common.{◌≡◌, ◌+◌, ◌*◌, ℕ, ap, subst, arith}
 use Rattle.std.specs.Prelude.{List, Option}
+use Rattle.std.proofs.Math.Logic.{∥∥₁_map}
 use Rattle.rss_base.specs.Listings.{numbered, relation_at}
 use Rattle.rss_base.specs.declared.key.PageKey.{PageKey}
 use Rattle.rss_base.specs.declared.relation.RelationEntry.{RelationEntry}
@@ -28,8 +29,7 @@ loop-place-init g c = record {
 pub move_at-requires-clause-may : goal.move_at-requires-clause-may
 move_at-requires-clause-may g c = λ disk.
     let told = c.loop-place.invariant.step.passes.leaves.told.1 disk in
-    let may = c.requires.may told in
-    record { move = may.move; tables = may.tables; shows = c.loop-place.invariant.shows told may.move may.tables may.shows }
+    ∥∥₁_map (c.requires.may told) (λ may. record { move = may.move; tables = may.tables; shows = c.loop-place.invariant.shows told may.move may.tables may.shows })
 
 pub returns-in_err-move_at-clause-did : goal.returns-in_err-move_at-clause-did
 returns-in_err-move_at-clause-did g c =

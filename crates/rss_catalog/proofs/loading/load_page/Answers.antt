@@ -11,4 +11,4 @@ returns-in-Err-clause-did g c = checks_load _ c.load.ensures.did c.load.ensures.
 pub returns-in-Err-clause-flawed : goal.returns-in-Err-clause-flawed
 returns-in-Err-clause-flawed g c = λ place is.
     let found = c.fault_of.ensures.damaged place (cc) in
-    record { named = found.0; none = λ told listing fits plain holds. c.load.ensures.did.sound found.1.0 (c.in-Err.is ∙ ap Err found.1.1) told }
+    record { named = found.0; none = λ told listing fits holds. c.load.ensures.did.sound found.1.0 (c.in-Err.is ∙ ap Err found.1.1) told }

@@ -1,10 +1,14 @@
 use Rattle.std.proofs.Common.{Option, List, ℕ, sym, subst, arith}
 use Rattle.std.specs.Prelude.{OnOk}
+use Rattle.std.proofs.Math.Logic.{∥∥₁_map}
 use Rattle.rss_base.specs.DiskRule.{IsTold}
 use Rattle.rss_base.proofs.Steps.{widens}
-use Rattle.rss_entries.specs.Keyed.{CutsKey}
+use Rattle.rss_entries.specs.Keyed.{MayCutKey, CutsKey}
 use Rattle.rss_entries.proofs.Composed.{shrinks_by_none}
 use Rattle.rss_entries.proofs.moving.cut.Goals as goal
+
+pub remove-requires-clause-may : goal.remove-requires-clause-may
+remove-requires-clause-may g c = λ told. ∥∥₁_map (c.requires.may told) (λ may. subst (λ (k : Option (List ℕ)). MayCutKey k c.args.tid c.args.image.now (g.P.Pages.view c.args.pages.now)) c.in-Some.is may)
 
 pub returns-in-Some-clause-cuts : goal.returns-in-Some-clause-cuts
 returns-in-Some-clause-cuts g c = subst (λ (k : Option (List ℕ)). OnOk c.remove.result (IsTold (g.P.Pages.view c.args.pages.now).disk → CutsKey k c.args.tid c.args.image.now c.remove.new.self (g.P.Pages.view c.args.pages.now) (g.P.Pages.view c.remove.new.pages))) (sym c.in-Some.is) c.remove.ensures.cuts

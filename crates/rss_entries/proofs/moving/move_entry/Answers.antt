@@ -1,5 +1,7 @@
 use Rattle.std.proofs.Common.{◌≡◌, true, false, ℕ, sym, ◌∙◌, ap, subst, arith}
 use Rattle.std.specs.Prelude.{option_copied}
+use Rattle.std.proofs.Math.Logic.{∥∥₁_elim, ∥∥₁_map}
+use Rattle.std.proofs.Math.Bridge.{le_prop}
 use Rattle.std.proofs.lemmas.Result.{on_ok_weaker}
 use Rattle.rss_base.specs.TupleTypes.{kinds}
 use Rattle.rss_base.specs.Steps.{PagesCall, pages_in}
@@ -19,26 +21,29 @@ pub cut-requires-clause-may : goal.cut-requires-clause-may
 cut-requires-clause-may g c = λ told.
     let was = has_values (kinds c.args.key.fields.now) (option_copied c.args.was) c.requires.was in
     let next = has_values (kinds c.args.key.fields.now) (option_copied c.args.next) c.requires.next in
-    may_cut (kinds_of c.args.key) c.args.tid was.values next.values c.key_of-old_key.result c.key_of-new_key.result (c.key_of-old_key.ensures.key was.values was.are) (c.key_of-new_key.ensures.key next.values next.are)
-    c.args.image.now (g.P.Pages.view c.args.pages.now) (c.requires.may told was.values next.values was.are next.are)
+    ∥∥₁_map (c.requires.may told was.values next.values was.are next.are)
+    (may_cut (kinds_of c.args.key) c.args.tid was.values next.values c.key_of-old_key.result c.key_of-new_key.result (c.key_of-old_key.ensures.key was.values was.are) (c.key_of-new_key.ensures.key next.values next.are)
+    c.args.image.now (g.P.Pages.view c.args.pages.now))
 
 pub put-requires-clause-may : goal.put-requires-clause-may
 put-requires-clause-may g c = λ told_then.
     let told = c.in_ok-cut.ensures.did.step.passes.leaves.told.1 told_then in
     let was = has_values (kinds c.args.key.fields.now) (option_copied c.args.was) c.requires.was in
     let next = has_values (kinds c.args.key.fields.now) (option_copied c.args.next) c.requires.next in
+    ∥∥₁_map (c.requires.may told was.values next.values was.are next.are) (λ may.
     may_put (kinds_of c.args.key) c.args.tid was.values next.values c.key_of-old_key.result c.key_of-new_key.result (c.key_of-old_key.ensures.key was.values was.are) (c.key_of-new_key.ensures.key next.values next.are)
     c.args.image.now c.cut.new.image (g.P.Pages.view c.args.pages.now) (g.P.Pages.view c.cut.new.pages) (c.in_ok-cut.ensures.cuts told)
-    (c.requires.may told was.values next.values was.are next.are) (λ same. let never : false ≡ true = sym c.if-are_same.false ∙ c.are_same.ensures.1 same in absurd (cc))
+    may (λ same. let never : false ≡ true = sym c.if-are_same.false ∙ c.are_same.ensures.1 same in absurd (cc)))
 
 pub put-requires-clause-room : goal.put-requires-clause-room
-put-requires-clause-room g c = λ told_then.
+put-requires-clause-room g c = λ told_then pairs tree.
     let told = c.in_ok-cut.ensures.did.step.passes.leaves.told.1 told_then in
     let was = has_values (kinds c.args.key.fields.now) (option_copied c.args.was) c.requires.was in
     let next = has_values (kinds c.args.key.fields.now) (option_copied c.args.next) c.requires.next in
+    ∥∥₁_elim (c.requires.may told was.values next.values was.are next.are) le_prop (λ may.
     still_spare (kinds_of c.args.key) c.args.tid was.values next.values c.key_of-old_key.result c.key_of-new_key.result (c.key_of-old_key.ensures.key was.values was.are) (c.key_of-new_key.ensures.key next.values next.are)
     c.args.image.now c.cut.new.image (g.P.Pages.view c.args.pages.now) (g.P.Pages.view c.cut.new.pages) (c.in_ok-cut.ensures.cuts told)
-    (c.requires.may told was.values next.values was.are next.are) c.in_ok-cut.ensures.of c.requires.of.narrow
+    may c.in_ok-cut.ensures.of c.requires.of.narrow pairs tree)
 
 pub returns-clause-moves : goal.returns-clause-moves
 returns-clause-moves g c = on_ok_weaker c.put.result (λ puts told was next was_is next_is.

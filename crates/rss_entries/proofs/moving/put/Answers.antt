@@ -1,10 +1,14 @@
 use Rattle.std.proofs.Common.{Option, List, ℕ, sym, subst, arith}
 use Rattle.std.specs.Prelude.{OnOk}
+use Rattle.std.proofs.Math.Logic.{∥∥₁_map}
 use Rattle.rss_base.specs.DiskRule.{IsTold}
 use Rattle.rss_base.proofs.Steps.{widens}
-use Rattle.rss_entries.specs.Keyed.{PutsKey}
+use Rattle.rss_entries.specs.Keyed.{MayPutKey, PutsKey}
 use Rattle.rss_entries.proofs.Composed.{becomes_itself}
 use Rattle.rss_entries.proofs.moving.put.Goals as goal
+
+pub insert-requires-clause-may : goal.insert-requires-clause-may
+insert-requires-clause-may g c = λ told. ∥∥₁_map (c.requires.may told) (λ may. subst (λ (k : Option (List ℕ)). MayPutKey k c.args.tid c.args.image.now (g.P.Pages.view c.args.pages.now)) c.in-Some.is may)
 
 pub returns-in-Some-clause-puts : goal.returns-in-Some-clause-puts
 returns-in-Some-clause-puts g c = subst (λ (k : Option (List ℕ)). OnOk c.insert.result (IsTold (g.P.Pages.view c.args.pages.now).disk → PutsKey k c.args.tid c.args.image.now c.insert.new.self (g.P.Pages.view c.args.pages.now) (g.P.Pages.view c.insert.new.pages))) (sym c.in-Some.is) c.insert.ensures.puts

@@ -1,4 +1,6 @@
 use Rattle.std.proofs.Common.{◌≡◌, ℕ, ◌+◌, ◌-◌, ◌*◌, ◌≤◌, length, List, ◌∷◌, [], sym, subst, arith}
+use Rattle.std.proofs.Math.Logic.{∥∥₁_elim, ∥∥₁_map}
+use Rattle.std.proofs.Math.Bool.{Bool-set}
 use Rattle.rss_base.proofs.Steps.{then, then_call, fails, widens, within}
 use Rattle.rss_levels.specs.Entries.{capacity}
 use Rattle.rss_node.specs.Nodes.{entry_at}
@@ -11,8 +13,16 @@ use Rattle.rss_image.proofs.emptying.+give_under.Goals as goal
 pub returns-then-level-eq0-clause-gives : goal.returns-then-level-eq0-clause-gives
 returns-then-level-eq0-clause-gives g t c = on_both c.give_page.result (λ keeps loses told. gives_leaf c.args.of c.args.level c.args.number (g.P.Pages.view c.args.pages.now) (g.P.Pages.view c.give_page.new.pages) c.if-level-eq0.true (record { keeps = keeps told; loses_none = loses told })) c.give_page.ensures.keeps c.give_page.ensures.loses_none
 
+pub give_page-requires : goal.give_page-requires
+give_page-requires g t c = record {
+  mapped = λ told. ∥∥₁_elim (c.requires.there told) (Bool-set _ _) (λ has.
+      let view = g.P.Pages.view c.args.pages.now in
+      let node = under_node c.args.of view.held c.args.level c.args.number has in
+      held_is_mapped c.args.of view c.args.level c.args.number node.next node.entries (g.met.P.Pages.holds c.args.pages.now told) node.holds);
+}
+
 pub read_node-requires-clause-there : goal.read_node-requires-clause-there
-read_node-requires-clause-there g t c = λ told. under_node c.args.of (g.P.Pages.view c.args.pages.now).held c.args.level c.args.number (c.requires.there told)
+read_node-requires-clause-there g t c = λ told. ∥∥₁_map (c.requires.there told) (under_node c.args.of (g.P.Pages.view c.args.pages.now).held c.args.level c.args.number)
 
 pub loop-at-init : goal.loop-at-init
 loop-at-init g t c = record {
@@ -33,11 +43,11 @@ give_under-requires g t c κs lives = (
           let old = g.P.Pages.view c.args.pages.now in
           let now = g.P.Pages.view c.loop-at.pages in
           let told = c.loop-at.invariant.step.passes.leaves.told.1 told_now in
-          let has = c.requires.there told in
+          ∥∥₁_map (c.requires.there told) (λ has.
           let opened = open_node of old.held c.args.level c.args.number has.pages c.in_ok-node.node (omega arith) (c.in_ok-node.ensures.holds told) has.stands in
           let state = c.loop-at.invariant.emptying told opened.ns opened.opened in
           subst (λ (n : ℕ). HasUnder of now.held (c.args.level - 1) n) (sym c.child.ensures)
-          (child_under of (c.args.level - 1) c.in_ok-node.node.entries c.loop-at.at opened.ns old now state (omega (arith, c.loop-at-test.true, c.count-at-end.ensures.count)))),
+          (child_under of (c.args.level - 1) c.in_ok-node.node.entries c.loop-at.at opened.ns old now state (omega (arith, c.loop-at-test.true, c.count-at-end.ensures.count))))),
     ),
   ),
 )
@@ -76,12 +86,12 @@ give_page-requires-2 g t c = record {
       let old = g.P.Pages.view c.args.pages.now in
       let now = g.P.Pages.view c.loop-at.pages in
       let told = c.loop-at.invariant.step.passes.leaves.told.1 told_now in
-      let has = c.requires.there told in
+      ∥∥₁_elim (c.requires.there told) (Bool-set _ _) (λ has.
       let holds = c.in_ok-node.ensures.holds told in
       let opened = open_node of old.held c.args.level c.args.number has.pages c.in_ok-node.node (omega arith) holds has.stands in
       let state = c.loop-at.invariant.emptying told opened.ns opened.opened in
       let there = still_there of (c.args.level - 1) c.args.number c.in_ok-node.node.next c.loop-at.at c.in_ok-node.node.entries c.in_ok-node.node.entries opened.ns old now state opened.opened.off c.args.level holds in
-      held_is_mapped of now c.args.level c.args.number c.in_ok-node.node.next c.in_ok-node.node.entries (g.met.P.Pages.holds c.loop-at.pages told_now) there;
+      held_is_mapped of now c.args.level c.args.number c.in_ok-node.node.next c.in_ok-node.node.entries (g.met.P.Pages.holds c.loop-at.pages told_now) there);
 }
 
 pub returns-clause-gives : goal.returns-clause-gives

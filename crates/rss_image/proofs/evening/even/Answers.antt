@@ -1,5 +1,7 @@
 use Rattle.std.proofs.Common.{◌≡◌, ◌≤◌, ◌/◌, ◌∙◌, ◌++◌, ℕ, List, length, drop, ap, sym, subst, arith}
 use Rattle.std.proofs.lemmas.List.{length-append}
+use Rattle.std.proofs.Math.Logic.{∥∥₁_elim, ∥∥₁_map}
+use mathlib.Core.HLevel.{⊥_prop, ¬_prop}
 use Rattle.rss_base.proofs.Steps.{then, then_call, done, fails, widens, untouched}
 use Rattle.rss_levels.specs.Entries.{Entry, capacity}
 use Rattle.rss_levels.specs.Rows.{Cells}
@@ -7,8 +9,11 @@ use Rattle.rss_node.specs.Nodes.{NodeView, entry_at}
 use Rattle.rss_image.specs.Trees.{cells_of}
 use Rattle.rss_image.specs.Removed.{first_named, Joined, Shared}
 use Rattle.rss_image.proofs.Calls.{damage, keeps_none, held_is_mapped}
-use Rattle.rss_image.proofs.Evened.{right_node, node_seen, was_holding, left_full, right_full, named_long, joined_evens, shared_evens}
+use Rattle.rss_image.proofs.Evened.{left_node, right_node, two_apart, node_seen, was_holding, still_mapped, left_full, right_full, named_long, joined_evens, shared_evens}
 use Rattle.rss_image.proofs.evening.even.Goals as goal
+
+pub read_node-requires-clause-there : goal.read_node-requires-clause-there
+read_node-requires-clause-there g c = λ told. ∥∥₁_map (c.requires.there told) (left_node c.args.of (g.P.Pages.view c.args.pages.now).held c.args.level c.args.number c.args.other c.args.pair.now)
 
 pub read_node-requires-2-clause-there : goal.read_node-requires-2-clause-there
 read_node-requires-2-clause-there g c = λ told_one.
@@ -17,7 +22,7 @@ read_node-requires-2-clause-there g c = λ told_one.
     let one = g.P.Pages.view c.read_node.new.pages in
     let step = c.in_ok-left.ensures.did.step in
     let told = step.passes.leaves.told.1 told_one in
-    node_seen of c.args.level c.args.other old one (keeps_none of old one step told) (right_node of old.held c.args.level c.args.number c.args.other c.args.pair.now (c.requires.there told))
+    ∥∥₁_map (c.requires.there told) (λ there. node_seen of c.args.level c.args.other old one (keeps_none of old one step told) (right_node of old.held c.args.level c.args.number c.args.other c.args.pair.now there))
 
 pub returns-in_err-right-clause-did : goal.returns-in_err-right-clause-did
 returns-in_err-right-clause-did g c = fails _ c.from_residual-in_err-right.ensures.1 (λ key none. absurd none) (omega arith) (omega arith) (then_call c.in_ok-left.ensures.did.step c.in_err-right.ensures.did)
@@ -29,10 +34,10 @@ returns-then-count-eq0-clause-did g c = widens (λ key none. none) (omega arith)
     let one = g.P.Pages.view c.read_node.new.pages in
     let step = c.in_ok-left.ensures.did.step in
     let told_one = step.passes.leaves.told.0 told in
-    let there = c.requires.there told in
+    ∥∥₁_elim (c.requires.there told) ⊥_prop (λ there.
     let some = left_full of (cells_of of old.held) c.args.level c.args.number c.args.other c.args.pair.now there.left there.right there.next there.are c.in_ok-left.left c.in_ok-right.right (c.in_ok-left.ensures.holds told)
     (was_holding of c.args.level c.args.other c.in_ok-right.right.next c.in_ok-right.right.entries old one (keeps_none of old one step told) (c.in_ok-right.ensures.holds told_one)) in
-    omega (arith, some, c.count-count.ensures.count, c.if-count-eq0.true)))
+    omega (arith, some, c.count-count.ensures.count, c.if-count-eq0.true))))
 
 pub returns-then-more-eq0-clause-did : goal.returns-then-more-eq0-clause-did
 returns-then-more-eq0-clause-did g c = widens (λ key none. none) (omega arith) (omega arith) (damage (untouched (then c.in_ok-left.ensures.did.step c.in_ok-right.ensures.did.step)) c.damaged-then-more-eq0.ensures (λ told.
@@ -41,15 +46,26 @@ returns-then-more-eq0-clause-did g c = widens (λ key none. none) (omega arith) 
     let one = g.P.Pages.view c.read_node.new.pages in
     let step = c.in_ok-left.ensures.did.step in
     let told_one = step.passes.leaves.told.0 told in
-    let there = c.requires.there told in
+    ∥∥₁_elim (c.requires.there told) ⊥_prop (λ there.
     let some = right_full of (cells_of of old.held) c.args.level c.args.number c.args.other c.args.pair.now there.left there.right there.next there.are c.in_ok-left.left c.in_ok-right.right (c.in_ok-left.ensures.holds told)
     (was_holding of c.args.level c.args.other c.in_ok-right.right.next c.in_ok-right.right.entries old one (keeps_none of old one step told) (c.in_ok-right.ensures.holds told_one)) in
-    omega (arith, some, c.count-more.ensures.count, c.if-more-eq0.true)))
+    omega (arith, some, c.count-more.ensures.count, c.if-more-eq0.true))))
 
 pub join_nodes-requires-clause-room : goal.join_nodes-requires-clause-room
 join_nodes-requires-clause-room g c =
     let long : length c.name_first.new.node.entries ≡ length c.in_ok-right.right.entries = ap (λ (n : NodeView). length n.entries) c.name_first.ensures ∙ named_long c.args.level c.args.pair.now c.in_ok-right.right.entries in
     omega (arith, long, c.count-count.ensures.count, c.count-more.ensures.count, c.capacity.ensures, c.if-count-more.true)
+
+pub join_nodes-requires-clause-left_mapped : goal.join_nodes-requires-clause-left_mapped
+join_nodes-requires-clause-left_mapped g c = λ told_two.
+    let told_one = c.in_ok-right.ensures.did.step.passes.leaves.told.1 told_two in
+    let told = c.in_ok-left.ensures.did.step.passes.leaves.told.1 told_one in
+    still_mapped c.args.of c.args.level c.args.number c.in_ok-left.left c.in_ok-left.ensures.did.step c.in_ok-right.ensures.did.step told (g.met.P.Pages.holds c.read_node-2.new.pages told_two) (c.in_ok-left.ensures.holds told)
+
+pub join_nodes-requires-clause-apart : goal.join_nodes-requires-clause-apart
+join_nodes-requires-clause-apart g c = λ told_two.
+    let told = c.in_ok-left.ensures.did.step.passes.leaves.told.1 (c.in_ok-right.ensures.did.step.passes.leaves.told.1 told_two) in
+    ∥∥₁_elim (c.requires.there told) ¬_prop two_apart
 
 pub returns-in_err-join_nodes-clause-did : goal.returns-in_err-join_nodes-clause-did
 returns-in_err-join_nodes-clause-did g c = fails _ c.from_residual-in_err-join_nodes.ensures.1 (λ key there. there) (omega arith) (omega arith) (then_call (untouched (then c.in_ok-left.ensures.did.step c.in_ok-right.ensures.did.step)) c.in_err-join_nodes.ensures.did)
@@ -80,18 +96,16 @@ share_nodes-requires-clause-many g c =
     let long : length c.name_first.new.node.entries ≡ length c.in_ok-right.right.entries = ap (λ (n : NodeView). length n.entries) c.name_first.ensures ∙ named_long c.args.level c.args.pair.now c.in_ok-right.right.entries in
     omega (arith, length-append c.in_ok-left.left.entries c.name_first.new.node.entries, long, c.count-count.ensures.count, c.count-more.ensures.count, c.if-count-eq0.false, c.if-more-eq0.false)
 
+pub share_nodes-requires-clause-apart : goal.share_nodes-requires-clause-apart
+share_nodes-requires-clause-apart g c = λ told_two.
+    let told = c.in_ok-left.ensures.did.step.passes.leaves.told.1 (c.in_ok-right.ensures.did.step.passes.leaves.told.1 told_two) in
+    ∥∥₁_elim (c.requires.there told) ¬_prop two_apart
+
 pub share_nodes-requires-clause-left_mapped : goal.share_nodes-requires-clause-left_mapped
 share_nodes-requires-clause-left_mapped g c = λ told_two.
-    let of = c.args.of in
-    let old = g.P.Pages.view c.args.pages.now in
-    let one = g.P.Pages.view c.read_node.new.pages in
-    let two = g.P.Pages.view c.read_node-2.new.pages in
-    let step = c.in_ok-left.ensures.did.step in
     let told_one = c.in_ok-right.ensures.did.step.passes.leaves.told.1 told_two in
-    let told = step.passes.leaves.told.1 told_one in
-    let same_two : cells_of of two.held ≡ cells_of of old.held = keeps_none of one two c.in_ok-right.ensures.did.step told_one ∙ keeps_none of old one step told in
-    held_is_mapped of two c.args.level c.args.number c.in_ok-left.left.next c.in_ok-left.left.entries (g.met.P.Pages.holds c.read_node-2.new.pages told_two)
-    (was_holding of c.args.level c.args.number c.in_ok-left.left.next c.in_ok-left.left.entries two old (sym same_two) (c.in_ok-left.ensures.holds told))
+    let told = c.in_ok-left.ensures.did.step.passes.leaves.told.1 told_one in
+    still_mapped c.args.of c.args.level c.args.number c.in_ok-left.left c.in_ok-left.ensures.did.step c.in_ok-right.ensures.did.step told (g.met.P.Pages.holds c.read_node-2.new.pages told_two) (c.in_ok-left.ensures.holds told)
 
 pub share_nodes-requires-clause-right_mapped : goal.share_nodes-requires-clause-right_mapped
 share_nodes-requires-clause-right_mapped g c = λ told_two.

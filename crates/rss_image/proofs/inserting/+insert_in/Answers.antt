@@ -1,4 +1,8 @@
 use Rattle.std.proofs.Common.{◌≡◌, ◌-◌, ℕ, [], ◌∷◌, true, sym, subst, arith, Option, Some, None}
+use Rattle.std.proofs.Math.Logic.{∥∥₁_elim, ∥∥₁_map}
+use Rattle.std.proofs.Math.Bool.{Bool-set}
+use Rattle.std.proofs.Math.Bridge.{le_prop}
+use mathlib.Core.HLevel.{⊥_prop}
 use Rattle.rss_base.proofs.Steps.{then, then_call, done, fails, widens, untouched, all_held}
 use Rattle.rss_base.specs.Paged.{Held}
 use Rattle.rss_levels.specs.Entries.{Entry}
@@ -16,7 +20,7 @@ use Rattle.rss_image.proofs.Insertion.{leaf_done, inner_none, inner_some, still,
 use Rattle.rss_image.proofs.inserting.+insert_in.Goals as goal
 
 pub read_node-requires-clause-there : goal.read_node-requires-clause-there
-read_node-requires-clause-there g t c = λ told. spot_node c.args.of (g.P.Pages.view c.args.pages.now).held (g.P.Pages.view c.args.pages.now).spare c.args.level c.args.number c.args.pair.now (c.requires.there told)
+read_node-requires-clause-there g t c = λ told. ∥∥₁_map (c.requires.there told) (spot_node c.args.of (g.P.Pages.view c.args.pages.now).held (g.P.Pages.view c.args.pages.now).spare c.args.level c.args.number c.args.pair.now)
 
 pub grow-requires-clause-mapped : goal.grow-requires-clause-mapped
 grow-requires-clause-mapped g t c = λ told_one.
@@ -35,9 +39,9 @@ grow-requires-clause-room g t c = λ told_one full.
     let step = c.in_ok-node.ensures.did.step in
     let told = step.passes.leaves.told.1 told_one in
     let spare = spare_rests old (g.P.Pages.view c.read_node.new.pages) step (g.met.P.Pages.are_counted c.args.pages.now) (g.met.P.Pages.are_counted c.read_node.new.pages) in
-    let may = c.requires.there told in
+    ∥∥₁_elim (c.requires.there told) le_prop (λ may.
     let room = leaf_room of (cells_of of old.held) c.args.level c.args.number c.args.pair.now may.pairs may.spot c.in_ok-node.node (c.in_ok-node.ensures.holds told) c.if-level-eq0.true old.spare may.room full in
-    omega (arith, spare, room)
+    omega (arith, spare, room))
 
 pub returns-then-level-eq0-clause-inserted : goal.returns-then-level-eq0-clause-inserted
 returns-then-level-eq0-clause-inserted g t c = on_ok c.grow.result (λ split grown told pairs spot absent.
@@ -61,10 +65,9 @@ pub returns-then-level-eq0-clause-did : goal.returns-then-level-eq0-clause-did
 returns-then-level-eq0-clause-did g t c = widens (λ key there. there) (omega arith) (omega arith) (then_call (untouched c.in_ok-node.ensures.did.step) c.grow.ensures.did)
 
 pub returns-then-at-eq0-clause-did : goal.returns-then-at-eq0-clause-did
-returns-then-at-eq0-clause-did g t c = widens (λ key there. there) (omega arith) (omega arith) (damage (untouched c.in_ok-node.ensures.did.step) c.damaged.ensures (λ told.
-    let may = c.requires.there told in
+returns-then-at-eq0-clause-did g t c = widens (λ key there. there) (omega arith) (omega arith) (damage (untouched c.in_ok-node.ensures.did.step) c.damaged.ensures (λ told. ∥∥₁_elim (c.requires.there told) ⊥_prop (λ may.
     never_first c.args.of (cells_of c.args.of (g.P.Pages.view c.args.pages.now).held) c.args.level c.args.number c.args.pair.now may.pairs may.spot c.in_ok-node.node (c.in_ok-node.ensures.holds told) (omega arith) c.requires.long
-    (λ some passed. c.place-at.ensures.here (omega arith) (subst (λ (n : ℕ). IsPassed true (at_place c.in_ok-node.node.entries n).pair c.args.pair.now) (sym c.if-at-eq0.true) passed))))
+    (λ some passed. c.place-at.ensures.here (omega arith) (subst (λ (n : ℕ). IsPassed true (at_place c.in_ok-node.node.entries n).pair c.args.pair.now) (sym c.if-at-eq0.true) passed)))))
 
 pub insert_in-requires : goal.insert_in-requires
 insert_in-requires g t c = λ κs lives. (
@@ -82,10 +85,11 @@ insert_in-requires g t c = λ κs lives. (
             let step = c.in_ok-node.ensures.did.step in
             let told = step.passes.leaves.told.1 told_one in
             let spare : one.spare ≡ old.spare = spare_rests old one step (g.met.P.Pages.are_counted c.args.pages.now) (g.met.P.Pages.are_counted c.read_node.new.pages) in
-            let may = may_insert_below of old.held old.spare c.args.level c.args.number c.args.pair.now (c.requires.there told) c.in_ok-node.node (c.in_ok-node.ensures.holds told) c.place-at.result (omega arith) (omega arith) c.place-at.ensures.within (c.place-at.ensures.before (omega arith)) c.place-at.ensures.here in
+            ∥∥₁_map (c.requires.there told) (λ given.
+            let may = may_insert_below of old.held old.spare c.args.level c.args.number c.args.pair.now given c.in_ok-node.node (c.in_ok-node.ensures.holds told) c.place-at.result (omega arith) (omega arith) c.place-at.ensures.within (c.place-at.ensures.before (omega arith)) c.place-at.ensures.here in
             subst (λ (h : Held). MayInsert of h one.spare (c.args.level - 1) c.child-child.result c.args.pair.now) (sym (all_held step told))
             (subst (λ (n : ℕ). MayInsert of old.held n (c.args.level - 1) c.child-child.result c.args.pair.now) (sym spare)
-            (subst (λ (n : ℕ). MayInsert of old.held old.spare (c.args.level - 1) n c.args.pair.now) (sym c.child-child.ensures) may))),
+            (subst (λ (n : ℕ). MayInsert of old.held old.spare (c.args.level - 1) n c.args.pair.now) (sym c.child-child.ensures) may)))),
       ),
     ),
   ),
@@ -103,12 +107,12 @@ grow-requires-in-Some-clause-mapped g t c = λ told_two.
     let told_one = c.in_ok-below.ensures.did.step.passes.leaves.told.1 told_two in
     let told = step.passes.leaves.told.1 told_one in
     let same : one ≡ old = keeps_none of (g.P.Pages.view c.args.pages.now) (g.P.Pages.view c.read_node.new.pages) step told in
-    let may = c.requires.there told in
+    ∥∥₁_elim (c.requires.there told) (Bool-set _ _) (λ may.
     let e : Entry = record { pair = c.in-Some.split.pair; child = c.in-Some.split.number } in
     let two : Cells = cells_of of (g.P.Pages.view c.insert_in.new.pages).held in
     let does : Inserted of (c.args.level - 1) c.child-child.result c.args.pair.now (g.P.Pages.view c.read_node.new.pages) (g.P.Pages.view c.insert_in.new.pages) (Some c.in-Some.split) = subst (λ (b : Option Split). Inserted of (c.args.level - 1) c.child-child.result c.args.pair.now (g.P.Pages.view c.read_node.new.pages) (g.P.Pages.view c.insert_in.new.pages) b) c.in-Some.is (c.in_ok-below.ensures.inserted told_one) in
     let does_old = subst (λ (n : ℕ). Below of (c.args.level - 1) c.args.pair.now old n two (e ∷ [])) c.child-child.ensures (subst (λ (cs : Cells). Below of (c.args.level - 1) c.args.pair.now cs c.child-child.result two (e ∷ [])) same does) in
-    held_is_mapped of (g.P.Pages.view c.insert_in.new.pages) c.args.level c.args.number _ _ (g.met.P.Pages.holds c.insert_in.new.pages told_two) (still of old c.args.level c.args.number c.args.pair.now may.pairs may.spot c.in_ok-node.node (c.in_ok-node.ensures.holds told) c.place-at.result (omega arith) (omega arith) c.place-at.ensures.within (c.place-at.ensures.before (omega arith)) c.place-at.ensures.here two (e ∷ []) does_old may.absent)
+    held_is_mapped of (g.P.Pages.view c.insert_in.new.pages) c.args.level c.args.number _ _ (g.met.P.Pages.holds c.insert_in.new.pages told_two) (still of old c.args.level c.args.number c.args.pair.now may.pairs may.spot c.in_ok-node.node (c.in_ok-node.ensures.holds told) c.place-at.result (omega arith) (omega arith) c.place-at.ensures.within (c.place-at.ensures.before (omega arith)) c.place-at.ensures.here two (e ∷ []) does_old may.absent))
 
 pub grow-requires-in-Some-clause-room : goal.grow-requires-in-Some-clause-room
 grow-requires-in-Some-clause-room g t c = λ told_two full.
@@ -121,12 +125,12 @@ grow-requires-in-Some-clause-room g t c = λ told_two full.
     let told = step.passes.leaves.told.1 told_one in
     let same : one ≡ old = keeps_none of (g.P.Pages.view c.args.pages.now) (g.P.Pages.view c.read_node.new.pages) step told in
     let spare = spare_rests (g.P.Pages.view c.args.pages.now) (g.P.Pages.view c.read_node.new.pages) step (g.met.P.Pages.are_counted c.args.pages.now) (g.met.P.Pages.are_counted c.read_node.new.pages) in
-    let may = c.requires.there told in
+    ∥∥₁_elim (c.requires.there told) le_prop (λ may.
     let e : Entry = record { pair = c.in-Some.split.pair; child = c.in-Some.split.number } in
     let does : Inserted of (c.args.level - 1) c.child-child.result c.args.pair.now (g.P.Pages.view c.read_node.new.pages) (g.P.Pages.view c.insert_in.new.pages) (Some c.in-Some.split) = subst (λ (b : Option Split). Inserted of (c.args.level - 1) c.child-child.result c.args.pair.now (g.P.Pages.view c.read_node.new.pages) (g.P.Pages.view c.insert_in.new.pages) b) c.in-Some.is (c.in_ok-below.ensures.inserted told_one) in
     let does_old = subst (λ (n : ℕ). Below of (c.args.level - 1) c.args.pair.now old n two (e ∷ [])) c.child-child.ensures (subst (λ (cs : Cells). Below of (c.args.level - 1) c.args.pair.now cs c.child-child.result two (e ∷ [])) same does) in
     let room = inner_room of old c.args.level c.args.number c.args.pair.now may.pairs may.spot c.in_ok-node.node (c.in_ok-node.ensures.holds told) c.place-at.result (omega arith) (omega arith) c.place-at.ensures.within (c.place-at.ensures.before (omega arith)) c.place-at.ensures.here two e (g.P.Pages.view c.args.pages.now).spare does_old may.absent may.room full in
-    omega (arith, spare, room, c.in_ok-below.ensures.spare)
+    omega (arith, spare, room, c.in_ok-below.ensures.spare))
 
 pub returns-in-None-clause-inserted : goal.returns-in-None-clause-inserted
 returns-in-None-clause-inserted g t c = λ told pairs spot absent.

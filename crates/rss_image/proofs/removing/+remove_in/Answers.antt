@@ -1,5 +1,7 @@
 use Rattle.std.proofs.Common.{◌≡◌, ◌<◌, ◌≤◌, ◌+◌, ◌-◌, ◌*◌, ◌∙◌, ℕ, length, true, sym, ap, subst, arith}
 use Rattle.std.specs.Prelude.{Ok}
+use Rattle.std.proofs.Math.Logic.{∥∥₁_elim, ∥∥₁_map}
+use mathlib.Core.HLevel.{⊥_prop}
 use Rattle.rss_base.specs.Paged.{Held}
 use Rattle.rss_base.specs.Steps.{PagesCall, pages_in}
 use Rattle.rss_base.specs.declared.key.Space.TheVariants.{Image}
@@ -20,15 +22,16 @@ use Rattle.rss_image.proofs.removing.+remove_in.Goals.{then-left-capacity+in_ok-
 use Rattle.rss_image.proofs.removing.+remove_in.Goals as goal
 
 pub read_node-requires-clause-there : goal.read_node-requires-clause-there
-read_node-requires-clause-there g t c = λ told. removal_node c.args.of (g.P.Pages.view c.args.pages.now).held c.args.level c.args.number c.args.pair.now (c.requires.there told)
+read_node-requires-clause-there g t c = λ told. ∥∥₁_map (c.requires.there told) (removal_node c.args.of (g.P.Pages.view c.args.pages.now).held c.args.level c.args.number c.args.pair.now)
 
 pub take_out-requires-clause-there : goal.take_out-requires-clause-there
 take_out-requires-clause-there g t c = λ told_one.
     let old = g.P.Pages.view c.args.pages.now in
     let step = c.in_ok-node.ensures.did.step in
     let told = step.passes.leaves.told.1 told_one in
-    let may = subst (λ (l : ℕ). MayRemove c.args.of old.held l c.args.number c.args.pair.now) c.if-level-eq0.true (c.requires.there told) in
-    subst (λ (h : Held). MayRemove c.args.of h 0 c.args.number c.args.pair.now) (sym (all_held step told)) may
+    ∥∥₁_map (c.requires.there told) (λ given.
+    let may = subst (λ (l : ℕ). MayRemove c.args.of old.held l c.args.number c.args.pair.now) c.if-level-eq0.true given in
+    subst (λ (h : Held). MayRemove c.args.of h 0 c.args.number c.args.pair.now) (sym (all_held step told)) may)
 
 pub returns-then-level-eq0-clause-removed : goal.returns-then-level-eq0-clause-removed
 returns-then-level-eq0-clause-removed g t c = on_ok c.take_out.result (λ count removed told.
@@ -44,10 +47,9 @@ pub returns-then-level-eq0-clause-did : goal.returns-then-level-eq0-clause-did
 returns-then-level-eq0-clause-did g t c = widens (λ key there. there) (omega arith) (omega arith) (then_call (untouched c.in_ok-node.ensures.did.step) c.take_out.ensures.did)
 
 pub returns-then-at-eq0-clause-did : goal.returns-then-at-eq0-clause-did
-returns-then-at-eq0-clause-did g t c = widens (λ key there. there) (omega arith) (omega arith) (damage (untouched c.in_ok-node.ensures.did.step) c.damaged.ensures (λ told.
-    let may = c.requires.there told in
+returns-then-at-eq0-clause-did g t c = widens (λ key there. there) (omega arith) (omega arith) (damage (untouched c.in_ok-node.ensures.did.step) c.damaged.ensures (λ told. ∥∥₁_elim (c.requires.there told) ⊥_prop (λ may.
     never_first c.args.of (cells_of c.args.of (g.P.Pages.view c.args.pages.now).held) c.args.level c.args.number c.args.pair.now may.pairs may.spot c.in_ok-node.node (c.in_ok-node.ensures.holds told) (omega arith) c.requires.long
-    (λ some passed. c.place-at.ensures.here (omega arith) (subst (λ (n : ℕ). IsPassed true (at_place c.in_ok-node.node.entries n).pair c.args.pair.now) (sym c.if-at-eq0.true) passed))))
+    (λ some passed. c.place-at.ensures.here (omega arith) (subst (λ (n : ℕ). IsPassed true (at_place c.in_ok-node.node.entries n).pair c.args.pair.now) (sym c.if-at-eq0.true) passed)))))
 
 pub remove_in-requires : goal.remove_in-requires
 remove_in-requires g t c = λ κs lives. (
@@ -66,9 +68,10 @@ remove_in-requires g t c = λ κs lives. (
             let told = step.passes.leaves.told.1 told_one in
             let wide = many of.width c.requires.of.narrow in
             let full : 2 ≤ least of.width = omega (arith, wide) in
-            let may = may_below of old.held c.args.level c.args.number c.args.pair.now (c.requires.there told) c.in_ok-node.node (c.in_ok-node.ensures.holds told) c.place-at.result (omega arith) (omega arith) c.place-at.ensures.within (c.place-at.ensures.before (omega arith)) c.place-at.ensures.here full in
+            ∥∥₁_map (c.requires.there told) (λ given.
+            let may = may_below of old.held c.args.level c.args.number c.args.pair.now given c.in_ok-node.node (c.in_ok-node.ensures.holds told) c.place-at.result (omega arith) (omega arith) c.place-at.ensures.within (c.place-at.ensures.before (omega arith)) c.place-at.ensures.here full in
             subst (λ (h : Held). MayRemove of h (c.args.level - 1) c.child-child.result c.args.pair.now) (sym (all_held step told))
-            (subst (λ (n : ℕ). MayRemove of old.held (c.args.level - 1) n c.args.pair.now) (sym c.child-child.ensures) may)),
+            (subst (λ (n : ℕ). MayRemove of old.held (c.args.level - 1) n c.args.pair.now) (sym c.child-child.ensures) may))),
       ),
     ),
   ),
@@ -87,12 +90,12 @@ mend-requires-clause-there g t c = λ told_two.
     let told_one = c.in_ok-left.ensures.did.step.passes.leaves.told.1 told_two in
     let told = step.passes.leaves.told.1 told_one in
     let same : one ≡ old = keeps_none of (g.P.Pages.view c.args.pages.now) (g.P.Pages.view c.read_node.new.pages) step told in
-    let may = c.requires.there told in
+    ∥∥₁_map (c.requires.there told) (λ may.
     let wide = many of.width c.requires.of.narrow in
     let full : 2 ≤ least of.width = omega (arith, wide) in
     let inner : 0 < c.args.level = omega arith in
     let does = subst (λ (n : ℕ). RemovedFrom of old (c.args.level - 1) n c.args.pair.now two c.in_ok-left.left) c.child-child.ensures (subst (λ (cs : Cells). RemovedFrom of cs (c.args.level - 1) c.child-child.result c.args.pair.now two c.in_ok-left.left) same (c.in_ok-left.ensures.removed told_one)) in
-    may_mend of old c.args.level c.args.number c.args.pair.now may.pairs may.spot c.in_ok-node.node (c.in_ok-node.ensures.holds told) c.place-at.result inner (omega arith) c.place-at.ensures.within (c.place-at.ensures.before (omega arith)) c.place-at.ensures.here full two c.in_ok-left.left does (may.branches inner)
+    may_mend of old c.args.level c.args.number c.args.pair.now may.pairs may.spot c.in_ok-node.node (c.in_ok-node.ensures.holds told) c.place-at.result inner (omega arith) c.place-at.ensures.within (c.place-at.ensures.before (omega arith)) c.place-at.ensures.here full two c.in_ok-left.left does (may.branches inner))
 
 pub returns-in_err-mend-clause-did : goal.returns-in_err-mend-clause-did
 returns-in_err-mend-clause-did g t c = fails _ c.from_residual-in_err-mend.ensures.1 (λ key there. there) (omega arith) (omega arith) (then_call (then (untouched c.in_ok-node.ensures.did.step) c.in_ok-left.ensures.did.step) c.in_err-mend.ensures.did)

@@ -1,17 +1,24 @@
 use Rattle.std.proofs.Common.{◌≡◌, ◌⊎◌, inl, inr, ◌<◌, ◌+◌, ◌∙◌, ℕ, suc, List, length, ap, sym, subst, arith, Option}
-use Rattle.rss_base.proofs.Steps.{then_call, widens}
+use Rattle.std.proofs.Math.Logic.{∥∥₁_elim, ∥∥₁_map}
+use Rattle.std.proofs.Math.Bool.{Bool-set}
+use mathlib.Core.HLevel.{⊥_prop}
+use Rattle.rss_base.proofs.Steps.{rests, then_call, widens}
 use Rattle.rss_levels.specs.Entries.{Entry, least}
 use Rattle.rss_levels.specs.Rows.{first, no_page}
+use Rattle.rss_levels.proofs.Spotted.{stored_long}
 use Rattle.rss_base.specs.Paged.{page_key}
 use Rattle.rss_base.specs.declared.key.Space.TheVariants.{Image}
 use Rattle.rss_node.specs.Nodes.{NodeView, with_entries, spliced}
 use Rattle.rss_image.specs.Trees.{cells_of, HoldsNode}
 use Rattle.rss_image.specs.Removed.{second_names, MendsTo}
-use Rattle.rss_image.proofs.Calls.{held_mapped}
+use Rattle.rss_image.proofs.Calls.{damage, held_mapped}
 use Rattle.rss_image.proofs.Halves.{many}
 use Rattle.rss_image.proofs.Mending.{on_done, two, mend_neighbours, mend_still, mended}
 use Rattle.rss_image.proofs.removing.mend.Goals.{then-place-count, else-place-count, in-None, in-Some}
 use Rattle.rss_image.proofs.removing.mend.Goals as goal
+
+pub returns-then-count-lt2-clause-did : goal.returns-then-count-lt2-clause-did
+returns-then-count-lt2-clause-did g c = damage (rests _) c.damaged.ensures (λ told. ∥∥₁_elim (c.requires.there told) ⊥_prop (λ may. omega (arith, may.several, ap length may.own_is, stored_long c.args.of.width c.args.level may.entries, c.count-count.ensures.count, c.if-count-lt2.true)))
 
 pub even-requires-clause-there : goal.even-requires-clause-there
 even-requires-clause-there g c = λ told.
@@ -19,7 +26,7 @@ even-requires-clause-there g c = λ told.
     let old = g.P.Pages.view c.args.pages.now in
     let own : List Entry = c.args.node.now.entries in
     let at : ℕ = c.if-place-count.at in
-    let may = c.requires.there told in
+    ∥∥₁_map (c.requires.there told) (λ may.
     let near : (c.args.place ≡ at) ⊎ (c.args.place ≡ suc at) = elim c.if-place-count.branch [ then-place-count w ↦ inl (omega (arith, w.at-is)) | else-place-count w ↦ inr (omega (arith, w.at-is, w.if-place-count.false, c.count-count.ensures.count, c.if-count-lt2.false, c.requires.within)) ] in
     let low : suc at < length own = elim c.if-place-count.branch [ then-place-count w ↦ omega (arith, w.at-is, w.if-place-count.true, c.count-count.ensures.count) | else-place-count w ↦ omega (arith, w.at-is, c.count-count.ensures.count, c.if-count-lt2.false) ] in
     let wide = many of.width c.requires.of.narrow in
@@ -31,7 +38,7 @@ even-requires-clause-there g c = λ told.
       right = both.right;
       next = first both.after no_page;
       are = mend_neighbours of (cells_of of old.held) c.args.level c.args.number c.args.place own may.start may.pairs may.front may.back may.lower may.entries may.rows may.height may.own_is at (at + 1) next near low some c.child-left.result c.child-right.result c.pair-pair.result c.child-left.ensures c.child-right.ensures c.pair-pair.ensures.pair;
-    }
+    })
 
 pub write_node-requires-clause-mapped : goal.write_node-requires-clause-mapped
 write_node-requires-clause-mapped g c = λ told_mid.
@@ -41,7 +48,7 @@ write_node-requires-clause-mapped g c = λ told_mid.
     let told = c.in_ok-even.ensures.did.step.passes.leaves.told.1 told_mid in
     let own : List Entry = c.args.node.now.entries in
     let at : ℕ = c.if-place-count.at in
-    let may = c.requires.there told in
+    ∥∥₁_elim (c.requires.there told) (Bool-set _ _) (λ may.
     let near : (c.args.place ≡ at) ⊎ (c.args.place ≡ suc at) = elim c.if-place-count.branch [ then-place-count w ↦ inl (omega (arith, w.at-is)) | else-place-count w ↦ inr (omega (arith, w.at-is, w.if-place-count.false, c.count-count.ensures.count, c.if-count-lt2.false, c.requires.within)) ] in
     let low : suc at < length own = elim c.if-place-count.branch [ then-place-count w ↦ omega (arith, w.at-is, w.if-place-count.true, c.count-count.ensures.count) | else-place-count w ↦ omega (arith, w.at-is, c.count-count.ensures.count, c.if-count-lt2.false) ] in
     let wide = many of.width c.requires.of.narrow in
@@ -51,7 +58,7 @@ write_node-requires-clause-mapped g c = λ told_mid.
     let are = mend_neighbours of (cells_of of old.held) c.args.level c.args.number c.args.place own may.start may.pairs may.front may.back may.lower may.entries may.rows may.height may.own_is at (at + 1) next near low some c.child-left.result c.child-right.result c.pair-pair.result c.child-left.ensures c.child-right.ensures c.pair-pair.ensures.pair in
     let ev = c.in_ok-even.ensures.evened told both.left both.right (first both.after no_page) are in
     let still = mend_still of (cells_of of old.held) c.args.level c.args.number c.args.place own may.start may.pairs may.front may.back may.lower may.entries may.rows may.height may.own_is at (at + 1) next near low some (cells_of of mid.held) (second_names c.in_ok-even.field-0 c.child-right.result) ev may.off may.bytes may.held in
-    held_mapped mid (g.met.P.Pages.holds c.even.new.pages told_mid) (page_key of.segment Image c.args.number) may.bytes still
+    held_mapped mid (g.met.P.Pages.holds c.even.new.pages told_mid) (page_key of.segment Image c.args.number) may.bytes still)
 
 pub returns-clause-mended : goal.returns-clause-mended
 returns-clause-mended g c = on_done c.write_node.result (λ writes told start pairs front back lower entries rows height own_is within.

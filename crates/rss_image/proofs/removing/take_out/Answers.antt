@@ -1,4 +1,6 @@
 use Rattle.std.proofs.Common.{refl, ◌≡◌, ◌∙◌, ℕ, length, true, false, sym, ap, subst, arith}
+use Rattle.std.proofs.Math.Logic.{∥∥₁_elim}
+use mathlib.Core.HLevel.{⊥_prop}
 use Rattle.rss_base.proofs.Steps.{rests}
 use Rattle.rss_levels.specs.Removes.{Removes}
 use Rattle.rss_node.specs.Nodes.{NodeView}
@@ -9,20 +11,18 @@ use Rattle.rss_image.proofs.Removal.{lacks_pair, leaf_cut}
 use Rattle.rss_image.proofs.removing.take_out.Goals as goal
 
 pub returns-then-at-count-clause-did : goal.returns-then-at-count-clause-did
-returns-then-at-count-clause-did g c = damage (rests _) c.damaged.ensures (λ told.
+returns-then-at-count-clause-did g c = damage (rests _) c.damaged.ensures (λ told. ∥∥₁_elim (c.requires.there told) ⊥_prop (λ may.
     let of = c.args.of in
     let old = g.P.Pages.view c.args.pages.now in
-    let may = c.requires.there told in
     lacks_pair of (cells_of of old.held) c.args.number c.args.pair.now may.pairs may.spot c.args.node.now (c.requires.node told) c.place-at.result c.place-at.ensures.within (leaf_passed of (cells_of of old.held) 0 c.args.number c.args.pair.now may.pairs may.spot c.args.node.now (c.requires.node told) refl false c.place-at.result c.place-at.ensures.within c.place-at.ensures.before) c.place-at.ensures.here
-    (λ some. absurd (omega (arith, some, c.count.ensures.count, c.if-at-count.true))) may.there)
+    (λ some. absurd (omega (arith, some, c.count.ensures.count, c.if-at-count.true))) may.there))
 
 pub returns-then-not-is_same-clause-did : goal.returns-then-not-is_same-clause-did
-returns-then-not-is_same-clause-did g c = damage (rests _) c.damaged-then-not-is_same.ensures (λ told.
+returns-then-not-is_same-clause-did g c = damage (rests _) c.damaged-then-not-is_same.ensures (λ told. ∥∥₁_elim (c.requires.there told) ⊥_prop (λ may.
     let of = c.args.of in
     let old = g.P.Pages.view c.args.pages.now in
-    let may = c.requires.there told in
     lacks_pair of (cells_of of old.held) c.args.number c.args.pair.now may.pairs may.spot c.args.node.now (c.requires.node told) c.place-at.result c.place-at.ensures.within (leaf_passed of (cells_of of old.held) 0 c.args.number c.args.pair.now may.pairs may.spot c.args.node.now (c.requires.node told) refl false c.place-at.result c.place-at.ensures.within c.place-at.ensures.before) c.place-at.ensures.here
-    (λ some same. let never : false ≡ true = sym c.if-not-is_same.true ∙ c.is_same.ensures.1 (c.pair-found.ensures.pair ∙ same) in absurd (cc)) may.there)
+    (λ some same. let never : false ≡ true = sym c.if-not-is_same.true ∙ c.is_same.ensures.1 (c.pair-found.ensures.pair ∙ same) in absurd (cc)) may.there))
 
 pub write_node-requires-clause-mapped : goal.write_node-requires-clause-mapped
 write_node-requires-clause-mapped g c = λ told. held_is_mapped c.args.of (g.P.Pages.view c.args.pages.now) 0 c.args.number c.args.node.now.next c.args.node.now.entries (g.met.P.Pages.holds c.args.pages.now told) (c.requires.node told)

@@ -1,4 +1,6 @@
 use Rattle.std.proofs.Common.{length, sym, ap, arith}
+use Rattle.std.proofs.Math.Logic.{∥∥₁_elim, ∥∥₁_map}
+use mathlib.Core.HLevel.{⊥_prop}
 use Rattle.rss_base.proofs.Steps.{then, then_call, done, fails, widens, untouched}
 use Rattle.rss_node.specs.Nodes.{NodeView}
 use Rattle.rss_image.specs.Trees.{cells_of}
@@ -8,11 +10,13 @@ use Rattle.rss_image.proofs.Insertion.{same_node}
 use Rattle.rss_image.proofs.Cut.{root_given}
 use Rattle.rss_image.proofs.rooting.drop_root.Goals as goal
 
+pub read_node-requires-clause-there : goal.read_node-requires-clause-there
+read_node-requires-clause-there g c = λ told. ∥∥₁_map (c.requires.there told) (λ has. record { next = has.next; entries = has.entries; holds = has.holds })
+
 pub returns-then-count-eq0-clause-did : goal.returns-then-count-eq0-clause-did
-returns-then-count-eq0-clause-did g c = damage (untouched c.in_ok-node.ensures.did.step) c.damaged.ensures (λ told.
-    let has = c.requires.there told in
+returns-then-count-eq0-clause-did g c = damage (untouched c.in_ok-node.ensures.did.step) c.damaged.ensures (λ told. ∥∥₁_elim (c.requires.there told) ⊥_prop (λ has.
     let same = ap (λ (n : NodeView). length n.entries) (same_node c.args.of (cells_of c.args.of (g.P.Pages.view c.args.pages.now).held) c.args.level c.args.root c.in_ok-node.node.next has.next c.in_ok-node.node.entries has.entries (c.in_ok-node.ensures.holds told) has.holds) in
-    omega (arith, same, has.some, c.count.ensures.count, c.if-count-eq0.true))
+    omega (arith, same, has.some, c.count.ensures.count, c.if-count-eq0.true)))
 
 pub give_page-requires : goal.give_page-requires
 give_page-requires g c = record {

@@ -1,4 +1,6 @@
 use Rattle.std.proofs.Common.{◌≡◌, ◌<◌, ℕ, List, sym, ap, subst, ◌∙◌, arith, Some, length, refl}
+use Rattle.std.proofs.Math.Logic.{∥∥₁_elim, ∥∥₁_map}
+use mathlib.Core.HLevel.{⊥_prop}
 use Rattle.rss_base.specs.PageMap.{IsKey}
 use Rattle.rss_base.specs.Paged.{page_key}
 use Rattle.rss_base.specs.declared.key.Space.TheVariants.{Image}
@@ -32,9 +34,9 @@ read_node-requires-clause-there g c = λ told.
     let old : Cells = cells_of of (g.P.Pages.view c.args.pages.now).held in
     let node = c.args.node.now in
     let same : c.next-next.result ≡ node.next = c.next-next.ensures in
-    let has = c.requires.there told in
+    ∥∥₁_map (c.requires.there told) (λ has.
     let next = next_leaf of old c.args.number c.args.pair.now has.pairs has.may.spot node (c.requires.node told) c.slots.result c.slots.type_inv (omega (arith, same, c.if-next-slots.false)) in
-    subst (λ (n : ℕ). HasNode of (g.P.Pages.view c.args.pages.now).held 0 n) (sym same) (record { next = _; entries = next.q.items; holds = next.holds })
+    subst (λ (n : ℕ). HasNode of (g.P.Pages.view c.args.pages.now).held 0 n) (sym same) (record { next = _; entries = next.q.items; holds = next.holds }))
 
 pub returns-then-count-eq0-clause-did : goal.returns-then-count-eq0-clause-did
 returns-then-count-eq0-clause-did g c = damage c.in_ok-right.ensures.did.step c.damaged.ensures (λ told.
@@ -42,12 +44,12 @@ returns-then-count-eq0-clause-did g c = damage c.in_ok-right.ensures.did.step c.
     let old : Cells = cells_of of (g.P.Pages.view c.args.pages.now).held in
     let node = c.args.node.now in
     let same : c.next-next.result ≡ node.next = c.next-next.ensures in
-    let has = c.requires.there told in
+    ∥∥₁_elim (c.requires.there told) ⊥_prop (λ has.
     let next = next_leaf of old c.args.number c.args.pair.now has.pairs has.may.spot node (c.requires.node told) c.slots.result c.slots.type_inv (omega (arith, same, c.if-next-slots.false)) in
     let right = c.in_ok-right.right in
     let there = subst (λ (n : ℕ). HoldsAt (spells of) old 0 n right.next right.entries) same (c.in_ok-right.ensures.holds told) in
     let some = right_some of old c.args.number c.args.pair.now has.pairs has.may.spot node (c.requires.node told) right there next has.may.filled in
-    absurd (omega (arith, some, c.count-2.ensures.count, c.if-count-eq0.true)))
+    absurd (omega (arith, some, c.count-2.ensures.count, c.if-count-eq0.true))))
 
 pub returns-clause-found : goal.returns-clause-found
 returns-clause-found g c = λ told pairs may.

@@ -1,6 +1,6 @@
 use Rattle.std.proofs.Common.{arith}
 use Rattle.rss_base.proofs.Looking.{checks_as, checks_within, passed_on}
-use Rattle.rss_store.proofs.Looked.{none_listed, none_foreign, none_sound, finds_tables, did_all}
+use Rattle.rss_store.proofs.Looked.{none_listed, none_imaged, none_foreign, none_sound, finds_tables, did_all}
 use Rattle.rss_store.proofs.checking.look_through.Goals as goal
 
 pub returns-in_err-catalog-clause-none : goal.returns-in_err-catalog-clause-none
@@ -9,6 +9,10 @@ returns-in_err-catalog-clause-none g c = λ place is.
     none_listed (c.in_err-catalog.ensures.flawed place failed) (c.in_err-catalog.ensures.named place failed)
 
 pub returns-in-Some-clause-none : goal.returns-in-Some-clause-none
+returns-in-Some-clause-none g c = λ place is.
+    none_imaged c.in_ok-catalog.ensures.loaded c.in-Some.ensures.some.1 (record { page = c.in-Some.page; low = c.in-Some.ensures.some.0; is = cc })
+
+pub returns-in-Some-2-clause-none : goal.returns-in-Some-2-clause-none
 returns-in-Some-clause-none g c = λ place is.
     none_foreign (g.met.P.Pages.holds c.args.pages.now) (g.met.P.Pages.allowed c.args.pages.now) c.in_ok-catalog.ensures.loaded c.in_ok-catalog.ensures.did c.in-Some.key c.in-Some.ensures.some.0 c.in-Some.ensures.some.1 (λ room. cc)
 
@@ -28,7 +32,7 @@ returns-in_err-look_at_segments-clause-did g c =
 pub returns-clause-finds : goal.returns-clause-finds
 returns-clause-finds g c =
     finds_tables (g.met.P.Pages.holds c.args.pages.now) (g.met.P.Pages.allowed c.args.pages.now) c.in_ok-catalog.ensures.loaded c.in_ok-catalog.ensures.did
-    c.in_ok-look_at_segments.ensures.did c.in_default.ensures.none c.in_ok-look_at_segments.ensures.checks
+    c.in_ok-look_at_segments.ensures.did c.in_default.ensures.none c.in_default-2.ensures.none c.in_ok-look_at_segments.ensures.checks
 
 pub returns-clause-did : goal.returns-clause-did
 returns-clause-did g c =

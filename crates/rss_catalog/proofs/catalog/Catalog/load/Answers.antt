@@ -1,10 +1,10 @@
 -- What was read in a row is a listing, or no listing of a store is spelled.
-use Rattle.std.proofs.Common.{◌∙◌, sym, subst, arith}
-use Rattle.rss_base.specs.Listings.{Listing, ListingFits}
+use Rattle.std.proofs.Common.{◌≡◌, ℕ, ◌<◌, List, Option, None, sym, subst, arith}
+use Rattle.rss_base.specs.Listings.{Listing, ListingFits, numbered}
+use Rattle.rss_base.specs.declared.image.ImageEntry.{ImageEntry}
 use Rattle.rss_base.proofs.Looking.{passed_on, checks_then}
 use Rattle.rss_catalog.specs.Checking.{listing_of}
 use Rattle.rss_catalog.proofs.Listed.{safe_fit, safe_image, safe_kept}
-use Rattle.rss_catalog.proofs.Plain.{none_at}
 use Rattle.rss_catalog.proofs.Tested.{if_none}
 use Rattle.rss_catalog.proofs.Read.{has_relations, has_images}
 use Rattle.rss_catalog.proofs.Loaded.{looked, looked_back, spells_after, has_after, all_after, checks_ends, no_device, no_fault, loads_all, no_listing_fits}
@@ -40,24 +40,16 @@ returns-in_err-check_zeros-clause-did g c = checks_ends _ (omega arith) (passed_
 pub returns-in-Some-clause-flawed : goal.returns-in-Some-clause-flawed
 returns-in-Some-clause-flawed g c = λ place is.
     no_listing_fits _ _ _ _ (all_after c.in_ok-segments.ensures.loads c.in_ok-segments.ensures.did c.in_ok-relations.ensures.loads c.in_ok-relations.ensures.did c.in_ok-images.ensures.loads)
-    (λ fits none. c.in-Some.ensures.some (subst ListingFits (sym (λ i. listing_of (c.deref.ensures.value i) (c.deref-2.ensures.value i) (c.deref-3.ensures.value i))) fits))
+    (λ fits. c.in-Some.ensures.some (subst ListingFits (sym (λ i. listing_of (c.deref.ensures.value i) (c.deref-2.ensures.value i) (c.deref-3.ensures.value i))) fits))
 
 pub returns-in-Some-clause-did : goal.returns-in-Some-clause-did
 returns-in-Some-clause-did g c = checks_ends _ (omega arith) (no_device c.damaged.ensures) (checks_then (checks_then c.in_ok-segments.ensures.did c.in_ok-relations.ensures.did) c.in_ok-images.ensures.did) c.in_ok-check_zeros.ensures.did
-
-pub returns-in_err-refuse_images-clause-flawed : goal.returns-in_err-refuse_images-clause-flawed
-returns-in_err-refuse_images-clause-flawed g c = λ place is.
-    no_listing_fits _ _ _ _ (all_after c.in_ok-segments.ensures.loads c.in_ok-segments.ensures.did c.in_ok-relations.ensures.loads c.in_ok-relations.ensures.did c.in_ok-images.ensures.loads)
-    (λ fits none. c.in_err-refuse_images.ensures.some place (passed_on _ c.from_residual-in_err-refuse_images.ensures.1 is) (c.deref-4.ensures.value ∙ none))
-
-pub returns-in_err-refuse_images-clause-did : goal.returns-in_err-refuse_images-clause-did
-returns-in_err-refuse_images-clause-did g c = checks_ends _ (omega arith) (λ is. absurd (c.in_err-refuse_images.ensures.no_device (passed_on _ c.from_residual-in_err-refuse_images.ensures.1 is))) (checks_then (checks_then c.in_ok-segments.ensures.did c.in_ok-relations.ensures.did) c.in_ok-images.ensures.did) c.in_ok-check_zeros.ensures.did
 
 pub invariant_of-result : goal.invariant_of-result
 invariant_of-result g c =
     let fits = subst ListingFits (λ i. listing_of (c.deref.ensures.value i) (c.deref-2.ensures.value i) (c.deref-3.ensures.value i)) (if_none c.flaw.result c.in_default.not-Some c.flaw.ensures.none) in
     let listing : Listing = listing_of c.in_ok-segments.segments.items c.in_ok-relations.relations.items c.in_ok-images.images.items in
-    let none = sym c.deref-4.ensures.value ∙ c.in_ok-refuse_images.ensures.none in (
+    let last = subst (λ (items : List (Option ImageEntry)). (number : ℕ) → c.last_used-last_image.result < number → numbered items number ≡ None) c.deref-4.ensures.value c.last_used-last_image.ensures.none in (
       fits.segment_places,
       (
         fits.relation_places,
@@ -67,7 +59,7 @@ invariant_of-result g c =
             fits.paths.image_places,
             (
               safe_kept listing (λ number image is. safe_image listing image (fits.paths.images number image is)),
-              ((λ number past. none_at _ 128 number none), (omega arith, tt)),
+              (last, (omega arith, tt)),
             ),
           ),
         ),
@@ -79,7 +71,6 @@ returns-clause-loaded g c =
     let same = looked_back (looked (checks_then (checks_then c.in_ok-segments.ensures.did c.in_ok-relations.ensures.did) c.in_ok-images.ensures.did)) in
     loads_all _ _ _ _ (all_after c.in_ok-segments.ensures.loads c.in_ok-segments.ensures.did c.in_ok-relations.ensures.loads c.in_ok-relations.ensures.did c.in_ok-images.ensures.loads)
     (has_after same c.in_ok-check_zeros.ensures.zeros) (subst ListingFits (λ i. listing_of (c.deref.ensures.value i) (c.deref-2.ensures.value i) (c.deref-3.ensures.value i)) (if_none c.flaw.result c.in_default.not-Some c.flaw.ensures.none))
-    (sym c.deref-4.ensures.value ∙ c.in_ok-refuse_images.ensures.none)
 
 pub returns-clause-did : goal.returns-clause-did
 returns-clause-did g c = checks_ends _ (omega arith) (λ is. absurd (no_fault _ is)) (checks_then (checks_then c.in_ok-segments.ensures.did c.in_ok-relations.ensures.did) c.in_ok-images.ensures.did) c.in_ok-check_zeros.ensures.did

@@ -1,11 +1,12 @@
 use Rattle.std.proofs.Common.{true, ℕ, List, ◌∙◌, ap, arith}
+use Rattle.std.proofs.Math.Logic.{∥∥₁_map}
 use Rattle.rss_base.proofs.Steps.{done, fails, widens}
 use Rattle.rss_levels.specs.Sought.{first_from}
 use Rattle.rss_image.proofs.Putting.{long_pair, spot_of}
 use Rattle.rss_image.proofs.image.Image.after.Goals as goal
 
 pub seek_in-requires-clause-there : goal.seek_in-requires-clause-there
-seek_in-requires-clause-there g c = λ told. let has = c.requires.there told in record { pairs = has.pairs; may = record { spot = spot_of c.args.self.now (g.P.Pages.view c.args.pages.now).held c.pair_of-pair.result has.pairs has.tree (long_pair c.args.self.now.width c.args.key.now c.args.tid c.pair_of-pair.result c.pair_of-pair.ensures c.requires.long); filled = tt } }
+seek_in-requires-clause-there g c = λ told. ∥∥₁_map (c.requires.there told) (λ has. record { pairs = has.pairs; may = record { spot = spot_of c.args.self.now (g.P.Pages.view c.args.pages.now).held c.pair_of-pair.result has.pairs has.tree (long_pair c.args.self.now.width c.args.key.now c.args.tid c.pair_of-pair.result c.pair_of-pair.ensures c.requires.long); filled = tt } })
 
 pub seek_in-requires-clause-long : goal.seek_in-requires-clause-long
 seek_in-requires-clause-long g c = (long_pair c.args.self.now.width c.args.key.now c.args.tid c.pair_of-pair.result c.pair_of-pair.ensures c.requires.long)

@@ -1,4 +1,5 @@
 use Rattle.std.proofs.Common.{false, refl, sym, subst, arith}
+use Rattle.std.proofs.Math.Logic.{∥∥₁_map}
 use Rattle.rss_base.specs.Paged.{Held}
 use Rattle.rss_base.proofs.Steps.{all_held, done, fails, then, then_call, widens}
 use Rattle.rss_node.specs.Pairs.{pair_bytes}
@@ -18,8 +19,7 @@ pub after-requires-clause-there : goal.after-requires-clause-there
 after-requires-clause-there g c = λ told.
     let step = c.in_ok-seek.ensures.did.step in
     let before = step.passes.leaves.told.1 told in
-    let has = c.requires.there before in
-    record { pairs = has.pairs; tree = subst (λ (h : Held). ImageTree c.args.self.now h has.pairs) (sym (all_held step before)) has.tree }
+    ∥∥₁_map (c.requires.there before) (λ has. record { pairs = has.pairs; tree = subst (λ (h : Held). ImageTree c.args.self.now h has.pairs) (sym (all_held step before)) has.tree })
 
 pub returns-in_err-after-clause-did : goal.returns-in_err-after-clause-did
 returns-in_err-after-clause-did g c = fails _ c.from_residual-in_err-after.ensures.1 (λ key there. there) (omega arith) (omega arith) (then_call c.in_ok-seek.ensures.did.step c.in_err-after.ensures.did)

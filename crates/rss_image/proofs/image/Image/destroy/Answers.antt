@@ -1,10 +1,11 @@
+use Rattle.std.proofs.Math.Logic.{∥∥₁_map}
 use Rattle.rss_image.proofs.Counted.{counts}
 use Rattle.rss_image.proofs.Giving.{has_under, destroyed}
 use Rattle.rss_image.proofs.Mending.{on_done}
 use Rattle.rss_image.proofs.image.Image.destroy.Goals as goal
 
 pub give_under-requires-clause-there : goal.give_under-requires-clause-there
-give_under-requires-clause-there g c = λ told. has_under c.args.self (g.P.Pages.view c.args.pages.now).held (c.requires.there told)
+give_under-requires-clause-there g c = λ told. ∥∥₁_map (c.requires.there told) (has_under c.args.self (g.P.Pages.view c.args.pages.now).held)
 
 pub returns-clause-destroyed : goal.returns-clause-destroyed
 returns-clause-destroyed g c = on_done c.give_under.result (λ gives told pairs tree.

@@ -1,15 +1,16 @@
 use Rattle.std.proofs.Common.{◌-◌, ℕ, List, subst, sym, arith}
+use Rattle.std.proofs.Math.Logic.{∥∥₁_elim, ∥∥₁_map}
 use Rattle.rss_base.proofs.Steps.{then, then_call, done, fails, widens}
 use Rattle.rss_image.proofs.Counted.{counts}
 use Rattle.rss_image.proofs.Halves.{many}
-use Rattle.rss_image.proofs.Kept.{one_made, cut_made, lower_made}
+use Rattle.rss_image.proofs.Kept.{AreMade-prop, one_made, cut_made, lower_made}
 use Rattle.rss_image.proofs.Putting.{long_pair, spot_of}
 use Rattle.rss_image.specs.Images.{MayCut, CutsPair}
 use Rattle.rss_image.proofs.Cut.{may_remove, became_cut, became_lower, has_root}
 use Rattle.rss_image.proofs.image.Image.remove.Goals as goal
 
 pub remove_in-requires-clause-there : goal.remove_in-requires-clause-there
-remove_in-requires-clause-there g c = λ told. may_remove c.args.self.now (g.P.Pages.view c.args.pages.now).held c.pair_of-pair.result (long_pair c.args.self.now.width c.args.key.now c.args.tid c.pair_of-pair.result c.pair_of-pair.ensures c.requires.long) (subst (MayCut c.args.self.now (g.P.Pages.view c.args.pages.now).held) (sym c.pair_of-pair.ensures) (c.requires.may told))
+remove_in-requires-clause-there g c = λ told. ∥∥₁_map (c.requires.may told) (λ may. may_remove c.args.self.now (g.P.Pages.view c.args.pages.now).held c.pair_of-pair.result (long_pair c.args.self.now.width c.args.key.now c.args.tid c.pair_of-pair.result c.pair_of-pair.ensures c.requires.long) (subst (MayCut c.args.self.now (g.P.Pages.view c.args.pages.now).held) (sym c.pair_of-pair.ensures) may))
 
 pub returns-then-self-eq1-clause-cuts : goal.returns-then-self-eq1-clause-cuts
 returns-then-self-eq1-clause-cuts g c = λ told. subst (λ (p : List ℕ). CutsPair p c.args.self.now c.args.self.now (g.P.Pages.view c.args.pages.now) (g.P.Pages.view c.remove_in.new.pages)) c.pair_of-pair.ensures (λ pairs tree there.
@@ -32,9 +33,10 @@ drop_root-requires-clause-there g c = λ told_mid.
     let image = c.args.self.now in
     let old = g.P.Pages.view c.args.pages.now in
     let told = c.in_ok-left.ensures.did.step.passes.leaves.told.1 told_mid in
-    let may = (subst (MayCut c.args.self.now (g.P.Pages.view c.args.pages.now).held) (sym c.pair_of-pair.ensures) (c.requires.may told)) in
+    ∥∥₁_map (c.requires.may told) (λ given.
+    let may = subst (MayCut image old.held) (sym c.pair_of-pair.ensures) given in
     let rem = c.in_ok-left.ensures.removed told may.pairs (spot_of image old.held c.pair_of-pair.result may.pairs may.tree (long_pair c.args.self.now.width c.args.key.now c.args.tid c.pair_of-pair.result c.pair_of-pair.ensures c.requires.long)) in
-    has_root image old c.pair_of-pair.result may.pairs may.tree (long_pair c.args.self.now.width c.args.key.now c.args.tid c.pair_of-pair.result c.pair_of-pair.ensures c.requires.long) (many image.width c.requires.of.narrow) (g.P.Pages.view c.remove_in.new.pages) c.in_ok-left.left rem (omega (arith, c.if-self-eq1.false, c.requires.low))
+    has_root image old c.pair_of-pair.result may.pairs may.tree (long_pair c.args.self.now.width c.args.key.now c.args.tid c.pair_of-pair.result c.pair_of-pair.ensures c.requires.long) (many image.width c.requires.of.narrow) (g.P.Pages.view c.remove_in.new.pages) c.in_ok-left.left rem (omega (arith, c.if-self-eq1.false, c.requires.low)))
 
 pub returns-in_err-root-clause-did : goal.returns-in_err-root-clause-did
 returns-in_err-root-clause-did g c = fails _ c.from_residual-in_err-root.ensures.1 (λ key there. there) (omega (arith, c.if-self-eq1.false, c.requires.low)) (omega (arith, c.if-self-eq1.false, c.requires.low)) (then_call c.in_ok-left.ensures.did.step c.in_err-root.ensures.did)
@@ -54,30 +56,30 @@ pub returns-clause-did : goal.returns-clause-did
 returns-clause-did g c = widens (λ key there. there) (omega (arith, c.if-self-eq1.false, c.requires.low)) (omega (arith, c.if-self-eq1.false, c.requires.low)) (done _ (then c.in_ok-left.ensures.did.step c.in_ok-root.ensures.did.step))
 
 pub returns-then-self-eq1-clause-made : goal.returns-then-self-eq1-clause-made
-returns-then-self-eq1-clause-made g c = λ told good pairs tree made.
+returns-then-self-eq1-clause-made g c = λ told good pairs tree made others other. ∥∥₁_elim (c.requires.may told) (AreMade-prop good other) (λ given.
     let image = c.args.self.now in
     let old = g.P.Pages.view c.args.pages.now in
     let long = (long_pair c.args.self.now.width c.args.key.now c.args.tid c.pair_of-pair.result c.pair_of-pair.ensures c.requires.long) in
-    let may = subst (MayCut image old.held) (sym c.pair_of-pair.ensures) (c.requires.may told) in
+    let may = subst (MayCut image old.held) (sym c.pair_of-pair.ensures) given in
     let rem = c.in_ok-left.ensures.removed told may.pairs (spot_of image old.held c.pair_of-pair.result may.pairs may.tree long) in
-    cut_made image old c.pair_of-pair.result may.pairs may.tree long (many image.width c.requires.of.narrow) good (one_made image old.held good pairs tree made may.pairs may.tree) (g.P.Pages.view c.remove_in.new.pages) c.in_ok-left.left rem (λ high. absurd (omega (arith, high, c.if-self-eq1.true)))
+    cut_made image old c.pair_of-pair.result may.pairs may.tree long (many image.width c.requires.of.narrow) good (one_made image old.held good pairs tree made may.pairs may.tree) (g.P.Pages.view c.remove_in.new.pages) c.in_ok-left.left rem (λ high. absurd (omega (arith, high, c.if-self-eq1.true))) others other)
 
 pub returns-then-left-gt1-clause-made : goal.returns-then-left-gt1-clause-made
-returns-then-left-gt1-clause-made g c = λ told good pairs tree made.
+returns-then-left-gt1-clause-made g c = λ told good pairs tree made others other. ∥∥₁_elim (c.requires.may told) (AreMade-prop good other) (λ given.
     let image = c.args.self.now in
     let old = g.P.Pages.view c.args.pages.now in
     let long = (long_pair c.args.self.now.width c.args.key.now c.args.tid c.pair_of-pair.result c.pair_of-pair.ensures c.requires.long) in
-    let may = subst (MayCut image old.held) (sym c.pair_of-pair.ensures) (c.requires.may told) in
+    let may = subst (MayCut image old.held) (sym c.pair_of-pair.ensures) given in
     let rem = c.in_ok-left.ensures.removed told may.pairs (spot_of image old.held c.pair_of-pair.result may.pairs may.tree long) in
-    cut_made image old c.pair_of-pair.result may.pairs may.tree long (many image.width c.requires.of.narrow) good (one_made image old.held good pairs tree made may.pairs may.tree) (g.P.Pages.view c.remove_in.new.pages) c.in_ok-left.left rem (λ high. omega (arith, c.if-left-gt1.true))
+    cut_made image old c.pair_of-pair.result may.pairs may.tree long (many image.width c.requires.of.narrow) good (one_made image old.held good pairs tree made may.pairs may.tree) (g.P.Pages.view c.remove_in.new.pages) c.in_ok-left.left rem (λ high. omega (arith, c.if-left-gt1.true)) others other)
 
 pub returns-clause-made : goal.returns-clause-made
-returns-clause-made g c = λ told good pairs tree made.
+returns-clause-made g c = λ told good pairs tree made others other. ∥∥₁_elim (c.requires.may told) (AreMade-prop good other) (λ given.
     let image = c.args.self.now in
     let old = g.P.Pages.view c.args.pages.now in
     let mid = g.P.Pages.view c.remove_in.new.pages in
     let long = (long_pair c.args.self.now.width c.args.key.now c.args.tid c.pair_of-pair.result c.pair_of-pair.ensures c.requires.long) in
-    let may = subst (MayCut image old.held) (sym c.pair_of-pair.ensures) (c.requires.may told) in
+    let may = subst (MayCut image old.held) (sym c.pair_of-pair.ensures) given in
     let rem = c.in_ok-left.ensures.removed told may.pairs (spot_of image old.held c.pair_of-pair.result may.pairs may.tree long) in
     let told_mid = c.in_ok-left.ensures.did.step.passes.leaves.told.0 told in
-    lower_made image old c.pair_of-pair.result may.pairs may.tree long (many image.width c.requires.of.narrow) good (one_made image old.held good pairs tree made may.pairs may.tree) mid (g.P.Pages.view c.drop_root.new.pages) c.in_ok-left.left c.in_ok-root.root rem (omega (arith, c.if-self-eq1.false, c.requires.low)) (omega (arith, c.if-left-gt1.false)) (c.in_ok-root.ensures.dropped told_mid)
+    lower_made image old c.pair_of-pair.result may.pairs may.tree long (many image.width c.requires.of.narrow) good (one_made image old.held good pairs tree made may.pairs may.tree) mid (g.P.Pages.view c.drop_root.new.pages) c.in_ok-left.left c.in_ok-root.root rem (omega (arith, c.if-self-eq1.false, c.requires.low)) (omega (arith, c.if-left-gt1.false)) (c.in_ok-root.ensures.dropped told_mid) others other)

@@ -17,7 +17,7 @@ returns-in_err-restart g c = begins_unrestarted c.from_residual.result c.from_re
 pub returns-then-not-has_room : goal.returns-then-not-has_room
 returns-then-not-has_room g c =
     begins_damaged (LogPlace c.args.self.now.root.checkpoint) (went_back c.requires.ready c.in_ok-restart.ensures.did)
-    (finds_no_room c.requires.ready c.in_ok-restart.ensures.did (λ half. not_true (c.has_room.ensures.1 half) c.if-not-has_room.true))
+    (finds_no_room c.requires.ready c.in_ok-restart.ensures.did (g.met.S.Pages.holds c.restart.new.tuples.pages) c.in_ok-restart.ensures.recovers (λ half. not_true (c.has_room.ensures.1 half) c.if-not-has_room.true))
 
 -- ---- a checkpoint is taken
 
@@ -26,7 +26,7 @@ checkpoint-requires-clause-ready g c = mid_ready c.requires.ready c.in_ok-restar
 
 pub returns : goal.returns
 returns g c =
-    begins_saved c.requires.ready c.in_ok-restart.ensures.did (mid_ready c.requires.ready c.in_ok-restart.ensures.did c.in_ok-restart.ensures.still) (g.met.S.Pages.holds c.restart.new.tuples.pages)
+    begins_saved c.requires.ready c.in_ok-restart.ensures.did (g.met.S.Pages.holds c.restart.new.tuples.pages)
     (c.has_room.ensures.0 (is_true c.if-not-has_room.false)) c.in_ok-restart.ensures.recovers c.new.result c.new.ensures (view g.S.Pages.view c.checkpoint.new.self) c.checkpoint.result
     (λ told image left settled. g.met.S.Pages.stays c.checkpoint.new.self.tuples.pages settled told image left)
     c.checkpoint.ensures.ready c.checkpoint.ensures.saved c.checkpoint.ensures.shows c.checkpoint.ensures.moments c.checkpoint.ensures.saves c.checkpoint.ensures.did
