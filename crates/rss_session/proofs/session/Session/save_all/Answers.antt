@@ -34,7 +34,9 @@ pub returns-clause-ready : goal.returns-clause-ready
 returns-clause-ready g c =
     let store = c.in_ok-checkpoint.ensures in
     let saves = subst (λ (marks : List (ℕ × ℕ)). Saves marks (view g.S.Pages.view c.args.self.now).store (store_view g.S.Pages.view c.checkpoint.new.self)) c.marks-marks.ensures.marks store.saves in
-    ready_saved c.requires.ready c.requires.may store.ready saves c.checkpointed.ensures.did c.heap-self.ensures (ap (λ s. s.p) c.sums.ensures) store.did.slots (g.met.S.Pages.are_counted c.checkpoint.new.self.tuples.pages)
+    let room = c.has_saved_room.ensures.0 c.if-not-has_saved_room.false in
+    ready_saved c.requires.ready c.requires.may room store.ready store.saved saves c.checkpointed.ensures.did (entries_are c.entries_of-self.ensures store.listing) (survived_are c.survived_of-self.ensures c.checkpointed.ensures.did.transactions store.listing) store.listing
+    c.heap-self.ensures (ap (λ s. s.p) c.sums.ensures) store.did.slots (g.met.S.Pages.are_counted c.checkpoint.new.self.tuples.pages)
 
 pub returns-clause-shows : goal.returns-clause-shows
 returns-clause-shows g c = λ told stored next can.

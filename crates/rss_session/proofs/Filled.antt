@@ -1,0 +1,32 @@
+-- An array by numbers from 1 on, as it is filled.
+use Rattle.std.proofs.Common.{◌≡◌, inl, inr, ℕ, ◌+◌, ◌<◌, ◌≤◌, List, length, replicate, set, refl, sym, ◌∙◌, ap, arith, get_or-set_same, get_or-set_other, length-set}
+use Rattle.std.specs.Prelude.{slice_index}
+use Rattle.std.proofs.lemmas.Bool.{cases_eq}
+use Rattle.std.proofs.lemmas.List.{length-replicate}
+use Rattle.rss_trans.proofs.Showing.{zero_in}
+
+-- up to this number it has what belongs there, and nothing elsewhere
+pub record IsFilled (items : List ℕ) (of : ℕ → ℕ) (place : ℕ) : Type 0 where
+  pub long : length items ≡ 256
+  pub first : slice_index items 0 ≡ 0
+  pub upto : (number : ℕ) → 1 ≤ number → number ≤ place → slice_index items number ≡ of number
+  pub rest : (number : ℕ) → place < number → slice_index items number ≡ 0
+
+pub filled_none : (of : ℕ → ℕ) → IsFilled (replicate 256 0) of 0
+filled_none of = record {
+  long = length-replicate 256 0;
+  first = zero_in 256 0;
+  upto = λ number low high. absurd (omega (arith, low, high));
+  rest = λ number above. zero_in 256 number;
+}
+
+pub filled_more : {items : List ℕ} {of : ℕ → ℕ} {place : ℕ} (value : ℕ) → IsFilled items of place → place + 1 < 256 → value ≡ of (place + 1) → IsFilled (set items (place + 1) value) of (place + 1)
+filled_more {items = items} {of = of} {place = place} value is within same = record {
+  long = length-set items (place + 1) value ∙ is.long;
+  first = get_or-set_other items (place + 1) 0 value 0 (λ e. absurd (omega (arith, e))) ∙ is.first;
+  upto = λ number low high. elim (cases_eq number (place + 1)) [
+    | inl here ↦ ap (slice_index (set items (place + 1) value)) here ∙ get_or-set_same items (place + 1) value 0 (omega (arith, is.long, within)) ∙ same ∙ ap of (sym here)
+    | inr other ↦ get_or-set_other items (place + 1) number value 0 other ∙ is.upto number low (omega (arith, high, other))
+  ];
+  rest = λ number above. get_or-set_other items (place + 1) number value 0 (λ e. absurd (omega (arith, e, above))) ∙ is.rest number (omega (arith, above));
+}
