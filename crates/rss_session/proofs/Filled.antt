@@ -1,7 +1,7 @@
 -- An array by numbers from 1 on, as it is filled.
-use Rattle.std.proofs.Common.{◌≡◌, inl, inr, ℕ, ◌+◌, ◌<◌, ◌≤◌, List, length, replicate, set, refl, sym, ◌∙◌, ap, arith, get_or-set_same, get_or-set_other, length-set}
+use Rattle.std.proofs.Common.{◌≡◌, inl, inr, ℕ, zero, suc, ◌+◌, ◌<◌, ◌≤◌, List, length, replicate, set, refl, sym, ◌∙◌, ap, arith, get_or-set_same, get_or-set_other, length-set}
 use Rattle.std.specs.Prelude.{slice_index}
-use Rattle.std.proofs.lemmas.Bool.{cases_eq}
+use Rattle.std.proofs.lemmas.Bool.{cases_eq, cases_lt}
 use Rattle.std.proofs.lemmas.List.{length-replicate}
 use Rattle.rss_trans.proofs.Showing.{zero_in}
 
@@ -30,3 +30,11 @@ filled_more {items = items} {of = of} {place = place} value is within same = rec
   ];
   rest = λ number above. get_or-set_other items (place + 1) number value 0 (λ e. absurd (omega (arith, e, above))) ∙ is.rest number (omega (arith, above));
 }
+
+-- where nothing belongs behind the last, it has what belongs everywhere
+pub filled_all : {items : List ℕ} {of : ℕ → ℕ} {place : ℕ} → IsFilled items of place → of 0 ≡ 0 → ((number : ℕ) → place < number → of number ≡ 0) → (number : ℕ) → slice_index items number ≡ of number
+filled_all is first rest zero = is.first ∙ sym first
+filled_all {place = place} is first rest (suc k) = elim (cases_lt place (suc k)) [
+  | inl above ↦ is.rest (suc k) above ∙ sym (rest (suc k) above)
+  | inr within ↦ is.upto (suc k) (omega arith) within
+]

@@ -1,6 +1,7 @@
 // What is counted of a session.
 ghost use Rattle.std.specs.Prelude.{◌≡◌, ◌-◌, ◌^◌, min};
-ghost use Rattle.rss_base.specs.Paged.{mapped_pages};
+ghost use Rattle.rss_base.specs.Paged.{mapped_of, mapped_pages};
+ghost use Rattle.rss_base.specs.declared.key.Space.TheVariants.{Image};
 ghost use Rattle.rss_model.specs.Machine.{State};
 ghost use Rattle.rss_model.specs.Meter.{room_number};
 ghost use Rattle.rss_session.specs.Sessions.{counts};
@@ -20,6 +21,14 @@ impl<S: Saving> Session<S> {
             (view S.view self.now).store.pages.mapped }
     {
         self.store.tuples.pages.shadow().mapped()
+    }
+
+    /// How many of them are pages of images.
+    pub fn image_pages(&self) -> u32
+        ensures { result ≡ mapped_of (view S.view self.now).store.pages.mapped Image
+            (view S.view self.now).store.pages.slots }
+    {
+        self.store.tuples.pages.image_pages()
     }
 
     /// How many slots may be needed, by the rule of room, as far as a u64 counts.
