@@ -1,11 +1,8 @@
 -- Each turn adds the bound of the image at its number, or nothing where none has it; behind the last image none has one.
-use Rattle.std.proofs.Common.{◌≡◌, ℕ, refl, sym, ◌∙◌, ap, arith}
-use Rattle.std.specs.Prelude.{Option}
-use Rattle.rss_base.specs.Listings.{Listing}
-use Rattle.rss_base.specs.declared.image.ImageEntry.{ImageEntry}
+use Rattle.std.proofs.Common.{ℕ, refl, sym, ◌∙◌, ap, arith}
+use Rattle.rss_model.specs.Meter.{bound_of}
 use Rattle.rss_model.specs.Spares.{bound_by, bound_at}
 use Rattle.rss_entries.specs.Rooms.{width_of}
-use Rattle.rss_image.specs.Images.{page_bound}
 use Rattle.rss_access.proofs.ImageRooms.{image_added, image_passed, sum_whole}
 use Rattle.rss_session.specs.Bounding.{most_by}
 use Rattle.rss_session.specs.Parts.{view}
@@ -20,7 +17,7 @@ loop-place-preserved g c =
     elim c.if-used.branch [
       | then-used w ↦ record {
         sum = image_added bound refl now.store.catalog.listing c.loop-place.place c.loop-place.bound c.loop-place.invariant.sum w.image-image.ensures.is
-            (w.image_bound.ensures.is ∙ ap (page_bound (width_of w.image-image.result.now w.relation.result.now)) w.most_with-entries.ensures.is ∙ ap (bound_by most w.image-image.result.now) (sym w.relation.ensures.is)) w.bound-is;
+            (w.image_bound.ensures.is ∙ ap (bound_of (width_of w.image-image.result.now w.relation.result.now)) w.most_with-entries.ensures.is ∙ ap (bound_by most w.image-image.result.now) (sym w.relation.ensures.is)) w.bound-is;
         small = omega (arith, w.image_bound.ensures.small, w.most_with-entries.ensures.small, w.bound-is, c.loop-place.invariant.small);
       }
       | else-used w ↦ record {
