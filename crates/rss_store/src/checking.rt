@@ -67,9 +67,9 @@ fn page_with_image(catalog: &Catalog) -> Option<u8>
         × (IsPlain catalog.now.listing → ⊥)) }
     ensures none { IfNone result (IsPlain catalog.now.listing) }
 {
-    for number in 1..=catalog.last_image() {
-        if catalog.used(Kind::Image, number) {
-            return Some(image_page_of(number));
+    for place in 0..catalog.last_image() {
+        if catalog.used(Kind::Image, place + 1) {
+            return Some(image_page_of(place + 1));
         }
     }
     None

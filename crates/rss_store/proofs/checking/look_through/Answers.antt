@@ -12,12 +12,15 @@ pub returns-in-Some-clause-none : goal.returns-in-Some-clause-none
 returns-in-Some-clause-none g c = λ place is.
     none_imaged c.in_ok-catalog.ensures.loaded c.in-Some.ensures.some.1 (record { page = c.in-Some.page; low = c.in-Some.ensures.some.0; is = cc })
 
-pub returns-in-Some-2-clause-none : goal.returns-in-Some-2-clause-none
-returns-in-Some-clause-none g c = λ place is.
-    none_foreign (g.met.P.Pages.holds c.args.pages.now) (g.met.P.Pages.allowed c.args.pages.now) c.in_ok-catalog.ensures.loaded c.in_ok-catalog.ensures.did c.in-Some.key c.in-Some.ensures.some.0 c.in-Some.ensures.some.1 (λ room. cc)
+pub returns-in-Some-first_foreign-clause-none : goal.returns-in-Some-first_foreign-clause-none
+returns-in-Some-first_foreign-clause-none g c = λ place is.
+    none_foreign (g.met.P.Pages.holds c.args.pages.now) (g.met.P.Pages.allowed c.args.pages.now) c.in_ok-catalog.ensures.loaded c.in_ok-catalog.ensures.did c.in-Some-first_foreign.key c.in-Some-first_foreign.ensures.some.0 c.in-Some-first_foreign.ensures.some.1 (λ room. cc)
 
 pub returns-in-Some-clause-did : goal.returns-in-Some-clause-did
 returns-in-Some-clause-did g c = checks_as _ (λ is. absurd (cc)) (checks_within (λ key none. absurd none) (omega arith) c.in_ok-catalog.ensures.did)
+
+pub returns-in-Some-first_foreign-clause-did : goal.returns-in-Some-first_foreign-clause-did
+returns-in-Some-first_foreign-clause-did g c = checks_as _ (λ is. absurd (cc)) (checks_within (λ key none. absurd none) (omega arith) c.in_ok-catalog.ensures.did)
 
 pub returns-in_err-look_at_segments-clause-none : goal.returns-in_err-look_at_segments-clause-none
 returns-in_err-look_at_segments-clause-none g c = λ place is.
@@ -32,7 +35,7 @@ returns-in_err-look_at_segments-clause-did g c =
 pub returns-clause-finds : goal.returns-clause-finds
 returns-clause-finds g c =
     finds_tables (g.met.P.Pages.holds c.args.pages.now) (g.met.P.Pages.allowed c.args.pages.now) c.in_ok-catalog.ensures.loaded c.in_ok-catalog.ensures.did
-    c.in_ok-look_at_segments.ensures.did c.in_default.ensures.none c.in_default-2.ensures.none c.in_ok-look_at_segments.ensures.checks
+    c.in_ok-look_at_segments.ensures.did c.in_default.ensures.none c.in_default-first_foreign.ensures.none c.in_ok-look_at_segments.ensures.checks
 
 pub returns-clause-did : goal.returns-clause-did
 returns-clause-did g c =
