@@ -4,14 +4,14 @@ use Rattle.std.specs.Prelude.{Result, Ok, Err}
 use Rattle.rss_base.specs.DiskRule.{IsTold}
 use Rattle.rss_base.specs.Paged.{page_key}
 use Rattle.rss_base.specs.Steps.{PagesStep}
-use Rattle.rss_base.specs.Listings.{Listing, ListingFits, IsPlain}
+use Rattle.rss_base.specs.Listings.{Listing, ListingFits}
 use Rattle.rss_base.specs.declared.fault.PageFault.{PageFault}
 use Rattle.rss_base.specs.declared.key.Space.TheVariants.{System, Image}
 use Rattle.rss_base.specs.declared.change.Change as told
 use Rattle.rss_access.specs.Changes.{AccessView, Makes}
 use Rattle.rss_access.specs.Relisted.{KeepsSpelled}
 use Rattle.rss_access.specs.Written.{content_of}
-use Rattle.rss_access.proofs.Rerooting.{unrooted, still_plain}
+use Rattle.rss_access.proofs.Rerooting.{unrooted}
 use Rattle.rss_access.proofs.Writing.{off_system}
 use Rattle.rss_restart.specs.Restarting.{KeepsCatalog}
 
@@ -26,10 +26,6 @@ keeps_then one still two = record {
   places = two.places ∙ one.places;
   written = λ told places written. two.written (still told) (one.places ∙ places) (one.written told places written);
 }
-
--- a listing without images has none afterwards
-pub plain_kept : {old new : AccessView} → KeepsCatalog old new → IsPlain old.catalog.listing → IsPlain new.catalog.listing
-plain_kept keeps plain = still_plain keeps.images (keeps.no_links plain.no_links ∙ sym plain.no_links) plain
 
 module _ {asks outs : ℕ} (old new : AccessView) {listing : Listing} (step : PagesStep (content_of listing) asks outs old.pages new.pages) where
   content_off : (page : ℕ) → content_of listing (page_key 0 System page) → ⊥

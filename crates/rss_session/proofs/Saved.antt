@@ -177,10 +177,10 @@ module _ {old new : SessionView} (ready : IsReady old) (may : MaySave old) (room
   images_now : (sessions.counts new).images ≡ saved_images_with old None
   images_now = images_anew listing checkpoints.since_of entries survived None
 
-  pub heap_same : heap_now new.store.pages ≡ heap_now old.store.pages
+  heap_same : heap_now new.store.pages ≡ heap_now old.store.pages
   heap_same = λ i. mapped_of (saves.mapped i) Home (slots i) + mapped_of (saves.mapped i) Overflow (slots i)
 
-  pub sums_same : (sums_in new.opened).p ≡ (sums_in old.opened).p
+  sums_same : (sums_in new.opened).p ≡ (sums_in old.opened).p
   sums_same = ap (λ m. (sums_in (record old.opened { transactions = m })).p) checkpoints.transactions
 
   changers_same : (sums_in new.opened).q ≡ (sums_in old.opened).q

@@ -48,17 +48,20 @@ each_again {old = old} {new = new} {traffic = traffic} catalog still each =
     (subst (λ (survived : ℕ → ℕ). CountsEach old.store.catalog.listing old.entries survived traffic) (sym still.survived) each))
 
 -- a change more counts since the checkpoint alone
+abbrev one_since : Traffic → Traffic
+one_since traffic = record { entries = traffic.entries; surviving = traffic.surviving; since = traffic.since + 1 }
+
 pub each_with : {listing : Listing} {entries survived : ℕ → ℕ} {traffic : Name → Traffic} (item : Item) → CountsEach listing entries survived traffic → CountsEach listing entries survived (with_traffic item traffic)
 each_with {traffic = traffic} item each = record {
   entries = λ relation number at. same_entries (counts_for item relation) (traffic relation) ∙ each.entries relation number at;
   survived = λ relation number at. same_surviving (counts_for item relation) (traffic relation) ∙ each.survived relation number at;
 }
   where
-    same_entries : (b : Bool) (t : Traffic) → (if b then record { entries = t.entries; surviving = t.surviving; since = t.since + 1 } else t).entries ≡ t.entries
+    same_entries : (b : Bool) (t : Traffic) → (if b then one_since t else t).entries ≡ t.entries
     same_entries true t = refl
     same_entries false t = refl
 
-    same_surviving : (b : Bool) (t : Traffic) → (if b then record { entries = t.entries; surviving = t.surviving; since = t.since + 1 } else t).surviving ≡ t.surviving
+    same_surviving : (b : Bool) (t : Traffic) → (if b then one_since t else t).surviving ≡ t.surviving
     same_surviving true t = refl
     same_surviving false t = refl
 
@@ -161,7 +164,7 @@ module _ {view : SessionView} {state : State} (shows : Shows view state) (few_sl
         ∙ (λ i. if sym its i then was i + 2 else was i)
         ∙ sym (with_is number most other)
       where
-        by : (b : Bool) (t : Traffic) → entries_most (if b then record { entries = t.entries; surviving = t.surviving; since = t.since + 1 } else t) ≡ (if b then entries_most t + 2 else entries_most t)
+        by : (b : Bool) (t : Traffic) → entries_most (if b then one_since t else t) ≡ (if b then entries_most t + 2 else entries_most t)
         by true t = omega arith
         by false t = refl
 

@@ -24,13 +24,13 @@ use Rattle.rss_catalog.specs.Catalogs.{HasSystemPages}
 use Rattle.rss_access.specs.Changes.{alter_cost, number_told, Makes}
 use Rattle.rss_access.specs.Written.{IsSystemOrHeap, content_of, AreWritten}
 use Rattle.rss_restart.specs.Restarting.{KeepsCatalog}
-use Rattle.rss_restart.proofs.Keeping.{keeps_itself, keeps_made, plain_kept}
+use Rattle.rss_restart.proofs.Keeping.{keeps_itself, keeps_made}
 use Rattle.rss_restart.proofs.Leading.{content_told}
 use Rattle.rss_store.specs.Changing.{AltersPages, access}
 use Rattle.rss_store.specs.Shown.{LeavesStore}
 use Rattle.rss_store.specs.Stores.{StoreView, IsLogBehind, IsReady}
 use Rattle.rss_store.proofs.Definitions.{same_then, counts_same}
-use Rattle.rss_store.proofs.Spelled.{heap_step, system_kept, only_kept}
+use Rattle.rss_store.proofs.Spelled.{heap_step, system_kept, only_kept, plain_kept}
 
 -- ---- which pages are touched
 

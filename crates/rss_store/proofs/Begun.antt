@@ -49,13 +49,12 @@ use Rattle.rss_access.specs.Written.{heap_now, IsSystemOrHeap}
 use Rattle.rss_restart.specs.Opened.{recovery_of}
 use Rattle.rss_restart.specs.Surveys.{IsLogPlace}
 use Rattle.rss_restart.specs.Restarting.{CanRestart, Recovered, NoneRecovered, RestartPasses}
-use Rattle.rss_restart.proofs.Keeping.{plain_kept}
 use Rattle.rss_restart.proofs.Opening.{few_changes, stores_restart, gives_tables}
 use Rattle.rss_store.specs.Stores.{StoreView, IsReady, IsSaved}
 use Rattle.rss_store.specs.Shown.{HoldsTables, LeavesStore, HoldsLogged, Shows}
 use Rattle.rss_store.specs.Commits.{CanCheckpoint, IsSavedStore, CommitsPages, Saves}
 use Rattle.rss_store.specs.Opening.{RestsAt, NamesNone, IsReadFrom, OpensAt, BeginsIn, HasRoomTwice, FindsDamage, Begins}
-use Rattle.rss_store.proofs.Spelled.{heap_step, system_kept, only_kept}
+use Rattle.rss_store.proofs.Spelled.{heap_step, system_kept, only_kept, plain_kept}
 use Rattle.rss_store.proofs.Resting.{StandsThere, stands_there, not_none, rests, rested}
 
 -- ---- the state at rest
@@ -78,7 +77,7 @@ is_at_rest size tables over head end = record {
 }
 
 -- the pages that spell these tables, and the root with their size
-module _ {view : StoreView} (root : Root) (tables : Tables) (size : view.pages.slots ≡ root.slots) (spells : SpellsTables view.pages.held view.catalog.listing tables) (fit : Fits root.slots tables) (held_are : (key : PageKey) → is_some (view.pages.held key) ≡ view.pages.mapped key) where
+module _ (view : StoreView) (root : Root) (tables : Tables) (size : view.pages.slots ≡ root.slots) (spells : SpellsTables view.pages.held view.catalog.listing tables) (fit : Fits root.slots tables) (held_are : (key : PageKey) → is_some (view.pages.held key) ≡ view.pages.mapped key) where
   abbrev pub resting : ℕ → ℕ → State
   resting head end = rest_state (size_of root) tables (mapped_of view.pages.mapped Overflow view.pages.slots) head end
 
@@ -199,7 +198,7 @@ module _ {stored : Stored} {view : StoreView} (ready : IsReady view) (saved : Is
   spells_here = subst (λ (t : Tables). SpellsTables view.pages.held view.catalog.listing t) (rest_ties read.pages stored state read.store (read_rested read rests) rest_here refl refl).0 (spells_read read)
 
   heap_here : heap_pages stored.root.slots stored.tables + mapped_of view.pages.mapped Overflow view.pages.slots ≡ heap_now view.pages
-  heap_here = heap_rests stored.root stored.tables read.opened.slots spells_here (fit_read read) held_here
+  heap_here = heap_rests view stored.root stored.tables read.opened.slots spells_here (fit_read read) held_here
 
   shows_here : Shows view state
   shows_here = record {
@@ -236,7 +235,7 @@ module _ {stored : Stored} {view : StoreView} (ready : IsReady view) (saved : Is
         state = state;
         shows = shows_here;
         rest = rest_here;
-        metered = rests_metered stored.root stored.tables read.opened.slots spells_here (fit_read read) held_here stored.root.head stored.root.end (omega (arith, formed.head_first, formed.before_end))
+        metered = rests_metered view stored.root stored.tables read.opened.slots spells_here (fit_read read) held_here stored.root.head stored.root.end (omega (arith, formed.head_first, formed.before_end))
             (omega (arith, heap_read read, images_recovered read.store state.meter (λ relation. omega arith), read.store.room));
         room = omega (arith, formed.room);
         opens = λ image left. opens_at ready saved shows_here rest_here image (stays (read_told read) image left);
@@ -314,7 +313,7 @@ module _ {T : Type 0} {value : T} {stored : Stored} {old : StoreView} {pages : P
   images_next = images_recovered read.store next.meter (λ relation. omega arith)
 
   pub next_metered : IsMetered next
-  next_metered = rests_metered {view = mid ready passes} stored.root stored.tables mid_size mid_spells (fit_read read) held_mid stored.root.end (stored.root.end + 2) (omega arith) (omega (arith, heap_mid, images_next, read.store.room))
+  next_metered = rests_metered (mid ready passes) stored.root stored.tables mid_size mid_spells (fit_read read) held_mid stored.root.end (stored.root.end + 2) (omega arith) (omega (arith, heap_mid, images_next, read.store.room))
 
   -- so each page has room in two slots
   half_kept : 2 * mapped_pages pages.slots pages.mapped ≤ pages.slots
@@ -357,7 +356,7 @@ module _ {T : Type 0} {value : T} {stored : Stored} {old : StoreView} {pages : P
     written = passes.keeps.written (read_told read) ready.pending_places read.written;
     fit = subst (λ (r : Root). Fits r.slots stored.tables) read.root_is (fit_read read);
     metered = next_metered;
-    heap = heap_rests {view = mid ready passes} stored.root stored.tables mid_size mid_spells (fit_read read) held_mid;
+    heap = heap_rests (mid ready passes) stored.root stored.tables mid_size mid_spells (fit_read read) held_mid;
     over = refl;
   }
 

@@ -17,7 +17,9 @@ use Rattle.rss_model.specs.Store.{SpellsTables, AreNodesWithin}
 use Rattle.rss_model.proofs.PlainStores.{no_image_at}
 use Rattle.rss_access.specs.Changes.{AccessView, CanAlter, HasTables}
 use Rattle.rss_access.specs.Written.{IsSystemOrHeap, HasImage, content_of}
+use Rattle.rss_access.proofs.Rerooting.{still_plain}
 use Rattle.rss_access.proofs.Writing.{SameOffSystem, off_system, heaps_same, spells_same}
+use Rattle.rss_restart.specs.Restarting.{KeepsCatalog}
 use Rattle.rss_store.specs.Changing.{access}
 use Rattle.rss_store.specs.Stores.{StoreView, IsReady}
 
@@ -51,6 +53,12 @@ content_off_system key (inr image) system = let not : Image ≡ System = sym ima
 -- the pages of the system space stay
 pub system_kept : {listing : Listing} {asks outs : ℕ} {old new : PagesView} → PagesStep (content_of listing) asks outs old new → HasSystemPages old.mapped → HasSystemPages new.mapped
 system_kept step system page low = step.mapped_off (page_key 0 System page) (λ content. content_off_system (page_key 0 System page) content refl) ∙ system page low
+
+-- ---- the catalog
+
+-- a listing without images has none afterwards
+pub plain_kept : {old new : AccessView} → KeepsCatalog old new → IsPlain old.catalog.listing → IsPlain new.catalog.listing
+plain_kept keeps plain = still_plain keeps.images (keeps.no_links plain.no_links ∙ sym plain.no_links) plain
 
 -- ---- tables that are spelled
 
