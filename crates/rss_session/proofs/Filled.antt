@@ -14,22 +14,28 @@ pub record IsFilled (items : List ℕ) (of : ℕ → ℕ) (place : ℕ) : Type 0
 
 pub filled_none : (of : ℕ → ℕ) → IsFilled (replicate 256 0) of 0
 filled_none of = record {
-  long = length-replicate 256 0;
+  long = length-replicate {A = ℕ} 256 0;
   first = zero_in 256 0;
   upto = λ number low high. absurd (omega (arith, low, high));
   rest = λ number above. zero_in 256 number;
 }
 
-pub filled_more : {items : List ℕ} {of : ℕ → ℕ} {place : ℕ} (value : ℕ) → IsFilled items of place → place + 1 < 256 → value ≡ of (place + 1) → IsFilled (set items (place + 1) value) of (place + 1)
-filled_more {items = items} {of = of} {place = place} value is within same = record {
-  long = length-set items (place + 1) value ∙ is.long;
-  first = get_or-set_other items (place + 1) 0 value 0 (λ e. absurd (omega (arith, e))) ∙ is.first;
-  upto = λ number low high. elim (cases_eq number (place + 1)) [
-    | inl here ↦ ap (slice_index (set items (place + 1) value)) here ∙ get_or-set_same items (place + 1) value 0 (omega (arith, is.long, within)) ∙ same ∙ ap of (sym here)
-    | inr other ↦ get_or-set_other items (place + 1) number value 0 other ∙ is.upto number low (omega (arith, high, other))
+pub filled_more : {items : List ℕ} {of : ℕ → ℕ} {place : ℕ} (index value : ℕ) → IsFilled items of place → index ≡ place + 1 → index < 256 → value ≡ of (place + 1) → IsFilled (set items index value) of (place + 1)
+filled_more {items = items} {of = of} {place = place} index value is at within same = record {
+  long = length-set items index value ∙ is.long;
+  first = get_or-set_other items index 0 value 0 (λ e. absurd (omega (arith, e, at))) ∙ is.first;
+  upto = λ number low high. elim (cases_eq number index) [
+    | inl here ↦ ap (slice_index (set items index value)) here ∙ get_or-set_same items index value 0 (omega (arith, is.long, within)) ∙ same ∙ ap of (sym (here ∙ at))
+    | inr other ↦ get_or-set_other items index number value 0 other ∙ is.upto number low (by number high other)
   ];
-  rest = λ number above. get_or-set_other items (place + 1) number value 0 (λ e. absurd (omega (arith, e, above))) ∙ is.rest number (omega (arith, above));
+  rest = λ number above. get_or-set_other items index number value 0 (λ e. absurd (omega (arith, e, at, above))) ∙ is.rest number (omega (arith, above));
 }
+  where
+    by : (number : ℕ) → number ≤ place + 1 → (number ≡ index → ⊥) → number ≤ place
+    by number high other = elim (cases_lt place number) [
+      | inl above ↦ absurd (other (omega (arith, above, high, at)))
+      | inr within ↦ within
+    ]
 
 -- where nothing belongs behind the last, it has what belongs everywhere
 pub filled_all : {items : List ℕ} {of : ℕ → ℕ} {place : ℕ} → IsFilled items of place → of 0 ≡ 0 → ((number : ℕ) → place < number → of number ≡ 0) → (number : ℕ) → slice_index items number ≡ of number

@@ -92,7 +92,7 @@ module _ (store : StoreView) (opened : OpenView) (heap : ℕ) (entries survived 
         each = λ relation number numbered. since_of number ∙ sym (ap (λ (m : Meter). (m.traffic relation).since) rest.meter);
         fewer = λ relation. omega (arith, ap (λ (m : Meter). (m.traffic relation).since) rest.meter);
       };
-      each = each_anew {new = here} {tables = with_changes state.base state.changes} {counted = λ relation. 0} shows.spells
+      each = each_anew here {tables = with_changes state.base state.changes} {counted = λ relation. 0} shows.spells
           (λ relation. ap (λ (m : Meter). (m.traffic relation).entries) rest.meter ∙ ap (λ (t : Tables). tuple_count t.contents relation) (sym tables_are))
           (λ relation. ap (λ (m : Meter). (m.traffic relation).surviving) rest.meter) entries_are (λ number relation at. survived_are number);
       heap = shows.heap ∙ (λ i. mapped_of (mapped i) Home (slots i) + mapped_of (mapped i) Overflow (slots i)) ∙ sym heap_is;

@@ -83,7 +83,7 @@ module _ {old new : SessionView} (anew : CountsAnew old new) (slots : new.store.
       let goes = weighed_saves old t number size is in
       let free : free_of new.store.log ≡ saved_free old = λ i. free_between (anew.pages i) (anew.head i) (anew.end i) in
       sym (goes_on_so new t number size
-      (omega (arith, goes.room, slots, anew.heap, anew.surviving, anew.since, images_anew anew.listing anew.since_of anew.entries anew.survived number))
+      (omega (arith, goes.room, slots, anew.heap, anew.surviving, anew.since, images_anew old new anew.listing anew.since_of anew.entries anew.survived number))
       (omega (arith, goes.log, free, p_same, changers_same)))
 
 module _ {old mid : SessionView} {told_change : told.Change} {t : ℕ} (anew : CountsAnew old mid) (ready : IsReady old) (ready_mid : IsReady mid) (saves : weighed old t (relation_told told_change) (record_size (records.Change t told_change)) ≡ Ok true) (goes : weighed mid t (relation_told told_change) (record_size (records.Change t told_change)) ≡ Ok false)

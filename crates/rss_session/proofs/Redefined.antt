@@ -197,7 +197,7 @@ module _ {view : SessionView} (ready : IsReady view) (closed : view.opened.trans
           told = subst (λ marks. TellsOpen new.store.catalog.listing new.opened marks []) (sym is.none_open) (none_tells new.store.catalog.listing new.opened (checkpoints.transactions ∙ closed));
           counted = record {
             since = since_saved new.store.catalog.listing view.opened new.opened state.size.slots tables state.changes state.meter checkpoints;
-            each = each_anew {new = new} {tables = tables} {counted = λ relation. 0}
+            each = each_anew new {tables = tables} {counted = λ relation. 0}
                 (subst (λ (l : Listing). SpellsTables view.store.pages.held l tables) (sym anew.listing) is.spells) (λ relation. refl)
                 (λ relation. ap (λ (cs : List Change). changes_of cs relation) is.none_changed)
                 (λ number. anew.entries number ∙ ap (λ (l : Listing). live_of l number) (sym anew.listing))

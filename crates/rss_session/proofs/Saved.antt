@@ -144,7 +144,7 @@ module _ {view : SessionView} (ready : IsReady view) where
           told = subst (λ (l : Listing). TellsOpen l new.opened state.marks shows.listed) (sym anew.listing) (checkpoint_tells view.store.catalog.listing view.opened new.opened state.marks shows.listed shows.told checkpoints);
           counted = record {
             since = since_saved new.store.catalog.listing view.opened new.opened state.size.slots (now state) state.changes state.meter checkpoints;
-            each = each_anew {new = new} {counted = changes_of state.changes} store.spells (λ relation. refl) (λ relation. refl)
+            each = each_anew new {counted = changes_of state.changes} store.spells (λ relation. refl) (λ relation. refl)
                 (λ number. anew.entries number ∙ ap (λ (l : Listing). live_of l number) (sym anew.listing))
                 (λ number relation at.
                 let was : relation_at view.store.catalog.listing number ≡ Some relation = ap (λ (l : Listing). relation_at l number) (sym anew.listing) ∙ at in
@@ -175,7 +175,7 @@ module _ {old new : SessionView} (ready : IsReady old) (may : MaySave old) (room
   images_saved = λ i. mapped_of (sym saved.pages i) Image new.store.pages.slots
 
   images_now : (sessions.counts new).images ≡ saved_images_with old None
-  images_now = images_anew listing checkpoints.since_of entries survived None
+  images_now = images_anew old new listing checkpoints.since_of entries survived None
 
   heap_same : heap_now new.store.pages ≡ heap_now old.store.pages
   heap_same = λ i. mapped_of (saves.mapped i) Home (slots i) + mapped_of (saves.mapped i) Overflow (slots i)

@@ -101,21 +101,21 @@ most_counted {view = view} {state = state} counted few_slots number relation at 
     omega (arith, counted.each.entries relation.name number named, counted.each.survived relation.name number named, since, few_is (view.opened.since_of number) low)
 
 -- behind a checkpoint images may have as many pages as was said before it
-pub images_anew : {old new : SessionView} → new.store.catalog.listing ≡ old.store.catalog.listing → ((number : ℕ) → new.opened.since_of number ≡ 0) → ((number : ℕ) → new.entries number ≡ live_of old.store.catalog.listing number)
+pub images_anew : (old new : SessionView) → new.store.catalog.listing ≡ old.store.catalog.listing → ((number : ℕ) → new.opened.since_of number ≡ 0) → ((number : ℕ) → new.entries number ≡ live_of old.store.catalog.listing number)
     → ((number : ℕ) (relation : RelationEntry) → relation_at old.store.catalog.listing number ≡ Some relation → new.survived number ≡ survived_now old.opened number)
     → (number : Option ℕ) → images_with new number ≡ saved_images_with old number
-images_anew {old = old} {new = new} same since_of entries survived number =
+images_anew old new same since_of entries survived number =
     ap (λ (l : Listing). listed_bound l (most_with number (most_in new))) same
     ∙ bound_same old.store.catalog.listing (most_with number (most_in new)) (most_with number (saved_most old)) (λ other relation at.
     with_same number (most_in new) (saved_most old) other (omega (arith, entries other, survived other relation at, since_of other)))
 
 -- what is counted then is what the meter of a checkpoint does
-pub each_anew : {new : SessionView} {tables : Tables} {traffic : Name → Traffic} {counted : Name → ℕ} {held : Held} → SpellsTables held new.store.catalog.listing tables
+pub each_anew : (new : SessionView) {tables : Tables} {traffic : Name → Traffic} {counted : Name → ℕ} {held : Held} → SpellsTables held new.store.catalog.listing tables
     → ((relation : Name) → (traffic relation).entries ≡ tuple_count tables.contents relation) → ((relation : Name) → (traffic relation).surviving ≡ counted relation)
     → ((number : ℕ) → new.entries number ≡ live_of new.store.catalog.listing number)
     → ((number : ℕ) (relation : RelationEntry) → relation_at new.store.catalog.listing number ≡ Some relation → new.survived number ≡ counted relation.name)
     → CountsEach new.store.catalog.listing new.entries new.survived traffic
-each_anew {new = new} {tables = tables} {traffic = traffic} {counted = counted} spells its_entries its_survived entries survived = record {
+each_anew new {tables = tables} {traffic = traffic} {counted = counted} spells its_entries its_survived entries survived = record {
   entries = λ relation number numbered.
       let has = entry_at new.store.catalog.listing relation number numbered in
       its_entries relation ∙ ap (tuple_count tables.contents) (sym has.named) ∙ spells.counts number has.entry has.at ∙ sym (live_is new.store.catalog.listing number has.entry has.at) ∙ sym (entries number);

@@ -74,56 +74,54 @@ one_there state t n change relation last of =
       ap (λ (cs : List Change). changes_of cs relation) last,
       more,
       sum_by-cons (λ (c : Change). cond (counts_for c.item relation) 1 0) change [],
-      ap (λ (b : Bool). cond b 1 0) of,
+      ap {B = ℕ} (λ (b : Bool). cond b 1 0) of,
     )
 
-pub room_back : (view : SessionView) (state : State) (t n position : ℕ) → IsReady view → is_open view.opened t ≡ true → 1 ≤ length (transaction_in view.opened t).changes → Kept state → (own : IsOwnAt state t n position) (back : ShowsBack view state t (n + 1))
-    → HasRoom (access view.store) (number_told (turned_back view.store state t n position own back.store).told_change)
-room_back view state t n position ready opened some kept own back =
-    let listing : Listing = view.store.catalog.listing in
-    let spare = spare_for_all (sessions.counts view) (sums_in view.opened).p (page_counts view.store.pages) ready.room ready.pages ready.saved in
-    let within = room_within listing number (most_in view) few in
-    omega (arith, spare, within, listed_some view.opened t opened, some)
-  where
-    abbrev shown : ShowsWith view.store state (kept_to maker t (n + 1) state.changes) back.store.over
-    shown = back.store.shows
+module _ (view : SessionView) (state : State) (t n position : ℕ) (ready : IsReady view) (opened : is_open view.opened t ≡ true) (some : 1 ≤ length (transaction_in view.opened t).changes) (kept : Kept state) (own : IsOwnAt state t n position) (back : ShowsBack view state t (n + 1)) where
+  abbrev shown : ShowsWith view.store state (kept_to maker t (n + 1) state.changes) back.store.over
+  shown = back.store.shows
 
-    abbrev its : TakesBack shown.stored.listing shown.log state t n position
-    its = turned_back view.store state t n position own back.store
+  abbrev its : TakesBack shown.stored.listing shown.log state t n position
+  its = turned_back view.store state t n position own back.store
 
-    abbrev number : ℕ
-    number = number_told its.told_change
+  abbrev number : ℕ
+  number = number_told its.told_change
 
-    few_slots : state.size.slots < 2 ^ 32
-    few_slots = omega (
+  few_slots : state.size.slots < 2 ^ 32
+  few_slots = omega (
+    arith,
+    ap (λ (size : StoreSize). size.slots) shown.tied.size,
+    ap (λ (root : Root). root.slots) shown.disk.root_is,
+    ready.store.formed.slots_most,
+  )
+
+  its_number : IsNumbered view.store.catalog.listing its.change.item (Some number)
+  its_number =
+      subst (IsNumbered view.store.catalog.listing its.change.item) (one_told its.told_change (tells_back view.store state t n position own back.store).tuple)
+      (numbered_too shown.definitions its.change.item (relation_told its.told_change) (numbered_told shown.stored.listing its.change.by its.change its.told_change its.told.tells its.told.means))
+
+  module _ (m : ℕ) (relation : RelationEntry) (at : relation_at view.store.catalog.listing m ≡ Some relation) where
+    -- the tuples that are there, with the changes that may still be undone
+    all_there : tuple_count (after state.base.contents (kept_to maker t (n + 1) state.changes)) relation.name + changes_of (kept_to maker t (n + 1) state.changes) relation.name ≤ most_in view m
+    all_there = omega (
       arith,
-      ap (λ (size : StoreSize). size.slots) shown.tied.size,
-      ap (λ (root : Root). root.slots) shown.disk.root_is,
-      ready.store.formed.slots_most,
+      back_tuples kept back.counted.rooms.metered t (n + 1) 0 back.store.over back.store.way relation.name,
+      most_counted back.counted few_slots m relation at,
     )
 
-    its_number : IsNumbered view.store.catalog.listing its.change.item (Some number)
-    its_number =
-        subst (IsNumbered view.store.catalog.listing its.change.item) (one_told its.told_change (tells_back view.store state t n position own back.store).tuple)
-        (numbered_too shown.definitions its.change.item (relation_told its.told_change) (numbered_told shown.stored.listing its.change.by its.change its.told_change its.told.tells its.told.means))
+    one_more : (b : Bool) → (m == number) ≡ b → (if b then relation.live + 1 else relation.live) ≤ most_in view m
+    one_more true is =
+        let named = number_of view.store.catalog.listing m relation at in
+        let of = in_relation view.store.catalog.listing shown.spells.listed.relations_once relation.name m named its.change.item (Some number) its_number in
+        let same : (number == m) ≡ true = eq-eqb number m (sym (eqb-true m number is)) in
+        omega (arith, all_there, shown.spells.counts m relation at, one_there state t n its.change relation.name its.last (sym of ∙ same))
+    one_more false is = omega (arith, all_there, shown.spells.counts m relation at)
 
-    few : (m : ℕ) (relation : RelationEntry) → relation_at view.store.catalog.listing m ≡ Some relation → (if m == number then relation.live + 1 else relation.live) ≤ most_in view m
-    few m relation at = by (m == number) refl
-      where
-        all : tuple_count (after state.base.contents (kept_to maker t (n + 1) state.changes)) relation.name + changes_of (kept_to maker t (n + 1) state.changes) relation.name ≤ most_in view m
-        all = omega (
-          arith,
-          back_tuples kept back.counted.rooms.metered t (n + 1) 0 back.store.over back.store.way relation.name,
-          most_counted back.counted few_slots m relation at,
-        )
-
-        by : (b : Bool) → (m == number) ≡ b → (if b then relation.live + 1 else relation.live) ≤ most_in view m
-        by true is =
-            let named = number_of view.store.catalog.listing m relation at in
-            let of = in_relation view.store.catalog.listing shown.spells.listed.relations_once relation.name m named its.change.item (Some number) its_number in
-            let same : (number == m) ≡ true = eq-eqb number m (sym (eqb-true m number is)) in
-            omega (arith, all, shown.spells.counts m relation at, one_there state t n its.change relation.name its.last (sym of ∙ same))
-        by false is = omega (arith, all, shown.spells.counts m relation at)
+  pub room_back : HasRoom (access view.store) number
+  room_back =
+      let spare = spare_for_all (sessions.counts view) (sums_in view.opened).p (page_counts view.store.pages) ready.room ready.pages ready.saved in
+      let within = room_within view.store.catalog.listing number (most_in view) (λ m relation at. one_more m relation at (m == number) refl) in
+      omega (arith, spare, within, listed_some view.opened t opened, some)
 
 -- the counts of fewer changes
 pub fewer_changers : (some more : ℕ) → some ≤ more → changers some ≤ changers more

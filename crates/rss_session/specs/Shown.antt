@@ -22,11 +22,11 @@ IsRested view state =
     → state.meter.over ≡ mapped_of (mapped_by view.store.pages.backing.shadow) Overflow view.store.root.slots
 
 -- What was counted of each relation at the last checkpoint is the meter's.
-pub record CountsEach (listing : Listing) (entries survived : ℕ → ℕ) (traffic : Name → Traffic) : Type 0 where
+pub record CountsEach (listing : Listing) (tuples changes : ℕ → ℕ) (traffic : Name → Traffic) : Type 0 where
   pub entries : (relation : Name) (number : ℕ) → IsNumberOf Relation listing relation number
-      → (traffic relation).entries ≡ entries number
+      → (traffic relation).entries ≡ tuples number
   pub survived : (relation : Name) (number : ℕ) → IsNumberOf Relation listing relation number
-      → (traffic relation).surviving ≡ survived number
+      → (traffic relation).surviving ≡ changes number
 
 -- What is counted is the meter's, and there is room for all pages and in the log.
 pub record Counts (view : SessionView) (state : State) : Type 0 where

@@ -1,5 +1,5 @@
 // How many pages images may have.
-ghost use Rattle.std.specs.Prelude.{◌≡◌, ◌*◌, ◌+◌, ◌^◌, ◌≤◌, ℕ, Some, slice_index};
+ghost use Rattle.std.specs.Prelude.{◌≡◌, ◌*◌, ◌+◌, ◌-◌, ◌^◌, ◌≤◌, ℕ, Some, slice_index};
 ghost use Rattle.std.specs.FinMap.{values};
 ghost use Rattle.rss_base.specs.Listings.{relation_at};
 ghost use Rattle.rss_base.specs.Sizes.{images_most};
@@ -116,13 +116,13 @@ pub(crate) fn entries_of(catalog: &Catalog) -> [u32; NUMBERS]
 }
 
 /// How many changes of each relation's tuples survive, by its number.
-pub(crate) fn survived_of(catalog: &Catalog, open: &Open) -> [u32; NUMBERS]
+pub(crate) fn survived_of(catalog: &Catalog, transactions: &Open) -> [u32; NUMBERS]
     ensures { (number : ℕ) (relation : Entry) → relation_at catalog.now.listing number ≡ Some relation
-        → slice_index result number ≡ survived_now (told open.now) number }
+        → slice_index result number ≡ survived_now (told transactions.now) number }
 {
     let mut survived = [0; NUMBERS];
     for place in 0..catalog.last_relation() {
-        survived[usize::from(place + 1)] = few(open.relation_sums(place + 1).p);
+        survived[usize::from(place + 1)] = few(transactions.relation_sums(place + 1).p);
     }
     survived
 }

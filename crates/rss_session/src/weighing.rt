@@ -100,8 +100,7 @@ impl<S: Saving> Session<S> {
     {
         let images = self.images_bound(true, None);
         let room = room_of(u64::from(self.store.heap()), self.open.sums().p, 0, images);
-        room <= u64::from(self.store.slots())
-            && u64::from(self.image_pages()) <= images
+        room <= u64::from(self.store.slots()) && u64::from(self.image_pages()) <= images
     }
 
     /// How many bytes the log has room for behind a checkpoint.

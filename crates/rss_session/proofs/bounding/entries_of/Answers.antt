@@ -10,7 +10,7 @@ pub loop-place-init : goal.loop-place-init
 loop-place-init c = filled_none (live_of c.args.catalog.now.listing)
 
 pub loop-place-preserved : goal.loop-place-preserved
-loop-place-preserved c = filled_more c.live_of.result c.loop-place.invariant (omega arith) c.live_of.ensures
+loop-place-preserved c = filled_more c.from.result c.live_of.result c.loop-place.invariant (omega (arith, c.from.ensures)) (omega (arith, c.from.ensures)) c.live_of.ensures
 
 pub returns : goal.returns
 returns c = filled_all c.loop-place.invariant refl (λ number above.

@@ -11,10 +11,10 @@ use Rattle.rss_session.proofs.Filled.{filled_none, filled_more}
 use Rattle.rss_session.proofs.bounding.survived_of.Goals as goal
 
 pub loop-place-init : goal.loop-place-init
-loop-place-init c = filled_none (survived_now (told c.args.open.now))
+loop-place-init c = filled_none (survived_now (told c.args.transactions.now))
 
 pub loop-place-preserved : goal.loop-place-preserved
-loop-place-preserved c = filled_more c.few.result c.loop-place.invariant (omega arith) (c.few.ensures ∙ ap (λ (sums : Sums). few sums.p) c.relation_sums.ensures)
+loop-place-preserved c = filled_more c.from.result c.few.result c.loop-place.invariant (omega (arith, c.from.ensures)) (omega (arith, c.from.ensures)) (c.few.ensures ∙ ap (λ (sums : Sums). few sums.p) c.relation_sums.ensures)
 
 pub returns : goal.returns
 returns c = λ number relation at. elim (cases_lt c.loop-place.place number) [

@@ -4,4 +4,4 @@ use Rattle.rss_session.proofs.Filled.{IsFilled}
 use Rattle.rss_session.proofs.bounding.survived_of.Given as goal
 
 abbrev pub invariant-loop-place : goal.invariant-loop-place
-invariant-loop-place l = IsFilled l.survived (survived_now (told l.open)) l.place
+invariant-loop-place l = IsFilled l.survived (survived_now (told l.transactions)) l.place

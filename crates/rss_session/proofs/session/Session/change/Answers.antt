@@ -2,6 +2,7 @@ use Rattle.std.proofs.Common.{ℕ, refl, sym, subst, arith}
 use Rattle.std.specs.Prelude.{Option}
 use Rattle.rss_model.proofs.Sparing.{takes_two}
 use Rattle.rss_record.proofs.Parsing.{some_bytes}
+use Rattle.rss_base.specs.LogRecords.{record_size}
 use Rattle.rss_base.specs.declared.log_record.LogRecord.TheVariants as records
 use Rattle.rss_access.specs.Changes.{number_told}
 use Rattle.rss_store.specs.Parts.{view as store_view}
@@ -30,7 +31,7 @@ returns-clause-goes g c = goes_altered _ c.requires.ready.store (λ is. absurd (
 
 pub returns-in_err-position-clause-sound : goal.returns-in_err-position-clause-sound
 returns-in_err-position-clause-sound g c = λ place is told state change by kept shows may. c.in_err-position.ensures.sound place (fault_passed c.from_residual.ensures.1 is) told
-    (room_next (number_told c.args.change) c.requires.ready (subst (λ (number : Option ℕ). Goes (view g.S.Pages.view c.args.self.now) c.args.transaction number _) (one_told c.args.change c.requires.tuple) (weighed_goes _ _ _ _ c.requires.weighed)) shows) state change by shows.store may
+    (room_next (number_told c.args.change) c.requires.ready (subst (λ (number : Option ℕ). Goes (view g.S.Pages.view c.args.self.now) c.args.transaction number (record_size (records.Change c.args.transaction c.args.change))) (one_told c.args.change c.requires.tuple) (weighed_goes _ _ _ _ c.requires.weighed)) shows) state change by shows.store may
 
 pub returns-clause-ready : goal.returns-clause-ready
 returns-clause-ready g c =

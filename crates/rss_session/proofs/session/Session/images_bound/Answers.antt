@@ -17,8 +17,8 @@ loop-place-preserved g c =
     elim c.if-used.branch [
       | then-used w ↦ record {
         sum = image_added bound refl now.store.catalog.listing c.loop-place.place c.loop-place.bound c.loop-place.invariant.sum w.image-image.ensures.is
-            (w.image_bound.ensures.is ∙ ap (bound_of (width_of w.image-image.result.now w.relation.result.now)) w.most_with-entries.ensures.is ∙ ap (bound_by most w.image-image.result.now) (sym w.relation.ensures.is)) w.bound-is;
-        small = omega (arith, w.image_bound.ensures.small, w.most_with-entries.ensures.small, w.bound-is, c.loop-place.invariant.small);
+            (w.image_bound-bound.ensures.is ∙ ap (bound_of (width_of w.image-image.result.now w.relation.result.now)) w.most_with-entries.ensures.is ∙ ap (bound_by most w.image-image.result.now) (sym w.relation.ensures.is)) w.bound-is;
+        small = omega (arith, w.image_bound-bound.ensures.small, w.most_with-entries.ensures.small, w.bound-is, c.loop-place.invariant.small);
       }
       | else-used w ↦ record {
         sum = image_passed bound refl now.store.catalog.listing c.loop-place.place c.loop-place.bound c.loop-place.invariant.sum (sym c.used.ensures ∙ w.if-used.false) w.bound-is;

@@ -4,6 +4,7 @@ use Rattle.std.proofs.lemmas.Result.{on_ok_weaker}
 use Rattle.rss_base.proofs.Moments.{then}
 use Rattle.rss_model.specs.Rules.{saved_now}
 use Rattle.rss_model.proofs.OpenKeeping.{keeps_meter}
+use Rattle.rss_store.proofs.Altered.{fault_passed}
 use Rattle.rss_session.proofs.Made.{weighed_again, may_then, makes_then}
 use Rattle.rss_session.proofs.Passing.{goes_then}
 use Rattle.rss_session.proofs.StaysOpen.{same_stay}
@@ -51,3 +52,6 @@ returns-clause-goes g c = goes_then c.in_ok-checkpoint.ensures.goes c.change-2.e
 pub returns-clause-stay : goal.returns-clause-stay
 returns-clause-stay g c =
     on_ok_weaker c.change-2.result (λ stays u is. stays u (same_stay _ c.in_ok-checkpoint.ensures.anew.transactions u is)) c.change-2.ensures.stay
+
+pub returns-in_err-checkpoint-clause-sound : goal.returns-in_err-checkpoint-clause-sound
+returns-in_err-checkpoint-clause-sound g c = λ place is told state change by kept shows may. c.in_err-checkpoint.ensures.sound place (fault_passed c.from_residual.ensures.1 is) told state kept shows
