@@ -11,4 +11,5 @@ mod tuples;
 pub use applying::{apply, undo};
 pub use bodies::{body_of, tuple_of};
 pub use edit::TUPLES_MOST;
+pub use rooms::image_bound;
 pub use tuples::{delete, find, find_next, insert, update};
