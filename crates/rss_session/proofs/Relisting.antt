@@ -1,32 +1,43 @@
 -- What a call that defines makes of the pages, of the machine's state and of the session.
 use Rattle.std.proofs.Common.{◌≡◌, inl, inr, ℕ, ◌≤◌, true, false, Bool, List, length, get_or, refl, sym, ◌∙◌, ap, subst, arith}
-use Rattle.std.specs.Prelude.{Some, None, slice_index, slice_set}
-use Rattle.std.specs.FinMap.{empty}
-use Rattle.std.proofs.lemmas.Bool.{cases_eq}
+use Rattle.std.specs.Prelude.{Option, Some, None, is_some, option_map, slice_index, slice_set}
+use Rattle.std.specs.FinMap.{empty, get}
+use Rattle.std.proofs.lemmas.Bool.{cases_eq, true≢false}
 use Rattle.std.proofs.lemmas.List.{get_or-set_same, get_or-set_other, length-set}
-use Rattle.std.proofs.lemmas.Option.{same_Some}
+use Rattle.std.proofs.lemmas.Option.{none-some, same_Some}
+use Rattle.std.proofs.Math.Logic.{∥∥₁_map}
 use Rattle.rss_base.specs.Paged.{Held}
 use Rattle.rss_base.specs.Sizes.{log_pages_least, system_pages}
 use Rattle.rss_base.specs.Steps.{PagesView}
-use Rattle.rss_base.specs.Listings.{Listing, ListingFits, IsPlain}
+use Rattle.rss_base.specs.Listings.{Listing, ListingFits, IsPlain, numbered}
+use Rattle.rss_base.specs.TupleTypes.{kinds}
+use Rattle.rss_base.specs.declared.item.Item.TheVariants.{Tuple as TupleItem}
+use Rattle.rss_base.specs.declared.name.Name.{Name}
+use Rattle.rss_base.specs.declared.tid.Tid.{Tid}
+use Rattle.rss_base.specs.declared.value.FieldKind.{FieldKind}
 use Rattle.rss_base.specs.declared.call.Call.{Call}
-use Rattle.rss_model.specs.Tables.{Definitions, Tables}
+use Rattle.rss_model.specs.Tables.{RelationDef, Definitions, Tables, content, tuple_count}
 use Rattle.rss_model.specs.Changes.{Change}
 use Rattle.rss_model.specs.Machine.{StoreSize, State, with_changes}
-use Rattle.rss_model.specs.Fits.{Fits}
+use Rattle.rss_model.specs.Fits.{Fits, IsLive}
 use Rattle.rss_model.specs.Kept.{Kept}
-use Rattle.rss_model.specs.Defining.{defined, with_definitions, DefinesNames}
+use Rattle.rss_model.specs.Defining.{defined, with_definitions, relation_def, DefinesNames}
 use Rattle.rss_model.specs.Steps.{refusal}
 use Rattle.rss_model.specs.Spares.{listed_bound}
 use Rattle.rss_model.specs.Store.{SpellsTables, size_of}
 use Rattle.rss_model.proofs.BothRooms.{definitions_keep_rooms}
 use Rattle.rss_model.proofs.ByNumber.{relation_unnamed}
-use Rattle.rss_model.proofs.PlainStores.{no_image_at}
+use Rattle.rss_model.proofs.Counts.{none_counted}
+use Rattle.rss_model.proofs.LogLists.{some_of}
+use Rattle.rss_model.proofs.Named.{made_other, gone_other}
 use Rattle.rss_model.proofs.Redefining.{defined_fits, live_defined}
 use Rattle.rss_model.proofs.Relisted.{segment_made_spells, segment_gone_spells, relation_made_spells, relation_gone_spells}
 use Rattle.rss_model.proofs.StepKeeping.{kept_fit}
 use Rattle.rss_trans.specs.Tables.{told}
-use Rattle.rss_access.specs.Written.{AreWritten}
+use Rattle.rss_catalog.specs.Catalogs.{CatalogView}
+use Rattle.rss_entries.specs.Images.{AreTuples}
+use Rattle.rss_access.specs.Changes.{both, HasTables}
+use Rattle.rss_access.specs.Written.{AreWritten, HasImage}
 use Rattle.rss_session.specs.Calls.{with_catalog, IsRedefined}
 use Rattle.rss_session.specs.Definitions.{entry_of, Relists, Redefines}
 use Rattle.rss_session.specs.Definitions.Relists.{segment, relation, drop_segment, drop_relation}
@@ -39,29 +50,74 @@ use Rattle.rss_session.proofs.Defined.{none_changed, none_marked}
 
 -- ---- the pages
 
--- The call defines so, and the pages spell its tables, whose definitions are listed anew.
+-- The call defines so, and the pages spell its tables, whose definitions are listed anew. A relation that has a tuple is defined as it was.
 pub record IsRelisted (held : Held) (call : Call) (listing : Listing) (tables : Tables) : Type 0 where
   pub definitions : Definitions
   pub so : defined call tables.definitions ≡ Some definitions
   pub spells : SpellsTables held listing (with_definitions definitions tables)
+  pub still : (relation : Name) (tid : Tid) → IsLive tables relation tid → get definitions.relations relation ≡ get tables.definitions.relations relation
 
-pub relisted : {held : Held} {tables : Tables} {slots : ℕ} {old new : Listing} {call : Call} → SpellsTables held old tables → Fits slots tables → Relists old call new → ListingFits new → IsRelisted held call new tables
-relisted spells fit (segment name number fresh least) fits = record { definitions = _; so = refl; spells = segment_made_spells spells number name least fits }
-relisted spells fit (relation name in_segment fields at number within fresh least) fits = record {
-  definitions = _;
-  so = refl;
-  spells = relation_made_spells spells number (entry_of name at fields) (live_defined fit name) in_segment least fits within refl (relation_unnamed spells.listed spells.defines name fresh);
-}
-relisted spells fit (drop_segment name number at none) fits = record {
+-- the relation of each tuple is defined
+abbrev AreDefined : Tables → Type 0
+AreDefined tables = (relation : Name) (tid : Tid) → IsLive tables relation tid → is_some (get tables.definitions.relations relation) ≡ true
+
+pub relisted : {held : Held} {tables : Tables} {old new : Listing} {call : Call} → SpellsTables held old tables → AreDefined tables → Relists old call new → ListingFits new → IsRelisted held call new tables
+relisted spells live (segment name number fresh least) fits = record { definitions = _; so = refl; spells = segment_made_spells spells number name least fits; still = λ q tid lives. refl }
+relisted {tables = tables} spells live (relation name in_segment fields at number within fresh least) fits =
+    let new = relation_unnamed spells.listed spells.defines name fresh in
+    record {
+      definitions = _;
+      so = refl;
+      spells = relation_made_spells spells number (entry_of name at fields) (live name) in_segment least fits within refl new;
+      still = λ q tid lives. made_other tables.definitions.relations name (relation_def in_segment fields) q (λ same.
+          true≢false (sym (live q tid lives) ∙ ap (λ (n : Name). is_some (get tables.definitions.relations n)) same ∙ new));
+    }
+relisted spells live (drop_segment name number at none) fits = record {
   definitions = _;
   so = refl;
   spells = segment_gone_spells spells number name at (λ k r is within. none (record { number = k; relation = r; at = is; within = within })) fits;
+  still = λ q tid lives. refl;
 }
-relisted spells fit (drop_relation number entry at empty none) fits = record {
-  definitions = _;
-  so = refl;
-  spells = relation_gone_spells spells number entry at (spells.counts number entry at ∙ empty) (λ k image is same. none (record { number = k; image = image; at = is; of = same })) fits;
-}
+relisted {tables = tables} spells live (drop_relation number entry at empty none) fits =
+    let no_tuples : tuple_count tables.contents entry.name ≡ 0 = spells.counts number entry at ∙ empty in
+    record {
+      definitions = _;
+      so = refl;
+      spells = relation_gone_spells spells number entry at no_tuples (λ k image is same. none (record { number = k; image = image; at = is; of = same })) fits;
+      still = λ q tid lives. gone_other tables.definitions.relations entry.name q (λ same.
+          true≢false (sym lives ∙ ap is_some (ap (λ (n : Name). content tables.contents (TupleItem n tid)) same ∙ none_counted tables.contents entry.name no_tuples tid)));
+    }
+
+-- ---- where an image is listed, the pages spell tables
+
+tuples_defined : {tables : Tables} → AreTuples tables → AreDefined tables
+tuples_defined {tables = tables} tuples q tid lives =
+    let held = some_of _ lives in
+    by (get tables.definitions.relations q) (tuples q tid held.0 held.1).defined
+  where
+    by : {fields : List FieldKind} (found : Option RelationDef) → option_map (λ (r : RelationDef). kinds r.fields) found ≡ Some fields → is_some found ≡ true
+    by {fields = fields} None is = absurd (none-some fields is)
+    by (Some def) is = refl
+
+tables_relisted : {pages : PagesView} {old new : CatalogView} {call : Call} → Relists old.listing call new.listing → (ListingFits old.listing → ListingFits new.listing) → HasTables (both pages old) → HasTables (both pages new)
+tables_relisted relists fits has =
+    let now = relisted has.spells (tuples_defined has.tuples) relists (fits has.spells.listed) in
+    record {
+      tables = with_definitions now.definitions has.tables;
+      spells = now.spells;
+      tuples = λ q tid held at.
+          let of = has.tuples q tid held at in
+          record {
+            fields = of.fields;
+            values = of.values;
+            defined = ap (option_map (λ (r : RelationDef). kinds r.fields)) (now.still q tid (ap is_some at)) ∙ of.defined;
+            tuple = of.tuple;
+            fit = of.fit;
+          };
+      tids = has.tids;
+      few = has.few;
+      nodes = has.nodes;
+    }
 
 -- the images are those that were listed
 images_kept : {old new : Listing} {call : Call} → Relists old call new → new.images ≡ old.images
@@ -111,6 +167,9 @@ module _ {S : Type 0} (pages_view : S → PagesView) {call : Call} {old new : Se
   images_same : listed_bound new.store.catalog.listing (most_in before) ≡ (counts before).images
   images_same = bound_relisted old.store.catalog.listing new.store.catalog.listing (images_kept redefines.relists) redefines.imaged (most_in before)
 
+  had_image : HasImage new.store.catalog.listing → HasImage old.store.catalog.listing
+  had_image has = record { number = has.number; image = has.image; at = ap (λ images. numbered images has.number) (sym (images_kept redefines.relists)) ∙ has.at }
+
   -- what is defined may be committed
   pub ready_redefined : IsReady before → IsReady after
   ready_redefined ready = subst IsReady but_catalog (record {
@@ -128,7 +187,7 @@ module _ {S : Type 0} (pages_view : S → PagesView) {call : Call} {old new : Se
       settled_now = ready.store.settled_now;
       plain = plain_relisted redefines.relists ready.store.plain;
       heaps = ready.store.heaps;
-      tables = λ told image. absurd (no_image_at (plain_relisted redefines.relists ready.store.plain) image.number image.image image.at);
+      tables = λ told image. ∥∥₁_map (ready.store.tables told (had_image image)) (tables_relisted redefines.relists redefines.fits);
     };
     pages = session_of refl refl refl ready.pages;
     room = omega (arith, ready.room, images_same);
@@ -153,7 +212,7 @@ module _ {S : Type 0} (pages_view : S → PagesView) {call : Call} {old new : Se
     fits_new = redefines.fits spells.listed
 
     now_relisted : IsRelisted before.store.pages.held call new.store.catalog.listing state.base
-    now_relisted = relisted spells (kept_fit state kept).0 redefines.relists fits_new
+    now_relisted = relisted spells (live_defined (kept_fit state kept).0) redefines.relists fits_new
 
     -- a page that isn't to be written is spelled as it was
     written : AreWritten before.store.pages.held new.store.catalog
