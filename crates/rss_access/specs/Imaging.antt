@@ -15,6 +15,12 @@ use Rattle.rss_entries.specs.Rooms.{width_of}
 use Rattle.rss_entries.specs.Seeking.{IsKeyIn, IsEntryIn, start_bytes, kept_pair}
 use Rattle.rss_access.specs.Changes.{AccessView}
 
+-- an image of this number is listed, and its relation
+pub record ListsImage (listing : Listing) (number : ℕ) : Type 0 where
+  pub image : ImageEntry
+  pub relation : RelationEntry
+  pub at : IsListedImage listing number image relation
+
 -- the tuple that has in these tables the key of these values, other than `own`, where the image is unique
 abbrev pub IsOwner : Tables → Listing → ℕ → List ℕ → Option Tid → Option Tid → Type 0
 IsOwner tables listing number bytes own found =

@@ -14,7 +14,7 @@ ghost use Rattle.rss_model.specs.Store.{IsListedImage};
 ghost use Rattle.rss_entries.specs.Images.{image_of, key_of};
 ghost use Rattle.rss_entries.specs.Keyed.{kinds_of};
 ghost use Rattle.rss_access.specs.Changes.{both, CanAlter};
-ghost use Rattle.rss_access.specs.Imaging.{FindsOwner, FindsNextEntry, IsKeyLong};
+ghost use Rattle.rss_access.specs.Imaging.{FindsOwner, FindsNextEntry, IsKeyLong, ListsImage};
 
 use crate::rooms::image_width;
 use rss_base::{Key, PageFault, Pages, Tid};
@@ -29,6 +29,7 @@ pub(crate) fn image_of(catalog: &Catalog, number: u8) -> Image
     ensures is { (image : AnImage) (relation : Entry)
         → IsListedImage catalog.now.listing number image relation
         → result ≡ image_of number image relation }
+    ensures listed { ListsImage catalog.now.listing number }
     ensures of { AreNodes (nodes_of result) }
     ensures low { 1 ≤ result.levels }
 {

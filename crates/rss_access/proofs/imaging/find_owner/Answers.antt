@@ -1,41 +1,49 @@
-use Rattle.std.proofs.Common.{rules, ◌≡◌, ◌+◌, ◌*◌, ◌≤◌, true, Some, All, is_some, IfOk, IfSome, OnOk, ℕ, ◌-◌, ◌<◌, length, ◌/◌, ◌%◌, Bool, false, nat_eq, nat_lt, List, [], ◌∷◌, ◌++◌, slice_index_or, slice_set, bit_and, bit_or, Fits, w8, w32, w64, Bor, MutBor}
-use Rattle.rss_base.specs.DiskRule.{IsTold}
+-- The image is that of the catalog's entry, which shows the tables that the pages spell.
+use Rattle.std.proofs.Common.{◌≡◌, ◌<◌, ◌+◌, ◌*◌, ℕ, List, sym, ◌∙◌, ap, subst}
+use Rattle.std.specs.Prelude.{Option}
+use Rattle.std.proofs.Math.Logic.{∥∥₁_map}
+use Rattle.std.proofs.lemmas.Result.{IfOk-weaker}
 use Rattle.rss_base.specs.Steps.{PagesCall, no_page}
-use Rattle.rss_base.specs.Listings.{image_at}
-use Rattle.rss_base.specs.TupleTypes.{kinds, SpellsSome}
-use Rattle.rss_base.specs.declared.image.ImageEntry.{ImageEntry as AnImage}
-use Rattle.rss_base.specs.declared.relation.RelationEntry.{RelationEntry as Entry}
-use Rattle.rss_value.specs.Numbers.{IsNumberOf}
-use Rattle.rss_tuple.specs.Heaps.{AreHeaps}
-use Rattle.rss_node.specs.Nodes.{AreNodes}
-use Rattle.rss_image.specs.Images.{nodes_of}
-use Rattle.rss_model.specs.Store.{IsListedImage}
-use Rattle.rss_entries.specs.Images.{image_of, key_of}
-use Rattle.rss_entries.specs.Keyed.{kinds_of}
-use Rattle.rss_access.specs.Changes.{both, CanAlter}
-use Rattle.rss_access.specs.Imaging.{FindsOwner, FindsNextEntry, IsKeyLong}
+use Rattle.rss_base.specs.TupleTypes.{SpellsSome}
+use Rattle.rss_base.specs.declared.tid.Tid.{Tid}
+use Rattle.rss_base.specs.declared.value.FieldKind.{FieldKind}
+use Rattle.rss_image.specs.declared.image.Image.{Image}
+use Rattle.rss_image.specs.Images.{HasImage}
+use Rattle.rss_tuple.proofs.Seen.{on_ok}
+use Rattle.rss_entries.specs.Moving.{KeyKinds}
+use Rattle.rss_access.proofs.Looking.{shows_fit, single, has_image, heaps_looked, key_width_passed, levels_passed}
 use Rattle.rss_access.proofs.imaging.find_owner.Goals as goal
 
--- src/imaging.rt:87:5
 pub find_owner-requires-clause-width : goal.find_owner-requires-clause-width
-find_owner-requires-clause-width g c = ?
+find_owner-requires-clause-width g c = key_width_passed c.image_of-image.ensures.listed c.image_of-image.ensures.is c.key_fields-key.ensures.is
 
--- src/imaging.rt:87:5
 pub find_owner-requires-clause-spelled : goal.find_owner-requires-clause-spelled
-find_owner-requires-clause-spelled g c = ?
+find_owner-requires-clause-spelled g c =
+    let listed = c.image_of-image.ensures.listed in
+    subst (λ (fields : List FieldKind). SpellsSome fields c.args.values.now) (ap (λ (k : KeyKinds). k.fields) (sym (c.key_fields-key.ensures.is listed.image listed.relation listed.at)))
+    (c.requires.spelled listed.image listed.relation listed.at)
 
--- src/imaging.rt:87:5
 pub find_owner-requires-clause-there : goal.find_owner-requires-clause-there
-find_owner-requires-clause-there g c = ?
+find_owner-requires-clause-there g c = λ told.
+    let view = g.P.Pages.view c.args.tuples.now.pages in
+    let few : view.slots < 4294967296 = subst (λ (n : ℕ). n < 4294967296) c.slots-slots.ensures c.slots-slots.type_inv in
+    let listed = c.image_of-image.ensures.listed in
+    ∥∥₁_map (c.requires.may.tables told (record { number = c.args.number; image = listed.image; at = listed.at.at })) (λ has.
+    subst (λ (i : Image). HasImage i view.held) (sym (c.image_of-image.ensures.is listed.image listed.relation listed.at))
+    (has_image few (g.met.P.Pages.holds c.args.tuples.now.pages told) (g.met.P.Pages.allowed c.args.tuples.now.pages) listed.at has))
 
--- src/imaging.rt:63:1
 pub returns-clause-owner : goal.returns-clause-owner
-returns-clause-owner g c = ?
+returns-clause-owner g c = IfOk-weaker c.find_owner.result _ _ (λ found owner told tables spells fit image relation listed unique values spelled.
+    let view = g.P.Pages.view c.args.tuples.now.pages in
+    let few : view.slots < 4294967296 = subst (λ (n : ℕ). n < 4294967296) c.slots-slots.ensures c.slots-slots.type_inv in
+    owner told c.args.catalog.now.listing tables c.args.number image relation (shows_fit view spells listed few fit)
+    (c.image_of-image.ensures.is image relation listed) (c.key_fields-key.ensures.is image relation listed)
+    (single view spells listed fit unique) values spelled) c.find_owner.ensures.owner
 
--- src/imaging.rt:63:1
 pub returns-clause-heaps : goal.returns-clause-heaps
-returns-clause-heaps g c = ?
+returns-clause-heaps g c = on_ok c.find_owner.result (λ told. heaps_looked c.find_owner.ensures.did.step told (c.requires.may.heaps told))
 
--- src/imaging.rt:63:1
 pub returns-clause-did : goal.returns-clause-did
-returns-clause-did g c = ?
+returns-clause-did g c = λ image at.
+    subst (λ (n : ℕ). PagesCall no_page (2 * (n + 1)) (2 * (n + 1)) (g.P.Pages.view c.args.tuples.now.pages) (g.P.Pages.view c.find_owner.new.pages) c.find_owner.result)
+    (levels_passed c.image_of-image.ensures.listed c.image_of-image.ensures.is at) c.find_owner.ensures.did

@@ -25,3 +25,6 @@ pub returns-clause-of : goal.returns-clause-of
 returns-clause-of c =
     subst (λ (width : ℕ). AreNodes (record { segment = c.relation-relation.result.now.segment; image = c.args.number; width = width })) (sym c.image_width.ensures.is)
     (image_nodes c.relation-relation.ensures.is c.image-entry.ensures.safe c.image_width.ensures.places c.relation-relation.ensures.safe c.args.number)
+
+pub returns-clause-listed : goal.returns-clause-listed
+returns-clause-listed c = record { image = c.image-entry.result.now; relation = c.relation-relation.result.now; at = record { at = c.image-entry.ensures.is; within = c.relation-relation.ensures.is } }
