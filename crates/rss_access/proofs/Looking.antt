@@ -25,7 +25,7 @@ use Rattle.rss_entries.specs.Images.{AreTuples, image_of, key_of}
 use Rattle.rss_entries.specs.Seeking.{ShowsImage, AreSingle}
 use Rattle.rss_entries.proofs.Telling.{has_shown}
 use Rattle.rss_access.specs.Changes.{AccessView, HasTables}
-use Rattle.rss_access.specs.Imaging.{ListsImage}
+use Rattle.rss_access.specs.Imaging.{ListsImage, IsKeyLong}
 use Rattle.rss_access.proofs.Heaped.{heaps_alike}
 use Rattle.rss_access.proofs.ImageKeys.{width_is}
 use Rattle.rss_access.proofs.Spelling.{all_storable}
@@ -77,3 +77,11 @@ module _ {listing : Listing} {number : ℕ} (listed : ListsImage listing number)
 
   pub levels_passed : {image : ImageEntry} → image_at listing number ≡ Some image → passed.levels ≡ image.levels
   levels_passed at = ap (λ (i : Image). i.levels) (is listed.image listed.relation listed.at) ∙ ap (λ (e : ImageEntry). e.levels) (same_Some _ _ (sym listed.at.at ∙ at))
+
+  -- a key is as long as its keys
+  pub key_long : (key : List ℕ) → IsKeyLong listing number key → length key ≡ passed.width
+  key_long key long = long listed.image listed.relation listed.at ∙ sym width_passed
+
+  pub pair_long : (pair : Option (List ℕ × Tid)) → IfSome pair (λ p. IsKeyLong listing number p.0) → IfSome pair (λ p. length p.0 ≡ passed.width)
+  pair_long None long = tt
+  pair_long (Some pair) long = key_long pair.0 long

@@ -1,41 +1,42 @@
-use Rattle.std.proofs.Common.{rules, ◌≡◌, ◌+◌, ◌*◌, ◌≤◌, true, Some, All, is_some, IfOk, IfSome, OnOk, ℕ, ◌-◌, ◌<◌, length, ◌/◌, ◌%◌, Bool, false, nat_eq, nat_lt, List, [], ◌∷◌, ◌++◌, slice_index_or, slice_set, bit_and, bit_or, Fits, w8, w32, w64, Bor, MutBor}
-use Rattle.rss_base.specs.DiskRule.{IsTold}
+-- The image is that of the catalog's entry, which shows the tables that the pages spell.
+use Rattle.std.proofs.Common.{◌≡◌, ◌<◌, ◌+◌, ℕ, List, length, sym, ◌∙◌, ap, subst}
+use Rattle.std.specs.Prelude.{Option, Some, None, IfSome}
+use Rattle.std.proofs.Math.Logic.{∥∥₁_map}
+use Rattle.std.proofs.lemmas.Result.{IfOk-weaker}
 use Rattle.rss_base.specs.Steps.{PagesCall, no_page}
-use Rattle.rss_base.specs.Listings.{image_at}
-use Rattle.rss_base.specs.TupleTypes.{kinds, SpellsSome}
-use Rattle.rss_base.specs.declared.image.ImageEntry.{ImageEntry as AnImage}
-use Rattle.rss_base.specs.declared.relation.RelationEntry.{RelationEntry as Entry}
-use Rattle.rss_value.specs.Numbers.{IsNumberOf}
-use Rattle.rss_tuple.specs.Heaps.{AreHeaps}
-use Rattle.rss_node.specs.Nodes.{AreNodes}
-use Rattle.rss_image.specs.Images.{nodes_of}
-use Rattle.rss_model.specs.Store.{IsListedImage}
-use Rattle.rss_entries.specs.Images.{image_of, key_of}
-use Rattle.rss_entries.specs.Keyed.{kinds_of}
-use Rattle.rss_access.specs.Changes.{both, CanAlter}
-use Rattle.rss_access.specs.Imaging.{FindsOwner, FindsNextEntry, IsKeyLong, ListsImage}
+use Rattle.rss_base.specs.declared.tid.Tid.{Tid}
+use Rattle.rss_image.specs.declared.image.Image.{Image}
+use Rattle.rss_image.specs.Images.{HasImage}
+use Rattle.rss_tuple.proofs.Seen.{on_ok}
+use Rattle.rss_access.proofs.Looking.{shows_fit, has_image, heaps_looked, key_long, pair_long, levels_passed}
 use Rattle.rss_access.proofs.imaging.next_entry.Goals as goal
 
--- src/imaging.rt:117:5
 pub next_pair-requires-clause-long : goal.next_pair-requires-clause-long
-next_pair-requires-clause-long g c = ?
+next_pair-requires-clause-long g c = key_long c.image_of-image.ensures.listed c.image_of-image.ensures.is c.args.start.now c.requires.long
 
--- src/imaging.rt:117:5
 pub next_pair-requires-clause-last_long : goal.next_pair-requires-clause-last_long
-next_pair-requires-clause-last_long g c = ?
+next_pair-requires-clause-last_long g c = pair_long c.image_of-image.ensures.listed c.image_of-image.ensures.is c.args.last.now c.requires.last_long
 
--- src/imaging.rt:117:5
 pub next_pair-requires-clause-there : goal.next_pair-requires-clause-there
-next_pair-requires-clause-there g c = ?
+next_pair-requires-clause-there g c = λ told.
+    let view = g.P.Pages.view c.args.tuples.now.pages in
+    let few : view.slots < 4294967296 = subst (λ (n : ℕ). n < 4294967296) c.slots-slots.ensures c.slots-slots.type_inv in
+    let listed = c.image_of-image.ensures.listed in
+    ∥∥₁_map (c.requires.may.tables told (record { number = c.args.number; image = listed.image; at = listed.at.at })) (λ has.
+    subst (λ (i : Image). HasImage i view.held) (sym (c.image_of-image.ensures.is listed.image listed.relation listed.at))
+    (has_image few (g.met.P.Pages.holds c.args.tuples.now.pages told) (g.met.P.Pages.allowed c.args.tuples.now.pages) listed.at has))
 
--- src/imaging.rt:93:1
 pub returns-clause-next : goal.returns-clause-next
-returns-clause-next g c = ?
+returns-clause-next g c = IfOk-weaker c.next_pair.result _ _ (λ found next told tables spells fit image relation listed.
+    let view = g.P.Pages.view c.args.tuples.now.pages in
+    let few : view.slots < 4294967296 = subst (λ (n : ℕ). n < 4294967296) c.slots-slots.ensures c.slots-slots.type_inv in
+    next told c.args.catalog.now.listing tables c.args.number image relation (shows_fit view spells listed few fit)
+    (c.image_of-image.ensures.is image relation listed)) c.next_pair.ensures.next
 
--- src/imaging.rt:93:1
 pub returns-clause-heaps : goal.returns-clause-heaps
-returns-clause-heaps g c = ?
+returns-clause-heaps g c = on_ok c.next_pair.result (λ told. heaps_looked c.next_pair.ensures.did.step told (c.requires.may.heaps told))
 
--- src/imaging.rt:93:1
 pub returns-clause-did : goal.returns-clause-did
-returns-clause-did g c = ?
+returns-clause-did g c = λ image at.
+    subst (λ (n : ℕ). PagesCall no_page (n + 1) (n + 1) (g.P.Pages.view c.args.tuples.now.pages) (g.P.Pages.view c.next_pair.new.pages) c.next_pair.result)
+    (levels_passed c.image_of-image.ensures.listed c.image_of-image.ensures.is at) c.next_pair.ensures.did
