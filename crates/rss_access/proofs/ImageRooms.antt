@@ -7,7 +7,7 @@ use Rattle.std.proofs.lemmas.List.Sums.{sum_by-cons, sum_by_more}
 use Rattle.rss_base.specs.Listings.{Listing, numbered, names_of, image_at}
 use Rattle.rss_base.specs.declared.image.ImageEntry.{ImageEntry}
 use Rattle.rss_base.specs.declared.refusal.Kind.TheVariants.{Image as ImageKind}
-use Rattle.rss_catalog.proofs.Numbered.{numbered_at, numbered_past, numbered_map}
+use Rattle.rss_catalog.proofs.Numbered.{numbered_at, numbered_past, numbered_map, unused_none}
 
 -- ---- whether a number is used
 
@@ -59,3 +59,16 @@ module _ {A : Type 0} (f : Option A → ℕ) (none : f None ≡ 0) where
     where
       less : (k : ℕ) → k ≡ k + 1 - 1
       less k = omega arith
+
+-- one image more, or none
+module _ (f : Option ImageEntry → ℕ) (none : f None ≡ 0) (listing : Listing) (place sum : ℕ) (before : sum ≡ sum_by f (take place listing.images)) where
+  pub image_added : {image : ImageEntry} {more now : ℕ} → image_at listing (place + 1) ≡ Some image → more ≡ f (Some image) → now ≡ sum + more → now ≡ sum_by f (take (place + 1) listing.images)
+  image_added at more_is now_is = now_is ∙ (λ i. before i + (more_is ∙ ap f (sym at)) i) ∙ sym (sum_more f none listing.images place)
+
+  pub image_passed : {now : ℕ} → is_some (numbered (names_of ImageKind listing) (place + 1)) ≡ false → now ≡ sum → now ≡ sum_by f (take (place + 1) listing.images)
+  image_passed free same =
+      let at : image_at listing (place + 1) ≡ None = unused_none _ (sym (image_used listing (place + 1)) ∙ free) in
+      same ∙ before ∙ plus_none _ _ (ap f at ∙ none) ∙ sym (sum_more f none listing.images place)
+    where
+      plus_none : (a b : ℕ) → b ≡ 0 → a ≡ a + b
+      plus_none a b is = omega arith

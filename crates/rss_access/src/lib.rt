@@ -13,4 +13,5 @@ pub use applying::{apply, undo};
 pub use bodies::{body_of, tuple_of};
 pub use edit::TUPLES_MOST;
 pub use imaging::{find_owner, next_entry};
+pub use rooms::image_bound;
 pub use tuples::{delete, find, find_next, insert, update};

@@ -1,9 +1,10 @@
 // Room for a change.
-ghost use Rattle.std.specs.Prelude.{◌≡◌, ◌+◌, ◌*◌, ◌^◌, ◌≤◌, true, false, length, Some, All};
+ghost use Rattle.std.specs.Prelude.{◌≡◌, ◌+◌, ◌*◌, ◌^◌, ◌<◌, ◌≤◌, true, false, length, Some, All};
 ghost use Rattle.rss_base.specs.DiskRule.{IsTold};
 ghost use Rattle.rss_base.specs.Listings.{field_numbers};
 ghost use Rattle.rss_base.specs.Sizes.{images_most};
 ghost use Rattle.rss_base.specs.TupleTypes.{most_fields, most_key_width};
+ghost use Rattle.rss_image.specs.Images.{page_bound};
 ghost use Rattle.rss_value.specs.Numbers.{IsNumberOf};
 ghost use Rattle.rss_entries.specs.Rooms.{width_of, room_of, images_room};
 ghost use Rattle.rss_access.specs.Changes.{both, HasTables, HasRoom};
@@ -56,6 +57,18 @@ fn image_room(relation: &RelationEntry, image: &ImageEntry, number: u8) -> u64
     ensures small { result ≤ 2 ^ 32 + 2 }
 {
     let pairs = u64::from(relation.live) + u64::from(image.relation == number);
+    image_bound(relation, image, pairs)
+}
+
+/// How many pages an image of a relation may have that has so many pairs.
+pub fn image_bound(relation: &RelationEntry, image: &ImageEntry, pairs: u64) -> u64
+    requires few { image.now.count ≤ most_fields }
+    requires within { All (IsNumberOf relation.now.fields) (field_numbers image.now) }
+    requires narrow { width_of image.now relation.now ≤ most_key_width }
+    requires pairs { pairs < 2 ^ 63 }
+    ensures is { result ≡ page_bound (width_of image.now relation.now) pairs }
+    ensures small { result ≤ pairs + 2 }
+{
     let least = (capacity(image_width(relation, image)) / 2) as u64;
     pairs / (least - 1) + 2
 }

@@ -262,6 +262,14 @@ impl Catalog {
         self.last_image
     }
 
+    /// No relation has a number above this one.
+    pub fn last_relation(&self) -> u8
+        ensures none { (number : ℕ) → result < number → relation_at self.now.listing number ≡ None }
+        ensures few { result ≤ relations_most }
+    {
+        self.relations.len() as u8
+    }
+
     /// Whether a relation of this segment is defined.
     pub fn has_relation_in(&self, segment: u8) -> bool
         ensures { IsTrue result ↔ HasRelationIn self.now.listing segment }
@@ -315,6 +323,7 @@ impl Catalog {
         ensures least { IsLeastUnused Relation self.old.listing result }
         ensures lists { Lists (with_relation self.old.listing result (Some relation))
             (page_of Relation result) self.old self.new }
+        ensures none { HasImageOf self.old.listing result → ⊥ }
         ensures fits { ListingFits self.old.listing → ListingFits self.new.listing }
     {
         let number = self.first_unused(Kind::Relation).unwrap();
@@ -460,8 +469,9 @@ impl Catalog {
         requires fits { IfSome relation (EntryFits self.old.listing) }
         requires no_image { is_some (relation_at self.old.listing number) ≡ true
             → HasImageOf self.old.listing number → ⊥ }
-        ensures { Lists (with_relation self.old.listing number relation) (page_of Relation number)
+        ensures lists { Lists (with_relation self.old.listing number relation) (page_of Relation number)
             self.old self.new }
+        ensures none { HasImageOf self.old.listing number → ⊥ }
     {
         self.relations[usize::from(number) - 1] = relation;
         self.pending[usize::from(page_of(number))] = true;

@@ -52,7 +52,7 @@ module _ (listing : Listing) (entries : ℕ → ℕ) where
   rootless_bound image None = refl
   rootless_bound image (Some relation) = refl
 
-  rootless_bounds : (images : List (Option ImageEntry)) → sum_by (bound_at listing entries) (map (option_map rootless) images) ≡ sum_by (bound_at listing entries) images
+  pub rootless_bounds : (images : List (Option ImageEntry)) → sum_by (bound_at listing entries) (map (option_map rootless) images) ≡ sum_by (bound_at listing entries) images
   rootless_bounds [] = refl
   rootless_bounds (None ∷ images) = omega (arith, rootless_bounds images, sum_by-cons (bound_at listing entries) None images, sum_by-cons (bound_at listing entries) None (map (option_map rootless) images))
   rootless_bounds (Some image ∷ images) = omega (

@@ -42,7 +42,9 @@ use Rattle.rss_session.specs.Looks.{LooksOn}
 use Rattle.rss_session.specs.Parts.{view as session_view}
 use Rattle.rss_session.specs.Sessions.{SessionView}
 use Rattle.rss_session.specs.declared.session.Session.{Session}
+use Rattle.rss_session.specs.Changes.{relation_told}
 use Rattle.rss_session.specs.Weighing.{outcome, RulesSo}
+use Rattle.rss_session.proofs.Changed.{numbered_told}
 use Rattle.rss_session.proofs.Passing.{goes_then, goes_still, goes_opened}
 use Rattle.rss_rsi.specs.Changing.{RulesSay, StillShows, ChangeEnds, IsChangeOf}
 use Rattle.rss_rsi.specs.Placing.{MayCost}
@@ -62,11 +64,12 @@ refused_so SavesFirst = refl
 refused_so (NoRoom slots needed) = refl
 refused_so (NoLogRoom free needed) = refl
 
-pub rules_say : {view : SessionView} {t : ℕ} {told_change : told.Change} {result : Result Bool Refusal} → RulesSo view t (record_size (records.Change t told_change)) result → RulesSay view t told_change (refused_in result)
+pub rules_say : {view : SessionView} {t : ℕ} {told_change : told.Change} {result : Result Bool Refusal} → RulesSo view t (relation_told told_change) (record_size (records.Change t told_change)) result → RulesSay view t told_change (refused_in result)
 rules_say {view = view} {t = t} {told_change = told_change} {result = result} rules told state change by is_told shows =
     let size : change_size change ≡ record_size (records.Change t told_change) =
     sym (change_told_size view.store.catalog.listing change.by told_change change is_told.tells is_told.means) ∙ ap (λ (u : ℕ). record_size (records.Change u told_change)) by in
-    refused_so (ruling state change) ∙ ap refused_in (rules told state change by size shows)
+    let its = numbered_told view.store.catalog.listing change.by change told_change is_told.tells is_told.means in
+    refused_so (ruling state change) ∙ ap refused_in (rules told state change by its size shows)
 
 -- ---- what comes of a change
 
@@ -79,7 +82,7 @@ goes_anyhow : {T : Type 0} {old new : SessionView} {made : Result T PageFault} �
 goes_anyhow on = goes_still tt on refl refl (λ t. omega arith)
 
 pub change_refused : {T : Type 0} {session : SessionView} {up : Type 0} {t : ℕ} {told_change : told.Change} {why : Refusal} (result : Result T CallError) → IsErrAnd result (λ e. e ≡ Refused why) → up
-    → RulesSo session t (record_size (records.Change t told_change)) (Err why) → IsShort (Err why) → IsChangeOf session session up t told_change result
+    → RulesSo session t (relation_told told_change) (record_size (records.Change t told_change)) (Err why) → IsShort (Err why) → IsChangeOf session session up t told_change result
 change_refused {session = session} {up = up} {t = t} {told_change = told_change} result is is_up rules short =
     let so = err_from_is_err_and result is in
     subst (IsChangeOf session session up t told_change) (sym (so.1 ∙ ap Err so.2)) (record {
@@ -103,7 +106,7 @@ module _ {old mid new : SessionView} (same : mid.store ≡ old.store) (still : S
   goes_mid : SessionGoesOn old new made
   goes_mid = goes_then (goes_still {U = ⊤} tt (goes_nothing old) (ap (λ (s : StoreView). s.pages) same) (ap (λ (s : StoreView). s.root) same) saves) on
 
-  pub change_made : {U : Type 0} {up : Type 0} {t : ℕ} {told_change : told.Change} {saves_first : Bool} (done : U) → up → RulesSo old t (record_size (records.Change t told_change)) (Ok saves_first)
+  pub change_made : {U : Type 0} {up : Type 0} {t : ℕ} {told_change : told.Change} {saves_first : Bool} (done : U) → up → RulesSo old t (relation_told told_change) (record_size (records.Change t told_change)) (Ok saves_first)
       → (IsTold mid.store.pages.disk → Makes mid new t told_change) → KeepsTables mid new → IsChangeOf old new up t told_change (Ok done)
   change_made done is_up rules makes keeps = record {
     ends = (
@@ -118,7 +121,7 @@ module _ {old mid new : SessionView} (same : mid.store ≡ old.store) (still : S
   }
 
   pub change_failed : {U : Type 0} {up : Type 0} {t : ℕ} {told_change : told.Change} {saves_first : Bool} {fault : PageFault} (result : Result U CallError) → IsErrAnd result (λ e. e ≡ page_error fault) → made ≡ Err fault → (up → ⊥)
-      → RulesSo old t (record_size (records.Change t told_change)) (Ok saves_first)
+      → RulesSo old t (relation_told told_change) (record_size (records.Change t told_change)) (Ok saves_first)
       → ((place : Place) → made ≡ Err (PageDamaged place) → IsTold mid.store.pages.disk → MayNotMake mid t told_change) → KeepsTables mid new → IsChangeOf old new up t told_change result
   change_failed {U = U} {up = up} {t = t} {told_change = told_change} {fault = fault} result is was down rules sound keeps =
       let so = err_from_is_err_and result is in

@@ -201,12 +201,12 @@ module _ {S : Type 0} (pages_view : S → PagesView) {to : Definition S} {now : 
           (holders_stay before (with_held new) is.ready.holders (opened_stay before.session new (opened_same transactions)) (ap (λ (l : LocksView). l.locks) is.locked))
           (subst GoOverRelations (sym is.scanned) is.ready.relations)
 
-    -- the device failed, or shows damage, which none does that tells its contents
+    -- the device failed, or shows damage, which none does that tells its contents, where what is listed may be committed
     pub redefining_fails : {new : SessionView} {fault : PageFault} {up_now : Type 0} (answer : Result Reply CallError) → IsErrAnd answer (λ why. why ≡ page_error fault) → (up_now → ⊥)
         → SessionGoesOn {T = Unit {0}} between new (Err fault) → RedefinesTables between new → new.store.pages.asks ≡ between.store.pages.asks
-        → ((place : Place) → ◌≡◌ {A = Result (Unit {0}) PageFault} (Err fault) (Err (PageDamaged place)) → IsTold between.store.pages.disk → ⊥) → IsCallOf (view_of pages_view to) (engine_view (with_held new) calls up_now) to.call answer
+        → ((place : Place) → ◌≡◌ {A = Result (Unit {0}) PageFault} (Err fault) (Err (PageDamaged place)) → IsTold between.store.pages.disk → (catalog : CatalogView) (state : State) (definitions : Definitions) → IsRedefined between catalog state definitions → ⊥) → IsCallOf (view_of pages_view to) (engine_view (with_held new) calls up_now) to.call answer
     redefining_fails answer answered down on moments asks sound =
-        failed_within answer answered refl down (on_before on moments asks) (goes_redefining on moments asks) (λ place same told state is_in. sound place same (told_then told)) (may_stop on moments asks)
+        failed_within answer answered refl down (on_before on moments asks) (goes_redefining on moments asks) (λ place same told state is_in. sound place same (told_then told) to.session.store.catalog state (definitions on moments asks told state is_in) (redefining on moments asks told state is_in)) (may_stop on moments asks)
 
 -- ---- calls that define
 

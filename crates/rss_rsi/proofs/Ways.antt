@@ -68,6 +68,7 @@ shows_with {state = state} locks scans shows =
       told = shows.told;
       counted = record {
         since = record { all = counted.since.all; each = counted.since.each; fewer = counted.since.fewer };
+        each = counted.each;
         heap = counted.heap;
         surviving = counted.surviving;
         rooms = record {

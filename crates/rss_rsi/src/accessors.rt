@@ -5,6 +5,7 @@ ghost use Rattle.rss_access.specs.Written.{heap_now};
 ghost use Rattle.rss_log.specs.Logs.{free_of};
 ghost use Rattle.rss_model.specs.Machine.{State};
 ghost use Rattle.rss_model.specs.Meter.{room_number, log_room};
+ghost use Rattle.rss_session.specs.Sessions.{counts};
 ghost use Rattle.rss_session.specs.Weighing.{room_of};
 
 use crate::Rss;
@@ -21,7 +22,7 @@ impl<S: Saving> Rss<S> {
         self.session.store.slots()
     }
 
-    /// How many pages are mapped: those of the system space, and the home and overflow pages.
+    /// How many pages are mapped: those of the system space, of the heap and of images.
     pub fn mapped(&self) -> u32
         ensures { result ≡ mapped_pages (S.view (pages_below self.now)).slots
             (S.view (pages_below self.now)).mapped }
@@ -33,14 +34,17 @@ impl<S: Saving> Rss<S> {
     pub fn heap(&self) -> u32
         ensures { (view self.now).is_up → result ≡ heap_now (S.view (pages_below self.now)) }
     {
-        self.mapped().saturating_sub(SYSTEM_PAGES)
+        self.mapped()
+            .saturating_sub(self.session.image_pages())
+            .saturating_sub(SYSTEM_PAGES)
     }
 
     /// How many slots may be needed, by the rule of room: a change is refused where one more might
     /// need more than there are.
     pub fn room(&self) -> u64
         ensures room { result ≡ min (room_of (session_of self.now).heap
-            (session_of self.now).surviving (session_of self.now).opened.since) (2 ^ 64 - 1) }
+            (session_of self.now).surviving (session_of self.now).opened.since
+            (counts (session_of self.now)).images) (2 ^ 64 - 1) }
         ensures states { (state : State) → (view self.now).shows state
             → result ≡ room_number state.base.definitions state.meter }
     {

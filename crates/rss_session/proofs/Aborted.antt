@@ -27,11 +27,12 @@ use Rattle.rss_store.specs.Commits.{HasLogRoom}
 use Rattle.rss_store.specs.Stores.{StoreView, Grows}
 use Rattle.rss_store.specs.Stores.{IsReady as IsStoreReady}
 use Rattle.rss_store.specs.Shown.{Shows as StoreShows}
-use Rattle.rss_session.specs.Sessions.{SessionView, IsReady, IsEarly, sums_in}
+use Rattle.rss_session.specs.Sessions.{SessionView, CountsStill, IsReady, IsEarly, sums_in}
 use Rattle.rss_session.specs.Shown.{Shows, IsRested}
 use Rattle.rss_session.specs.Calls.{TakesBack, GoesBack, Aborts}
 use Rattle.rss_session.proofs.Fewer.{changers, gone_p, gone_q, gone_opened, gone_placed}
 use Rattle.rss_session.proofs.Steady.{shows_same, none_more, overflow_still, size_some, none_there, changes_all, stamps_all}
+use Rattle.rss_session.proofs.Traffic.{each_again}
 use Rattle.rss_session.proofs.Ended.{ready_again, free_grown, one_more}
 use Rattle.rss_session.proofs.Restored.{still_open, fewer_p, fewer_q, free_same, undone_some, grown_placed, same_over, same_shown, fewer_rested}
 
@@ -57,22 +58,22 @@ module _ (old mid : SessionView) (t : ℕ) (first : Option ℕ) (ready : IsReady
         limit = omega (arith, early, ap (λ (l : LogView). l.end) takes.log);
       }
 
-  pub ready_aborted : (new : SessionView) → IsReady mid → new.heap ≡ mid.heap → new.surviving ≡ mid.surviving → page_counts new.store.pages ≡ page_counts mid.store.pages → IsStoreReady new.store
+  pub ready_aborted : (new : SessionView) → IsReady mid → CountsStill mid new → new.store.catalog ≡ mid.store.catalog → page_counts new.store.pages ≡ page_counts mid.store.pages → IsStoreReady new.store
       → Ends t mid.opened new.opened → Grows end_size mid.store.log new.store.log → IsReady new
-  ready_aborted new ready_mid heap surviving pages store ends grows =
+  ready_aborted new ready_mid still catalog pages store ends grows =
       let there = still_open old mid t 0 first ready opened takes in
       let less = gone_p mid.opened new.opened t there ends in
       let count = gone_q mid.opened new.opened t there ends in
       let before = fewer_p old mid t 0 first ready opened takes in
-      ready_again mid new ready_mid store ends.since heap surviving pages (omega (arith, less))
+      ready_again mid new ready_mid store ends.since ends.since_of still catalog pages (omega (arith, less))
       (omega (arith, ready.log, less, count, before, one_changer, free_grown grows, free_same old mid t 0 first ready opened takes))
-      (gone_placed mid.opened new.opened t there ends new.store.log.head new.store.log.end (grown_placed old mid t 0 first ready opened takes new ready_mid heap surviving pages store grows))
+      (gone_placed mid.opened new.opened t there ends new.store.log.head new.store.log.end (grown_placed old mid t 0 first ready opened takes new ready_mid still catalog pages store grows))
       (gone_opened mid.opened new.opened t there ends)
 
 -- ---- the next state
 
 module _ (old mid new : SessionView) (t : ℕ) (first : Option ℕ) (state : State) (kept : Kept state) (shows : Shows old state) (back : GoesBack mid state t 0 first)
-    (ends : Ends t mid.opened new.opened) (heap : new.heap ≡ mid.heap) (surviving : new.surviving ≡ mid.surviving) (catalog : new.store.catalog ≡ mid.store.catalog) where
+    (ends : Ends t mid.opened new.opened) (still : CountsStill mid new) (catalog : new.store.catalog ≡ mid.store.catalog) where
   abbrev over_then : ℕ
   over_then = back.shows.store.over
 
@@ -89,8 +90,9 @@ module _ (old mid new : SessionView) (t : ℕ) (first : Option ℕ) (state : Sta
     counted = record {
       since = subst (λ (c : CatalogView). TellsSince c.listing new.opened (gone t over_then state).meter) (sym catalog)
           (since_stays mid.store.catalog.listing mid.opened new.opened _ over_then _ state.meter back.shows.counted.since ends.since ends.since_of);
-      heap = back.shows.counted.heap ∙ sym heap;
-      surviving = back.shows.counted.surviving ∙ sym surviving;
+      each = each_again catalog still back.shows.counted.each;
+      heap = back.shows.counted.heap ∙ sym still.heap;
+      surviving = back.shows.counted.surviving ∙ sym still.surviving;
       rooms = aborts_keep_rooms state t over_then kept back.shows.counted.rooms undone_own;
     };
     rested = rested;

@@ -22,15 +22,14 @@ use Rattle.rss_trans.specs.Transactions.{Transaction, is_open, transaction_in, c
 use Rattle.rss_trans.specs.Told.{TellsOpen}
 use Rattle.rss_trans.proofs.Asked.{changes_told, positions_told, saves_told}
 use Rattle.rss_trans.proofs.Noting.{all_stay}
-use Rattle.rss_access.specs.Changes.{number_told}
 use Rattle.rss_store.specs.Changing.{own_positions, IsOwnAt, AltersPages, MayNotTakeBack}
 use Rattle.rss_store.specs.Shown.{ShowsWith}
-use Rattle.rss_session.specs.Sessions.{SessionView, IsReady}
+use Rattle.rss_session.specs.Sessions.{SessionView, CountsStill, IsReady}
 use Rattle.rss_session.specs.Shown.{Shows, ShowsBack}
 use Rattle.rss_session.specs.Calls.{NoMoreSaves, GoesOn, KeepsTables, ShowsNone, HasMarks, taken_to, TakesNewest, TakesBackOne, TakesBack, GoesBack}
 use Rattle.rss_session.proofs.Fewer.{IsLastAt, put_here, put_open, taken_all, taken_then, newest_at, newest_none, taken_get, length_taken, none_from}
 use Rattle.rss_session.proofs.Steady.{changes_kept, none_there}
-use Rattle.rss_session.proofs.ToldBack.{tells_back}
+use Rattle.rss_session.proofs.ToldBack.{turned_back, tells_back}
 use Rattle.rss_session.proofs.Undone.{room_back}
 
 abbrev pub position_of : Noted → ℕ
@@ -48,8 +47,7 @@ pub record WayBack (t save : ℕ) (old new : SessionView) (first : Option ℕ) :
   pub opened : Steps t (taken_to left) old.opened new.opened
   pub oldest : first ≡ option_map position_of (slice_get (changes_in_all old t) left)
   pub ready : IsReady new
-  pub heap : new.heap ≡ old.heap
-  pub surviving : new.surviving ≡ old.surviving
+  pub still : CountsStill old new
   pub log : new.store.log ≡ old.store.log
   pub root : new.store.root ≡ old.store.root
   pub number : new.store.number ≡ old.store.number
@@ -103,8 +101,7 @@ begins_back view t save ready opened =
       opened = taken_all view.opened t whole opened (omega arith);
       oldest = sym (ap (option_map position_of) (slice_get_past changes whole (omega arith)));
       ready = ready;
-      heap = refl;
-      surviving = refl;
+      still = record { heap = refl; surviving = refl; entries = refl; survived = refl };
       log = refl;
       root = refl;
       number = refl;
@@ -153,8 +150,12 @@ module _ (old mid : SessionView) (t save : ℕ) (first : Option ℕ) (opened : i
       opened = taken_then old.opened mid.opened new.opened t last.older opened older_less (subst (λ (n : ℕ). Steps t (taken_to n) old.opened mid.opened) left_is way.opened) takes.opened;
       oldest = sym place_is;
       ready = ready;
-      heap = takes.heap ∙ way.heap;
-      surviving = takes.surviving ∙ way.surviving;
+      still = record {
+        heap = takes.still.heap ∙ way.still.heap;
+        surviving = takes.still.surviving ∙ way.still.surviving;
+        entries = takes.still.entries ∙ way.still.entries;
+        survived = takes.still.survived ∙ way.still.survived;
+      };
       log = log ∙ way.log;
       root = did.root ∙ way.root;
       number = did.number ∙ way.number;
@@ -168,10 +169,10 @@ module _ (old mid : SessionView) (t save : ℕ) (first : Option ℕ) (opened : i
     pub none_shown : IsTold old.store.pages.disk → MayNotTakeBack mid.store position → ShowsNone old
     none_shown told not state kept shows =
         let own = own_at old state t last.older position shows place_is in
-        let back = (shown_mid told state shows).store in
-        let tells = tells_back mid.store way.ready.store state t last.older position own back in
+        let back = shown_mid told state shows in
         let open_still = put_open old.opened mid.opened t (taken_to way.left (transaction_in old.opened t)) opened way.opened.transactions in
-        not tells.0 tells.1 (room_back mid t way.ready open_still (omega (arith, mid_count)) (number_told tells.0)) state t last.older own back
+        not (turned_back mid.store state t last.older position own back.store).told_change (tells_back mid.store state t last.older position own back.store)
+        (room_back mid state t last.older position way.ready open_still (omega (arith, mid_count)) kept own back) state t last.older own back.store
 
   -- ---- at the end
 
@@ -192,8 +193,7 @@ module _ (old mid : SessionView) (t save : ℕ) (first : Option ℕ) (opened : i
     takes_back = record {
       opened = subst (λ (n : ℕ). Steps t (taken_to n) old.opened mid.opened) left_save way.opened;
       oldest = subst (λ (n : ℕ). first ≡ option_map position_of (slice_get (changes_in_all old t) n)) left_save way.oldest;
-      heap = way.heap;
-      surviving = way.surviving;
+      still = way.still;
       log = way.log;
       root = way.root;
       number = way.number;

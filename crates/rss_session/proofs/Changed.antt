@@ -1,5 +1,5 @@
 -- A change that goes on as it is: the session is ready again, and in the machine's next state.
-use Rattle.std.proofs.Common.{◌≡◌, ℕ, ◌+◌, ◌-◌, ◌^◌, ◌<◌, Bool, true, false, List, ◌∷◌, refl, sym, ◌∙◌, ap, subst, arith}
+use Rattle.std.proofs.Common.{◌≡◌, ℕ, ◌+◌, ◌-◌, ◌*◌, ◌^◌, ◌<◌, ◌≤◌, Bool, true, false, if◌then◌else◌, List, ◌∷◌, refl, sym, ◌∙◌, ap, subst, arith}
 use Rattle.std.specs.Prelude.{Option, Some, None, is_some, is_none, unwrap_or, ◌&&◌, Ok}
 use Rattle.rss_base.specs.declared.change.Change as told
 use Rattle.rss_base.specs.declared.change.Change.TheVariants.{Insert, Delete, Update, Connect, Disconnect}
@@ -22,42 +22,36 @@ use Rattle.rss_model.specs.Rules.{ruling, refusal_by, goes_on}
 use Rattle.rss_model.specs.Ruled.{HasBothRooms, ruled}
 use Rattle.rss_model.specs.Spares.{page_counts, TakesTwo, IsInSession}
 use Rattle.rss_model.proofs.BothRooms.{changes_keep_rooms}
+use Rattle.rss_model.proofs.ImageRooms.{bound_rises}
 use Rattle.rss_model.proofs.LogCounting.{change_told_size}
 use Rattle.rss_model.proofs.Relisted.{number_of}
 use Rattle.rss_model.proofs.Ruling.{behind}
-use Rattle.rss_model.proofs.Sparing.{session_changes, spare_for_next}
+use Rattle.rss_model.proofs.Sparing.{session_changes}
 use Rattle.rss_trans.specs.declared.noted.Noted.{Noted}
-use Rattle.rss_trans.specs.Transactions.{OpenView, is_open, transaction_in, Notes}
+use Rattle.rss_trans.specs.Transactions.{OpenView, is_open, transaction_in, is_in, Notes, counted as counted_more}
 use Rattle.rss_trans.specs.Told.{IsNumbered, is_tuple, takes_away, IsNoteOf, TellsSince}
 use Rattle.rss_trans.proofs.Told.{change_tells, recounted_tells, same_names}
 use Rattle.rss_trans.proofs.Summing.{since_told}
-use Rattle.rss_access.specs.Changes.{IsTupleRecord, HasRoom, number_told}
+use Rattle.rss_access.specs.Changes.{IsTupleRecord, number_told}
 use Rattle.rss_store.specs.Stores.{Grows}
 use Rattle.rss_store.specs.Stores.{IsReady as IsStoreReady}
-use Rattle.rss_store.specs.Changing.{access, MayMake}
+use Rattle.rss_store.specs.Changing.{MayMake}
 use Rattle.rss_store.specs.Changing.{MakesOne as StoreMakesOne}
-use Rattle.rss_session.specs.Changes.{is_delete_told}
-use Rattle.rss_session.specs.Sessions.{SessionView, AreRising, IsReady, sums_in, owed_for, owed_by}
+use Rattle.rss_session.specs.Changes.{is_delete_told, relation_told}
+use Rattle.rss_session.specs.Sessions.{SessionView, CountsStill, most_in, AreRising, IsReady, sums_in, owed_for, owed_by}
 use Rattle.rss_session.specs.Sessions as sessions
 use Rattle.rss_session.specs.Shown.{Shows}
-use Rattle.rss_session.specs.Weighing.{weighed}
+use Rattle.rss_session.specs.Weighing.{most_with, images_with, weighed}
 use Rattle.rss_session.specs.Calls.{MakesOne}
+use Rattle.rss_session.proofs.Bounds.{bound_still, session_of}
 use Rattle.rss_session.proofs.Noted.{Goes, noted_p, noted_q, noted_placed, noted_open, weighed_on}
-use Rattle.rss_session.proofs.Taken.{room_for_two}
+use Rattle.rss_session.proofs.Traffic.{each_still, each_with, with_is}
 use Rattle.rss_session.proofs.Weighed.{goes_on_right}
-
--- ---- it may be made
-
--- there is room for it
-pub room_next : {view : SessionView} {t size : ℕ} → IsReady view → Goes view t size → (number : ℕ) → HasRoom (access view.store) number
-room_next {view = view} ready goes number =
-    let spare = spare_for_next (sessions.counts view) (sums_in view.opened).p (page_counts view.store.pages) (omega (arith, goes.room, ready.store.size)) ready.pages in
-    room_for_two view.store ready.store (omega (arith, spare)) number
 
 -- ---- a call may be made again
 
-module _ {old new : SessionView} {t size : ℕ} {note : Noted} (ready : IsReady old) (opened : is_open old.opened t ≡ true) (goes : Goes old t size) (store : IsStoreReady new.store) (notes : Notes t note old.opened new.opened)
-    (at : old.store.log.end ≡ note.position) (grows : Grows size old.store.log new.store.log) (some : 0 < size) (two : TakesTwo (page_counts old.store.pages) (page_counts new.store.pages)) (heap : new.heap ≡ old.heap) (surviving : new.surviving ≡ old.surviving) (root : new.store.root ≡ old.store.root) where
+module _ {old new : SessionView} {t : ℕ} {number : Option ℕ} {size : ℕ} {note : Noted} (ready : IsReady old) (opened : is_open old.opened t ≡ true) (goes : Goes old t number size) (store : IsStoreReady new.store) (notes : Notes t note old.opened new.opened)
+    (at : old.store.log.end ≡ note.position) (grows : Grows size old.store.log new.store.log) (some : 0 < size) (two : TakesTwo (page_counts old.store.pages) (page_counts new.store.pages)) (relation : note.relation ≡ number) (definitions : SameDefinitions old.store.catalog.listing new.store.catalog.listing) (still : CountsStill old new) (root : new.store.root ≡ old.store.root) where
   since_now : new.opened.since ≡ old.opened.since + 1
   since_now = let few = ready.room in let most = ready.store.formed.slots_most in omega (arith, notes.since, few, most, ready.store.size)
 
@@ -66,22 +60,49 @@ module _ {old new : SessionView} {t size : ℕ} {note : Noted} (ready : IsReady 
       let same : room_end new.store.log.pages new.store.log.head ≡ room_end old.store.log.pages old.store.log.head = λ i. room_end (grows.pages i) (grows.head i) in
       omega (arith, same, grows.end)
 
+  -- a change more counts for its relation, as far as is counted
+  few_more : (other : ℕ) → (most_in old other ≤ most_in new other) × (most_in new other ≤ most_with number (most_in old) other)
+  few_more other =
+      let entries = ap (λ (f : ℕ → ℕ). f other) still.entries in
+      let survived = ap (λ (f : ℕ → ℕ). f other) still.survived in
+      by (is_in other number) (with_is number (most_in old) other) (notes.since_of other ∙ ap (λ (o : Option ℕ). counted_more (old.opened.since_of other) (is_in other o)) relation) entries survived
+    where
+      by : (b : Bool) → most_with number (most_in old) other ≡ (if b then most_in old other + 2 else most_in old other) → new.opened.since_of other ≡ counted_more (old.opened.since_of other) b → new.entries other ≡ old.entries other → new.survived other ≡ old.survived other
+          → (most_in old other ≤ most_in new other) × (most_in new other ≤ most_with number (most_in old) other)
+      by true is since entries survived = (omega (arith, is, since, entries, survived), omega (arith, is, since, entries, survived))
+      by false is since entries survived = (omega (arith, is, since, entries, survived), omega (arith, is, since, entries, survived))
+
+  images_least : (sessions.counts old).images ≤ (sessions.counts new).images
+  images_least =
+      let rises = bound_rises old.store.catalog.listing (most_in old) (most_in new) (λ other relation at. (few_more other).0) in
+      omega (arith, rises, bound_still definitions (most_in new))
+
+  images_most : (sessions.counts new).images ≤ images_with old number
+  images_most =
+      let rises = bound_rises old.store.catalog.listing (most_in new) (most_with number (most_in old)) (λ other relation at. (few_more other).1) in
+      omega (arith, rises, bound_still definitions (most_in new))
+
   pub ready_noted : IsReady new
   ready_noted = record {
     store = store;
-    pages =
-        subst (λ (n : ℕ). IsInSession (sessions.counts new) n (page_counts new.store.pages)) (sym (noted_p opened notes))
-        (subst (λ (since : ℕ). IsInSession (record { heap = new.heap; surviving = new.surviving; since = since }) ((sums_in old.opened).p + 1) (page_counts new.store.pages)) (sym since_now)
-        (subst (λ (s : ℕ). IsInSession (record { heap = new.heap; surviving = s; since = old.opened.since + 1 }) ((sums_in old.opened).p + 1) (page_counts new.store.pages)) (sym surviving)
-        (subst (λ (h : ℕ). IsInSession (record { heap = h; surviving = old.surviving; since = old.opened.since + 1 }) ((sums_in old.opened).p + 1) (page_counts new.store.pages)) (sym heap)
-        (session_changes (sessions.counts old) (sums_in old.opened).p (page_counts old.store.pages) (page_counts new.store.pages) ready.pages two))));
-    room = omega (arith, goes.room, heap, surviving, since_now, store.size, ap (λ (r : Root). r.slots) root);
+    pages = subst (λ (n : ℕ). IsInSession (sessions.counts new) n (page_counts new.store.pages)) (sym (noted_p opened notes))
+        (session_of still.heap still.surviving since_now (session_changes (sessions.counts old) (images_with old number) (sums_in old.opened).p (page_counts old.store.pages) (page_counts new.store.pages) ready.pages two));
+    room = omega (arith, goes.room, still.heap, still.surviving, since_now, images_most, store.size, ap (λ (r : Root). r.slots) root);
+    saved = omega (arith, ready.saved, two.saved_images, images_least);
     log = omega (arith, goes.log, free_now, noted_p opened notes, noted_q opened notes);
     placed = λ u. subst (λ (n : ℕ). AreRising n new.store.log.end (transaction_in new.opened u).changes) (sym grows.head) (noted_placed opened notes old.store.log.head old.store.log.end new.store.log.end at (omega (arith, grows.end, some)) ready.placed u);
     numbers = λ u is. ready.numbers u (noted_open opened notes u is);
   }
 
 -- ---- what is noted of it
+
+-- it is one of a tuple of the relation that it tells
+pub one_told : (told_change : told.Change) → IsTupleRecord told_change → relation_told told_change ≡ Some (number_told told_change)
+one_told (Insert relation tid values) tuple = refl
+one_told (Delete relation tid values) tuple = refl
+one_told (Update relation tid was next) tuple = refl
+one_told (Connect link parent child left) tuple = absurd tuple
+one_told (Disconnect link parent child left) tuple = absurd tuple
 
 -- the relation of its number, whose name the item has
 listed_name : (listing : Listing) (number : ℕ) → {spelled : List ℕ} {held : Option Content} → TellsValues listing number spelled held → IsNumberOf RelationKind listing (name_at RelationKind listing number) number
@@ -93,12 +114,12 @@ abbrev takes : Item → Option Content → Option Content → Bool
 takes item old new = is_tuple item && is_some old && is_none new
 
 module _ (listing : Listing) (by : ℕ) (change : Change) where
-  numbered_told : (told_change : told.Change) → IsTupleRecord told_change → IsChangeTold listing by told_change change → Means listing told_change change → IsNumbered listing change.item (Some (number_told told_change))
-  numbered_told (Insert number tid values) tuple tells means = subst (λ (item : Item). IsNumbered listing item (Some number)) (sym tells.item) (number, refl, listed_name listing number means.1)
-  numbered_told (Delete number tid values) tuple tells means = subst (λ (item : Item). IsNumbered listing item (Some number)) (sym tells.item) (number, refl, listed_name listing number means.0)
-  numbered_told (Update number tid was next) tuple tells means = subst (λ (item : Item). IsNumbered listing item (Some number)) (sym tells.item) (number, refl, listed_name listing number means.0)
-  numbered_told (Connect link parent child left) tuple tells means = absurd tuple
-  numbered_told (Disconnect link parent child left) tuple tells means = absurd tuple
+  pub numbered_told : (told_change : told.Change) → IsChangeTold listing by told_change change → Means listing told_change change → IsNumbered listing change.item (relation_told told_change)
+  numbered_told (Insert number tid values) tells means = subst (λ (item : Item). IsNumbered listing item (Some number)) (sym tells.item) (number, refl, listed_name listing number means.1)
+  numbered_told (Delete number tid values) tells means = subst (λ (item : Item). IsNumbered listing item (Some number)) (sym tells.item) (number, refl, listed_name listing number means.0)
+  numbered_told (Update number tid was next) tells means = subst (λ (item : Item). IsNumbered listing item (Some number)) (sym tells.item) (number, refl, listed_name listing number means.0)
+  numbered_told (Connect link parent child left) tells means = subst (λ (item : Item). IsNumbered listing item None) (sym tells.item) refl
+  numbered_told (Disconnect link parent child left) tells means = subst (λ (item : Item). IsNumbered listing item None) (sym tells.item) refl
 
   taken_told : (told_change : told.Change) → IsTupleRecord told_change → IsChangeTold listing by told_change change → Means listing told_change change → is_delete_told told_change ≡ takes_away change
   taken_told (Insert number tid values) tuple tells means = sym (λ i. takes (tells.item i) (means.0 i) (means.1.is i))
@@ -117,8 +138,8 @@ since_relisted {listing = listing} {other = other} same is = record {
   fewer = is.fewer;
 }
 
-module _ {told_change : told.Change} {old new : SessionView} {t : ℕ} {note : Noted} (tuple : IsTupleRecord told_change) (ready : IsReady old) (opened : is_open old.opened t ≡ true) (weighed_so : weighed old t (record_size (records.Change t told_change)) ≡ Ok false) (notes : Notes t note old.opened new.opened)
-    (at : note.position ≡ old.store.log.end) (relation : note.relation ≡ Some (number_told told_change)) (is_delete : note.is_delete ≡ is_delete_told told_change) (definitions : SameDefinitions old.store.catalog.listing new.store.catalog.listing) (heap : new.heap ≡ old.heap) (surviving : new.surviving ≡ old.surviving)
+module _ {told_change : told.Change} {old new : SessionView} {t : ℕ} {note : Noted} (tuple : IsTupleRecord told_change) (ready : IsReady old) (opened : is_open old.opened t ≡ true) (weighed_so : weighed old t (relation_told told_change) (record_size (records.Change t told_change)) ≡ Ok false) (notes : Notes t note old.opened new.opened)
+    (at : note.position ≡ old.store.log.end) (relation : note.relation ≡ relation_told told_change) (is_delete : note.is_delete ≡ is_delete_told told_change) (definitions : SameDefinitions old.store.catalog.listing new.store.catalog.listing) (still : CountsStill old new)
     (state : State) (change : Change) (by : change.by ≡ t) (shows : Shows old state) (may : MayMake old.store state told_change change) (store : StoreMakesOne new.store state change) where
   abbrev listing : Listing
   listing = old.store.catalog.listing
@@ -126,10 +147,13 @@ module _ {told_change : told.Change} {old new : SessionView} {t : ℕ} {note : N
   size_is : change_size change ≡ record_size (records.Change change.by told_change)
   size_is = sym (change_told_size listing change.by told_change change may.told.tells may.told.means)
 
+  its : IsNumbered listing change.item (relation_told told_change)
+  its = numbered_told listing change.by change told_change may.told.tells may.told.means
+
   on : goes_on state change ≡ true
   on =
-      goes_on_right old state change (record_size (records.Change change.by told_change)) ready shows size_is
-      ∙ weighed_on old change.by (record_size (records.Change change.by told_change)) (subst (λ (u : ℕ). weighed old u (record_size (records.Change u told_change)) ≡ Ok false) (sym by) weighed_so)
+      goes_on_right old state change (relation_told told_change) (record_size (records.Change change.by told_change)) ready shows its size_is
+      ∙ weighed_on old change.by (relation_told told_change) (record_size (records.Change change.by told_change)) (subst (λ (u : ℕ). weighed old u (relation_told told_change) (record_size (records.Change u told_change)) ≡ Ok false) (sym by) weighed_so)
 
   let_through : refusal_by (ruling state change) ≡ None
   let_through = rw on refl
@@ -146,7 +170,7 @@ module _ {told_change : told.Change} {old new : SessionView} {t : ℕ} {note : N
   is_note : IsNoteOf listing note l
   is_note = record {
     position = at ∙ shows.store.logged.end_is ∙ sym shows.store.tied.ties.meter.end;
-    relation = subst (IsNumbered listing change.item) (sym relation) (numbered_told listing change.by change told_change tuple may.told.tells may.told.means);
+    relation = subst (IsNumbered listing change.item) (sym relation) its;
     is_delete = is_delete ∙ taken_told listing change.by change told_change tuple may.told.tells may.told.means;
   }
 
@@ -165,8 +189,9 @@ module _ {told_change : told.Change} {old new : SessionView} {t : ℕ} {note : N
         (change_tells listing old.opened new.opened state.marks shows.listed note l shows.told (ap (is_open old.opened) by ∙ opened) is_note notes_by) definitions;
     counted = record {
       since = since_relisted definitions (since_told listing old.opened new.opened state.meter note l store.over shows.counted.since shows.store.spells.listed.relations_once is_note notes_by few);
-      heap = shows.counted.heap ∙ sym heap;
-      surviving = shows.counted.surviving ∙ sym surviving;
+      each = each_still definitions still.entries still.survived (each_with change.item shows.counted.each);
+      heap = shows.counted.heap ∙ sym still.heap;
+      surviving = shows.counted.surviving ∙ sym still.surviving;
       rooms = subst HasBothRooms ruled_is (changes_keep_rooms state change store.over state.locks shows.counted.rooms.metered let_through store.allowed);
     };
     rested = λ none. absurd (omega (arith, none));

@@ -7,11 +7,12 @@ use Rattle.std.specs.FinMap.{FinMap, len-empty, empty_of_len}
 use Rattle.std.proofs.lemmas.Bool.{true≢false, le-leb, lt-leb, or_from, ne_eqb}
 use Rattle.rss_base.specs.Sizes.{page_bytes, relations_most, system_pages}
 use Rattle.rss_base.specs.TupleTypes.{kinds, width, most_width, are_kinds, field_names}
-use Rattle.rss_base.specs.Listings.{Listing, ListingFits, IsNumberOf, IsUnlisted, AreAllUsed, relation_at, with_number, with_segment, padded, segment_spelled, relation_spelled, relations_on, image_spelled, images_on, link_spelled, relation_pages, image_pages, catalog_page}
+use Rattle.rss_base.specs.Listings.{Listing, ListingFits, IsNumberOf, IsUnlisted, AreAllUsed, relation_at, image_at, with_number, with_segment, with_relation, padded, segment_spelled, relation_spelled, relations_on, image_spelled, images_on, link_spelled, relation_pages, image_pages, catalog_page}
 use Rattle.rss_base.specs.Steps.{PagesView}
 use Rattle.rss_base.specs.declared.name.Name.{Name}
 use Rattle.rss_base.specs.declared.field.FieldDef.{FieldDef}
 use Rattle.rss_base.specs.declared.relation.RelationEntry.{RelationEntry}
+use Rattle.rss_base.specs.declared.image.ImageEntry.{ImageEntry}
 use Rattle.rss_base.specs.declared.call.Call.{Call}
 use Rattle.rss_base.specs.declared.call.Call.TheVariants.{MakeSegment, MakeRelation, DropSegment, DropRelation}
 use Rattle.rss_base.specs.declared.refusal.Kind.TheVariants.{Segment as SegmentKind, Relation as RelationKind}
@@ -19,18 +20,19 @@ use Rattle.rss_base.specs.declared.refusal.LimitKind.TheVariants.{Segments as Se
 use Rattle.rss_base.specs.declared.refusal.Refusal.{Refusal}
 use Rattle.rss_base.specs.declared.refusal.Refusal.TheVariants.{NoSuch, NameTaken, Limit, NotEmpty, TransactionsOpen}
 use Rattle.rss_catalog.specs.Catalogs.{HasRelationIn, HasImageOf, Lists, page_of}
+use Rattle.rss_catalog.proofs.Numbered.{with_other}
 use Rattle.rss_model.specs.Tables.{tuple_count}
 use Rattle.rss_model.specs.Changes.{Change, after}
 use Rattle.rss_model.specs.Machine.{State, now}
 use Rattle.rss_model.specs.Records.{changes_in}
-use Rattle.rss_model.specs.Defining.{has_twice, is_relation, if_any_open, least_open}
+use Rattle.rss_model.specs.Defining.{has_twice, is_relation, has_image, has_link, holds_tuples, if_any_open, least_open}
 use Rattle.rss_model.specs.Steps.{first_of, refusal}
 use Rattle.rss_model.specs.ReplyText.{IsShort}
 use Rattle.rss_model.specs.Store.{SpellsTables}
 use Rattle.rss_model.proofs.ByNumber.{segment_named, segment_unnamed, relation_named, relation_unnamed, segments_full, segments_left, relations_full, relations_left, segment_used, segment_unused}
 use Rattle.rss_model.proofs.Heap.{nothing}
-use Rattle.rss_model.proofs.PlainStores.{no_image_at, plain_defined}
-use Rattle.rss_model.proofs.Tests.{goes_on, passes_if, passes_unless, make_segment_taken, make_segment_many, make_segment_passes, drop_segment_lacks, drop_segment_full, drop_segment_passes, drop_relation_lacks, drop_relation_full, drop_relation_passes, make_relation_lacks, make_relation_taken, make_relation_many, make_relation_passes}
+use Rattle.rss_model.proofs.PlainStores.{no_links_defined, no_link_of}
+use Rattle.rss_model.proofs.Tests.{goes_on, passes_if, passes_unless, refuses_at, refuses_if, make_segment_taken, make_segment_many, make_segment_passes, drop_segment_lacks, drop_segment_full, drop_segment_passes, drop_relation_lacks, drop_relation_full, make_relation_lacks, make_relation_taken, make_relation_many, make_relation_passes}
 use Rattle.rss_trans.specs.Transactions.{Transaction}
 use Rattle.rss_trans.specs.Tables.{told}
 use Rattle.rss_trans.proofs.Asked.{count_told}
@@ -44,6 +46,7 @@ use Rattle.rss_session.specs.Parts.{view}
 use Rattle.rss_session.specs.declared.session.Session.{Session}
 use Rattle.rss_session.proofs.Admitted.{least_same}
 use Rattle.rss_session.proofs.Fresh.{no_entries, none_counted}
+use Rattle.rss_session.proofs.Imaged.{image_named, none_named}
 
 -- ---- what was found
 
@@ -143,12 +146,26 @@ module _ {view : SessionView} {state : State} (shows : Shows view state) (closed
     pub relation_full : 0 < entry.live → refusal state (DropRelation name) ≡ Some NotEmpty
     relation_full some = drop_relation_full state least name (relation_named spells.listed spells.defines name number is) (le-leb 1 (tuple_count state.base.contents name) (omega (arith, as_many, some)))
 
-    -- as yet none has an image
-    pub relation_imaged : HasImageOf view.store.catalog.listing number → refusal state (DropRelation name) ≡ Some NotEmpty
-    relation_imaged has = absurd (no_image_at spells.plain has.number has.image has.at)
+    there : is_relation state name ≡ true
+    there = relation_named spells.listed spells.defines name number is
 
-    pub relation_drops : entry.live ≡ 0 → refusal state (DropRelation name) ≡ None
-    relation_drops empty = drop_relation_passes state least name (plain_defined spells.plain spells.defines) (relation_named spells.listed spells.defines name number is) (lt-leb 1 (tuple_count state.base.contents name) (omega (arith, as_many, empty)))
+    pub relation_imaged : HasImageOf view.store.catalog.listing number → refusal state (DropRelation name) ≡ Some NotEmpty
+    relation_imaged has =
+        let imaged : has_image state name ≡ true = subst (λ (n : Name). has_image state n ≡ true) named (image_named spells.listed spells.defines number entry at has) in
+        goes_on _ none_is_open ∙ goes_on _ (passes_unless (NoSuch RelationKind) there)
+        ∙ refuses_at _ (refuses_if NotEmpty (or_second (holds_tuples state name) (has_link state name) imaged))
+      where
+        or_second : {b : Bool} (a c : Bool) → b ≡ true → (a || b || c) ≡ true
+        or_second true c on = refl
+        or_second false c on = ap (λ (x : Bool). x || c) on
+
+    pub relation_drops : entry.live ≡ 0 → (HasImageOf view.store.catalog.listing number → ⊥) → refusal state (DropRelation name) ≡ None
+    relation_drops empty none =
+        let imaged : has_image state name ≡ false = subst (λ (n : Name). has_image state n ≡ false) named (none_named spells.listed spells.defines number entry at none) in
+        let tuples : holds_tuples state name ≡ false = lt-leb 1 (tuple_count state.base.contents name) (omega (arith, as_many, empty)) in
+        let linked : has_link state name ≡ false = no_link_of state.base.definitions (no_links_defined spells.listed.no_links spells.defines) name in
+        goes_on _ none_is_open ∙ goes_on _ (passes_unless (NoSuch RelationKind) there)
+        ∙ goes_on _ (passes_if NotEmpty (λ i. tuples i || imaged i || linked i))
 
   module _ (name within : Name) (fields : List FieldDef) (segment : ℕ) (there : IsNumberOf SegmentKind view.store.catalog.listing within segment) where
     segment_there : is_some (finite.get state.base.definitions.segments within) ≡ true
@@ -185,14 +202,16 @@ module _ {view : SessionView} {state : State} (shows : Shows view state) (closed
 
 -- ---- what they make of the session
 
-pub redefines : {S : Type 0} {call : Call} {old new : Session S} {listing : Listing} (page : ℕ) → (ListingFits old.store.catalog.listing → page < system_pages) → Relists old.store.catalog.listing call listing → Lists listing page old.store.catalog new.store.catalog → ((k : ℕ) → k ≢ page → catalog_page listing k ≡ catalog_page old.store.catalog.listing k) → (ListingFits old.store.catalog.listing → ListingFits new.store.catalog.listing) → (told old.«open»).transactions ≡ finite.empty → IsBut old new → Redefines call old new
-redefines {call = call} {old = old} page low relists lists others fits closed but = record {
+pub redefines : {S : Type 0} {call : Call} {old new : Session S} {listing : Listing} (page : ℕ) → (ListingFits old.store.catalog.listing → page < system_pages) → Relists old.store.catalog.listing call listing → Lists listing page old.store.catalog new.store.catalog → ((k : ℕ) → k ≢ page → catalog_page listing k ≡ catalog_page old.store.catalog.listing k) → (ListingFits old.store.catalog.listing → ListingFits new.store.catalog.listing) → ((number : ℕ) (image : ImageEntry) → image_at old.store.catalog.listing number ≡ Some image → relation_at listing image.relation ≡ relation_at old.store.catalog.listing image.relation)
+    → (told old.«open»).transactions ≡ finite.empty → IsBut old new → Redefines call old new
+redefines {call = call} {old = old} page low relists lists others fits imaged closed but = record {
   page = page;
   low = low;
   relists = subst (Relists old.store.catalog.listing call) (sym lists.is) relists;
   lists = record { is = refl; pending = lists.pending };
   others = λ k other. ap (λ (l : Listing). catalog_page l k) lists.is ∙ others k other;
   fits = fits;
+  imaged = λ number image at. ap (λ (l : Listing). relation_at l image.relation) lists.is ∙ imaged number image at;
   closed = closed;
   rest = but;
 }
@@ -210,3 +229,8 @@ segment_pages listing number segment k other = without (with_number listing.segm
 -- the page of a relation is one of the system space
 pub relation_page : (number : ℕ) → number ≤ relations_most → page_of RelationKind number < system_pages
 relation_page number high = omega (arith, high)
+
+-- a relation that no image has comes or goes
+pub imaged_still : (listing : Listing) (number : ℕ) (relation : Option RelationEntry) → 1 ≤ number → (HasImageOf listing number → ⊥) → (k : ℕ) (image : ImageEntry) → image_at listing k ≡ Some image
+    → relation_at (with_relation listing number relation) image.relation ≡ relation_at listing image.relation
+imaged_still listing number relation low none k image at = with_other listing.relations number image.relation relation low (λ same. none (record { number = k; image = image; at = at; of = same }))

@@ -17,7 +17,7 @@ use Rattle.rss_model.specs.LogLaws.{committed_now}
 use Rattle.rss_model.specs.Ruled.{HasBothRooms}
 use Rattle.rss_model.specs.Records.{others_in}
 use Rattle.rss_model.specs.Scans.{closed}
-use Rattle.rss_model.specs.Spares.{PageCounts, page_counts, IsInSession, change_counts}
+use Rattle.rss_model.specs.Spares.{PageCounts, listed_bound, page_counts, IsInSession, change_counts}
 use Rattle.rss_model.specs.Steps.{stamp_by, size_for, committing}
 use Rattle.rss_model.proofs.BothRooms.{ends_keep_rooms}
 use Rattle.rss_model.proofs.Sparing.{session_forgets}
@@ -33,33 +33,42 @@ use Rattle.rss_store.specs.Commits.{HasLogRoom, MayCommit}
 use Rattle.rss_store.specs.Stores.{StoreView, Grows}
 use Rattle.rss_store.specs.Stores.{IsReady as IsStoreReady}
 use Rattle.rss_store.specs.Shown.{Shows as StoreShows}
-use Rattle.rss_session.specs.Sessions.{SessionView, AreRising, IsReady, IsEarly, sums_in, owed_for, owed_by}
+use Rattle.rss_session.specs.Sessions.{SessionView, CountsStill, most_in, AreRising, IsReady, IsEarly, sums_in, owed_for, owed_by}
 use Rattle.rss_session.specs.Sessions as sessions
 use Rattle.rss_session.specs.Shown.{Shows, IsRested}
+use Rattle.rss_session.proofs.Bounds.{session_of}
 use Rattle.rss_session.proofs.Fewer.{changers, gone_p, gone_q, gone_opened, gone_placed}
 use Rattle.rss_session.proofs.Marked.{rising_higher}
 use Rattle.rss_session.proofs.Steady.{shows_same, none_more, size_some, none_there, changes_all, stamps_all, not_rested}
+use Rattle.rss_session.proofs.Traffic.{each_again, images_still}
 
 -- ---- a call may be made again
 
 -- no more changes are listed than before, and the pages are as many
-pub ready_again : (old new : SessionView) → IsReady old → IsStoreReady new.store → new.opened.since ≡ old.opened.since → new.heap ≡ old.heap → new.surviving ≡ old.surviving → page_counts new.store.pages ≡ page_counts old.store.pages
+pub ready_again : (old new : SessionView) → IsReady old → IsStoreReady new.store → new.opened.since ≡ old.opened.since → new.opened.since_of ≡ old.opened.since_of → CountsStill old new → new.store.catalog ≡ old.store.catalog → page_counts new.store.pages ≡ page_counts old.store.pages
     → (sums_in new.opened).p ≤ (sums_in old.opened).p → owed_by new.opened ≤ free_of new.store.log
     → ((t : ℕ) → AreRising new.store.log.head new.store.log.end (transaction_in new.opened t).changes)
     → ((t : ℕ) → is_open new.opened t ≡ true → is_open old.opened t ≡ true) → IsReady new
-ready_again old new ready store since heap surviving pages fewer log placed opened = record {
+ready_again old new ready store since since_of still catalog pages fewer log placed opened = record {
   store = store;
   pages = session_forgets (sessions.counts new) (sums_in old.opened).p (sums_in new.opened).p (page_counts new.store.pages)
       (subst (λ (p : PageCounts). IsInSession (sessions.counts new) (sums_in old.opened).p p) (sym pages)
-      (subst (λ (n : ℕ). IsInSession (record { heap = new.heap; surviving = new.surviving; since = n }) (sums_in old.opened).p (page_counts old.store.pages)) (sym since)
-      (subst (λ (n : ℕ). IsInSession (record { heap = new.heap; surviving = n; since = old.opened.since }) (sums_in old.opened).p (page_counts old.store.pages)) (sym surviving)
-      (subst (λ (n : ℕ). IsInSession (record { heap = n; surviving = old.surviving; since = old.opened.since }) (sums_in old.opened).p (page_counts old.store.pages)) (sym heap)
-      ready.pages)))) fewer;
-  room = let slots : new.store.pages.slots ≡ old.store.pages.slots = ap (λ (p : PageCounts). p.slots) pages in omega (arith, ready.room, heap, surviving, since, slots);
+      (session_of still.heap still.surviving since ready.pages)) fewer;
+  room = omega (arith, ready.room, still.heap, still.surviving, since, images, slots);
+  saved = omega (arith, ready.saved, images, saved);
   log = log;
   placed = placed;
   numbers = λ t is. ready.numbers t (opened t is);
 }
+  where
+    slots : new.store.pages.slots ≡ old.store.pages.slots
+    slots = ap (λ (p : PageCounts). p.slots) pages
+
+    saved : (page_counts new.store.pages).saved_images ≡ (page_counts old.store.pages).saved_images
+    saved = ap (λ (p : PageCounts). p.saved_images) pages
+
+    images : (sessions.counts new).images ≡ (sessions.counts old).images
+    images = ap (λ (c : CatalogView). listed_bound c.listing (most_in new)) catalog ∙ images_still old.store.catalog.listing still since_of
 
 -- ---- room in the log
 
@@ -86,23 +95,23 @@ module _ (old new : SessionView) (t : ℕ) (ready : IsReady old) (opened : is_op
   }
 
   -- and so it is ready again
-  pub ready_ended : IsStoreReady new.store → new.heap ≡ old.heap → new.surviving ≡ old.surviving → page_counts new.store.pages ≡ page_counts old.store.pages
+  pub ready_ended : IsStoreReady new.store → CountsStill old new → new.store.catalog ≡ old.store.catalog → page_counts new.store.pages ≡ page_counts old.store.pages
       → 1 ≤ length changed → Grows end_size old.store.log new.store.log → IsReady new
-  ready_ended store heap surviving pages some grows =
+  ready_ended store still catalog pages some grows =
       let count = gone_q old.opened new.opened t opened ends in
       let less = gone_p old.opened new.opened t opened ends in
-      ready_again old new ready store ends.since heap surviving pages (omega (arith, less))
+      ready_again old new ready store ends.since ends.since_of still catalog pages (omega (arith, less))
       (omega (arith, ready.log, less, count, one_more (length changed) some, free_grown grows))
       (gone_placed old.opened new.opened t opened ends new.store.log.head new.store.log.end (λ u. subst (λ (n : ℕ). AreRising n new.store.log.end (transaction_in old.opened u).changes) (sym grows.head)
       (rising_higher old.store.log.head old.store.log.end new.store.log.end (transaction_in old.opened u).changes (omega (arith, grows.end)) (ready.placed u))))
       (gone_opened old.opened new.opened t opened ends)
 
   -- where it had no changes
-  pub ready_left : new.store ≡ old.store → new.heap ≡ old.heap → new.surviving ≡ old.surviving → IsReady new
-  ready_left same heap surviving =
+  pub ready_left : new.store ≡ old.store → CountsStill old new → IsReady new
+  ready_left same still =
       let count = gone_q old.opened new.opened t opened ends in
       let less = gone_p old.opened new.opened t opened ends in
-      ready_again old new ready (subst IsStoreReady (sym same) ready.store) ends.since heap surviving (ap (λ (s : StoreView). page_counts s.pages) same) (omega (arith, less))
+      ready_again old new ready (subst IsStoreReady (sym same) ready.store) ends.since ends.since_of still (ap (λ (s : StoreView). s.catalog) same) (ap (λ (s : StoreView). page_counts s.pages) same) (omega (arith, less))
       (omega (arith, ready.log, less, count, ap (λ (s : StoreView). free_of s.log) same))
       (λ u. subst (λ (s : StoreView). AreRising s.log.head s.log.end (transaction_in new.opened u).changes) (sym same) (gone_placed old.opened new.opened t opened ends old.store.log.head old.store.log.end ready.placed u))
       (gone_opened old.opened new.opened t opened ends)
@@ -152,7 +161,7 @@ module _ (t : ℕ) (state : State) (none : own t state.changes ≡ []) (all : ot
   unchanged_shown {view = view} shows = subst (StoreShows view) (sym same_state) (shows_same (finite.remove state.marks t) (released t state.locks) (closed t state.scans) shows)
 
 -- the session is in it
-module _ (old new : SessionView) (t : ℕ) (ends : Ends t old.opened new.opened) (heap : new.heap ≡ old.heap) (surviving : new.surviving ≡ old.surviving) (catalog : new.store.catalog ≡ old.store.catalog)
+module _ (old new : SessionView) (t : ℕ) (ends : Ends t old.opened new.opened) (still : CountsStill old new) (catalog : new.store.catalog ≡ old.store.catalog)
     (state : State) (kept : Kept state) (shows : Shows old state) where
   next_shown : StoreShows new.store (committing t state) → IsRested new (committing t state) → Shows new (committing t state)
   next_shown store rested = record {
@@ -163,8 +172,9 @@ module _ (old new : SessionView) (t : ℕ) (ends : Ends t old.opened new.opened)
     counted = record {
       since = subst (λ (c : CatalogView). TellsSince c.listing new.opened (committing t state).meter) (sym catalog)
           (since_stays old.store.catalog.listing old.opened new.opened _ state.meter.over _ state.meter shows.counted.since ends.since ends.since_of);
-      heap = shows.counted.heap ∙ sym heap;
-      surviving = shows.counted.surviving ∙ sym surviving;
+      each = each_again catalog still shows.counted.each;
+      heap = shows.counted.heap ∙ sym still.heap;
+      surviving = shows.counted.surviving ∙ sym still.surviving;
       rooms = ends_keep_rooms state t kept shows.counted.rooms;
     };
     rested = rested;
@@ -178,7 +188,7 @@ module _ (old new : SessionView) (t : ℕ) (ends : Ends t old.opened new.opened)
 
   pub shows_ended : 1 ≤ length (transaction_in old.opened t).changes → StoreShows new.store (committed_now t state) → Shows new (committing t state)
   shows_ended some store = next_shown (committed_shown t state (own_some some) store)
-      (λ none same. absurd (not_rested (change_counts state.meter) (length state.changes) (length (others t state.changes)) (page_counts old.store.pages) shows.store.session
+      (λ none same. absurd (not_rested (change_counts state.base.definitions state.meter) (length state.changes) (length (others t state.changes)) (page_counts old.store.pages) shows.store.session
       (omega (arith, theirs_and_mine maker t state.changes, own_some some)) none same))
 
   pub shows_left : length (transaction_in old.opened t).changes ≡ 0 → new.store ≡ old.store → Shows new (committing t state)

@@ -6,6 +6,9 @@ pub mod Passing
 mod NextTuples
 pub mod Noted
 pub mod Changed
+pub mod Filled
+pub mod Bounds
+pub mod Traffic
 pub mod Weighed
 pub mod Outcomes
 pub mod Saved
@@ -15,6 +18,7 @@ pub mod Shown
 pub mod Fresh
 pub mod First
 pub mod FieldNames
+pub mod Imaged
 pub mod Lines
 pub mod Admitted
 pub mod Defined

@@ -1,5 +1,5 @@
 -- A look leaves the session as it was.
-use Rattle.std.proofs.Common.{◌≡◌, inl, inr, ℕ, true, Bool, List, refl, sym, ◌∙◌, ap, subst, arith}
+use Rattle.std.proofs.Common.{◌≡◌, inl, inr, ℕ, ◌≤◌, true, Bool, List, refl, sym, ◌∙◌, ap, subst, arith}
 use Rattle.std.specs.Prelude.{Option, Some, None, Result, Ok, Err, IfOk, IfSome, ◌==◌, ◌&&◌}
 use Rattle.std.specs.Bool.{Decides}
 use Rattle.std.specs.Set.{is_member}
@@ -13,7 +13,7 @@ use Rattle.rss_base.specs.Paged.{Held, Mapped, Fixed, Backing, HasFixed, mapped_
 use Rattle.rss_base.specs.PageMap.{page_count}
 use Rattle.rss_base.specs.StoredPages.{mapped_by}
 use Rattle.rss_base.specs.Steps.{PagesView, PassesOn, AreCounted}
-use Rattle.rss_base.specs.declared.key.Space.TheVariants.{Overflow, System}
+use Rattle.rss_base.specs.declared.key.Space.TheVariants.{Overflow, Image, System}
 use Rattle.rss_base.specs.declared.fault.PageFault.{PageFault}
 use Rattle.rss_base.specs.declared.name.Name.{Name}
 use Rattle.rss_base.specs.declared.relation.RelationEntry.{RelationEntry}
@@ -22,7 +22,7 @@ use Rattle.rss_base.specs.declared.tid.Tid.{Tid}
 use Rattle.rss_base.proofs.Moments.{widened}
 use Rattle.rss_tuple.specs.Heaps.{AreHeaps}
 use Rattle.rss_model.specs.Machine.{StoreSize, State, now}
-use Rattle.rss_model.specs.Spares.{page_counts, change_counts, HasRoomFor, IsInSession}
+use Rattle.rss_model.specs.Spares.{PageCounts, page_counts, change_counts, HasRoomFor, IsInSession}
 use Rattle.rss_model.specs.Store.{IsListed, SpellsTables}
 use Rattle.rss_model.specs.Tables.{segment_of}
 use Rattle.rss_model.proofs.Listed.{listed, stands_within}
@@ -52,7 +52,14 @@ module _ (old : SessionView) {pages : PagesView} {asks writes : ℕ} (passes : P
       omega (arith, counted_old, counted, there, saved, passes.slots)
 
   counts_same : page_counts pages ≡ page_counts old.store.pages
-  counts_same = λ i. record { slots = passes.slots i; saved = page_count (passes.backing i).shadow; mapped = mapped_pages (passes.slots i) (mapped i); spare = spare_same i }
+  counts_same = λ i. record {
+    slots = passes.slots i;
+    saved = page_count (passes.backing i).shadow;
+    saved_images = mapped_of (mapped_by (passes.backing i).shadow) Image (passes.slots i);
+    mapped = mapped_pages (passes.slots i) (mapped i);
+    images = mapped_of (mapped i) Image (passes.slots i);
+    spare = spare_same i;
+  }
 
   pub ready_looked : IsReady old → (IsTold old.store.pages.disk → pages.held ≡ old.store.pages.held) → (IsTold pages.disk → AreHeaps pages) → IsReady (with_pages pages old)
   ready_looked ready held heaps = record {
@@ -74,6 +81,7 @@ module _ (old : SessionView) {pages : PagesView} {asks writes : ℕ} (passes : P
     };
     pages = subst (IsInSession (sessions.counts old) (sums_in old.opened).p) (sym counts_same) ready.pages;
     room = subst (HasRoomFor (sessions.counts old)) (sym counts_same) ready.room;
+    saved = subst (λ (p : PageCounts). p.saved_images ≤ (sessions.counts old).images) (sym counts_same) ready.saved;
     log = ready.log;
     placed = ready.placed;
     numbers = ready.numbers;
@@ -97,13 +105,13 @@ module _ (old : SessionView) {pages : PagesView} {asks writes : ℕ} (passes : P
         spells = subst (λ (h : Held). SpellsTables h old.store.catalog.listing (now state)) (sym held) shows.store.spells;
         written = subst (λ (h : Held). AreWritten h old.store.catalog) (sym held) shows.store.written;
         heap = shows.store.heap;
-        session = subst (IsInSession (change_counts state.meter) _) (sym counts_same) shows.store.session;
+        session = subst (IsInSession (change_counts state.base.definitions state.meter) _) (sym counts_same) shows.store.session;
         over_is = shows.store.over_is ∙ (λ i. mapped_of (sym mapped i) Overflow (sym passes.slots i));
       };
       listed = shows.listed;
       list = shows.list;
       told = shows.told;
-      counted = record { since = shows.counted.since; heap = shows.counted.heap; surviving = shows.counted.surviving; rooms = shows.counted.rooms };
+      counted = record { each = shows.counted.each; since = shows.counted.since; heap = shows.counted.heap; surviving = shows.counted.surviving; rooms = shows.counted.rooms };
       rested = λ none all. shows.rested none all ∙ ap (λ (b : Backing). mapped_of (mapped_by b.shadow) Overflow old.store.root.slots) (sym passes.backing);
     }
 

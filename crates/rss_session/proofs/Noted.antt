@@ -1,6 +1,6 @@
 -- A change more of a transaction: what is counted of all of them, and where the changes stand.
 use Rattle.std.proofs.Common.{◌≡◌, ℕ, ◌+◌, ◌<◌, ◌≤◌, Bool, true, false, cond, [], ◌∷◌, ◌++◌, length, sym, ◌∙◌, ap, subst, arith}
-use Rattle.std.specs.Prelude.{is_some, nat_lt, count_by, sum_by, if◌then◌else◌, Result, Ok, Err}
+use Rattle.std.specs.Prelude.{is_some, nat_lt, count_by, sum_by, if◌then◌else◌, Option, Result, Ok, Err}
 use Rattle.std.specs.FinMap as finite
 use Rattle.std.proofs.lemmas.Bool.{true≢false}
 use Rattle.std.proofs.lemmas.Bool.Decides.{nat_tests}
@@ -67,12 +67,12 @@ module _ {old new : OpenView} {t : ℕ} {note : Noted} (opened : is_open old t �
 -- ---- what was weighed
 
 -- it goes on
-pub record Goes (view : SessionView) (t size : ℕ) : Type 0 where
-  pub room : room_with view ≤ view.store.root.slots
+pub record Goes (view : SessionView) (t : ℕ) (number : Option ℕ) (size : ℕ) : Type 0 where
+  pub room : room_with view number ≤ view.store.root.slots
   pub log : needed_with view t size ≤ free_of view.store.log
 
-pub weighed_on : (view : SessionView) (t size : ℕ) → weighed view t size ≡ Ok false → goes_on view t size ≡ true
-weighed_on view t size is = by_test (goes_on view t size)
+pub weighed_on : (view : SessionView) (t : ℕ) (number : Option ℕ) (size : ℕ) → weighed view t number size ≡ Ok false → goes_on view t number size ≡ true
+weighed_on view t number size is = by_test (goes_on view t number size)
     (λ e. e)
     (λ e. absurd (not_saved (rw e at is)))
   where
@@ -84,10 +84,10 @@ weighed_on view t size is = by_test (goes_on view t size)
         inside e = cc (e)
     saved_not false false one two is = cc (is)
 
-    not_saved : weighed_saved view t size ≡ Ok false → ⊥
+    not_saved : weighed_saved view t number size ≡ Ok false → ⊥
     not_saved saved = saved_not _ _ _ _ saved
 
-pub weighed_goes : (view : SessionView) (t size : ℕ) → weighed view t size ≡ Ok false → Goes view t size
-weighed_goes view t size is =
-    let on : goes_on view t size ≡ true = weighed_on view t size is in
+pub weighed_goes : (view : SessionView) (t : ℕ) (number : Option ℕ) (size : ℕ) → weighed view t number size ≡ Ok false → Goes view t number size
+weighed_goes view t number size is =
+    let on : goes_on view t number size ≡ true = weighed_on view t number size is in
     record { room = grind (arith, nat_tests); log = grind (arith, nat_tests) }

@@ -7,7 +7,8 @@ use Rattle.rss_base.specs.Faults.{Rises}
 use Rattle.rss_base.specs.Paged.{Backing}
 use Rattle.rss_base.specs.Steps.{PagesView, Keys, PassesOn, PagesCall, AreCounted}
 use Rattle.rss_base.specs.declared.fault.PageFault.{PageFault}
-use Rattle.rss_base.specs.declared.fault.PageFault.TheVariants.{Device as DeviceFailed, NoMemory}
+use Rattle.rss_base.specs.declared.fault.PageFault.TheVariants.{Device as DeviceFailed, Damaged, NoMemory}
+use Rattle.rss_base.specs.declared.place.Place.{Place}
 use Rattle.rss_base.specs.declared.root.Root.{Root}
 use Rattle.rss_base.proofs.Moments.{started, widened, continues, continues_then, rises_since}
 use Rattle.rss_tuple.specs.Heaps.{AreHeaps}
@@ -112,6 +113,20 @@ goes_opened {old = old} value saves = record {
   log_pages = refl;
   frames = refl;
   saves = saves;
+}
+
+-- nothing was done, and a fault is answered that is none of the device
+pub goes_damaged : {T : Type 0} (view : SessionView) (place : Place) → GoesOn {T = T} view view (Err (Damaged place))
+goes_damaged view place = record {
+  told = (λ told. told, λ told. told);
+  history = λ told. started view.store.pages.disk _;
+  later = omega arith;
+  failed = λ is. absurd (cc (is));
+  memory = λ is. absurd (cc (is));
+  slots = refl;
+  log_pages = refl;
+  frames = refl;
+  saves = λ t. omega arith;
 }
 
 -- ---- behind a checkpoint

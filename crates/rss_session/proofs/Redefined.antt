@@ -1,15 +1,17 @@
 -- What is defined is committed, where nothing is open.
 use Rattle.std.proofs.Common.{◌≡◌, ℕ, ◌+◌, List, [], ◌∷◌, ◌++◌, length, map, refl, sym, ◌∙◌, ap, subst, arith}
-use Rattle.std.specs.Prelude.{is_some}
+use Rattle.std.specs.Prelude.{Some, None, is_some}
 use Rattle.std.specs.Ordering.{nat_cmp}
 use Rattle.std.specs.FinMap as finite
 use Rattle.std.specs.FinMap.{FinMap}
 use Rattle.std.proofs.lemmas.List.{append-nil}
 use Rattle.rss_base.specs.LogRecords.{record_size}
+use Rattle.rss_base.specs.Listings.{Listing, relation_at}
 use Rattle.rss_base.specs.Paged.{mapped_of}
 use Rattle.rss_base.specs.declared.key.PageKey.{PageKey}
 use Rattle.rss_base.specs.declared.key.Space.TheVariants.{Home, Overflow}
 use Rattle.rss_base.specs.declared.log_record.LogRecord.TheVariants as records
+use Rattle.rss_base.specs.declared.relation.RelationEntry.{RelationEntry}
 use Rattle.rss_base.specs.declared.root.Root.{Root}
 use Rattle.rss_catalog.specs.Catalogs.{CatalogView}
 use Rattle.rss_model.specs.Changes.{Change, maker}
@@ -18,9 +20,11 @@ use Rattle.rss_model.specs.EngineLogs.{EngineLog, all_logged, saved_log, TiesSta
 use Rattle.rss_model.specs.Fits.{Fits}
 use Rattle.rss_model.specs.Machine.{StoreSize, State, IsAtRest, with_changes, now}
 use Rattle.rss_model.specs.Meter.{Stamp, heap_pages, changes_of, changers, checkpoint_size, least_position, free_between}
+use Rattle.rss_model.specs.Spares.{change_counts, live_of, most_of}
 use Rattle.rss_model.specs.Steps.{stamp_by, redefined}
 use Rattle.rss_model.specs.Store.{SpellsTables, size_of}
 use Rattle.rss_model.specs.Tables.{Definitions, Tables, tuple_count}
+use Rattle.rss_model.proofs.ImageRooms.{bound_rises, listed_same, images_few}
 use Rattle.rss_model.proofs.Listed.{heap_is}
 use Rattle.rss_model.proofs.LogOpening.{restart_ties}
 use Rattle.rss_trans.specs.Transactions.{Transaction, marks_of, Checkpoints}
@@ -33,8 +37,10 @@ use Rattle.rss_store.specs.Shown.{Shows as StoreShows}
 use Rattle.rss_store.specs.Commits.{least_mark, CanCheckpoint}
 use Rattle.rss_session.specs.Sessions.{SessionView, IsReady}
 use Rattle.rss_session.specs.Shown.{Shows}
-use Rattle.rss_session.specs.Weighing.{named, saved_free, MaySave}
-use Rattle.rss_session.proofs.Fresh.{no_entries, none_counted, none_changing}
+use Rattle.rss_session.specs.Weighing.{named, saved_free, saved_most, saved_images_with, HasSavedRoom, MaySave}
+use Rattle.rss_session.proofs.Bounds.{bound_same}
+use Rattle.rss_session.proofs.Fresh.{no_entries, none_counted, none_changing, none_survived}
+use Rattle.rss_session.proofs.Traffic.{most_is, live_is, each_anew}
 use Rattle.rss_session.specs.Calls.{with_catalog, CountsAnew, IsRedefined}
 
 -- ---- nothing is open
@@ -157,6 +163,31 @@ module _ {view : SessionView} (ready : IsReady view) (closed : view.opened.trans
       pub can_redefine : CanCheckpoint view.store (named view.opened) store.stored next
       can_redefine = subst (λ (marks : List (ℕ × ℕ)). CanCheckpoint view.store marks store.stored next) (sym none_named) can_none
 
+      -- there is room behind it
+      pub room_redefined : HasSavedRoom view
+      room_redefined = record {
+        slots = omega (arith, is.rooms.metered.room, heap_are, none_counted view.opened closed, images_are, ap (λ (cs : List Change). length cs) is.none_changed, slots_are);
+        images =
+            let some = images_few is.spells held_are view.store.pages.slots in
+            let more = bound_rises view.store.catalog.listing (live_of view.store.catalog.listing) (saved_most view) (λ number relation at. omega arith) in
+            omega (arith, some, more);
+      }
+        where
+          most_are : (number : ℕ) (relation : RelationEntry) → relation_at view.store.catalog.listing number ≡ Some relation → most_of view.store.catalog.listing next.meter.traffic number ≡ saved_most view number
+          most_are number relation at = omega (
+            arith,
+            most_is view.store.catalog.listing next.meter.traffic number relation at,
+            is.spells.counts number relation at,
+            live_is view.store.catalog.listing number relation at,
+            ap (λ (cs : List Change). changes_of cs relation.name) is.none_changed,
+            none_survived view.opened closed number,
+          )
+
+          images_are : (change_counts definitions next.meter).images ≡ saved_images_with view None
+          images_are =
+              listed_same is.spells.defines is.spells.listed next.meter
+              ∙ bound_same view.store.catalog.listing (most_of view.store.catalog.listing next.meter.traffic) (saved_most view) most_are
+
       module _ {new : SessionView} (shown : StoreShows new.store next) (saved : IsSaved new.store) (checkpoints : Checkpoints view.opened new.opened) (anew : CountsAnew view new) (slots : new.store.pages.slots ≡ new.store.root.slots) where
         pub shows_redefined : Shows new next
         shows_redefined = record {
@@ -166,6 +197,11 @@ module _ {view : SessionView} (ready : IsReady view) (closed : view.opened.trans
           told = subst (λ marks. TellsOpen new.store.catalog.listing new.opened marks []) (sym is.none_open) (none_tells new.store.catalog.listing new.opened (checkpoints.transactions ∙ closed));
           counted = record {
             since = since_saved new.store.catalog.listing view.opened new.opened state.size.slots tables state.changes state.meter checkpoints;
+            each = each_anew new {tables = tables} {counted = λ relation. 0}
+                (subst (λ (l : Listing). SpellsTables view.store.pages.held l tables) (sym anew.listing) is.spells) (λ relation. refl)
+                (λ relation. ap (λ (cs : List Change). changes_of cs relation) is.none_changed)
+                (λ number. anew.entries number ∙ ap (λ (l : Listing). live_of l number) (sym anew.listing))
+                (λ number relation at. anew.survived number relation (ap (λ (l : Listing). relation_at l number) (sym anew.listing) ∙ at) ∙ none_survived view.opened closed number);
             heap = heap_are ∙ sym anew.heap;
             surviving = ap (λ (cs : List Change). length cs) is.none_changed ∙ sym (anew.surviving ∙ none_counted view.opened closed);
             rooms = is.rooms;

@@ -1,6 +1,6 @@
 -- What a call that defines makes of the pages, of the machine's state and of the session.
 use Rattle.std.proofs.Common.{◌≡◌, inl, inr, ℕ, ◌≤◌, true, false, Bool, List, length, get_or, refl, sym, ◌∙◌, ap, subst, arith}
-use Rattle.std.specs.Prelude.{Some, None, slice_set}
+use Rattle.std.specs.Prelude.{Some, None, slice_index, slice_set}
 use Rattle.std.specs.FinMap.{empty}
 use Rattle.std.proofs.lemmas.Bool.{cases_eq}
 use Rattle.std.proofs.lemmas.List.{get_or-set_same, get_or-set_other, length-set}
@@ -17,6 +17,7 @@ use Rattle.rss_model.specs.Fits.{Fits}
 use Rattle.rss_model.specs.Kept.{Kept}
 use Rattle.rss_model.specs.Defining.{defined, with_definitions, DefinesNames}
 use Rattle.rss_model.specs.Steps.{refusal}
+use Rattle.rss_model.specs.Spares.{listed_bound}
 use Rattle.rss_model.specs.Store.{SpellsTables, size_of}
 use Rattle.rss_model.proofs.BothRooms.{definitions_keep_rooms}
 use Rattle.rss_model.proofs.ByNumber.{relation_unnamed}
@@ -30,9 +31,10 @@ use Rattle.rss_session.specs.Calls.{with_catalog, IsRedefined}
 use Rattle.rss_session.specs.Definitions.{entry_of, Relists, Redefines}
 use Rattle.rss_session.specs.Definitions.Relists.{segment, relation, drop_segment, drop_relation}
 use Rattle.rss_session.specs.Parts.{view}
-use Rattle.rss_session.specs.Sessions.{SessionView, IsReady, IsEarly}
+use Rattle.rss_session.specs.Sessions.{SessionView, most_in, counts, IsReady, IsEarly}
 use Rattle.rss_session.specs.Shown.{Shows}
 use Rattle.rss_session.specs.declared.session.Session.{Session}
+use Rattle.rss_session.proofs.Bounds.{bound_relisted, session_of}
 use Rattle.rss_session.proofs.Defined.{none_changed, none_marked}
 
 -- ---- the pages
@@ -55,14 +57,25 @@ relisted spells fit (drop_segment name number at none) fits = record {
   so = refl;
   spells = segment_gone_spells spells number name at (λ k r is within. none (record { number = k; relation = r; at = is; within = within })) fits;
 }
-relisted spells fit (drop_relation number entry at empty) fits = record { definitions = _; so = refl; spells = relation_gone_spells spells number entry at (spells.counts number entry at ∙ empty) (λ k image is same. no_image_at spells.plain k image is) fits }
+relisted spells fit (drop_relation number entry at empty none) fits = record {
+  definitions = _;
+  so = refl;
+  spells = relation_gone_spells spells number entry at (spells.counts number entry at ∙ empty) (λ k image is same. none (record { number = k; image = image; at = is; of = same })) fits;
+}
+
+-- the images are those that were listed
+images_kept : {old new : Listing} {call : Call} → Relists old call new → new.images ≡ old.images
+images_kept (segment name number fresh least) = refl
+images_kept (relation name in_segment fields at number within fresh least) = refl
+images_kept (drop_segment name number at none) = refl
+images_kept (drop_relation number entry at live none) = refl
 
 -- neither images nor links are listed
 plain_relisted : {old new : Listing} {call : Call} → Relists old call new → IsPlain old → IsPlain new
 plain_relisted (segment name number fresh least) plain = record { no_images = plain.no_images; no_links = plain.no_links }
 plain_relisted (relation name in_segment fields at number within fresh least) plain = record { no_images = plain.no_images; no_links = plain.no_links }
 plain_relisted (drop_segment name number at none) plain = record { no_images = plain.no_images; no_links = plain.no_links }
-plain_relisted (drop_relation number entry at live) plain = record { no_images = plain.no_images; no_links = plain.no_links }
+plain_relisted (drop_relation number entry at live none) plain = record { no_images = plain.no_images; no_links = plain.no_links }
 
 -- ---- the session
 
@@ -86,11 +99,17 @@ module _ {S : Type 0} (pages_view : S → PagesView) {call : Call} {old new : Se
     opened = told (sym redefines.rest.opened i);
     heap = sym redefines.rest.heap i;
     surviving = sym redefines.rest.surviving i;
+    entries = λ number. slice_index (sym redefines.rest.entries i) number;
+    survived = λ number. slice_index (sym redefines.rest.survived i) number;
   }
 
   -- as many pages may have changed
   as_many : length old.store.catalog.pending ≡ system_pages → length new.store.catalog.pending ≡ system_pages
   as_many places = ap (λ (pending : List Bool). length pending) redefines.lists.pending ∙ length-set old.store.catalog.pending redefines.page true ∙ places
+
+  -- images may have as many pages
+  images_same : listed_bound new.store.catalog.listing (most_in before) ≡ (counts before).images
+  images_same = bound_relisted old.store.catalog.listing new.store.catalog.listing (images_kept redefines.relists) redefines.imaged (most_in before)
 
   -- what is defined may be committed
   pub ready_redefined : IsReady before → IsReady after
@@ -111,8 +130,9 @@ module _ {S : Type 0} (pages_view : S → PagesView) {call : Call} {old new : Se
       heaps = ready.store.heaps;
       tables = λ told image. absurd (no_image_at (plain_relisted redefines.relists ready.store.plain) image.number image.image image.at);
     };
-    pages = ready.pages;
-    room = ready.room;
+    pages = session_of refl refl refl ready.pages;
+    room = omega (arith, ready.room, images_same);
+    saved = omega (arith, ready.saved, images_same);
     log = ready.log;
     placed = ready.placed;
     numbers = ready.numbers;

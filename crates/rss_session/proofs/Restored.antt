@@ -30,12 +30,13 @@ use Rattle.rss_store.specs.Stores.{StoreView, Grows}
 use Rattle.rss_store.specs.Stores.{IsReady as IsStoreReady}
 use Rattle.rss_store.specs.Shown.{ShowsWith}
 use Rattle.rss_store.specs.Shown.{Shows as StoreShows}
-use Rattle.rss_session.specs.Sessions.{SessionView, AreRising, IsReady, IsEarly, sums_in}
+use Rattle.rss_session.specs.Sessions.{SessionView, CountsStill, AreRising, IsReady, IsEarly, sums_in}
 use Rattle.rss_session.specs.Shown.{Shows, IsRested}
 use Rattle.rss_session.specs.Calls.{HasMarks, taken_to, TakesBack, GoesBack, Restores}
 use Rattle.rss_session.proofs.Fewer.{changers, put_here, put_open, put_p, put_q, put_opened, put_placed, length_taken}
 use Rattle.rss_session.proofs.Marked.{rising_higher}
 use Rattle.rss_session.proofs.Steady.{shows_same, none_more, overflow_still, size_some, changes_kept, stamps_kept, not_rested}
+use Rattle.rss_session.proofs.Traffic.{each_again}
 use Rattle.rss_session.proofs.Ended.{ready_again, free_grown}
 use Rattle.rss_session.proofs.Undone.{fewer_changers}
 use Rattle.rss_session.proofs.Backwards.{own_count, none_cut}
@@ -109,7 +110,7 @@ module _ (old mid : SessionView) (t save : ℕ) (first : Option ℕ) (ready : Is
       limit = omega (arith, early, ap (λ (l : LogView). l.end) takes.log);
     }
 
-  module _ (new : SessionView) (ready_mid : IsReady mid) (heap : new.heap ≡ mid.heap) (surviving : new.surviving ≡ mid.surviving) (pages : page_counts new.store.pages ≡ page_counts mid.store.pages) (store : IsStoreReady new.store) where
+  module _ (new : SessionView) (ready_mid : IsReady mid) (still : CountsStill mid new) (catalog : new.store.catalog ≡ mid.store.catalog) (pages : page_counts new.store.pages ≡ page_counts mid.store.pages) (store : IsStoreReady new.store) where
     pub grown_placed : {size : ℕ} → Grows size mid.store.log new.store.log → (u : ℕ) → AreRising new.store.log.head new.store.log.end (transaction_in mid.opened u).changes
     grown_placed grows u = subst (λ (n : ℕ). AreRising n new.store.log.end (transaction_in mid.opened u).changes) (sym grows.head)
         (rising_higher mid.store.log.head mid.store.log.end new.store.log.end (transaction_in mid.opened u).changes (omega (arith, grows.end)) (ready_mid.placed u))
@@ -130,12 +131,12 @@ module _ (old mid : SessionView) (t save : ℕ) (first : Option ℕ) (ready : Is
       cut_placed low high placed = put_placed mid.opened new.opened t (cut_at save (transaction_in mid.opened t)) still_open steps.transactions low high (placed t) placed
 
       pub ready_restored : (position : ℕ) → first ≡ Some position → Grows restore_size mid.store.log new.store.log → IsReady new
-      ready_restored position some grows = ready_again mid new ready_mid store steps.since heap surviving pages (omega (arith, same_p))
+      ready_restored position some grows = ready_again mid new ready_mid store steps.since steps.since_of still catalog pages (omega (arith, same_p))
           (omega (arith, ready.log, one_less position some, same_p, same_q, no_more_q, free_grown grows, free_same))
           (cut_placed new.store.log.head new.store.log.end (grown_placed grows)) cut_opened
 
       pub ready_unchanged : new.store.log ≡ mid.store.log → IsReady new
-      ready_unchanged log = ready_again mid new ready_mid store steps.since heap surviving pages (omega (arith, same_p))
+      ready_unchanged log = ready_again mid new ready_mid store steps.since steps.since_of still catalog pages (omega (arith, same_p))
           (omega (arith, ready_mid.log, same_p, same_q, ap free_of log))
           (λ u. subst (λ (l : LogView). AreRising l.head l.end (transaction_in new.opened u).changes) (sym log) (cut_placed mid.store.log.head mid.store.log.end ready_mid.placed u)) cut_opened
 
@@ -162,7 +163,7 @@ module _ (old mid : SessionView) (t n : ℕ) (first : Option ℕ) (state : State
   -- where something was, not as many are listed as at the checkpoint
   module _ (more_own : n < length (own t state.changes)) where
     pub fewer_rested : (fewer : List Change) → length fewer < length state.changes → state.meter.since ≡ 0 → length fewer ≡ state.meter.surviving → ⊥
-    fewer_rested fewer less = not_rested (change_counts state.meter) (length state.changes) (length fewer) (page_counts old.store.pages) shows.store.session less
+    fewer_rested fewer less = not_rested (change_counts state.base.definitions state.meter) (length state.changes) (length fewer) (page_counts old.store.pages) shows.store.session less
 
 -- what was found of the changes is so of the state's
 module _ (old mid : SessionView) (t save : ℕ) (first : Option ℕ) (state : State) (marks : List ℕ) (has : HasMarks state t marks) (shows : Shows old state) (takes : TakesBack t save old mid first) where
@@ -178,7 +179,7 @@ none_own mid t n first state back is = let none_back : GoesBack mid state t n No
 -- ---- back at a save point
 
 module _ (old mid new : SessionView) (t save : ℕ) (first : Option ℕ) (state : State) (marks : List ℕ) (kept : Kept state) (has : HasMarks state t marks) (shows : Shows old state) (back : GoesBack mid state t (left_at marks save) first)
-    (steps : Steps t (cut_at save) mid.opened new.opened) (heap : new.heap ≡ mid.heap) (surviving : new.surviving ≡ mid.surviving) (catalog : new.store.catalog ≡ mid.store.catalog) where
+    (steps : Steps t (cut_at save) mid.opened new.opened) (still : CountsStill mid new) (catalog : new.store.catalog ≡ mid.store.catalog) where
   abbrev n : ℕ
   n = left_at marks save
 
@@ -195,8 +196,9 @@ module _ (old mid new : SessionView) (t save : ℕ) (first : Option ℕ) (state 
     counted = record {
       since = subst (λ (c : CatalogView). TellsSince c.listing new.opened (restored t save marks over_then state).meter) (sym catalog)
           (since_stays mid.store.catalog.listing mid.opened new.opened _ over_then _ state.meter back.shows.counted.since steps.since steps.since_of);
-      heap = back.shows.counted.heap ∙ sym heap;
-      surviving = back.shows.counted.surviving ∙ sym surviving;
+      each = each_again catalog still back.shows.counted.each;
+      heap = back.shows.counted.heap ∙ sym still.heap;
+      surviving = back.shows.counted.surviving ∙ sym still.surviving;
       rooms = restores_keep_rooms state t save marks over_then kept back.shows.counted.rooms back.shows.store.way;
     };
     rested = rested;

@@ -1,33 +1,34 @@
 -- A checkpoint of a session: what it asks for, and what is so behind it.
-use Rattle.std.proofs.Common.{◌≡◌, ℕ, ◌+◌, ◌≤◌, true, ◌++◌, length, refl, sym, ◌∙◌, ap, subst, arith}
+use Rattle.std.proofs.Common.{◌≡◌, ℕ, ◌+◌, ◌*◌, ◌≤◌, true, ◌++◌, length, refl, sym, ◌∙◌, ap, subst, arith}
 use Rattle.std.specs.Prelude.{Option, Some, None, is_some}
 use Rattle.std.specs.FinMap as finite
 use Rattle.rss_base.specs.LogRecords.{ArePlaced, IsSpellable, DoesMarkFit, record_size, marks_most}
 use Rattle.rss_base.specs.Sizes.{system_pages, largest_checkpoint}
-use Rattle.rss_base.specs.Listings.{Listing}
+use Rattle.rss_base.specs.Listings.{Listing, relation_at}
 use Rattle.rss_base.specs.Paged.{mapped_of, mapped_pages}
 use Rattle.rss_base.specs.Steps.{AreCounted}
 use Rattle.rss_base.specs.declared.key.PageKey.{PageKey}
-use Rattle.rss_base.specs.declared.key.Space.TheVariants.{Home, Overflow}
+use Rattle.rss_base.specs.declared.key.Space.TheVariants.{Home, Overflow, Image}
+use Rattle.rss_base.specs.declared.relation.RelationEntry.{RelationEntry}
 use Rattle.rss_base.specs.declared.log_record.LogRecord.TheVariants as records
 use Rattle.rss_record.proofs.Marks.{length-marks_bytes}
 use Rattle.rss_log.specs.Logs.{free_of}
 use Rattle.rss_model.specs.Fits.{Fits}
 use Rattle.rss_model.specs.Kept.{Kept}
 use Rattle.rss_model.specs.Machine.{State, now}
-use Rattle.rss_model.specs.Meter.{free_between, least_position}
+use Rattle.rss_model.specs.Meter.{free_between, least_position, changes_of}
 use Rattle.rss_model.specs.Meanings.{as_bytes}
 use Rattle.rss_model.specs.EngineLogs.{EngineLog, lists_now, saved_log, TiesState}
 use Rattle.rss_model.specs.LogLaws.{SavesTie, head_behind}
 use Rattle.rss_model.specs.Recovers.{NamesLists}
 use Rattle.rss_model.specs.Rules.{saved_now, if_no_log_room}
-use Rattle.rss_model.specs.Spares.{page_counts, HasMade, IsInSession}
+use Rattle.rss_model.specs.Spares.{live_of, page_counts, HasMade, IsInSession}
 use Rattle.rss_model.specs.Store.{size_of}
 use Rattle.rss_model.proofs.BothRooms.{checkpoints_keep_rooms}
 use Rattle.rss_model.proofs.LogSaving.{checkpoint_ties}
 use Rattle.rss_model.proofs.Sparing.{session_begins}
 use Rattle.rss_model.proofs.StepKeeping.{kept_fit}
-use Rattle.rss_model.proofs.StorePages.{pages_are}
+use Rattle.rss_model.proofs.StorePages.{pages_split}
 use Rattle.rss_trans.specs.Transactions.{Transaction, OpenView, is_open, transaction_in, first_position, Checkpoints}
 use Rattle.rss_trans.specs.Told.{TellsOpen}
 use Rattle.rss_trans.proofs.Told.{done, checkpoint_tells}
@@ -41,9 +42,11 @@ use Rattle.rss_store.specs.Commits.{HasLogRoom, least_mark, CanCheckpoint, Saves
 use Rattle.rss_session.specs.Sessions.{SessionView, AreRising, IsReady, IsEarly, sums_in, owed_by}
 use Rattle.rss_session.specs.Sessions as sessions
 use Rattle.rss_session.specs.Shown.{Shows}
-use Rattle.rss_session.specs.Weighing.{named, saved_head, saved_free, MaySave}
+use Rattle.rss_session.specs.Weighing.{named, saved_head, saved_free, survived_now, saved_images_with, HasSavedRoom, MaySave}
+use Rattle.rss_session.specs.Calls.{CountsAnew}
 use Rattle.rss_session.proofs.Marked.{low_least, least_end, least_all, all_marked, marked_all, rising_higher, rising_from, first_placed}
-use Rattle.rss_session.proofs.Weighed.{count_same, slots_same, saved_head_same, saved_heap_same, may_save}
+use Rattle.rss_session.proofs.Traffic.{images_anew, each_anew, survived_same}
+use Rattle.rss_session.proofs.Weighed.{count_same, slots_same, few_slots, saved_head_same, saved_heap_same, may_save}
 
 -- ---- what it asks for
 
@@ -132,17 +135,22 @@ module _ {view : SessionView} (ready : IsReady view) where
 
       -- ---- the state behind it
 
-      module _ {new : SessionView} (store : StoreShows new.store next) (saved : IsSaved new.store) (checkpoints : Checkpoints view.opened new.opened) (listing : new.store.catalog.listing ≡ view.store.catalog.listing) (heap : new.heap ≡ heap_now view.store.pages) (surviving : new.surviving ≡ (sums_in view.opened).p) (slots : new.store.pages.slots ≡ new.store.root.slots) where
+      module _ {new : SessionView} (store : StoreShows new.store next) (saved : IsSaved new.store) (checkpoints : Checkpoints view.opened new.opened) (anew : CountsAnew view new) (slots : new.store.pages.slots ≡ new.store.root.slots) where
         pub shows_saved : Shows new next
         shows_saved = record {
           store = store;
           listed = shows.listed;
           list = record { changes_are = shows.list.changes_are; stamps_are = shows.list.stamps_are };
-          told = subst (λ (l : Listing). TellsOpen l new.opened state.marks shows.listed) (sym listing) (checkpoint_tells view.store.catalog.listing view.opened new.opened state.marks shows.listed shows.told checkpoints);
+          told = subst (λ (l : Listing). TellsOpen l new.opened state.marks shows.listed) (sym anew.listing) (checkpoint_tells view.store.catalog.listing view.opened new.opened state.marks shows.listed shows.told checkpoints);
           counted = record {
             since = since_saved new.store.catalog.listing view.opened new.opened state.size.slots (now state) state.changes state.meter checkpoints;
-            heap = saved_heap_same ready shows held_are ∙ sym heap;
-            surviving = sym (count_same ready shows) ∙ sym surviving;
+            each = each_anew new {counted = changes_of state.changes} store.spells (λ relation. refl) (λ relation. refl)
+                (λ number. anew.entries number ∙ ap (λ (l : Listing). live_of l number) (sym anew.listing))
+                (λ number relation at.
+                let was : relation_at view.store.catalog.listing number ≡ Some relation = ap (λ (l : Listing). relation_at l number) (sym anew.listing) ∙ at in
+                anew.survived number relation was ∙ survived_same shows (few_slots ready shows) number relation was);
+            heap = saved_heap_same ready shows held_are ∙ sym anew.heap;
+            surviving = sym (count_same ready shows) ∙ sym anew.surviving;
             rooms = checkpoints_keep_rooms state shows.counted.rooms.metered no_refusal;
           };
           rested = λ none all. store.over_is ∙ (λ i. mapped_of (saved.pages i) Overflow (slots i));
@@ -150,17 +158,29 @@ module _ {view : SessionView} (ready : IsReady view) where
 
 -- ---- a call may be made again
 
-module _ {old new : SessionView} (ready : IsReady old) (may : MaySave old) (store : IsStoreReady new.store) (saves : Saves (named old.opened) old.store new.store) (checkpoints : Checkpoints old.opened new.opened) (heap : new.heap ≡ heap_now new.store.pages) (surviving : new.surviving ≡ (sums_in new.opened).p) (slots : new.store.pages.slots ≡ old.store.pages.slots) (counted : AreCounted new.store.pages) where
-  mapped_same : mapped_pages new.store.pages.slots new.store.pages.mapped ≡ mapped_pages old.store.pages.slots old.store.pages.mapped
-  mapped_same = λ i. mapped_pages (slots i) (saves.mapped i)
+-- each page has room in two slots
+pub half : {view : SessionView} → IsReady view → HasSavedRoom view → 2 * mapped_pages view.store.pages.slots view.store.pages.mapped ≤ view.store.pages.slots
+half {view = view} ready room = omega (arith, room.slots, room.images, pages_split view.store.pages.mapped view.store.pages.slots ready.store.system, ready.store.size)
 
-  mapped_now : mapped_pages new.store.pages.slots new.store.pages.mapped ≡ heap_now new.store.pages + system_pages
-  mapped_now = pages_are new.store.pages.mapped (λ key there. store.only key there) new.store.pages.slots store.system
+module _ {old new : SessionView} (ready : IsReady old) (may : MaySave old) (room : HasSavedRoom old) (store : IsStoreReady new.store) (saved : IsSaved new.store) (saves : Saves (named old.opened) old.store new.store) (checkpoints : Checkpoints old.opened new.opened)
+    (entries : (number : ℕ) → new.entries number ≡ live_of old.store.catalog.listing number) (survived : (number : ℕ) (relation : RelationEntry) → relation_at old.store.catalog.listing number ≡ Some relation → new.survived number ≡ survived_now old.opened number) (listing : new.store.catalog.listing ≡ old.store.catalog.listing)
+    (heap : new.heap ≡ heap_now new.store.pages) (surviving : new.surviving ≡ (sums_in new.opened).p) (slots : new.store.pages.slots ≡ old.store.pages.slots) (counted : AreCounted new.store.pages) where
+  mapped_now : mapped_pages new.store.pages.slots new.store.pages.mapped ≡ heap_now new.store.pages + mapped_of new.store.pages.mapped Image new.store.pages.slots + system_pages
+  mapped_now = pages_split new.store.pages.mapped new.store.pages.slots store.system
 
-  pub heap_same : heap_now new.store.pages ≡ heap_now old.store.pages
+  images_mapped : mapped_of new.store.pages.mapped Image new.store.pages.slots ≡ mapped_of old.store.pages.mapped Image old.store.pages.slots
+  images_mapped = λ i. mapped_of (saves.mapped i) Image (slots i)
+
+  images_saved : (page_counts new.store.pages).saved_images ≡ mapped_of new.store.pages.mapped Image new.store.pages.slots
+  images_saved = λ i. mapped_of (sym saved.pages i) Image new.store.pages.slots
+
+  images_now : (sessions.counts new).images ≡ saved_images_with old None
+  images_now = images_anew old new listing checkpoints.since_of entries survived None
+
+  heap_same : heap_now new.store.pages ≡ heap_now old.store.pages
   heap_same = λ i. mapped_of (saves.mapped i) Home (slots i) + mapped_of (saves.mapped i) Overflow (slots i)
 
-  pub sums_same : (sums_in new.opened).p ≡ (sums_in old.opened).p
+  sums_same : (sums_in new.opened).p ≡ (sums_in old.opened).p
   sums_same = ap (λ m. (sums_in (record old.opened { transactions = m })).p) checkpoints.transactions
 
   changers_same : (sums_in new.opened).q ≡ (sums_in old.opened).q
@@ -171,7 +191,7 @@ module _ {old new : SessionView} (ready : IsReady old) (may : MaySave old) (stor
 
   made : HasMade (sessions.counts new) 0 (page_counts new.store.pages)
   made = record {
-    before = omega (arith, saves.shadow, mapped_now, heap);
+    before = omega (arith, saves.shadow, mapped_now, images_saved, heap);
     now = omega (arith, mapped_now, heap);
     all = counted;
   }
@@ -186,7 +206,8 @@ module _ {old new : SessionView} (ready : IsReady old) (may : MaySave old) (stor
   ready_saved = record {
     store = store;
     pages = subst (λ (n : ℕ). IsInSession (sessions.counts new) n (page_counts new.store.pages)) surviving (session_begins (sessions.counts new) (page_counts new.store.pages) made);
-    room = let was = ready.pages in let times = was.made.now in let few = was.most in let room = ready.room in omega (arith, times, few, room, mapped_now, mapped_same, heap, surviving, sums_same, checkpoints.since, slots);
+    room = omega (arith, room.slots, images_now, heap, heap_same, surviving, sums_same, checkpoints.since, slots, ready.store.size);
+    saved = omega (arith, images_saved, images_mapped, room.images, images_now);
     log = omega (arith, may, free_same, sums_same, changers_same);
     placed = λ t.
         subst (λ (x : Option Transaction). AreRising new.store.log.head new.store.log.end (done x).changes) (sym (opened_same t))

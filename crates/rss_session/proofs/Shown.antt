@@ -6,7 +6,7 @@ use Rattle.std.specs.FinMap.{FinMap, get, insert, values, get-insert}
 use Rattle.std.specs.Ordering.{eq_by_cmp, nat_cmp}
 use Rattle.std.proofs.lemmas.Bool.{cond-true, cond-false}
 use Rattle.rss_model.specs.Machine.{State}
-use Rattle.rss_model.specs.Spares.{page_counts, HasRoomFor, IsInSession}
+use Rattle.rss_model.specs.Spares.{page_counts, IsInSession}
 use Rattle.rss_model.proofs.LogLists.{by_same}
 use Rattle.rss_trans.specs.declared.noted.Noted.{Noted}
 use Rattle.rss_trans.specs.Transactions.{Transaction, nothing, OpenView, is_open, transaction_in, IsSame, any, change_count, sums_of}
@@ -15,8 +15,10 @@ use Rattle.rss_trans.proofs.Told.{key_here, key_off, same_tells}
 use Rattle.rss_session.specs.Sessions.{SessionView, IsReady, AreRising, counts, sums_in}
 use Rattle.rss_session.specs.Shown.{Shows}
 use Rattle.rss_session.specs.Weighing.{weighed}
+use Rattle.rss_session.proofs.Bounds.{session_of}
 use Rattle.rss_session.proofs.Steady.{shows_same}
 use Rattle.rss_session.proofs.Sums.{insert_sum}
+use Rattle.rss_session.proofs.Traffic.{images_still}
 
 -- ---- by the result
 
@@ -32,7 +34,7 @@ if_ok_with (Err e) one other both = tt
 
 -- the session with other open transactions
 abbrev pub with_opened : SessionView → OpenView → SessionView
-with_opened view opened = record { store = view.store; opened = opened; heap = view.heap; surviving = view.surviving }
+with_opened view opened = record { store = view.store; opened = opened; heap = view.heap; surviving = view.surviving; entries = view.entries; survived = view.survived }
 
 -- The open transactions have other save points, but the same changes.
 pub shows_opened : {view : SessionView} {state : State} (opened : OpenView) (marks : SavePoints) (shows : Shows view state)
@@ -52,6 +54,7 @@ shows_opened {view = view} {state = state} opened marks shows told since since_o
           each = λ relation number numbered. ap (λ (counts : ℕ → ℕ). counts number) since_of ∙ counted.since.each relation number numbered;
           fewer = counted.since.fewer;
         };
+        each = counted.each;
         heap = counted.heap;
         surviving = counted.surviving;
         rooms = record {
@@ -70,24 +73,27 @@ shows_still {view = view} opened same state shows =
 -- ---- calls may be made
 
 -- the same number of changes is counted, and each change is where it was
-pub ready_opened : {view : SessionView} (opened : OpenView) → IsReady view → opened.since ≡ view.opened.since
+pub ready_opened : {view : SessionView} (opened : OpenView) → IsReady view → opened.since ≡ view.opened.since → opened.since_of ≡ view.opened.since_of
     → (sums_in opened).p ≡ (sums_in view.opened).p → (sums_in opened).q ≡ (sums_in view.opened).q
     → ((t : ℕ) → (transaction_in opened t).changes ≡ (transaction_in view.opened t).changes)
     → ((t : ℕ) → is_open opened t ≡ true → t < 2 ^ 32)
     → IsReady (with_opened view opened)
-ready_opened {view = view} opened ready since changes changers same numbers = record {
+ready_opened {view = view} opened ready since since_of changes changers same numbers = record {
   store = ready.store;
-  pages = subst (λ (n : ℕ). IsInSession (record { heap = view.heap; surviving = view.surviving; since = n }) (sums_in opened).p (page_counts view.store.pages)) (sym since)
-      (subst (λ (n : ℕ). IsInSession (counts view) n (page_counts view.store.pages)) (sym changes) ready.pages);
-  room = subst (λ (n : ℕ). HasRoomFor (record { heap = view.heap; surviving = view.surviving; since = n }) (page_counts view.store.pages)) (sym since) ready.room;
+  pages = session_of refl refl since (subst (λ (n : ℕ). IsInSession (counts view) n (page_counts view.store.pages)) (sym changes) ready.pages);
+  room = omega (arith, ready.room, since, images);
+  saved = omega (arith, ready.saved, images);
   log = omega (arith, ready.log, changes, changers);
   placed = λ t. subst (AreRising view.store.log.head view.store.log.end) (sym (same t)) (ready.placed t);
   numbers = numbers;
 }
+  where
+    images : (counts (with_opened view opened)).images ≡ (counts view).images
+    images = images_still {old = view} {new = with_opened view opened} view.store.catalog.listing (record { heap = refl; surviving = refl; entries = refl; survived = refl }) since_of
 
 pub ready_still : {view : SessionView} (opened : OpenView) → IsSame view.opened opened → IsReady view → IsReady (with_opened view opened)
 ready_still {view = view} opened same ready =
-    ready_opened opened ready same.since
+    ready_opened opened ready same.since same.since_of
     (ap (λ (m : FinMap nat_cmp Transaction). (sums_of any 0 (values m)).p) same.transactions)
     (ap (λ (m : FinMap nat_cmp Transaction). (sums_of any 0 (values m)).q) same.transactions)
     (λ t. ap (λ (m : FinMap nat_cmp Transaction). (unwrap_or (get m t) nothing).changes) same.transactions)
@@ -103,11 +109,11 @@ done_nothing opened t = by (get opened.transactions t)
 
 -- one of them is new, or has the changes that it had
 pub ready_with : {view : SessionView} (opened : OpenView) (t : ℕ) (x : Transaction) → IsReady view → t < 2 ^ 32
-    → opened.transactions ≡ insert view.opened.transactions t x → opened.since ≡ view.opened.since
+    → opened.transactions ≡ insert view.opened.transactions t x → opened.since ≡ view.opened.since → opened.since_of ≡ view.opened.since_of
     → x.changes ≡ (transaction_in view.opened t).changes
     → IsReady (with_opened view opened)
-ready_with {view = view} opened t x ready low put since same =
-    ready_opened opened ready since
+ready_with {view = view} opened t x ready low put since since_of same =
+    ready_opened opened ready since since_of
     (same_sum (change_count any) refl (ap (count_by any) same))
     (same_sum (λ y. cond (nat_lt 0 (change_count any y)) 1 0) refl (ap (λ (notes : List Noted). cond (nat_lt 0 (count_by any notes)) 1 0) same))
     changes
@@ -131,6 +137,6 @@ ready_with {view = view} opened t x ready low put since same =
 
 -- ---- what is weighed
 
-pub weighed_still : (view : SessionView) (opened : OpenView) → IsSame view.opened opened → (t size : ℕ) → weighed (with_opened view opened) t size ≡ weighed view t size
-weighed_still view opened same t size =
-    λ i. weighed (with_opened view (record { transactions = same.transactions i; since = same.since i; since_of = opened.since_of; room = opened.room })) t size
+pub weighed_still : (view : SessionView) (opened : OpenView) → IsSame view.opened opened → (t : ℕ) (number : Option ℕ) (size : ℕ) → weighed (with_opened view opened) t number size ≡ weighed view t number size
+weighed_still view opened same t number size =
+    λ i. weighed (with_opened view (record { transactions = same.transactions i; since = same.since i; since_of = same.since_of i; room = opened.room })) t number size

@@ -1,21 +1,56 @@
--- That a change of a tuple finds room where two pages are spare, and takes two pages at most.
-use Rattle.std.proofs.Common.{ℕ, ◌+◌, ◌≤◌, arith}
-use Rattle.rss_base.specs.Paged.{mapped_pages}
-use Rattle.rss_model.proofs.StorePages.{pages_are}
+-- That a change of a tuple finds room, and takes two home or overflow pages at most.
+use Rattle.std.proofs.Common.{◌≡◌, ℕ, ◌+◌, ◌*◌, ◌^◌, ◌<◌, ◌≤◌, Bool, true, false, if◌then◌else◌, ◌==◌, refl, sym, ◌∙◌, ap, arith}
+use Rattle.std.specs.Prelude.{Option, Some}
+use Rattle.std.proofs.lemmas.Bool.{eq-eqb, eqb-true}
+use Rattle.rss_base.specs.Listings.{Listing, relation_at}
+use Rattle.rss_base.specs.Paged.{mapped_of, mapped_pages}
+use Rattle.rss_base.specs.declared.key.Space.TheVariants.{Image}
+use Rattle.rss_base.specs.declared.relation.RelationEntry.{RelationEntry}
+use Rattle.rss_model.specs.Machine.{State}
+use Rattle.rss_model.specs.Spares.{page_counts}
+use Rattle.rss_model.proofs.ImageRooms.{bound_rises}
+use Rattle.rss_model.proofs.Sparing.{spare_for_next}
+use Rattle.rss_model.proofs.StorePages.{pages_split}
+use Rattle.rss_entries.proofs.Rooms.{room_within}
 use Rattle.rss_access.specs.Changes.{HasRoom, Takes}
-use Rattle.rss_restart.proofs.Moving.{plain_room}
 use Rattle.rss_store.specs.Changing.{access}
-use Rattle.rss_store.specs.Stores.{StoreView, IsReady}
+use Rattle.rss_store.specs.Stores.{StoreView, IsReady as IsStoreReady}
+use Rattle.rss_session.specs.Sessions.{SessionView, most_in, IsReady, sums_in}
+use Rattle.rss_session.specs.Sessions as sessions
+use Rattle.rss_session.specs.Shown.{Shows}
+use Rattle.rss_session.specs.Weighing.{most_with, images_with}
+use Rattle.rss_session.proofs.Noted.{Goes}
+use Rattle.rss_session.proofs.Traffic.{most_counted, with_is, with_more}
+use Rattle.rss_session.proofs.Weighed.{few_slots}
 
--- without images, two spare pages are room enough
-pub room_for_two : (view : StoreView) → IsReady view → 2 ≤ view.pages.spare → (number : ℕ) → HasRoom (access view) number
-room_for_two view ready spare number = plain_room (access view) number ready.plain (omega (arith, spare))
+-- a tuple more of the relation is within what is allowed with a change more of it
+within_with : (number n live : ℕ) (most : ℕ → ℕ) → live ≤ most n → (if n == number then live + 1 else live) ≤ most_with (Some number) most n
+within_with number n live most few = by (n == number) refl
+  where
+    by : (b : Bool) → (n == number) ≡ b → (if b then live + 1 else live) ≤ most_with (Some number) most n
+    by true is =
+        let back : (number == n) ≡ true = eq-eqb number n (sym (eqb-true n number is)) in
+        let more : most_with (Some number) most n ≡ most n + 2 = ap (λ (b : Bool). if b then most n + 2 else most n) back in
+        omega (arith, more, few)
+    by false is = omega (arith, few, with_more (Some number) most n)
 
--- besides home and overflow pages, there are those of the system space alone
-pub mapped_two : (old new : StoreView) → IsReady old → IsReady new → Takes 2 old.pages new.pages → mapped_pages new.pages.slots new.pages.mapped ≤ mapped_pages old.pages.slots old.pages.mapped + 2
+-- a change that goes on finds room
+pub room_next : {view : SessionView} {state : State} {t size : ℕ} (number : ℕ) → IsReady view → Goes view t (Some number) size → Shows view state → HasRoom (access view.store) number
+room_next {view = view} {state = state} number ready goes shows =
+    let listing : Listing = view.store.catalog.listing in
+    let rises = bound_rises listing (most_in view) (most_with (Some number) (most_in view)) (λ other relation at. with_more (Some number) (most_in view) other) in
+    let spare = spare_for_next (sessions.counts view) (images_with view (Some number)) (sums_in view.opened).p (page_counts view.store.pages) (omega (arith, goes.room, ready.store.size)) ready.pages (omega (arith, ready.saved, rises)) in
+    let within = room_within listing number (most_with (Some number) (most_in view)) (λ n relation at.
+    within_with number n relation.live (most_in view)
+    (omega (arith, shows.store.spells.counts n relation at, shows.counted.rooms.metered.tuples relation.name, most_counted shows.counted (few_slots ready shows) n relation at))) in
+    omega (arith, spare, within)
+
+-- beside the pages of images, two more are there at most
+pub mapped_two : (old new : StoreView) → IsStoreReady old → IsStoreReady new → Takes 2 old.pages new.pages
+    → mapped_pages new.pages.slots new.pages.mapped + mapped_of old.pages.mapped Image old.pages.slots ≤ mapped_pages old.pages.slots old.pages.mapped + 2 + mapped_of new.pages.mapped Image new.pages.slots
 mapped_two old new ready ready_new takes = omega (
   arith,
-  pages_are old.pages.mapped ready.only old.pages.slots ready.system,
-  pages_are new.pages.mapped ready_new.only new.pages.slots ready_new.system,
+  pages_split old.pages.mapped old.pages.slots ready.system,
+  pages_split new.pages.mapped new.pages.slots ready_new.system,
   takes.heap,
 )

@@ -2,11 +2,9 @@
 use Rattle.std.proofs.Common.{◌≡◌, ℕ, zero, suc, ◌+◌, ◌<◌, List, [], ◌∷◌, ◌++◌, length, get_or, refl, sym, ◌∙◌, ap, subst, arith}
 use Rattle.std.specs.Prelude.{map, replicate, Contains, Option, Some, None, option_map}
 use Rattle.std.proofs.lemmas.List.{map-append}
-use Rattle.rss_base.specs.Sizes.{images_most, links_most}
-use Rattle.rss_base.specs.Listings.{Listing, IsPlain}
+use Rattle.rss_base.specs.Sizes.{links_most}
+use Rattle.rss_base.specs.Listings.{Listing, HasNoLinks}
 use Rattle.rss_base.specs.LogRecords.{BeginsWith, Placed, record_size}
-use Rattle.rss_base.specs.declared.change.Change as told
-use Rattle.rss_base.specs.declared.image.ImageEntry.{ImageEntry}
 use Rattle.rss_base.specs.declared.link.LinkEntry.{LinkEntry}
 use Rattle.rss_base.specs.declared.log_record.LogRecord.TheVariants as records
 use Rattle.rss_log.specs.Logs.{HasRecords, bytes_from}
@@ -14,14 +12,14 @@ use Rattle.rss_log.proofs.LogViews.{listed}
 use Rattle.rss_model.specs.EngineLogs.{EngineLog, all_logged}
 use Rattle.rss_model.specs.LogLaws.{TakesBack}
 use Rattle.rss_model.specs.Machine.{State}
-use Rattle.rss_model.specs.Meanings.{Logged, as_bytes, rootless, endless, SameDefinitions}
+use Rattle.rss_model.specs.Meanings.{Logged, as_bytes, endless, SameDefinitions}
 use Rattle.rss_model.specs.Records.{Changed}
 use Rattle.rss_model.proofs.LogTurning.{changes_turn_back}
 use Rattle.rss_restart.specs.Walks.{TellsAt}
 use Rattle.rss_restart.proofs.Moving.{meant_tuple}
 use Rattle.rss_store.specs.Changing.{IsOwnAt}
 use Rattle.rss_store.specs.Shown.{HoldsLogged, ShowsBack}
-use Rattle.rss_store.specs.Stores.{StoreView, IsReady}
+use Rattle.rss_store.specs.Stores.{StoreView}
 use Rattle.rss_store.proofs.Ways.{stands}
 
 -- ---- listings of the same definitions
@@ -34,11 +32,8 @@ none_of_parts part (item ∷ items) zero same = absurd (cc (same))
 none_of_parts {A = A} part (None ∷ items) (suc count) same = ap (λ (l : List (Option A)). None ∷ l) (none_of_parts part items count (cc (same)))
 none_of_parts part (Some item ∷ items) (suc count) same = absurd (cc (same))
 
-plain_too : {one other : Listing} → SameDefinitions one other → IsPlain other → IsPlain one
-plain_too {one = one} {other = other} same plain = record {
-  no_images = none_of_parts rootless one.images images_most (sym same.images ∙ ap (λ (l : List (Option ImageEntry)). map (option_map rootless) l) plain.no_images);
-  no_links = none_of_parts endless one.links links_most (sym same.links ∙ ap (λ (l : List (Option LinkEntry)). map (option_map endless) l) plain.no_links);
-}
+links_too : {one other : Listing} → SameDefinitions one other → HasNoLinks other → HasNoLinks one
+links_too {one = one} {other = other} same none = none_of_parts endless one.links links_most (sym same.links ∙ ap (λ (l : List (Option LinkEntry)). map (option_map endless) l) none)
 
 -- ---- a record that is listed begins at its position
 
@@ -56,15 +51,19 @@ begins_there {view = view} {log = log} l logged there =
 
 -- ---- what may be taken back
 
-pub tells_back : (view : StoreView) → IsReady view → (state : State) (t n position : ℕ) → IsOwnAt state t n position → ShowsBack view state t (n + 1) → (change : told.Change) × TellsAt view.log position change
-tells_back view ready state t n position own way =
+-- what it is, as the log tells it
+pub turned_back : (view : StoreView) (state : State) (t n position : ℕ) → IsOwnAt state t n position → (way : ShowsBack view state t (n + 1)) → TakesBack way.shows.stored.listing way.shows.log state t n position
+turned_back view state t n position own way =
     let shown = way.shows in
-    let back : TakesBack shown.stored.listing shown.log state t n position = changes_turn_back shown.stored.listing shown.stored.saved shown.log state t n position shown.tied.ties (stands shown.tied.ties own) in (
-      back.told_change,
-      record {
-        by = t;
-        rest = _;
-        begins = begins_there (record { at = position; told = records.Change t back.told_change; is = Changed back.change }) shown.logged back.there;
-        tuple = meant_tuple shown.stored.listing back.told_change back.change (plain_too shown.definitions ready.plain) back.told.means;
-      },
-    )
+    changes_turn_back shown.stored.listing shown.stored.saved shown.log state t n position shown.tied.ties (stands shown.tied.ties own)
+
+pub tells_back : (view : StoreView) (state : State) (t n position : ℕ) (own : IsOwnAt state t n position) (way : ShowsBack view state t (n + 1)) → TellsAt view.log position (turned_back view state t n position own way).told_change
+tells_back view state t n position own way =
+    let shown = way.shows in
+    let back = turned_back view state t n position own way in
+    record {
+      by = t;
+      rest = _;
+      begins = begins_there (record { at = position; told = records.Change t back.told_change; is = Changed back.change }) shown.logged back.there;
+      tuple = meant_tuple shown.stored.listing back.told_change back.change (links_too shown.definitions shown.spells.listed.no_links) back.told.means;
+    }

@@ -1,5 +1,5 @@
 -- What a session weighs is what the machine rules: its numbers are those of the meter.
-use Rattle.std.proofs.Common.{◌≡◌, ℕ, suc, ◌+◌, ◌<◌, ◌≤◌, Bool, true, false, ◌==◌, ◌&&◌, nat_le, if◌then◌else◌, List, [], ◌∷◌, length, map, min, refl, sym, ◌∙◌, ap, subst, arith}
+use Rattle.std.proofs.Common.{◌≡◌, ℕ, suc, ◌+◌, ◌^◌, ◌<◌, ◌≤◌, Bool, true, false, ◌==◌, ◌&&◌, nat_le, if◌then◌else◌, List, [], ◌∷◌, length, map, min, refl, sym, ◌∙◌, ap, subst, arith}
 use Rattle.std.specs.Prelude.{Option, Some, None, is_some, nat_lt, Result, Ok, Err}
 use Rattle.std.specs.List.{AllByRecursion, list_any}
 use Rattle.std.proofs.lemmas.Bool.{eq-eqb}
@@ -10,7 +10,7 @@ use Rattle.rss_base.specs.DiskRule.{IsTold}
 use Rattle.rss_base.specs.LogRecords.{record_size}
 use Rattle.rss_base.specs.Paged.{mapped_of}
 use Rattle.rss_base.specs.declared.key.PageKey.{PageKey}
-use Rattle.rss_base.specs.declared.key.Space.TheVariants.{Home}
+use Rattle.rss_base.specs.declared.key.Space.TheVariants.{Home, Image as ImageSpace}
 use Rattle.rss_base.specs.declared.log_record.LogRecord.TheVariants as records
 use Rattle.rss_base.specs.declared.refusal.Refusal.{Refusal}
 use Rattle.rss_base.specs.declared.refusal.Refusal.TheVariants.{Full, LogFull}
@@ -27,12 +27,15 @@ use Rattle.rss_model.specs.Records.{Listed, changes_in}
 use Rattle.rss_model.specs.Recovers.{AreRising, older_of, first_in, named_in, NamesLists}
 use Rattle.rss_model.specs.EngineLogs.{stamp_of}
 use Rattle.rss_model.specs.Rules.{GoesOn, SavesFirst, NoRoom, NoLogRoom, goes_on, with_change, saved_now, room_with, log_needed, ruling, if_no_log_room}
+use Rattle.rss_model.specs.Spares.{live_of, listed_bound}
 use Rattle.rss_model.specs.Records.{is_by}
+use Rattle.rss_model.proofs.BothRooms.{checkpoints_keep_rooms}
+use Rattle.rss_model.proofs.ImageRooms.{bound_rises, images_few}
 use Rattle.rss_model.proofs.Listed.{heap_is}
 use Rattle.rss_model.proofs.LogGrowing.{fits_now}
 use Rattle.rss_model.proofs.LogLists.{by_test}
 use Rattle.rss_model.proofs.LogWay.{mixed_now}
-use Rattle.rss_model.proofs.PlainStores.{tables_plain, plain_room}
+use Rattle.rss_trans.specs.Told.{IsNumbered}
 use Rattle.rss_trans.specs.Transactions.{transaction_in}
 use Rattle.rss_trans.proofs.Asked.{changes_told}
 use Rattle.rss_trans.proofs.Summing.{sums_told, changers_told, owed_told, names_told, names_counted}
@@ -41,7 +44,8 @@ use Rattle.rss_store.specs.Commits.{least_mark}
 use Rattle.rss_session.specs.Sessions.{SessionView, IsReady, sums_in, owed_by}
 use Rattle.rss_session.specs.Shown.{Shows}
 use Rattle.rss_session.specs.Weighing as weighing
-use Rattle.rss_session.specs.Weighing.{named, saved_end, MaySave, weighed, outcome, RulesSo}
+use Rattle.rss_session.specs.Weighing.{named, saved_end, saved_most, saved_images_with, HasSavedRoom, MaySave, weighed, outcome, RulesSo}
+use Rattle.rss_session.proofs.Traffic.{images_with_same, saved_images_same, saved_with_same}
 
 -- ---- the first change of all
 
@@ -166,10 +170,13 @@ module _ {view : SessionView} {state : State} (ready : IsReady view) (shows : Sh
   pub log_room_same : log_room state.size.log_pages state.meter ≡ free_of view.store.log
   log_room_same = λ i. free_between (log_pages_same i) ((shows.store.tied.ties.meter.head ∙ sym shows.store.logged.head_is) i) (end_same i)
 
-  pub room_same : (change : Change) → room_with state change state.meter ≡ weighing.room_with view
-  room_same change = omega (
+  pub few_slots : state.size.slots < 2 ^ 32
+  few_slots = omega (arith, slots_same, ready.store.formed.slots_most)
+
+  pub room_same : (change : Change) (number : Option ℕ) → IsNumbered view.store.catalog.listing change.item number → room_with state change state.meter ≡ weighing.room_with view number
+  room_same change number is = omega (
     arith,
-    plain_room (tables_plain shows.store.spells) (with_change change state.meter),
+    images_with_same shows few_slots change number is,
     shows.counted.heap,
     shows.counted.surviving,
     shows.counted.since.all,
@@ -258,34 +265,49 @@ module _ {view : SessionView} {state : State} (ready : IsReady view) (shows : Sh
       shows.store.over_is,
     )
 
-    pub saved_room_same : (change : Change) → room_with state change (saved_now state) ≡ weighing.saved_room_with view
-    saved_room_same change =
-        omega (arith, plain_room (tables_plain shows.store.spells) (with_change change (saved_now state)), saved_heap_same, count_same)
+    pub saved_room_same : (change : Change) (number : Option ℕ) → IsNumbered view.store.catalog.listing change.item number → room_with state change (saved_now state) ≡ weighing.saved_room_with view number
+    saved_room_same change number is =
+        omega (arith, saved_with_same shows few_slots change number is, saved_heap_same, count_same)
+
+    -- no more image pages are there than images may have by the tuples of their relations
+    few_images : (slots : ℕ) → mapped_of view.store.pages.mapped ImageSpace slots ≤ saved_images_with view None
+    few_images slots =
+        let some = images_few shows.store.spells held_are slots in
+        let more = bound_rises view.store.catalog.listing (live_of view.store.catalog.listing) (saved_most view) (λ number relation at. omega arith) in
+        omega (arith, some, more)
+
+    -- so there is room behind a checkpoint that may be taken
+    pub has_saved_room : MaySave view → HasSavedRoom view
+    has_saved_room may =
+        let metered = (checkpoints_keep_rooms state shows.counted.rooms.metered (may_save may)).metered in record {
+          slots = omega (arith, metered.room, saved_images_same shows few_slots, saved_heap_same, count_same, slots_same);
+          images = few_images view.store.pages.slots;
+        }
 
 -- ---- what comes of a change
 
 -- As it is, a change goes on exactly where the machine lets it.
-pub goes_on_right : (view : SessionView) (state : State) (change : Change) (size : ℕ) → IsReady view → Shows view state → change_size change ≡ size → goes_on state change ≡ weighing.goes_on view change.by size
-goes_on_right view state change size ready shows is =
-    λ i. nat_le (room_same ready shows change i) (slots_same ready shows i) && nat_le (needed_same ready shows change size is i) (log_room_same ready shows i)
+pub goes_on_right : (view : SessionView) (state : State) (change : Change) (number : Option ℕ) (size : ℕ) → IsReady view → Shows view state → IsNumbered view.store.catalog.listing change.item number → change_size change ≡ size → goes_on state change ≡ weighing.goes_on view change.by number size
+goes_on_right view state change number size ready shows its is =
+    λ i. nat_le (room_same ready shows change number its i) (slots_same ready shows i) && nat_le (needed_same ready shows change size is i) (log_room_same ready shows i)
 
 -- where the pages that are mapped are those that hold something, as on each device that tells its contents
-pub weighs_right : (view : SessionView) (state : State) (change : Change) (size : ℕ) → IsReady view → Shows view state → ((key : PageKey) → is_some (view.store.pages.held key) ≡ view.store.pages.mapped key) → change_size change ≡ size
-    → outcome (ruling state change) ≡ weighed view change.by size
-weighs_right view state change size ready shows held_are is =
+pub weighs_right : (view : SessionView) (state : State) (change : Change) (number : Option ℕ) (size : ℕ) → IsReady view → Shows view state → ((key : PageKey) → is_some (view.store.pages.held key) ≡ view.store.pages.mapped key) → IsNumbered view.store.catalog.listing change.item number → change_size change ≡ size
+    → outcome (ruling state change) ≡ weighed view change.by number size
+weighs_right view state change number size ready shows held_are its is =
     let slots = slots_same ready shows in
-    let room = saved_room_same ready shows held_are change in
+    let room = saved_room_same ready shows held_are change number its in
     let needed = needed_same ready shows change size is in
     let free = sym (saved_free_same ready shows) in
     judged (goes_on state change) (nat_lt state.size.slots (room_with state change (saved_now state))) (nat_le (log_needed change state.meter) (log_room state.size.log_pages (saved_now state)))
     state.size.slots (room_with state change (saved_now state)) (log_room state.size.log_pages (saved_now state)) (log_needed change state.meter)
-    ∙ (λ i. if goes_on_right view state change size ready shows is i then Ok false
+    ∙ (λ i. if goes_on_right view state change number size ready shows its is i then Ok false
     else (if nat_lt (slots i) (room i) then Err (Full (slots i) (room i))
     else (if nat_le (needed i) (free i) then Ok true else Err (LogFull (free i) (needed i)))))
 
 -- what was weighed is so in each state
-pub rules_so : (view : SessionView) (t size : ℕ) (result : Result Bool Refusal) → IsReady view
+pub rules_so : (view : SessionView) (t : ℕ) (number : Option ℕ) (size : ℕ) (result : Result Bool Refusal) → IsReady view
     → (IsTold view.store.pages.disk → (key : PageKey) → is_some (view.store.pages.held key) ≡ view.store.pages.mapped key)
-    → result ≡ weighed view t size → RulesSo view t size result
-rules_so view t size result ready held_are is told state change by size_is shows =
-    weighs_right view state change size ready shows (held_are told) size_is ∙ ap (λ (n : ℕ). weighed view n size) by ∙ sym is
+    → result ≡ weighed view t number size → RulesSo view t number size result
+rules_so view t number size result ready held_are is told state change by its size_is shows =
+    weighs_right view state change number size ready shows (held_are told) its size_is ∙ ap (λ (n : ℕ). weighed view n number size) by ∙ sym is

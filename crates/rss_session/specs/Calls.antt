@@ -3,7 +3,9 @@ use Rattle.std.specs.Prelude.{◌≡◌, ◌↔◌, ◌⊎◌, ℕ, ◌+◌, ◌
 use Rattle.std.specs.FinMap as map
 use Rattle.rss_base.specs.DiskRule.{IsTold, Passes, Continues}
 use Rattle.rss_base.specs.Faults.{Rises}
+use Rattle.rss_base.specs.Listings.{relation_at}
 use Rattle.rss_base.specs.declared.change.Change as told
+use Rattle.rss_base.specs.declared.relation.RelationEntry.{RelationEntry}
 use Rattle.rss_base.specs.declared.fault.PageFault.{PageFault}
 use Rattle.rss_base.specs.declared.fault.PageFault.TheVariants.{Device as DeviceFailed, NoMemory}
 use Rattle.rss_model.specs.Changes.{Change, own}
@@ -15,13 +17,14 @@ use Rattle.rss_model.specs.Machine.{State, now}
 use Rattle.rss_model.specs.Ruled.{HasBothRooms, ruled}
 use Rattle.rss_model.specs.Kept.{Kept, FitMixed}
 use Rattle.rss_model.specs.Steps.{IsOver, MayUndo, undone_to, left_at, restored, gone, committing, redefined}
+use Rattle.rss_model.specs.Spares.{live_of}
 use Rattle.rss_model.specs.Store.{SpellsTables}
 use Rattle.rss_trans.specs.Transactions.{OpenView, Transaction, is_open, transaction_in, without_newest, count_at, Steps}
 use Rattle.rss_store.specs.Changing.{MayMake, IsOwnAt}
 use Rattle.rss_store.specs.Shown.{HoldsTables}
 use Rattle.rss_access.specs.Written.{heap_now, AreWritten}
-use Rattle.rss_session.specs.Sessions.{SessionView, sums_in}
-use Rattle.rss_session.specs.Weighing.{saved_head, saved_end}
+use Rattle.rss_session.specs.Sessions.{SessionView, CountsStill, sums_in}
+use Rattle.rss_session.specs.Weighing.{survived_now, saved_head, saved_end}
 use Rattle.rss_session.specs.Shown.{Shows, ShowsBack}
 
 -- ---- what each call passes on
@@ -74,8 +77,13 @@ pub record CountsAnew (old new : SessionView) : Type 0 where
   pub transactions : new.opened.transactions ≡ old.opened.transactions
   pub places : new.opened.room ≡ old.opened.room
   pub since : new.opened.since ≡ 0
+  pub since_of : (number : ℕ) → new.opened.since_of number ≡ 0
   pub heap : new.heap ≡ heap_now old.store.pages
   pub surviving : new.surviving ≡ (sums_in old.opened).p
+  pub entries : (number : ℕ) → new.entries number ≡ live_of old.store.catalog.listing number
+  pub survived : (number : ℕ) (relation : RelationEntry)
+      → relation_at old.store.catalog.listing number ≡ Some relation
+      → new.survived number ≡ survived_now old.opened number
   pub pages : new.store.log.pages ≡ old.store.log.pages
   pub head : new.store.log.head ≡ saved_head old
   pub end : new.store.log.end ≡ saved_end old
@@ -144,8 +152,7 @@ pub record TakesBack (t save : ℕ) (old new : SessionView) (first : Option ℕ)
   pub opened : Steps t (taken_to (count_at (transaction_in old.opened t) save)) old.opened new.opened
   pub oldest : first ≡ option_map (λ note. note.position)
       (slice_get (transaction_in old.opened t).changes (count_at (transaction_in old.opened t) save))
-  pub heap : new.heap ≡ old.heap
-  pub surviving : new.surviving ≡ old.surviving
+  pub still : CountsStill old new
   pub log : new.store.log ≡ old.store.log
   pub root : new.store.root ≡ old.store.root
   pub number : new.store.number ≡ old.store.number
@@ -161,8 +168,7 @@ pub record HasNewest (opened : OpenView) (t position : ℕ) : Type 0 where
 -- it is taken away
 pub record TakesNewest (t : ℕ) (old new : SessionView) : Type 0 where
   pub opened : Steps t without_newest old.opened new.opened
-  pub heap : new.heap ≡ old.heap
-  pub surviving : new.surviving ≡ old.surviving
+  pub still : CountsStill old new
 
 -- and one change less of it is in the tables
 abbrev pub TakesBackOne : SessionView → SessionView → ℕ → ℕ → Type 0

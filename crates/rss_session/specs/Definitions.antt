@@ -3,15 +3,16 @@ use Rattle.std.specs.Prelude.{◌≡◌, ◌≢◌, ℕ, ◌<◌, List, Some, No
 use Rattle.std.specs.FinMap.{empty}
 use Rattle.rss_base.specs.Sizes.{system_pages}
 use Rattle.rss_base.specs.Steps.{PagesView}
-use Rattle.rss_base.specs.Listings.{Listing, ListingFits, catalog_page, IsUnlisted, IsLeastUnused, segment_at, relation_at, with_segment, with_relation}
+use Rattle.rss_base.specs.Listings.{Listing, ListingFits, catalog_page, IsUnlisted, IsLeastUnused, segment_at, relation_at, image_at, with_segment, with_relation}
 use Rattle.rss_base.specs.declared.name.Name.{Name}
 use Rattle.rss_base.specs.declared.field.FieldDef.{FieldDef}
 use Rattle.rss_base.specs.declared.relation.RelationEntry.{RelationEntry}
+use Rattle.rss_base.specs.declared.image.ImageEntry.{ImageEntry}
 use Rattle.rss_base.specs.declared.call.Call.{Call}
 use Rattle.rss_base.specs.declared.call.Call.TheVariants.{MakeSegment, MakeRelation, DropSegment, DropRelation}
 use Rattle.rss_base.specs.declared.refusal.Kind.TheVariants.{Segment as SegmentKind, Relation as RelationKind}
 use Rattle.rss_base.specs.declared.refusal.Refusal.{Refusal}
-use Rattle.rss_catalog.specs.Catalogs.{HasRelationIn, Lists}
+use Rattle.rss_catalog.specs.Catalogs.{HasRelationIn, HasImageOf, Lists}
 use Rattle.rss_model.specs.Steps.{refusal}
 use Rattle.rss_trans.specs.Tables.{told}
 use Rattle.rss_session.specs.Admissions.{Tests}
@@ -37,7 +38,7 @@ pub data Relists (old : Listing) : Call → Listing → Type 0 where
       → (HasRelationIn old number → ⊥)
       → Relists old (DropSegment name) (with_segment old number None)
   drop_relation : (number : ℕ) (relation : RelationEntry) → relation_at old number ≡ Some relation
-      → relation.live ≡ 0
+      → relation.live ≡ 0 → (HasImageOf old number → ⊥)
       → Relists old (DropRelation relation.name) (with_relation old number None)
 
 -- all but the catalog is as it was
@@ -49,8 +50,10 @@ pub record IsBut {S : Type 0} (old new : Session S) : Type 0 where
   pub opened : new.«open» ≡ old.«open»
   pub heap : new.heap ≡ old.heap
   pub surviving : new.surviving ≡ old.surviving
+  pub entries : new.entries ≡ old.entries
+  pub survived : new.survived ≡ old.survived
 
--- Nothing is open. The catalog lists what the call defines, by which one page of the system space alone has changed; all else is as it was.
+-- Nothing is open. The catalog lists what the call defines, by which one page of the system space alone has changed, and the relation of no image; all else is as it was.
 pub record Redefines {S : Type 0} (call : Call) (old new : Session S) : Type 0 where
   pub page : ℕ
   pub low : ListingFits old.store.catalog.listing → page < system_pages
@@ -59,6 +62,8 @@ pub record Redefines {S : Type 0} (call : Call) (old new : Session S) : Type 0 w
   pub others : (k : ℕ) → k ≢ page
       → catalog_page new.store.catalog.listing k ≡ catalog_page old.store.catalog.listing k
   pub fits : ListingFits old.store.catalog.listing → ListingFits new.store.catalog.listing
+  pub imaged : (number : ℕ) (image : ImageEntry) → image_at old.store.catalog.listing number ≡ Some image
+      → relation_at new.store.catalog.listing image.relation ≡ relation_at old.store.catalog.listing image.relation
   pub closed : (told old.«open»).transactions ≡ empty
   pub rest : IsBut old new
 

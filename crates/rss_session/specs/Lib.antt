@@ -1,6 +1,7 @@
 pub mod Sessions
 pub mod Shown
 pub mod Weighing
+pub mod Bounding
 pub mod Changes
 pub mod Calls
 pub mod Looks

@@ -1,4 +1,5 @@
 -- What there is to see of a session.
+use Rattle.std.specs.Prelude.{slice_index}
 use Rattle.rss_base.specs.Steps.{PagesView}
 use Rattle.rss_store.specs.Parts.{view as store_view}
 use Rattle.rss_trans.specs.Tables.{told}
@@ -12,4 +13,6 @@ view pages_view session = record {
   opened = told session.«open»;
   heap = session.heap;
   surviving = session.surviving;
+  entries = λ number. slice_index session.entries number;
+  survived = λ number. slice_index session.survived number;
 }

@@ -2,9 +2,13 @@
 use Rattle.std.specs.Prelude.{◌≡◌, ℕ, List, length}
 use Rattle.rss_base.specs.Paged.{mapped_of}
 use Rattle.rss_base.specs.StoredPages.{mapped_by}
+use Rattle.rss_base.specs.Listings.{Listing, IsNumberOf}
 use Rattle.rss_base.specs.declared.key.Space.TheVariants.{Overflow}
+use Rattle.rss_base.specs.declared.name.Name.{Name}
+use Rattle.rss_base.specs.declared.refusal.Kind.TheVariants.{Relation}
 use Rattle.rss_model.specs.Changes.{kept_to}
 use Rattle.rss_model.specs.Machine.{State}
+use Rattle.rss_model.specs.Meter.{Traffic}
 use Rattle.rss_model.specs.Records.{Listed}
 use Rattle.rss_model.specs.Ruled.{HasBothRooms}
 use Rattle.rss_trans.specs.Told.{TellsOpen, TellsSince, IsListOf, listed_by}
@@ -17,8 +21,16 @@ IsRested view state =
     state.meter.since ≡ 0 → length state.changes ≡ state.meter.surviving
     → state.meter.over ≡ mapped_of (mapped_by view.store.pages.backing.shadow) Overflow view.store.root.slots
 
+-- What was counted of each relation at the last checkpoint is the meter's.
+pub record CountsEach (listing : Listing) (tuples changes : ℕ → ℕ) (traffic : Name → Traffic) : Type 0 where
+  pub entries : (relation : Name) (number : ℕ) → IsNumberOf Relation listing relation number
+      → (traffic relation).entries ≡ tuples number
+  pub survived : (relation : Name) (number : ℕ) → IsNumberOf Relation listing relation number
+      → (traffic relation).surviving ≡ changes number
+
 -- What is counted is the meter's, and there is room for all pages and in the log.
 pub record Counts (view : SessionView) (state : State) : Type 0 where
+  pub each : CountsEach view.store.catalog.listing view.entries view.survived state.meter.traffic
   pub since : TellsSince view.store.catalog.listing view.opened state.meter
   pub heap : state.meter.heap ≡ view.heap
   pub surviving : state.meter.surviving ≡ view.surviving

@@ -1,5 +1,5 @@
 // Changes of tuples.
-ghost use Rattle.std.specs.Prelude.{◌≡◌, ◌+◌, ◌≤◌, ℕ, length, true, false, Some, Ok, Err, IfErr, OnOk, OnErr};
+ghost use Rattle.std.specs.Prelude.{◌≡◌, ◌+◌, ◌≤◌, ℕ, length, true, false, Option, Ok, Err, IfErr, OnOk, OnErr};
 ghost use Rattle.rss_base.specs.DiskRule.{IsTold};
 ghost use Rattle.rss_base.specs.LogRecords.{record_size, longest_record, IsChangeBounded};
 ghost use Rattle.rss_base.specs.Sizes.{largest_checkpoint};
@@ -7,8 +7,8 @@ ghost use Rattle.rss_base.specs.declared.log_record.LogRecord.TheVariants as rec
 ghost use Rattle.rss_base.specs.declared.fault.PageFault.TheVariants.{Damaged};
 ghost use Rattle.rss_base.specs.declared.place.Place.{Place as AnyPlace};
 ghost use Rattle.rss_trans.specs.Transactions.{is_open};
-ghost use Rattle.rss_access.specs.Changes.{IsTupleRecord, number_told};
-ghost use Rattle.rss_session.specs.Changes.{is_delete_told};
+ghost use Rattle.rss_access.specs.Changes.{IsTupleRecord};
+ghost use Rattle.rss_session.specs.Changes.{is_delete_told, relation_told};
 ghost use Rattle.rss_session.specs.Sessions.{IsReady, IsEarly};
 ghost use Rattle.rss_session.specs.Weighing.{weighed, RulesSo};
 ghost use Rattle.rss_session.specs.Calls.{GoesOn, NoMoreSaves, StayOpen, Appends, KeepsTables, Makes, MayNotMake};
@@ -37,13 +37,13 @@ impl<S: Saving> Session<S> {
         requires open { is_open (view S.view self.now).opened transaction ≡ true }
         requires bounded { IsChangeBounded change.now }
         requires early { IsEarly (view S.view self.now) longest_record }
-        ensures weighed { result ≡ weighed (view S.view self.now) transaction
+        ensures weighed { result ≡ weighed (view S.view self.now) transaction (relation_told change.now)
             (record_size (records.Change transaction change.now)) }
-        ensures rules { RulesSo (view S.view self.now) transaction
+        ensures rules { RulesSo (view S.view self.now) transaction (relation_told change.now)
             (record_size (records.Change transaction change.now)) result }
         ensures short { IfErr result (λ why. IsShort (Err why)) }
     {
-        self.weigh(transaction, record_size(change))
+        self.weigh(transaction, relation_of(change), record_size(change))
     }
 
     /// Takes the memory that one change more of a transaction will need.
@@ -55,8 +55,9 @@ impl<S: Saving> Session<S> {
         ensures stay { StayOpen (view S.view self.old) (view S.view self.new) }
         ensures shows { (state : State) → Shows (view S.view self.old) state
             → Shows (view S.view self.new) state }
-        ensures weighs { (size : ℕ) → weighed (view S.view self.new) transaction size
-            ≡ weighed (view S.view self.old) transaction size }
+        ensures weighs { (number : Option ℕ) (size : ℕ)
+            → weighed (view S.view self.new) transaction number size
+            ≡ weighed (view S.view self.old) transaction number size }
         ensures saves { NoMoreSaves (view S.view self.old) (view S.view self.new) }
         ensures store { self.new.store ≡ self.old.store }
     {
@@ -79,7 +80,7 @@ impl<S: Saving> Session<S> {
         requires place { 1 ≤ (view S.view self.old).opened.room transaction }
         requires tuple { IsTupleRecord change }
         requires bounded { IsChangeBounded change }
-        requires weighed { weighed (view S.view self.old) transaction
+        requires weighed { weighed (view S.view self.old) transaction (relation_told change)
             (record_size (records.Change transaction change)) ≡ Ok saves_first }
         requires early { IsEarly (view S.view self.old) (longest_record + largest_checkpoint) }
         ensures ready { OnOk result (IsReady (view S.view self.new)) }
@@ -108,7 +109,7 @@ impl<S: Saving> Session<S> {
         requires place { 1 ≤ (view S.view self.old).opened.room transaction }
         requires tuple { IsTupleRecord change }
         requires bounded { IsChangeBounded change }
-        requires weighed { weighed (view S.view self.old) transaction
+        requires weighed { weighed (view S.view self.old) transaction (relation_told change)
             (record_size (records.Change transaction change)) ≡ Ok false }
         requires early { IsEarly (view S.view self.old) longest_record }
         ensures ready { OnOk result (IsReady (view S.view self.new)) }
@@ -132,8 +133,7 @@ impl<S: Saving> Session<S> {
 
 /// The number of the relation whose tuple is changed.
 fn relation_of(change: &Change) -> Option<u8>
-    requires { IsTupleRecord change.now }
-    ensures { result ≡ Some (number_told change.now) }
+    ensures { result ≡ relation_told change.now }
 {
     match change {
         Change::Insert { relation, .. }

@@ -3,6 +3,7 @@
 #![tactic(auto)]
 
 mod admitting;
+mod bounding;
 mod changing;
 mod counting;
 mod defining;

@@ -1,17 +1,17 @@
 // A session over a store that was opened.
-ghost use Rattle.std.specs.Prelude.{◌≡◌, ◌+◌, ◌*◌, ◌≤◌};
+ghost use Rattle.std.specs.Prelude.{◌≡◌};
 ghost use Rattle.std.specs.FinMap.{empty};
-ghost use Rattle.rss_base.specs.Paged.{mapped_pages};
 ghost use Rattle.rss_model.specs.Machine.{State, StoreSize, IsAtRest};
 ghost use Rattle.rss_model.specs.Tables.{Tables};
 ghost use Rattle.rss_model.specs.Ruled.{HasBothRooms};
 ghost use Rattle.rss_store.specs.Parts.{view as store_view};
 ghost use Rattle.rss_store.specs.Shown.{Shows as StoreShows};
 ghost use Rattle.rss_store.specs.Stores.{IsReady as IsStoreReady, IsSaved};
-ghost use Rattle.rss_session.specs.Sessions.{IsReady};
+ghost use Rattle.rss_session.specs.Sessions.{IsReady, HasRoomAtRest};
 ghost use Rattle.rss_session.specs.Shown.{Shows, IsRested};
 
 use crate::Session;
+use crate::bounding::{entries_of, none_survived};
 use rss_buffer::Saving;
 use rss_store::DurableStore;
 use rss_trans::Open;
@@ -24,8 +24,7 @@ impl<S: Saving> Session<S> {
     pub fn new(alloc: Global, store: DurableStore<S>) -> Self
         requires ready { IsStoreReady (store_view S.view store) }
         requires saved { IsSaved (store_view S.view store) }
-        requires half { 2 * mapped_pages (store_view S.view store).pages.slots
-            (store_view S.view store).pages.mapped ≤ (store_view S.view store).pages.slots }
+        requires room { HasRoomAtRest (store_view S.view store) }
         ensures ready { IsReady (view S.view result) }
         ensures shows { (size : StoreSize) (tables : Tables) (state : State)
             → StoreShows (store_view S.view store) state → IsAtRest size tables state
@@ -35,11 +34,14 @@ impl<S: Saving> Session<S> {
         ensures open { (view S.view result).opened.transactions ≡ empty }
     {
         let heap = store.heap();
+        let entries = entries_of(&store.catalog);
         Session {
             store,
             open: Open::new(alloc),
             heap,
             surviving: 0,
+            entries,
+            survived: none_survived(),
         }
     }
 }

@@ -18,12 +18,13 @@ ghost use Rattle.rss_store.specs.Shown.{Shows as StoreShows};
 ghost use Rattle.rss_session.specs.Sessions.{IsReady, IsEarly};
 ghost use Rattle.rss_session.specs.Shown.{Shows};
 ghost use Rattle.rss_base.specs.LogRecords.{marks_most};
-ghost use Rattle.rss_session.specs.Weighing.{MaySave, named};
-ghost use Rattle.rss_session.specs.Calls.{GoesOn, Appends, KeepsTables, CountsAnew, IsRedefined, RedefinesTables};
+ghost use Rattle.rss_session.specs.Weighing.{HasSavedRoom, MaySave, named};
+ghost use Rattle.rss_session.specs.Calls.{GoesOn, Appends, KeepsTables, CountsAnew, IsRedefined, RedefinesTables, ShowsNone};
 ghost use Rattle.rss_store.specs.Stores.{IsSaved};
 
 use crate::Session;
-use rss_base::{MARKS_MOST, Marks, PageFault};
+use crate::bounding::{entries_of, survived_of};
+use rss_base::{MARKS_MOST, Marks, PageFault, Place};
 use rss_buffer::Saving;
 
 impl<S: Saving> Session<S> {
@@ -43,7 +44,7 @@ impl<S: Saving> Session<S> {
             → Kept state → Shows (view S.view self.old) state
             → Shows (view S.view self.new) (record state { meter = saved_now state })) }
         ensures sound { (place : AnyPlace) → result ≡ Err (Damaged place)
-            → IsTold (view S.view self.old).store.pages.disk → ⊥ }
+            → IsTold (view S.view self.old).store.pages.disk → ShowsNone (view S.view self.old) }
         ensures moments { KeepsTables (view S.view self.old) (view S.view self.new) }
         ensures anew { OnOk result (CountsAnew (view S.view self.old) (view S.view self.new)) }
         ensures saved { OnOk result (IsSaved (view S.view self.new).store) }
@@ -68,7 +69,9 @@ impl<S: Saving> Session<S> {
             → IsRedefined (view S.view self.old) before state definitions
             → Shows (view S.view self.new) (redefined definitions state)) }
         ensures sound { (place : AnyPlace) → result ≡ Err (Damaged place)
-            → IsTold (view S.view self.old).store.pages.disk → ⊥ }
+            → IsTold (view S.view self.old).store.pages.disk
+            → (before : CatalogView) (state : State) (definitions : Definitions)
+            → IsRedefined (view S.view self.old) before state definitions → ⊥ }
         ensures moments { RedefinesTables (view S.view self.old) (view S.view self.new) }
         ensures anew { OnOk result (CountsAnew (view S.view self.old) (view S.view self.new)) }
         ensures saved { OnOk result (IsSaved (view S.view self.new).store) }
@@ -80,7 +83,8 @@ impl<S: Saving> Session<S> {
         self.save_all()
     }
 
-    /// Takes a checkpoint of what the pages spell by the catalog.
+    /// Takes a checkpoint of what the pages spell by the catalog, where there is room behind it; else
+    /// `Damaged`, which no device shows that tells its contents.
     fn save_all(&mut self) -> Result<(), PageFault>
         requires ready { IsReady (view S.view self.old) }
         requires may { MaySave (view S.view self.old) }
@@ -96,7 +100,8 @@ impl<S: Saving> Session<S> {
             → Passes (view S.view self.old).store.pages.disk (view S.view self.new).store.pages.disk
             (λ image. IsStore image stored ⊎ IsSavedStore (view S.view self.old).store next image) }
         ensures sound { (place : AnyPlace) → result ≡ Err (Damaged place)
-            → IsTold (view S.view self.old).store.pages.disk → ⊥ }
+            → IsTold (view S.view self.old).store.pages.disk
+            → HasSavedRoom (view S.view self.old) → ⊥ }
         ensures anew { OnOk result (CountsAnew (view S.view self.old) (view S.view self.new)) }
         ensures few { length (named (view S.view self.old).opened) ≤ marks_most }
         ensures checkpoints { OnOk result
@@ -108,9 +113,14 @@ impl<S: Saving> Session<S> {
         ensures goes { GoesOn (view S.view self.old) (view S.view self.new) result }
     {
         let marks = self.marks();
+        if !self.has_saved_room() {
+            return Err(PageFault::Damaged(Place::Room));
+        }
         self.store.checkpoint(marks)?;
         self.open.checkpointed();
         self.surviving = self.open.sums().p;
+        self.entries = entries_of(&self.store.catalog);
+        self.survived = survived_of(&self.store.catalog, &self.open);
         self.heap = self.store.heap();
         Ok(())
     }

@@ -1,4 +1,5 @@
 // The parts of a session.
+use crate::bounding::NUMBERS;
 use rss_buffer::Saving;
 use rss_store::DurableStore;
 use rss_trans::Open;
@@ -14,4 +15,8 @@ pub struct Session<S: Saving> {
     pub(crate) heap: u32,
     /// How many changes of open transactions survived there.
     pub(crate) surviving: u64,
+    /// How many tuples each relation had there, by its number.
+    pub(crate) entries: [u32; NUMBERS],
+    /// How many changes of its tuples by open transactions survived there.
+    pub(crate) survived: [u32; NUMBERS],
 }

@@ -1,12 +1,12 @@
 // The rules on room and on the log.
-ghost use Rattle.std.specs.Prelude.{◌≡◌, ◌^◌, ◌<◌, ◌≤◌, true, Err, IfErr, OnOk};
+ghost use Rattle.std.specs.Prelude.{◌≡◌, ◌↔◌, ◌^◌, ◌<◌, ◌≤◌, true, Err, IsTrue, IfErr, OnOk};
 ghost use Rattle.rss_base.specs.LogRecords.{longest_record};
 ghost use Rattle.rss_model.specs.ReplyText.{IsShort};
 ghost use Rattle.rss_model.specs.Rules.{if_no_log_room};
 ghost use Rattle.rss_trans.specs.Transactions.{is_open};
 ghost use Rattle.rss_session.specs.Admissions.{Tests};
 ghost use Rattle.rss_session.specs.Sessions.{IsReady, IsEarly, sums_in, owed_for};
-ghost use Rattle.rss_session.specs.Weighing.{room_of, needed_with, saved_free, weighed, MaySave, RulesSo};
+ghost use Rattle.rss_session.specs.Weighing.{room_of, needed_with, saved_free, weighed, HasSavedRoom, MaySave, RulesSo};
 
 use crate::Session;
 use rss_base::{Refusal, SYSTEM_PAGES};
@@ -25,25 +25,32 @@ const MOST_CHECKPOINT_BYTES: u64 = 386;
 impl<S: Saving> Session<S> {
     ghost use Rattle.rss_session.specs.Parts.{view};
 
-    /// What comes of a change of a transaction whose record has this size: whether a checkpoint comes
-    /// before it, or why it is refused.
-    pub(crate) fn weigh(&self, transaction: u32, size: u64) -> Result<bool, Refusal>
+    /// What comes of a change of a transaction whose record has this size, of a tuple of the relation
+    /// of this number where there is one: whether a checkpoint comes before it, or why it is refused.
+    pub(crate) fn weigh(
+        &self,
+        transaction: u32,
+        number: Option<u8>,
+        size: u64,
+    ) -> Result<bool, Refusal>
         requires ready { IsReady (view S.view self.now) }
         requires open { is_open (view S.view self.now).opened transaction ≡ true }
         requires short { size ≤ longest_record }
         requires early { IsEarly (view S.view self.now) longest_record }
-        ensures weighed { result ≡ weighed (view S.view self.now) transaction size }
-        ensures rules { RulesSo (view S.view self.now) transaction size result }
+        ensures weighed { result ≡ weighed (view S.view self.now) transaction number size }
+        ensures rules { RulesSo (view S.view self.now) transaction number size result }
         ensures short { IfErr result (λ why. IsShort (Err why)) }
     {
         let sums = self.open.sums();
         let slots = self.store.slots();
         let needed = self.needed_with(transaction, size, sums);
-        let room = room_of(u64::from(self.heap), self.surviving, sums.s + 1);
+        let images = self.images_bound(false, number);
+        let room = room_of(u64::from(self.heap), self.surviving, sums.s + 1, images);
         if room <= u64::from(slots) && needed <= self.store.log_free() {
             return Ok(false);
         }
-        let room = room_of(u64::from(self.store.heap()), sums.p, 1);
+        let images = self.images_bound(true, number);
+        let room = room_of(u64::from(self.store.heap()), sums.p, 1, images);
         if room > u64::from(slots) {
             return Err(Refusal::Full {
                 slots,
@@ -85,6 +92,17 @@ impl<S: Saving> Session<S> {
         size + owed_for(sums.p + 1, sums.q + u64::from(first))
     }
 
+    /// Whether there are as many slots as may be needed behind a checkpoint, and images have no more
+    /// pages than they may.
+    pub(crate) fn has_saved_room(&self) -> bool
+        requires ready { IsReady (view S.view self.now) }
+        ensures { IsTrue result ↔ HasSavedRoom (view S.view self.now) }
+    {
+        let images = self.images_bound(true, None);
+        let room = room_of(u64::from(self.store.heap()), self.open.sums().p, 0, images);
+        room <= u64::from(self.store.slots()) && u64::from(self.image_pages()) <= images
+    }
+
     /// How many bytes the log has room for behind a checkpoint.
     fn saved_free(&self) -> u64
         requires ready { IsReady (view S.view self.now) }
@@ -106,12 +124,13 @@ fn owed_for(changes: u64, transactions: u64) -> u64
 }
 
 /// How many slots may be needed, by how many pages the heap had at the last checkpoint, how many
-/// changes survived there, and how many were made since then.
-fn room_of(heap: u64, surviving: u64, since: u64) -> u64
+/// changes survived there, how many were made since then, and how many pages images may have.
+fn room_of(heap: u64, surviving: u64, since: u64, images: u64) -> u64
     requires heap { heap < 2 ^ 32 }
     requires surviving { surviving < 2 ^ 32 }
     requires since { since < 2 ^ 32 }
-    ensures { result ≡ room_of heap surviving since }
+    requires images { images < 2 ^ 48 }
+    ensures { result ≡ room_of heap surviving since images }
 {
-    2 * (heap + 2 * surviving + 4 * since + u64::from(SYSTEM_PAGES))
+    2 * (heap + 2 * surviving + 4 * since + images + u64::from(SYSTEM_PAGES))
 }

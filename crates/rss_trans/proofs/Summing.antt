@@ -23,7 +23,7 @@ use Rattle.rss_base.specs.LogRecords.{DoesMarkFit}
 use Rattle.rss_base.specs.Listings.{Listing, IsNumberOf, AreListedOnce}
 use Rattle.rss_model.specs.Items.{name_cmp, is_name, is_tuple_of}
 use Rattle.rss_model.specs.Changes.{Change, is_delete_of}
-use Rattle.rss_model.specs.Meter.{Stamp, Traffic, changers}
+use Rattle.rss_model.specs.Meter.{Stamp, Traffic, changers, changes_of}
 use Rattle.rss_model.specs.Records.{Listed, changes_in, is_by, own_in, others_in}
 use Rattle.rss_model.specs.Recovers.{AreRising, older_of, first_in, named_in}
 use Rattle.rss_model.specs.EngineLogs.{stamp_of}
@@ -32,7 +32,7 @@ use Rattle.rss_model.proofs.ImageLists.{lt_less}
 use Rattle.rss_model.proofs.LogLists.{by_test, by_same, all_weaker}
 use Rattle.rss_model.proofs.Stamps.{theirs_and_mine}
 use Rattle.rss_trans.specs.declared.noted.Noted.{Noted}
-use Rattle.rss_trans.specs.Transactions.{Transaction, OpenView, is_open, any, is_in, of_relation, change_count, delete_count, first_position, marks_of, counted}
+use Rattle.rss_trans.specs.Transactions.{Transaction, OpenView, is_open, any, is_in, of_relation, change_count, delete_count, first_position, marks_of, counted, sums_of}
 use Rattle.rss_trans.specs.Told.{IsNumbered, is_tuple, IsNoteOf, AreNotesOf, TellsOpen, listed_by, NamesTold, NamesCounted, NamesFew, NamesSpelled, SumsTold, ChangersTold, OwedTold, DeletesTold, SinceTold, SinceSaved, SinceStays}
 use Rattle.rss_trans.proofs.Noting.{notes_count, own_of_others, own_of_others_other}
 use Rattle.rss_trans.proofs.Asked.{count_told}
@@ -178,7 +178,7 @@ owed_told listing view marks ls since is =
 -- ---- of a relation
 
 module _ (listing : Listing) (once : AreListedOnce kinds.Relation listing) (relation : Name) (number : ℕ) (numbered : IsNumberOf kinds.Relation listing relation number) where
-  in_relation : (item : Item) (noted : Option ℕ) → IsNumbered listing item noted → is_in number noted ≡ is_tuple_of relation item
+  pub in_relation : (item : Item) (noted : Option ℕ) → IsNumbered listing item noted → is_in number noted ≡ is_tuple_of relation item
   in_relation (Segment name) noted is = ap (is_in number) is
   in_relation (Relation name) noted is = ap (is_in number) is
   in_relation (Chain link parent) noted is = ap (is_in number) is
@@ -231,6 +231,29 @@ deletes_told listing view marks ls since number relation is once numbered =
     (delete_count (of_relation number)) (λ x ks notes. count_deletes listing once relation number numbered x.changes ks notes)
     (finite.entries view.transactions) ls (order_of view) (told_entries is)
     ∙ in_changes listing once relation number numbered ls
+
+-- how many changes a relation's tuples have
+module _ (listing : Listing) (once : AreListedOnce kinds.Relation listing) (relation : Name) (number : ℕ) (numbered : IsNumberOf kinds.Relation listing relation number) where
+  abbrev its : List Listed → ℕ
+  its ls = count_by (λ (l : Listed). is_tuple_of relation l.change.item) ls
+
+  count_its : (notes : List Noted) (ls : List Listed) → AreNotesOf listing notes ls → count_by (of_relation number) notes ≡ its ls
+  count_its notes [] is = ap (count_by (of_relation number)) is
+  count_its notes (l ∷ ls) is =
+      ap (count_by (of_relation number)) is.2
+      ∙ omega (arith, sum_by_push (λ (c : Noted). one_if (of_relation number c)) is.0 is.1, sum_by-cons (λ (k : Listed). one_if (is_tuple_of relation k.change.item)) l ls, ap one_if (in_relation listing once relation number numbered l.change.item is.1.relation is.3.relation), count_its is.0 ls is.4)
+
+  its_changes : (ls : List Listed) → its ls ≡ changes_of (changes_in ls) relation
+  its_changes [] = refl
+  its_changes (l ∷ ls) = omega (arith, sum_by-cons (λ (k : Listed). one_if (is_tuple_of relation k.change.item)) l ls, sum_by-cons (λ (c : Change). one_if (is_tuple_of relation c.item)) l.change (changes_in ls), its_changes ls)
+
+  parted_its : (t : ℕ) (ls : List Listed) → its ls ≡ its (own_in t ls) + its (others_in t ls)
+  parted_its t ls = sym (sum_by-filter_both (is_by t) (λ l. not (is_by t l)) (λ _. refl) (λ (k : Listed). one_if (is_tuple_of relation k.change.item)) ls)
+
+  pub relation_told : (view : OpenView) (marks : FinMap nat_cmp (List ℕ)) (ls : List Listed) (since : ℕ) → TellsOpen listing view marks ls → (sums_of (of_relation number) since (finite.values view.transactions)).p ≡ changes_of (changes_in ls) relation
+  relation_told view marks ls since is =
+      sum_is listing its its parted_its refl (change_count (of_relation number)) (λ x ks notes. count_its x.changes ks notes) (finite.entries view.transactions) ls (order_of view) (told_entries is)
+      ∙ its_changes ls
 
 -- ---- names
 

@@ -6,4 +6,4 @@ pub set_relation-requires-clause-no_image : goal.set_relation-requires-clause-no
 set_relation-requires-clause-no_image c = λ used has. unused_relation _ _ _ c.first_unused.ensures.some c.unwrap-number.ensures used
 
 pub returns-clause-fits : goal.returns-clause-fits
-returns-clause-fits c = added_relation _ _ c.args.relation _ _ c.first_unused.ensures.some c.unwrap-number.ensures c.requires.entry c.requires.fresh c.set_relation.ensures.is
+returns-clause-fits c = added_relation _ _ c.args.relation _ _ c.first_unused.ensures.some c.unwrap-number.ensures c.requires.entry c.requires.fresh c.set_relation.ensures.lists.is

@@ -6,7 +6,7 @@ pub returns-in-Segment-clause-fits : goal.returns-in-Segment-clause-fits
 returns-in-Segment-clause-fits c = removed_segment _ _ c.args.kind c.args.number c.in-Segment.is c.requires.used c.set_segment.ensures.is
 
 pub returns-in-Relation-clause-fits : goal.returns-in-Relation-clause-fits
-returns-in-Relation-clause-fits c = λ none. removed_relation _ _ c.args.kind c.args.number c.in-Relation.is c.requires.used c.set_relation.ensures.is (c.requires.no_image c.in-Relation.is)
+returns-in-Relation-clause-fits c = λ none. removed_relation _ _ c.args.kind c.args.number c.in-Relation.is c.requires.used c.set_relation.ensures.lists.is (c.requires.no_image c.in-Relation.is)
 
 pub returns-in-Image-clause-fits : goal.returns-in-Image-clause-fits
 returns-in-Image-clause-fits c = λ none. removed_image _ _ c.args.kind c.args.number c.in-Image.is c.requires.used c.set_image.ensures.is

@@ -1,9 +1,9 @@
 -- A relation that fits is safe, and no image is of the place.
-use Rattle.std.proofs.Common.{◌∙◌, ap, sym, length, arith}
+use Rattle.std.proofs.Common.{refl, sym, ◌∙◌, ap, subst, length, arith}
 use Rattle.std.proofs.lemmas.List.{length-set}
 use Rattle.std.proofs.lemmas.Option.{IfSome_then}
 use Rattle.rss_base.specs.Listings.{Listing, with_relation}
-use Rattle.rss_catalog.specs.Catalogs.{CatalogView}
+use Rattle.rss_catalog.specs.Catalogs.{CatalogView, HasImageOf}
 use Rattle.rss_catalog.specs.Checking.{listing_of}
 use Rattle.rss_catalog.proofs.Listed.{safe_put, safe_fit, safe_all, safe_kept, safe_off_relation, no_image_of}
 use Rattle.rss_catalog.proofs.catalog.Catalog.set_relation.Goals as goal
@@ -31,3 +31,9 @@ invariant_of-self-inside c =
         ),
       ),
     )
+
+pub returns-clause-none : goal.returns-clause-none
+returns-clause-none c = λ has.
+    let listing : Listing = listing_of c.self.inside.segments.items c.self.inside.relations.items c.self.inside.images.items in
+    no_image_of listing c.args.self.now.listing c.args.number c.args.number (ap (λ (v : CatalogView). v.listing) c.self.view_is) refl (safe_all listing c.self.inside.safe_images) c.requires.no_image
+    (subst (λ (v : CatalogView). HasImageOf v.listing c.args.number) (sym c.self.view_is) has)

@@ -21,7 +21,7 @@ returns-in_err-checkpoint-clause-did g c =
     let failed = c.in_err-checkpoint.ensures in
     asked g.S.Pages.view asked_so.session asked_so.locks asked_so.scans
     (failed_within _ c.from_residual-in_err-checkpoint.ensures.1 asked_so.was_up (λ up. absurd (cc (up))) failed.goes (goes _ failed.goes (omega (arith, asked_so.counted)) tt tt)
-    (λ place is told state is_in. failed.sound place is told)
+    (λ place is told state is_in. failed.sound place is told state is_in.kept is_in.shows)
     (checkpoint_stops _ (record { session = session_view g.S.Pages.view c.checkpoint.new.self; locks = told c.ask.new.self.locks; scans = scans_told c.ask.new.self.scans }) c.in_ok-test_checkpoint.ensures.tests failed.moments))
 
 pub returns-clause-did : goal.returns-clause-did

@@ -44,38 +44,38 @@ pub returns-then-is_some-clause-ready : goal.returns-then-is_some-clause-ready
 returns-then-is_some-clause-ready g c =
     let some = found c.in_ok-first.first (sym c.is_some.ensures ∙ c.if-is_some.true) in
     let mid = view g.S.Pages.view c.undo_after.new.self in
-    let new : SessionView = record { store = store_view g.S.Pages.view c.abort.new.self; opened = told c.gone.new.self; heap = mid.heap; surviving = mid.surviving } in
+    let new : SessionView = record { store = store_view g.S.Pages.view c.abort.new.self; opened = told c.gone.new.self; heap = mid.heap; surviving = mid.surviving; entries = mid.entries; survived = mid.survived } in
     ready_aborted (view g.S.Pages.view c.args.self.now) mid c.args.transaction c.in_ok-first.first c.requires.ready c.requires.open c.in_ok-first.ensures.takes some.0 some.1
-    new c.in_ok-first.ensures.ready refl refl (ap (λ p. page_counts (g.S.Pages.view p)) c.abort.ensures.pages) c.abort.ensures.ready c.gone.ensures c.abort.ensures.log
+    new c.in_ok-first.ensures.ready (record { heap = refl; surviving = refl; entries = refl; survived = refl }) c.abort.ensures.catalog (ap (λ p. page_counts (g.S.Pages.view p)) c.abort.ensures.pages) c.abort.ensures.ready c.gone.ensures c.abort.ensures.log
 
 pub returns-then-is_some-clause-shows : goal.returns-then-is_some-clause-shows
 returns-then-is_some-clause-shows g c = λ on state kept shows.
     let some = found c.in_ok-first.first (sym c.is_some.ensures ∙ c.if-is_some.true) in
     let old = view g.S.Pages.view c.args.self.now in
     let mid = view g.S.Pages.view c.undo_after.new.self in
-    let new : SessionView = record { store = store_view g.S.Pages.view c.abort.new.self; opened = told c.gone.new.self; heap = mid.heap; surviving = mid.surviving } in
+    let new : SessionView = record { store = store_view g.S.Pages.view c.abort.new.self; opened = told c.gone.new.self; heap = mid.heap; surviving = mid.surviving; entries = mid.entries; survived = mid.survived } in
     let has = marked old c.args.transaction state c.requires.open shows in
     let own = undone_own old mid c.args.transaction 0 c.in_ok-first.first state (transaction_in old.opened c.args.transaction).saves has shows c.in_ok-first.ensures.takes some.0 some.1 in
     aborts_some old mid new c.args.transaction c.in_ok-first.first state kept shows (c.in_ok-first.ensures.back on state (transaction_in old.opened c.args.transaction).saves kept has shows)
-    c.gone.ensures refl refl c.abort.ensures.catalog (omega (arith, own)) (c.abort.ensures.cuts (c.in_ok-first.ensures.goes.told.0 on))
+    c.gone.ensures (record { heap = refl; surviving = refl; entries = refl; survived = refl }) c.abort.ensures.catalog (omega (arith, own)) (c.abort.ensures.cuts (c.in_ok-first.ensures.goes.told.0 on))
 
 pub returns-else-is_some-clause-ready : goal.returns-else-is_some-clause-ready
 returns-else-is_some-clause-ready g c =
     let mid = view g.S.Pages.view c.undo_after.new.self in
-    let new : SessionView = record { store = mid.store; opened = told c.gone.new.self; heap = mid.heap; surviving = mid.surviving } in
+    let new : SessionView = record { store = mid.store; opened = told c.gone.new.self; heap = mid.heap; surviving = mid.surviving; entries = mid.entries; survived = mid.survived } in
     ready_left mid new c.args.transaction c.in_ok-first.ensures.ready
-    (still_open (view g.S.Pages.view c.args.self.now) mid c.args.transaction 0 c.in_ok-first.first c.requires.ready c.requires.open c.in_ok-first.ensures.takes) c.gone.ensures refl refl refl
+    (still_open (view g.S.Pages.view c.args.self.now) mid c.args.transaction 0 c.in_ok-first.first c.requires.ready c.requires.open c.in_ok-first.ensures.takes) c.gone.ensures refl (record { heap = refl; surviving = refl; entries = refl; survived = refl })
 
 pub returns-else-is_some-clause-shows : goal.returns-else-is_some-clause-shows
 returns-else-is_some-clause-shows g c = λ on state kept shows.
     let old = view g.S.Pages.view c.args.self.now in
     let mid = view g.S.Pages.view c.undo_after.new.self in
-    let new : SessionView = record { store = mid.store; opened = told c.gone.new.self; heap = mid.heap; surviving = mid.surviving } in
+    let new : SessionView = record { store = mid.store; opened = told c.gone.new.self; heap = mid.heap; surviving = mid.surviving; entries = mid.entries; survived = mid.survived } in
     let has = marked old c.args.transaction state c.requires.open shows in
     let back = c.in_ok-first.ensures.back on state (transaction_in old.opened c.args.transaction).saves kept has shows in
     let takes = c.in_ok-first.ensures.takes in
     let few = none_own mid c.args.transaction 0 c.in_ok-first.first state back (found_none c.in_ok-first.first (sym c.is_some.ensures ∙ c.if-is_some.false)) in
-    aborts_none old mid new c.args.transaction c.in_ok-first.first state kept shows back c.gone.ensures refl refl refl (omega (arith, few)) refl takes.root takes.backing
+    aborts_none old mid new c.args.transaction c.in_ok-first.first state kept shows back c.gone.ensures (record { heap = refl; surviving = refl; entries = refl; survived = refl }) refl (omega (arith, few)) refl takes.root takes.backing
 
 pub returns-then-is_some-clause-goes : goal.returns-then-is_some-clause-goes
 returns-then-is_some-clause-goes g c = goes_still _ c.in_ok-first.ensures.goes (λ i. g.S.Pages.view (c.abort.ensures.pages i)) c.abort.ensures.root (gone_saves _ c.args.transaction c.gone.ensures.transactions)

@@ -14,7 +14,7 @@ returns-clause-ready g c =
     let old = view g.S.Pages.view c.args.self.now in
     let opened = told c.begin.new.self in
     either c.begin.result c.begin.ensures.ok c.begin.ensures.err
-    (λ begins. ready_with {view = old} opened c.args.transaction nothing c.requires.ready c.ranges.transaction.fits begins.transactions begins.since (done_nothing old.opened c.args.transaction c.requires.closed))
+    (λ begins. ready_with {view = old} opened c.args.transaction nothing c.requires.ready c.ranges.transaction.fits begins.transactions begins.since begins.since_of (done_nothing old.opened c.args.transaction c.requires.closed))
     (λ same. ready_still {view = old} opened same c.requires.ready)
 
 pub returns-clause-begins : goal.returns-clause-begins

@@ -7,6 +7,7 @@ use Rattle.rss_session.specs.Parts.{view}
 use Rattle.rss_store.proofs.Nexts.{on_ok_both}
 use Rattle.rss_session.proofs.Saved.{can_save, shows_saved}
 use Rattle.rss_session.proofs.Passing.{on_ok_behind}
+use Rattle.rss_session.proofs.Weighed.{has_saved_room}
 use Rattle.rss_session.proofs.session.Session.checkpoint.Goals as goal
 
 pub returns-clause-shows : goal.returns-clause-shows
@@ -17,7 +18,7 @@ returns-clause-shows g c =
     let held = g.met.S.Pages.holds self.store.tuples.pages told in
     let can = can_save c.requires.ready all.few c.requires.may kept shows held in
     shows_saved c.requires.ready all.few c.requires.may kept shows held (store told shows.store.stored (record state { meter = saved_now state }) can)
-    behind.saved behind.checkpoints behind.anew.listing behind.anew.heap behind.anew.surviving behind.ready.store.size)
+    behind.saved behind.checkpoints behind.anew behind.ready.store.size)
     all.shows (on_ok_behind (view g.S.Pages.view self) (view g.S.Pages.view c.save_all.new.self) c.save_all.result all.ready all.saved all.checkpoints all.anew)
 
 pub returns-clause-moments : goal.returns-clause-moments
@@ -28,3 +29,8 @@ returns-clause-moments g c = λ told state kept shows.
     (λ image. ⊎_elim
     (λ was. record { stored = shows.store.stored; store = was; same_size = shows.store.tied.size; holds = sym shows.store.tied.tables })
     (λ saved. subst (λ (size : StoreSize). HoldsTables size state.base image) (sym can.size) saved))
+
+pub returns-clause-sound : goal.returns-clause-sound
+returns-clause-sound g c = λ place is told state kept shows.
+    let self = c.args.self.now in
+    c.save_all.ensures.sound place is told (has_saved_room c.requires.ready shows (g.met.S.Pages.holds self.store.tuples.pages told) c.requires.may)

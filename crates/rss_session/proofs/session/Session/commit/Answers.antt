@@ -19,11 +19,11 @@ none_is : {found : Option ℕ} (open_now : OpenView) (t : ℕ) → found ≡ new
 none_is open_now t is none = let few = none_newer (transaction_in open_now t) 0 (none ∙ ap is_some is) in omega (arith, few)
 
 pub returns-then-not-changed-clause-ready : goal.returns-then-not-changed-clause-ready
-returns-then-not-changed-clause-ready g c = ready_left (view g.S.Pages.view c.args.self.now) _ c.args.transaction c.requires.ready c.requires.open c.gone.ensures refl refl refl
+returns-then-not-changed-clause-ready g c = ready_left (view g.S.Pages.view c.args.self.now) _ c.args.transaction c.requires.ready c.requires.open c.gone.ensures refl (record { heap = refl; surviving = refl; entries = refl; survived = refl })
 
 pub returns-then-not-changed-clause-shows : goal.returns-then-not-changed-clause-shows
 returns-then-not-changed-clause-shows g c = λ on state kept fit shows.
-    shows_left (view g.S.Pages.view c.args.self.now) _ c.args.transaction c.gone.ensures refl refl refl state kept shows (none_is (told c.args.self.now.open) c.args.transaction c.newest.ensures c.if-not-changed.ensures) refl
+    shows_left (view g.S.Pages.view c.args.self.now) _ c.args.transaction c.gone.ensures (record { heap = refl; surviving = refl; entries = refl; survived = refl }) refl state kept shows (none_is (told c.args.self.now.open) c.args.transaction c.newest.ensures c.if-not-changed.ensures) refl
 
 pub returns-then-not-changed-clause-goes : goal.returns-then-not-changed-clause-goes
 returns-then-not-changed-clause-goes g c = goes_opened _ (gone_saves _ c.args.transaction c.gone.ensures.transactions)
@@ -35,33 +35,33 @@ some_are open_now t is some = let more = some_newer (transaction_in open_now t) 
 pub commit-requires-clause-room : goal.commit-requires-clause-room
 commit-requires-clause-room g c =
     let old = view g.S.Pages.view c.args.self.now in
-    let new : SessionView = record { store = old.store; opened = told c.gone.new.self; heap = old.heap; surviving = old.surviving } in
+    let new : SessionView = record { store = old.store; opened = told c.gone.new.self; heap = old.heap; surviving = old.surviving; entries = old.entries; survived = old.survived } in
     end_room old new c.args.transaction c.requires.ready c.requires.open c.gone.ensures (some_are (told c.args.self.now.open) c.args.transaction c.newest.ensures c.if-not-changed.ensures) c.requires.early
 
 pub returns-clause-ready : goal.returns-clause-ready
 returns-clause-ready g c =
     let old = view g.S.Pages.view c.args.self.now in
-    let new : SessionView = record { store = store_view g.S.Pages.view c.commit.new.self; opened = told c.gone.new.self; heap = old.heap; surviving = old.surviving } in
+    let new : SessionView = record { store = store_view g.S.Pages.view c.commit.new.self; opened = told c.gone.new.self; heap = old.heap; surviving = old.surviving; entries = old.entries; survived = old.survived } in
     on_ok_both c.commit.result (λ ready pages.
-    ready_ended old new c.args.transaction c.requires.ready c.requires.open c.gone.ensures ready refl refl
+    ready_ended old new c.args.transaction c.requires.ready c.requires.open c.gone.ensures ready (record { heap = refl; surviving = refl; entries = refl; survived = refl }) c.commit.ensures.catalog
     (counts_still old.store.pages new.store.pages (g.met.S.Pages.are_counted c.args.self.now.store.tuples.pages) (g.met.S.Pages.are_counted c.commit.new.self.tuples.pages) pages.slots pages.mapped pages.shadow)
     (some_are (told c.args.self.now.open) c.args.transaction c.newest.ensures c.if-not-changed.ensures) c.commit.ensures.log) c.commit.ensures.ready c.commit.ensures.pages
 
 pub returns-clause-shows : goal.returns-clause-shows
 returns-clause-shows g c =
     let old = view g.S.Pages.view c.args.self.now in
-    let new : SessionView = record { store = store_view g.S.Pages.view c.commit.new.self; opened = told c.gone.new.self; heap = old.heap; surviving = old.surviving } in
+    let new : SessionView = record { store = store_view g.S.Pages.view c.commit.new.self; opened = told c.gone.new.self; heap = old.heap; surviving = old.surviving; entries = old.entries; survived = old.survived } in
     on_ok_weaker c.commit.result (λ commits on state kept fit shows.
     let some = some_are (told c.args.self.now.open) c.args.transaction c.newest.ensures c.if-not-changed.ensures in
-    let own = own_some old new c.args.transaction c.gone.ensures refl refl c.commit.ensures.catalog state kept shows some in
-    shows_ended old new c.args.transaction c.gone.ensures refl refl c.commit.ensures.catalog state kept shows some
+    let own = own_some old new c.args.transaction c.gone.ensures (record { heap = refl; surviving = refl; entries = refl; survived = refl }) c.commit.ensures.catalog state kept shows some in
+    shows_ended old new c.args.transaction c.gone.ensures (record { heap = refl; surviving = refl; entries = refl; survived = refl }) c.commit.ensures.catalog state kept shows some
     (commits on state shows.store (may_commit c.args.transaction state own kept shows.counted.rooms fit))) c.commit.ensures.shows
 
 pub returns-clause-moments : goal.returns-clause-moments
 returns-clause-moments g c = λ on state kept fit shows.
     let old = view g.S.Pages.view c.args.self.now in
-    let new : SessionView = record { store = store_view g.S.Pages.view c.commit.new.self; opened = told c.gone.new.self; heap = old.heap; surviving = old.surviving } in
-    let own = own_some old new c.args.transaction c.gone.ensures refl refl c.commit.ensures.catalog state kept shows (some_are (told c.args.self.now.open) c.args.transaction c.newest.ensures c.if-not-changed.ensures) in
+    let new : SessionView = record { store = store_view g.S.Pages.view c.commit.new.self; opened = told c.gone.new.self; heap = old.heap; surviving = old.surviving; entries = old.entries; survived = old.survived } in
+    let own = own_some old new c.args.transaction c.gone.ensures (record { heap = refl; surviving = refl; entries = refl; survived = refl }) c.commit.ensures.catalog state kept shows (some_are (told c.args.self.now.open) c.args.transaction c.newest.ensures c.if-not-changed.ensures) in
     c.commit.ensures.moments on state shows.store (may_commit c.args.transaction state own kept shows.counted.rooms fit)
 
 pub returns-clause-goes : goal.returns-clause-goes

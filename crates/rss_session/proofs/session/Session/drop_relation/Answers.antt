@@ -1,8 +1,10 @@
-use Rattle.std.proofs.Common.{◌≡◌, rules, ap, refl, subst, arith}
+use Rattle.std.proofs.Common.{◌≡◌, rules, ap, refl, sym, ◌∙◌, subst, arith}
 use Rattle.std.specs.Prelude.{None, is_some}
+use Rattle.std.proofs.lemmas.Bool.{true≢false}
 use Rattle.rss_base.specs.Listings.{with_relation}
 use Rattle.rss_base.specs.declared.name.Name.{Name}
 use Rattle.rss_base.specs.declared.call.Call.TheVariants.{DropRelation}
+use Rattle.rss_catalog.specs.Catalogs.{HasImageOf}
 use Rattle.rss_model.specs.Defining.{if_any_open}
 use Rattle.rss_model.proofs.Relisted.{number_within_list}
 use Rattle.rss_model.proofs.Tests.{refuses_at}
@@ -10,7 +12,7 @@ use Rattle.rss_session.specs.Definitions.{Relists}
 use Rattle.rss_session.specs.Definitions.Relists.{drop_relation}
 use Rattle.rss_access.proofs.Numbered.{entry_at, name_of}
 use Rattle.rss_access.proofs.Recounting.{page_same}
-use Rattle.rss_session.proofs.Defined.{refused, relation_lacks, relation_full, relation_imaged, relation_drops, redefines, relation_page}
+use Rattle.rss_session.proofs.Defined.{refused, relation_lacks, relation_full, relation_imaged, relation_drops, redefines, relation_page, imaged_still}
 use Rattle.rss_session.proofs.session.Session.drop_relation.Goals as goal
 use Rattle.rss_session.proofs.session.Session.drop_relation.Goals.{then-relation-gt0-via-then-relation-gt0, then-relation-gt0-via-else-relation-gt0+then-has_image_of}
 
@@ -49,9 +51,10 @@ returns g c =
     let number = c.in-Some.number in
     let named = name_of listing c.args.name.now number entry c.in-Some.ensures.some c.relation.ensures.is in
     let within = number_within_list listing.relations number entry c.relation.ensures.is in
+    let none : HasImageOf listing number → ⊥ = λ has. true≢false (sym (c.has_image_of.ensures.1 has) ∙ c.if-has_image_of.false) in
     let empty : entry.live ≡ 0 = omega (arith, c.if-relation-gt0.false) in record {
-      tests = λ told state shows. relation_drops shows c.in_ok-test_rest.ensures.closed c.args.name.now number c.in-Some.ensures.some entry c.relation.ensures.is named empty;
-      redefines = redefines _ (λ fits. relation_page number (omega (arith, within.1, fits.relation_places))) (subst (λ (n : Name). Relists listing (DropRelation n) (with_relation listing number None)) named (drop_relation number entry c.relation.ensures.is empty)) c.remove.ensures.lists (page_same listing number None) (c.remove.ensures.fits (λ e. absurd (cc))) c.in_ok-test_rest.ensures.closed
-          (record { tuples = refl; log = refl; root = refl; number = refl; opened = refl; heap = refl; surviving = refl });
+      tests = λ told state shows. relation_drops shows c.in_ok-test_rest.ensures.closed c.args.name.now number c.in-Some.ensures.some entry c.relation.ensures.is named empty none;
+      redefines = redefines _ (λ fits. relation_page number (omega (arith, within.1, fits.relation_places))) (subst (λ (n : Name). Relists listing (DropRelation n) (with_relation listing number None)) named (drop_relation number entry c.relation.ensures.is empty none)) c.remove.ensures.lists (page_same listing number None) (c.remove.ensures.fits (λ e. absurd (cc))) (imaged_still listing number None within.0 none) c.in_ok-test_rest.ensures.closed
+          (record { tuples = refl; log = refl; root = refl; number = refl; opened = refl; heap = refl; surviving = refl; entries = refl; survived = refl });
       same = tt;
     }

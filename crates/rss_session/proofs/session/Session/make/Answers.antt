@@ -4,6 +4,7 @@ use Rattle.std.proofs.lemmas.Result.{on_ok_weaker}
 use Rattle.rss_base.proofs.Moments.{then}
 use Rattle.rss_model.specs.Rules.{saved_now}
 use Rattle.rss_model.proofs.OpenKeeping.{keeps_meter}
+use Rattle.rss_store.proofs.Altered.{fault_passed}
 use Rattle.rss_session.proofs.Made.{weighed_again, may_then, makes_then}
 use Rattle.rss_session.proofs.Passing.{goes_then}
 use Rattle.rss_session.proofs.StaysOpen.{same_stay}
@@ -15,14 +16,14 @@ change-requires-2-clause-place g c = omega (arith, c.requires.place, ap (λ (roo
 pub change-requires-2-clause-weighed : goal.change-requires-2-clause-weighed
 change-requires-2-clause-weighed g c =
     let saves : c.args.saves_first ≡ true = c.if-not-saves_first.false in
-    weighed_again c.in_ok-checkpoint.ensures.anew c.in_ok-checkpoint.ensures.goes.slots c.args.transaction _ (c.requires.weighed ∙ ap (λ (b : Bool). Ok b) saves)
+    weighed_again c.in_ok-checkpoint.ensures.anew c.in_ok-checkpoint.ensures.goes.slots c.args.transaction _ _ (c.requires.weighed ∙ ap (λ (b : Bool). Ok b) saves)
 
 pub returns-clause-makes : goal.returns-clause-makes
 returns-clause-makes g c =
     let saves : c.args.saves_first ≡ true = c.if-not-saves_first.false in
     let checkpoint = c.in_ok-checkpoint.ensures in
     let weighed_so = c.requires.weighed ∙ ap (λ (b : Bool). Ok b) saves in
-    let goes = weighed_again checkpoint.anew checkpoint.goes.slots c.args.transaction _ weighed_so in
+    let goes = weighed_again checkpoint.anew checkpoint.goes.slots c.args.transaction _ _ weighed_so in
     on_ok_weaker c.change-2.result (λ makes told state change by kept shows may.
     let mid = checkpoint.shows told state kept shows in
     let may_mid = may_then checkpoint.anew c.requires.ready checkpoint.ready weighed_so goes state change by shows may mid in
@@ -34,7 +35,7 @@ returns-clause-sound g c = λ place is told state change by kept shows may.
     let saves : c.args.saves_first ≡ true = c.if-not-saves_first.false in
     let checkpoint = c.in_ok-checkpoint.ensures in
     let weighed_so = c.requires.weighed ∙ ap (λ (b : Bool). Ok b) saves in
-    let goes = weighed_again checkpoint.anew checkpoint.goes.slots c.args.transaction _ weighed_so in
+    let goes = weighed_again checkpoint.anew checkpoint.goes.slots c.args.transaction _ _ weighed_so in
     let mid = checkpoint.shows told state kept shows in
     c.change-2.ensures.sound place is (checkpoint.goes.told.0 told) (record state { meter = saved_now state }) change by (keeps_meter kept (saved_now state)) mid
     (may_then checkpoint.anew c.requires.ready checkpoint.ready weighed_so goes state change by shows may mid)
@@ -51,3 +52,6 @@ returns-clause-goes g c = goes_then c.in_ok-checkpoint.ensures.goes c.change-2.e
 pub returns-clause-stay : goal.returns-clause-stay
 returns-clause-stay g c =
     on_ok_weaker c.change-2.result (λ stays u is. stays u (same_stay _ c.in_ok-checkpoint.ensures.anew.transactions u is)) c.change-2.ensures.stay
+
+pub returns-in_err-checkpoint-clause-sound : goal.returns-in_err-checkpoint-clause-sound
+returns-in_err-checkpoint-clause-sound g c = λ place is told state change by kept shows may. c.in_err-checkpoint.ensures.sound place (fault_passed c.from_residual.ensures.1 is) told state kept shows

@@ -7,7 +7,7 @@ use Rattle.rss_store.specs.Shown.{HoldsTables}
 use Rattle.rss_session.specs.Parts.{view}
 use Rattle.rss_store.proofs.Nexts.{on_ok_both}
 use Rattle.rss_session.proofs.Passing.{on_ok_behind}
-use Rattle.rss_session.proofs.Redefined.{may_redefine, can_redefine, shows_redefined}
+use Rattle.rss_session.proofs.Redefined.{may_redefine, can_redefine, room_redefined, shows_redefined}
 use Rattle.rss_session.proofs.session.Session.redefine.Goals as goal
 
 pub save_all-requires-clause-may : goal.save_all-requires-clause-may
@@ -33,3 +33,7 @@ returns-clause-moments g c = λ told before state definitions is.
     (λ image. ⊎_elim
     (λ was. inl (record { stored = store.stored; store = was; same_size = store.tied.size; holds = sym store.tied.tables }))
     (λ saved. inr (subst (λ (size : StoreSize). HoldsTables size (with_definitions definitions state.base) image) (sym can.size) saved)))
+
+pub returns-clause-sound : goal.returns-clause-sound
+returns-clause-sound g c = λ place is told before state definitions redefined_so.
+    c.save_all.ensures.sound place is told (room_redefined c.requires.ready c.requires.closed redefined_so (g.met.S.Pages.holds c.args.self.now.store.tuples.pages told))

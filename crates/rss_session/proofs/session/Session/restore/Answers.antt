@@ -26,34 +26,34 @@ cut-requires-in-Some-clause-room g c =
 pub returns-in-Some-clause-ready : goal.returns-in-Some-clause-ready
 returns-in-Some-clause-ready g c =
     let mid = view g.S.Pages.view c.undo_after.new.self in
-    let new : SessionView = record { store = store_view g.S.Pages.view c.cut-in-Some.new.self; opened = told c.cut.new.self; heap = mid.heap; surviving = mid.surviving } in
+    let new : SessionView = record { store = store_view g.S.Pages.view c.cut-in-Some.new.self; opened = told c.cut.new.self; heap = mid.heap; surviving = mid.surviving; entries = mid.entries; survived = mid.survived } in
     ready_restored (view g.S.Pages.view c.args.self.now) mid c.args.transaction c.args.save c.in_ok-first.first c.requires.ready c.requires.open c.in_ok-first.ensures.takes
-    new c.in_ok-first.ensures.ready refl refl (ap (λ p. page_counts (g.S.Pages.view p)) c.cut-in-Some.ensures.pages) c.cut-in-Some.ensures.ready c.cut.ensures c.in-Some.first c.in-Some.is c.cut-in-Some.ensures.log
+    new c.in_ok-first.ensures.ready (record { heap = refl; surviving = refl; entries = refl; survived = refl }) c.cut-in-Some.ensures.catalog (ap (λ p. page_counts (g.S.Pages.view p)) c.cut-in-Some.ensures.pages) c.cut-in-Some.ensures.ready c.cut.ensures c.in-Some.first c.in-Some.is c.cut-in-Some.ensures.log
 
 pub returns-in-Some-clause-shows : goal.returns-in-Some-clause-shows
 returns-in-Some-clause-shows g c = λ on state marks kept has shows.
     let old = view g.S.Pages.view c.args.self.now in
     let mid = view g.S.Pages.view c.undo_after.new.self in
-    let new : SessionView = record { store = store_view g.S.Pages.view c.cut-in-Some.new.self; opened = told c.cut.new.self; heap = mid.heap; surviving = mid.surviving } in
+    let new : SessionView = record { store = store_view g.S.Pages.view c.cut-in-Some.new.self; opened = told c.cut.new.self; heap = mid.heap; surviving = mid.surviving; entries = mid.entries; survived = mid.survived } in
     let back = c.in_ok-first.ensures.back on state marks kept has shows in
-    restores_some old mid new c.args.transaction c.args.save c.in_ok-first.first state marks kept has shows back c.cut.ensures refl refl c.cut-in-Some.ensures.catalog
+    restores_some old mid new c.args.transaction c.args.save c.in_ok-first.first state marks kept has shows back c.cut.ensures (record { heap = refl; surviving = refl; entries = refl; survived = refl }) c.cut-in-Some.ensures.catalog
     c.in-Some.first c.in-Some.is (undone_own old mid c.args.transaction c.args.save c.in_ok-first.first state marks has shows c.in_ok-first.ensures.takes c.in-Some.first c.in-Some.is) (c.cut-in-Some.ensures.cuts (c.in_ok-first.ensures.goes.told.0 on))
 
 pub returns-in_default-clause-ready : goal.returns-in_default-clause-ready
 returns-in_default-clause-ready g c =
     let mid = view g.S.Pages.view c.undo_after.new.self in
-    let new : SessionView = record { store = mid.store; opened = told c.cut.new.self; heap = mid.heap; surviving = mid.surviving } in
+    let new : SessionView = record { store = mid.store; opened = told c.cut.new.self; heap = mid.heap; surviving = mid.surviving; entries = mid.entries; survived = mid.survived } in
     ready_unchanged (view g.S.Pages.view c.args.self.now) mid c.args.transaction c.args.save c.in_ok-first.first c.requires.ready c.requires.open c.in_ok-first.ensures.takes
-    new c.in_ok-first.ensures.ready refl refl refl c.in_ok-first.ensures.ready.store c.cut.ensures refl
+    new c.in_ok-first.ensures.ready (record { heap = refl; surviving = refl; entries = refl; survived = refl }) refl refl c.in_ok-first.ensures.ready.store c.cut.ensures refl
 
 pub returns-in_default-clause-shows : goal.returns-in_default-clause-shows
 returns-in_default-clause-shows g c = λ on state marks kept has shows.
     let old = view g.S.Pages.view c.args.self.now in
     let mid = view g.S.Pages.view c.undo_after.new.self in
-    let new : SessionView = record { store = mid.store; opened = told c.cut.new.self; heap = mid.heap; surviving = mid.surviving } in
+    let new : SessionView = record { store = mid.store; opened = told c.cut.new.self; heap = mid.heap; surviving = mid.surviving; entries = mid.entries; survived = mid.survived } in
     let back = c.in_ok-first.ensures.back on state marks kept has shows in
     let takes = c.in_ok-first.ensures.takes in
-    restores_none old mid new c.args.transaction c.args.save c.in_ok-first.first state marks kept has shows back c.cut.ensures refl refl refl
+    restores_none old mid new c.args.transaction c.args.save c.in_ok-first.first state marks kept has shows back c.cut.ensures (record { heap = refl; surviving = refl; entries = refl; survived = refl }) refl
     (none_own mid c.args.transaction (left_at marks c.args.save) c.in_ok-first.first state back c.in_default.is) refl takes.root takes.backing
 
 pub returns-in-Some-clause-goes : goal.returns-in-Some-clause-goes

@@ -1,6 +1,6 @@
 use Rattle.std.proofs.Common.{ap, arith}
-use Rattle.rss_model.proofs.PlainStores.{plain_room, tables_plain}
 use Rattle.rss_trans.specs.declared.sums.Sums.{Sums}
+use Rattle.rss_session.proofs.Traffic.{images_same}
 use Rattle.rss_session.proofs.Weighed.{slots_are}
 use Rattle.rss_session.proofs.session.Session.room.Goals as goal
 
@@ -18,7 +18,9 @@ returns-clause-states g c = λ state shows.
       c.saturating_add.ensures,
       c.saturating_add-2.ensures,
       c.saturating_mul.ensures,
-      plain_room (tables_plain shows.store.spells) state.meter,
+      c.saturating_add-3.ensures,
+      c.images_bound-images.ensures.is,
+      images_same shows (omega (arith, slots_are shows, c.slots-slots.ensures)),
       counted.heap,
       counted.surviving,
       counted.since.all,

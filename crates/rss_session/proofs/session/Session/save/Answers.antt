@@ -18,7 +18,7 @@ returns-clause-ready g c =
     let old = view g.S.Pages.view c.args.self.now in
     let opened = told c.save.new.self in
     either c.save.result c.save.ensures.ok c.save.ensures.err
-    (λ steps. ready_with {view = old} opened c.args.transaction (with_save (transaction_in old.opened c.args.transaction)) c.requires.ready c.ranges.transaction.fits steps.transactions steps.since refl)
+    (λ steps. ready_with {view = old} opened c.args.transaction (with_save (transaction_in old.opened c.args.transaction)) c.requires.ready c.ranges.transaction.fits steps.transactions steps.since steps.since_of refl)
     (λ same. ready_still {view = old} opened same c.requires.ready)
 
 pub returns-clause-saves : goal.returns-clause-saves

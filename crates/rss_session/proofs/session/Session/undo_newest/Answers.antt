@@ -20,16 +20,16 @@ undo-requires-clause-high g c = let at = placed_at _ _ c.requires.newest.older c
 pub returns-clause-ready : goal.returns-clause-ready
 returns-clause-ready g c =
     let old = view g.S.Pages.view c.args.self.now in
-    let new : SessionView = record { store = store_view g.S.Pages.view c.undo.new.self; opened = told c.take_newest.new.self; heap = old.heap; surviving = old.surviving } in
+    let new : SessionView = record { store = store_view g.S.Pages.view c.undo.new.self; opened = told c.take_newest.new.self; heap = old.heap; surviving = old.surviving; entries = old.entries; survived = old.survived } in
     let did = c.in_ok-undo.ensures.did in
-    ready_undone old new c.args.transaction c.args.position c.requires.ready c.requires.open c.requires.newest c.take_newest.ensures refl refl c.in_ok-undo.ensures.ready c.undo.ensures.log
+    ready_undone old new c.args.transaction c.args.position c.requires.ready c.requires.open c.requires.newest c.take_newest.ensures (record { heap = refl; surviving = refl; entries = refl; survived = refl }) did.definitions c.in_ok-undo.ensures.ready c.undo.ensures.log
     (takes_two did.step (g.met.S.Pages.are_counted c.undo.new.self.tuples.pages) (mapped_two old.store new.store c.requires.ready.store c.in_ok-undo.ensures.ready did.takes))
 
 pub returns-clause-back : goal.returns-clause-back
 returns-clause-back g c = λ on state n count own shows.
     let old = view g.S.Pages.view c.args.self.now in
-    let new : SessionView = record { store = store_view g.S.Pages.view c.undo.new.self; opened = told c.take_newest.new.self; heap = old.heap; surviving = old.surviving } in
-    back_one old new c.args.transaction c.args.position c.requires.ready c.requires.open c.requires.newest c.take_newest.ensures refl refl state n count c.in_ok-undo.ensures.did.definitions (c.in_ok-undo.ensures.takes on) own shows
+    let new : SessionView = record { store = store_view g.S.Pages.view c.undo.new.self; opened = told c.take_newest.new.self; heap = old.heap; surviving = old.surviving; entries = old.entries; survived = old.survived } in
+    back_one old new c.args.transaction c.args.position c.requires.ready c.requires.open c.requires.newest c.take_newest.ensures (record { heap = refl; surviving = refl; entries = refl; survived = refl }) state n count c.in_ok-undo.ensures.did.definitions (c.in_ok-undo.ensures.takes on) own shows
 
 pub returns-clause-saves : goal.returns-clause-saves
 returns-clause-saves g c = keeps_saves _ c.args.transaction _ c.take_newest.ensures.transactions (omega arith)
