@@ -7,7 +7,7 @@ use Rattle.std.proofs.lemmas.Option.{none-some, same_Some}
 use Rattle.rss_base.specs.DiskRule.{IsTold}
 use Rattle.rss_base.specs.Steps.{PagesView, PagesStep, AreCounted, pages_in}
 use Rattle.rss_base.specs.TupleTypes.{kinds, misfit, tuple_bytes, IsStorable, SpellsSome}
-use Rattle.rss_base.specs.Listings.{Listing, numbered, field_numbers, relation_at, image_at}
+use Rattle.rss_base.specs.Listings.{Listing, numbered, relation_at, image_at}
 use Rattle.rss_base.specs.declared.key.PageKey.{PageKey}
 use Rattle.rss_base.specs.declared.key.Space.{Space}
 use Rattle.rss_base.specs.declared.key.Space.TheVariants.{Home, Overflow, Image as ImageSpace, System}
@@ -31,7 +31,6 @@ use Rattle.rss_model.specs.Meanings.{rootless}
 use Rattle.rss_model.proofs.Spelled.{tuple_bytes_same}
 use Rattle.rss_entries.specs.Moving.{KeyKinds, AreSpelled, MayMove, MovesEntry}
 use Rattle.rss_entries.specs.Images.{TupleMove, CanMove, after_move, image_of, key_of}
-use Rattle.rss_entries.specs.Rooms.{width_of}
 use Rattle.rss_access.specs.declared.edit.Edit.{Edit}
 use Rattle.rss_access.specs.declared.edit.Edit.TheVariants.{Insert, Delete, Update}
 use Rattle.rss_access.specs.declared.edit.TupleChange.{TupleChange}
