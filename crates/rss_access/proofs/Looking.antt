@@ -1,13 +1,12 @@
 -- Looks into the images of tables that the pages spell.
-use Rattle.std.proofs.Common.{◌≡◌, ℕ, ◌+◌, ◌*◌, ◌^◌, ◌<◌, true, List, length, sym, ◌∙◌, ap, subst, arith}
-use Rattle.std.specs.Prelude.{Option, Some, None, is_some, IfSome, Result}
+use Rattle.std.proofs.Common.{◌≡◌, ℕ, ◌<◌, true, List, length, sym, ◌∙◌, ap, arith}
+use Rattle.std.specs.Prelude.{Option, Some, None, is_some, IfSome}
 use Rattle.std.proofs.lemmas.Option.{same_Some}
 use Rattle.rss_base.specs.DiskRule.{IsTold}
 use Rattle.rss_base.specs.PageMap.{IsKey}
-use Rattle.rss_base.specs.Steps.{PagesView, PagesStep, PagesCall, no_page}
-use Rattle.rss_base.specs.TupleTypes.{kinds, chosen, key_width}
+use Rattle.rss_base.specs.Steps.{PagesView, PagesStep, no_page}
+use Rattle.rss_base.specs.TupleTypes.{chosen, key_width}
 use Rattle.rss_base.specs.Listings.{Listing, image_at}
-use Rattle.rss_base.specs.declared.fault.PageFault.{PageFault}
 use Rattle.rss_base.specs.declared.key.PageKey.{PageKey}
 use Rattle.rss_base.specs.declared.name.Name.{Name}
 use Rattle.rss_base.specs.declared.tid.Tid.{Tid}

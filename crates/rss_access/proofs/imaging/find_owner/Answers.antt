@@ -1,11 +1,9 @@
 -- The image is that of the catalog's entry, which shows the tables that the pages spell.
-use Rattle.std.proofs.Common.{◌≡◌, ◌<◌, ◌+◌, ◌*◌, ℕ, List, sym, ◌∙◌, ap, subst}
-use Rattle.std.specs.Prelude.{Option}
+use Rattle.std.proofs.Common.{◌<◌, ◌+◌, ◌*◌, ℕ, List, sym, ap, subst}
 use Rattle.std.proofs.Math.Logic.{∥∥₁_map}
 use Rattle.std.proofs.lemmas.Result.{IfOk-weaker}
 use Rattle.rss_base.specs.Steps.{PagesCall, no_page}
 use Rattle.rss_base.specs.TupleTypes.{SpellsSome}
-use Rattle.rss_base.specs.declared.tid.Tid.{Tid}
 use Rattle.rss_base.specs.declared.value.FieldKind.{FieldKind}
 use Rattle.rss_image.specs.declared.image.Image.{Image}
 use Rattle.rss_image.specs.Images.{HasImage}

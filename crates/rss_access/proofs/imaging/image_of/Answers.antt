@@ -1,9 +1,5 @@
 -- The image is that of the catalog's entry.
-use Rattle.std.proofs.Common.{◌≡◌, ℕ, sym, ◌∙◌, ap, subst}
-use Rattle.std.proofs.lemmas.Option.{same_Some}
-use Rattle.rss_base.specs.Listings.{Listing, image_at, relation_at}
-use Rattle.rss_base.specs.declared.image.ImageEntry.{ImageEntry}
-use Rattle.rss_base.specs.declared.relation.RelationEntry.{RelationEntry}
+use Rattle.std.proofs.Common.{ℕ, sym, ◌∙◌, subst}
 use Rattle.rss_node.specs.Nodes.{AreNodes}
 use Rattle.rss_access.proofs.ImageKeys.{image_nodes, same_listed}
 use Rattle.rss_entries.specs.Images.{image_of}

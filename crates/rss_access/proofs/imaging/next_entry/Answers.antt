@@ -1,10 +1,8 @@
 -- The image is that of the catalog's entry, which shows the tables that the pages spell.
-use Rattle.std.proofs.Common.{◌≡◌, ◌<◌, ◌+◌, ℕ, List, length, sym, ◌∙◌, ap, subst}
-use Rattle.std.specs.Prelude.{Option, Some, None, IfSome}
+use Rattle.std.proofs.Common.{◌<◌, ◌+◌, ℕ, sym, subst}
 use Rattle.std.proofs.Math.Logic.{∥∥₁_map}
 use Rattle.std.proofs.lemmas.Result.{IfOk-weaker}
 use Rattle.rss_base.specs.Steps.{PagesCall, no_page}
-use Rattle.rss_base.specs.declared.tid.Tid.{Tid}
 use Rattle.rss_image.specs.declared.image.Image.{Image}
 use Rattle.rss_image.specs.Images.{HasImage}
 use Rattle.rss_tuple.proofs.Seen.{on_ok}
