@@ -1,5 +1,5 @@
 -- A session in which no transaction is open as yet, over a store that was just opened.
-use Rattle.std.proofs.Common.{◌≡◌, ℕ, ◌+◌, ◌≤◌, List, [], map, sym, ◌∙◌, ap, subst, arith}
+use Rattle.std.proofs.Common.{◌≡◌, ℕ, ◌+◌, List, [], map, sym, ◌∙◌, ap, subst, arith}
 use Rattle.std.specs.Prelude.{Option, is_some, unwrap_or}
 use Rattle.std.specs.FinMap.{FinMap, empty, entries, get, values, get-empty, len-empty, len-entries}
 use Rattle.std.specs.Ordering.{nat_cmp}

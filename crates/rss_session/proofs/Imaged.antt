@@ -1,5 +1,5 @@
 -- Whether a relation has an image: by its number as by its name.
-use Rattle.std.proofs.Common.{◌≡◌, inl, inr, ℕ, Bool, true, false, List, [], ◌∷◌, map, sym, ◌∙◌, ap}
+use Rattle.std.proofs.Common.{◌≡◌, inl, inr, ℕ, true, false, List, [], ◌∷◌, map, sym, ◌∙◌, ap}
 use Rattle.std.specs.Prelude.{Some, is_some}
 use Rattle.std.specs.List.{list_any}
 use Rattle.std.specs.FinMap as finite

@@ -1,11 +1,10 @@
 -- That a change of a tuple finds room, and takes two home or overflow pages at most.
-use Rattle.std.proofs.Common.{◌≡◌, ℕ, ◌+◌, ◌*◌, ◌^◌, ◌<◌, ◌≤◌, Bool, true, false, if◌then◌else◌, ◌==◌, refl, sym, ◌∙◌, ap, arith}
-use Rattle.std.specs.Prelude.{Option, Some}
+use Rattle.std.proofs.Common.{◌≡◌, ℕ, ◌+◌, ◌≤◌, Bool, true, false, if◌then◌else◌, ◌==◌, refl, sym, ap, arith}
+use Rattle.std.specs.Prelude.{Some}
 use Rattle.std.proofs.lemmas.Bool.{eq-eqb, eqb-true}
-use Rattle.rss_base.specs.Listings.{Listing, relation_at}
+use Rattle.rss_base.specs.Listings.{Listing}
 use Rattle.rss_base.specs.Paged.{mapped_of, mapped_pages}
 use Rattle.rss_base.specs.declared.key.Space.TheVariants.{Image}
-use Rattle.rss_base.specs.declared.relation.RelationEntry.{RelationEntry}
 use Rattle.rss_model.specs.Machine.{State}
 use Rattle.rss_model.specs.Spares.{page_counts}
 use Rattle.rss_model.proofs.ImageRooms.{bound_rises}
@@ -20,7 +19,7 @@ use Rattle.rss_session.specs.Sessions as sessions
 use Rattle.rss_session.specs.Shown.{Shows}
 use Rattle.rss_session.specs.Weighing.{most_with, images_with}
 use Rattle.rss_session.proofs.Noted.{Goes}
-use Rattle.rss_session.proofs.Traffic.{most_counted, with_is, with_more}
+use Rattle.rss_session.proofs.Traffic.{most_counted, with_more}
 use Rattle.rss_session.proofs.Weighed.{few_slots}
 
 -- a tuple more of the relation is within what is allowed with a change more of it

@@ -1,6 +1,6 @@
 -- What a session counts of each relation is what the meter does, and so are the pages that images may have.
 use Rattle.std.proofs.Common.{◌≡◌, ℕ, ◌+◌, ◌*◌, ◌^◌, ◌<◌, ◌≤◌, Bool, true, false, if◌then◌else◌, List, length, refl, sym, ◌∙◌, ap, subst, arith}
-use Rattle.std.specs.Prelude.{Option, Some, None, option_map, unwrap_or, ◌==◌}
+use Rattle.std.specs.Prelude.{Option, Some, None, option_map, unwrap_or}
 use Rattle.std.proofs.lemmas.List.Sums.{count_by-le-length}
 use Rattle.rss_base.specs.Listings.{Listing, IsNumberOf, numbered, relation_at}
 use Rattle.rss_base.specs.Paged.{Held}
@@ -10,10 +10,9 @@ use Rattle.rss_base.specs.declared.refusal.Kind.TheVariants.{Relation as Relatio
 use Rattle.rss_base.specs.declared.relation.RelationEntry.{RelationEntry}
 use Rattle.rss_catalog.specs.Catalogs.{CatalogView}
 use Rattle.rss_model.specs.Changes.{Change}
-use Rattle.rss_model.specs.Machine.{State, now}
+use Rattle.rss_model.specs.Machine.{State}
 use Rattle.rss_model.specs.Meanings.{SameDefinitions}
 use Rattle.rss_model.specs.Meter.{Traffic, Meter, entries_most, with_traffic, counts_for, changes_of}
-use Rattle.rss_model.specs.Records.{Listed, changes_in}
 use Rattle.rss_model.specs.Rules.{with_change, saved_now}
 use Rattle.rss_model.specs.Spares.{change_counts, live_of, listed_bound, most_of}
 use Rattle.rss_model.specs.Store.{SpellsTables}

@@ -27,7 +27,7 @@ use Rattle.rss_model.specs.Records.{Listed, changes_in}
 use Rattle.rss_model.specs.Recovers.{AreRising, older_of, first_in, named_in, NamesLists}
 use Rattle.rss_model.specs.EngineLogs.{stamp_of}
 use Rattle.rss_model.specs.Rules.{GoesOn, SavesFirst, NoRoom, NoLogRoom, goes_on, with_change, saved_now, room_with, log_needed, ruling, if_no_log_room}
-use Rattle.rss_model.specs.Spares.{live_of, listed_bound}
+use Rattle.rss_model.specs.Spares.{live_of}
 use Rattle.rss_model.specs.Records.{is_by}
 use Rattle.rss_model.proofs.BothRooms.{checkpoints_keep_rooms}
 use Rattle.rss_model.proofs.ImageRooms.{bound_rises, images_few}

@@ -1,5 +1,5 @@
 -- Each number up to the last has its relation's tuples, and no other one has any.
-use Rattle.std.proofs.Common.{ℕ, refl, ap, arith}
+use Rattle.std.proofs.Common.{refl, ap, arith}
 use Rattle.std.specs.Prelude.{Option, option_map, unwrap_or}
 use Rattle.rss_base.specs.declared.relation.RelationEntry.{RelationEntry}
 use Rattle.rss_model.specs.Spares.{live_of}

@@ -1,5 +1,5 @@
 -- Each number up to the last has its relation's changes, and no relation has a greater one.
-use Rattle.std.proofs.Common.{ℕ, inl, inr, sym, ◌∙◌, ap, arith}
+use Rattle.std.proofs.Common.{inl, inr, sym, ◌∙◌, ap, arith}
 use Rattle.std.proofs.lemmas.Bool.{cases_lt}
 use Rattle.std.proofs.lemmas.Option.{none-some}
 use Rattle.rss_model.proofs.Relisted.{number_within_list}
