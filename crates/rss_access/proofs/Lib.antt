@@ -17,4 +17,5 @@ pub mod ImageKeys
 pub mod ImageRooms
 pub mod Rooted
 pub mod ImageMoves
+pub mod Looking
 mod NextTuples

@@ -9,6 +9,7 @@ mod counting;
 mod defining;
 mod ending;
 mod going_back;
+mod imaging;
 mod looking;
 mod opening;
 mod saving;
