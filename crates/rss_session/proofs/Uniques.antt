@@ -1,6 +1,6 @@
 -- The least listed image behind those that were passed is the next of the machine's list.
 use Rattle.std.proofs.Common.{◌≡◌, ◌⊎◌, inl, inr, ⊎_elim, ℕ, zero, suc, ◌+◌, ◌<◌, ◌≤◌, Bool, true, List, [], ◌∷◌, ◌++◌, length, get_or, refl, sym, ◌∙◌, ap, subst, arith, append_assoc, append-nil, length-append}
-use Rattle.std.specs.Prelude.{Option, Some, None, false, is_some, option_map, filter, ◌&&◌, if◌then◌else◌, map as list_map, ⊤}
+use Rattle.std.specs.Prelude.{Option, Some, None, false, All, is_some, option_map, unwrap_or, filter, ◌&&◌, if◌then◌else◌, map as list_map, ⊤}
 use Rattle.std.specs.Ordering.{eq_by_cmp}
 use Rattle.std.specs.Cmp.{Equal-is}
 use Rattle.std.specs.FinMap as map
@@ -10,25 +10,30 @@ use Rattle.std.proofs.Math.Dec.{T}
 use Rattle.std.proofs.lemmas.Bool.{and_parts}
 use Rattle.std.proofs.lemmas.List.Sums.{length-filter, count_by-le-length}
 use Rattle.std.proofs.lemmas.Option.{none-some, same_Some}
-use Rattle.rss_base.specs.Listings.{Listing, ListingFits, image_at, relation_at, IsNumberOf}
+use Rattle.rss_base.specs.Listings.{Listing, ListingFits, IsFieldNumber, IsNumberOf, field_numbers, image_at, relation_at}
+use Rattle.rss_base.specs.TupleTypes.{chosen, field_names, kinds, key_width, most_key_width}
 use Rattle.rss_base.specs.declared.image.ImageEntry.{ImageEntry}
 use Rattle.rss_base.specs.declared.name.Name.{Name}
 use Rattle.rss_base.specs.declared.refusal.Kind.TheVariants.{Image as ImageKind}
 use Rattle.rss_base.specs.declared.refusal.Refusal.{Refusal}
 use Rattle.rss_base.specs.declared.relation.RelationEntry.{RelationEntry}
+use Rattle.rss_base.specs.declared.value.FieldKind.{FieldKind}
+use Rattle.rss_base.specs.declared.value.Value.{Value}
 use Rattle.rss_model.specs.Fits.{Fits}
-use Rattle.rss_model.specs.Images.{unique_images}
+use Rattle.rss_model.specs.Images.{key_in, numbers_of, unique_images}
 use Rattle.rss_model.specs.Items.{name_cmp, is_name}
 use Rattle.rss_model.specs.Refusals.{first_of}
-use Rattle.rss_model.specs.Store.{Defines, image_definition}
-use Rattle.rss_model.specs.Tables.{ImageDef, Definitions, Tables}
+use Rattle.rss_model.specs.Store.{Defines, IsListedImage, image_definition}
+use Rattle.rss_model.specs.Tables.{ImageDef, RelationDef, Definitions, Tables}
 use Rattle.rss_model.proofs.Codes.{name_total, name_apart}
 use Rattle.rss_model.proofs.ImageLists.{T_parts}
-use Rattle.rss_model.proofs.Listed.{at_place}
+use Rattle.rss_model.proofs.Listed.{at_place, listed}
 use Rattle.rss_model.proofs.Mixing.{In, in_filter, in_left, in_parts, in_right}
 use Rattle.rss_model.proofs.Relisted.{number_of}
 use Rattle.rss_model.proofs.SeenAlike.{all_below, got_in, not_below}
 use Rattle.rss_model.proofs.Testing.{unique_in}
+use Rattle.rss_catalog.specs.Catalogs.{IsSafeImage}
+use Rattle.rss_entries.proofs.Fields.{numbers_back, chosen_kinds}
 use Rattle.rss_session.specs.Uniques.{IsBehind, IsUniqueBehind, AreInOrder, FindsLeast, last_name, defined_image, AreLed, IsNextUnique}
 
 -- ---- images whose names rise
@@ -263,6 +268,24 @@ many_passed are few = by are.left (omega (arith, few, are.many, ap length are.sp
 -- there are no more than may be defined
 pub few_unique : {slots : ℕ} (tables : Tables) → Fits slots tables → (relation : Name) → length (unique_images tables.definitions relation) ≤ 128
 few_unique tables fits relation = omega (arith, fits.definitions.paths.few_images, len-entries tables.definitions.images, length-filter (λ (image : Name × ImageDef). image.1.is_unique && is_name relation image.1.relation) (map.entries tables.definitions.images), count_by-le-length (λ (image : Name × ImageDef). image.1.is_unique && is_name relation image.1.relation) (map.entries tables.definitions.images))
+
+-- ---- keys
+
+-- the key of a tuple, by the numbers of the image's fields
+pub key_listed : {listing : Listing} {definitions : Definitions} → ListingFits listing → Defines listing definitions → {number : ℕ} {image : ImageEntry} {relation : RelationEntry} → IsListedImage listing number image relation
+    → (values : List Value) → key_in definitions (image_definition image relation) values ≡ chosen (field_numbers image) values
+key_listed fits defines {number = number} {image = image} {relation = relation} at values =
+    let fit = fits.paths.images number image at.at in
+    let so = listed fits defines image.relation relation at.within in
+    let names : List Name = field_names (chosen (field_numbers image) relation.fields) in
+    let fields = ap (λ (r : Option RelationDef). numbers_of (unwrap_or (option_map (λ d. d.fields) r) []) names) (defines.relations image.relation relation so.0 so.1) in
+    let within = subst (λ (r : RelationEntry). All (IsFieldNumber (length r.fields)) (field_numbers image)) (same_Some _ _ (sym fit.listed ∙ at.within)) fit.within in
+    ap (λ (numbers : List ℕ). chosen numbers values)
+    (fields ∙ numbers_back relation.fields (fits.relations image.relation relation at.within).fields.apart (field_numbers image) within)
+
+-- keys are narrow
+pub narrow_key : {listing : Listing} {image : ImageEntry} (safe : IsSafeImage listing image) → key_width (chosen (field_numbers image) (kinds safe.relation.fields)) ≤ most_key_width
+narrow_key {image = image} safe = subst (λ (fields : List FieldKind). key_width fields ≤ most_key_width) (sym (chosen_kinds (field_numbers image) safe.relation.fields)) safe.narrow
 
 -- ---- what each of them is refused for
 
