@@ -125,7 +125,7 @@ module _ (parts : RssParts) {t : ℕ} {relation : Name} {values : List Value} {n
   few_so : (state : State) → if_used_up state entry.name ≡ None → if_used_up state relation ≡ None
   few_so state is = ap (if_used_up state) (sym named) ∙ is
 
-  may_insert : MayCost (Insert t relation values)
+  pub may_insert : MayCost (Insert t relation values)
   may_insert = record { stop = record { built = refl; names = tt; granule = tt; memory = refl }; asks = refl; writes = refl }
 
   -- it looks for an identifier
@@ -161,7 +161,7 @@ module _ (parts : RssParts) {t : ℕ} {relation : Name} {values : List Value} {n
     its_free : (state : State) → IsTold parts.session.store.pages.disk → IsIn parts state → IsFree state t relation tid
     its_free state told is_in = subst (λ (name : Name). IsFree state t name tid) named (place.free entry state (its_relation told is_in))
 
-    -- the new tuple is locked behind all that the (Insert t relation values) needs, and nobody bars it from that
+    -- the new tuple is locked behind all that the call needs, and nobody bars it from that
     bars_too : (state : State) → IsTold parts.session.store.pages.disk → IsIn parts state → first_bar state.locks t (needs (now state) (Insert t relation values)) ≡ first_bar parts.locks.locks t list
     bars_too state told is_in =
         sym (first_bar_behind state.locks t (needs (now state) (Insert t relation values)) (need (TupleItem relation tid) X) (none_bars state.locks t (TupleItem relation tid) X (λ u apart. (its_free state told is_in).alone relation u refl apart)))

@@ -2,7 +2,8 @@
 use Rattle.std.proofs.Common.{◌≡◌, ℕ, ◌+◌, ◌-◌, ◌<◌, ◌≤◌, true, List, [], ◌∷◌, ◌++◌, length, take, get_or, refl, sym, ◌∙◌, ap, subst, arith, append_assoc, append-nil}
 use Rattle.std.specs.Prelude.{Option, Some, None, IfSome, All, Result, Ok, Err, map, flat_map, option_map, option_to_list, slice_get, if◌then◌else◌, Bool}
 use Rattle.std.specs.List.{cons_option}
-use Rattle.std.proofs.lemmas.List.{length-map}
+use Rattle.std.proofs.lemmas.Grind.{flat_map-append}
+use Rattle.std.proofs.lemmas.List.{length-map, map-append}
 use Rattle.std.proofs.lemmas.Option.{same_Some}
 use Rattle.rss_base.specs.DiskRule.{IsTold}
 use Rattle.rss_base.specs.Listings.{Listing, IsFieldNumber, IsNumberOf, field_numbers, image_at, relation_at}
@@ -53,10 +54,6 @@ use Rattle.rss_rsi.proofs.Ways.{in_held, refused_behind}
 
 -- ---- the keys of one image
 
-map_both : {A B : Type 0} (f : A → B) (one other : List A) → map f (one ++ other) ≡ map f one ++ map f other
-map_both f [] other = refl
-map_both f (a ∷ one) other = ap (λ (l : List _). f a ∷ l) (map_both f one other)
-
 module _ {parts : RssParts} {state : State} (is_in : IsIn parts state) {number : ℕ} {image : ImageEntry} {relation : RelationEntry} (at : IsListedImage parts.session.store.catalog.listing number image relation) where
   image_keys : (all : List (List Value)) → keys_of_each (now state) all (defined_image image relation) ≡ map (key_lock image) all
   image_keys [] = refl
@@ -79,8 +76,7 @@ pub keys_begun : (parts : RssParts) (number : ℕ) (all : List (List Value)) (be
 keys_begun parts number all before told state is_in relation at = record { are = none_passed _; keys = append-nil before }
 
 flat_behind : {A B : Type 0} (f : A → List B) (xs : List A) (x : A) → flat_map f (xs ++ x ∷ []) ≡ flat_map f xs ++ f x
-flat_behind f [] x = append-nil (f x)
-flat_behind f (y ∷ xs) x = ap (λ (l : List _). f y ++ l) (flat_behind f xs x) ∙ sym (append_assoc (f y) (flat_map f xs) (f x))
+flat_behind f xs x = flat_map-append f xs (x ∷ []) ∙ ap (λ (l : List _). flat_map f xs ++ l) (append-nil (f x))
 
 -- one more image was passed
 pub keys_more : {parts : RssParts} {number count : ℕ} {was to : Option (List Value)} {before list middle longer : List Need} {after : Option Name} {found : ℕ} {image : ImageEntry} → AllPassed parts number (given was to) before list count after → IsNextUnique parts.session.store.catalog.listing number after (Some found)
@@ -101,7 +97,7 @@ keys_more {parts = parts} {number = number} {was = was} {to = to} {before = befo
           ∙ ap (λ (l : List Need). before ++ l) (flat_behind f had.are.passed (defined_image image relation))
           ∙ sym (append_assoc before (flat_map f had.are.passed) (f (defined_image image relation)))
           ∙ (λ i. had.keys i ++ image_keys is_in listed all i)
-          ∙ ap (λ (l : List Need). list ++ l) (map_both (key_lock image) (option_to_list was) (option_to_list to))
+          ∙ ap (λ (l : List Need). list ++ l) (map-append (key_lock image) (option_to_list was) (option_to_list to))
           ∙ sym (append_assoc list (map (key_lock image) (option_to_list was)) (map (key_lock image) (option_to_list to)))
           ∙ sym (second ∙ ap (λ (l : List Need). l ++ map (key_lock image) (option_to_list to)) first);
     }

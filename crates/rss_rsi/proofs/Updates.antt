@@ -29,6 +29,7 @@ use Rattle.rss_model.proofs.Totals.{as_many}
 use Rattle.rss_session.specs.Admissions.{Says}
 use Rattle.rss_rsi.specs.Views.{RssParts, IsIn}
 use Rattle.rss_rsi.specs.Looking.{LooksFor, FindsHeld}
+use Rattle.rss_rsi.specs.Placing.{MayCost}
 use Rattle.rss_rsi.specs.declared.locking.Access.TheVariants.{Change}
 use Rattle.rss_rsi.proofs.Claims.{free_as, locked_as}
 use Rattle.rss_rsi.proofs.Changes.{IsLast, EndsByChange}
@@ -45,6 +46,9 @@ module _ (parts : RssParts) (t : ℕ) (relation : Name) (tid : Tid) (values : Li
     busy_so = λ told state is_in bar. update_busy state t relation tid values (admitted told state is_in.shows) bar;
     lacks = λ told state is_in. update_lacks state t relation tid values (admitted told state is_in.shows);
   }
+
+  pub may_update : MayCost (Update t relation tid values)
+  may_update = record { stop = update_looks.may.stop; asks = refl; writes = refl }
 
   -- another tuple has a key of what was found
   pub update_owned : {mid : RssParts} {number : ℕ} {was : List Value} {list : List Need} → FindsHeld parts mid t number relation tid Change (values ∷ []) was list → {why : Refusal}
@@ -84,4 +88,4 @@ module _ (parts : RssParts) (t : ℕ) (relation : Name) (tid : Tid) (values : Li
         }
 
     pub update_ends : EndsByChange parts (granted t list parts.locks.locks) t (UpdateRecord number tid from to) (Update t relation tid values) Done
-    update_ends = record { last = last_of; short = omega arith; may = record { stop = update_looks.may.stop; asks = refl; writes = refl } }
+    update_ends = record { last = last_of; short = omega arith; may = may_update }

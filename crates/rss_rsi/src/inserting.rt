@@ -42,7 +42,8 @@ impl<S: Saving> Rss<S> {
             return Err(CallError::NoMemory);
         };
         let mut needs = self.claim(transaction, needs)?;
-        if let Some(why) = self.find_duplicate(number, &values, None)? {
+        let owned = self.find_duplicate(number, &values, None)?;
+        if let Some(why) = owned {
             // No tuple comes, and its identifier isn't held.
             let _ = needs.pop();
             self.hold(transaction, needs);

@@ -38,7 +38,8 @@ impl<S: Saving> Rss<S> {
             Access::Change,
             Some(tuple),
         )?;
-        if let Some(why) = self.find_duplicate(number, &to, Some(tid))? {
+        let owned = self.find_duplicate(number, &to, Some(tid))?;
+        if let Some(why) = owned {
             self.hold(transaction, found.needs);
             return Err(CallError::Refused(why));
         }

@@ -32,3 +32,4 @@ pub mod Aborted
 pub mod Props
 pub mod Behind
 pub mod Uniques
+pub mod Duplicates

@@ -7,7 +7,7 @@ use Rattle.std.specs.FinMap as map
 use Rattle.std.specs.FinMap.{entries_sorted, is_sorted, len-entries}
 use Rattle.std.specs.declared.cmp.Ordering.TheVariants.{Less}
 use Rattle.std.proofs.Math.Dec.{T}
-use Rattle.std.proofs.lemmas.Bool.{and_parts}
+use Rattle.std.proofs.lemmas.Bool.{and_parts, cases_eq}
 use Rattle.std.proofs.lemmas.List.Sums.{length-filter, count_by-le-length}
 use Rattle.std.proofs.lemmas.Option.{none-some, same_Some}
 use Rattle.rss_base.specs.Listings.{Listing, ListingFits, IsFieldNumber, IsNumberOf, field_numbers, image_at, relation_at}
@@ -34,7 +34,7 @@ use Rattle.rss_model.proofs.SeenAlike.{all_below, got_in, not_below}
 use Rattle.rss_model.proofs.Testing.{unique_in}
 use Rattle.rss_catalog.specs.Catalogs.{IsSafeImage}
 use Rattle.rss_entries.proofs.Fields.{numbers_back, chosen_kinds}
-use Rattle.rss_session.specs.Uniques.{IsBehind, IsUniqueBehind, AreInOrder, FindsLeast, last_name, defined_image, AreLed, IsNextUnique}
+use Rattle.rss_session.specs.Uniques.{IsBehind, IsUniqueBehind, AreInOrder, IsBefore, FindsLeast, last_name, defined_image, AreLed, IsNextUnique}
 
 -- ---- images whose names rise
 
@@ -206,6 +206,58 @@ module _ {listing : Listing} (definitions : Definitions) (relation : ℕ) (entry
             first = ap (λ (o : Name × ImageDef). o ∷ images) same;
           }
           by (one ∷ images) rise (inr among) never = absurd (never one (inl refl) (rise.0 here among))
+
+-- ---- the least of the numbers, one after another
+
+module _ {listing : Listing} {relation : ℕ} {after : Option Name} where
+  pub none_below : FindsLeast listing relation after 1 None
+  none_below k low is = none-some is.image (sym (ap (image_at listing) (zero_is k low)) ∙ is.at)
+    where
+      zero_is : (k : ℕ) → k < 1 → zero ≡ k
+      zero_is k low = omega (arith, low)
+
+  -- there is one number more, which isn't that of a unique image behind
+  pub least_passes : {number : ℕ} (least : Option ℕ) → FindsLeast listing relation after number least → (IsUniqueBehind listing relation after number → ⊥) → FindsLeast listing relation after (number + 1) least
+  least_passes {number = number} None none not k low is = elim (cases_eq k number) [
+    | inl same ↦ absurd (not (subst (IsUniqueBehind listing relation after) same is))
+    | inr other ↦ none k (omega (arith, low, other)) is
+  ]
+  least_passes {number = number} (Some m) least not = record {
+    is = least.is;
+    least = λ k low is order. elim (cases_eq k number) [
+      | inl same ↦ absurd (not (subst (IsUniqueBehind listing relation after) same is))
+      | inr other ↦ least.least k (omega (arith, low, other)) is order
+    ];
+  }
+
+  -- or which isn't before the least
+  pub least_stays : {number : ℕ} (least : Option ℕ) → FindsLeast listing relation after number least → (IsBefore listing number least → ⊥) → FindsLeast listing relation after (number + 1) least
+  least_stays None none not = absurd (not tt)
+  least_stays {number = number} (Some m) least not = record {
+    is = least.is;
+    least = λ k low is order. elim (cases_eq k number) [
+      | inl same ↦ absurd (not (subst (λ (n : ℕ). AreInOrder listing n m) same order))
+      | inr other ↦ least.least k (omega (arith, low, other)) is order
+    ];
+  }
+
+  order_then : {one number other : ℕ} {image : ImageEntry} → image_at listing number ≡ Some image → AreInOrder listing one number → AreInOrder listing number other → AreInOrder listing one other
+  order_then {image = image} at before behind first second at_first at_second =
+      name_total.trans first.name image.name second.name (before first image at_first at) (behind image second at at_second)
+
+  -- or which is the least now
+  pub least_new : {number : ℕ} (least : Option ℕ) → FindsLeast listing relation after number least → IsUniqueBehind listing relation after number → IsBefore listing number least → FindsLeast listing relation after (number + 1) (Some number)
+  least_new {number = number} least found is before = record {
+    is = is;
+    least = λ k low other order. elim (cases_eq k number) [
+      | inl same ↦ absurd (not_below name_total name_apart is.image.name (order is.image is.image (ap (image_at listing) same ∙ is.at) is.at))
+      | inr apart ↦ by least found before k (omega (arith, low, apart)) other order
+    ];
+  }
+    where
+      by : (least : Option ℕ) → FindsLeast listing relation after number least → IsBefore listing number least → (k : ℕ) → k < number → IsUniqueBehind listing relation after k → AreInOrder listing k number → ⊥
+      by None none before k low other order = none k low other
+      by (Some m) found before k low other order = found.least k low other (order_then is.at order before)
 
 -- where all numbers were looked at
 pub next_unique : {listing : Listing} {relation : ℕ} {after : Option Name} {below : ℕ} (found : Option ℕ) → ((k : ℕ) → IsUniqueBehind listing relation after k → k < below) → FindsLeast listing relation after below found → IsNextUnique listing relation after found

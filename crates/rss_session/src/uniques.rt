@@ -1,5 +1,5 @@
 // The unique images of relations.
-ghost use Rattle.std.specs.Prelude.{◌≡◌, ◌↔◌, true, Some, Err, is_some, IsTrue, IfOk, IfSome};
+ghost use Rattle.std.specs.Prelude.{◌≡◌, ◌↔◌, ◌+◌, true, Some, Err, is_some, IsTrue, IfOk, IfSome};
 ghost use Rattle.std.specs.declared.cmp.Ordering.TheVariants.{Less};
 ghost use Rattle.rss_base.specs.Listings.{image_at, relation_at};
 ghost use Rattle.rss_base.specs.TupleTypes.{kinds, SpellsSome};
@@ -11,7 +11,7 @@ ghost use Rattle.rss_model.specs.Steps.{keeps_locks};
 ghost use Rattle.rss_access.specs.Moved.{IsImageOf};
 ghost use Rattle.rss_session.specs.Sessions.{IsReady};
 ghost use Rattle.rss_session.specs.Looks.{LooksOn};
-ghost use Rattle.rss_session.specs.Uniques.{IsBehind, IsUniqueBehind, IsBefore, IsNextUnique, FindsDuplicate};
+ghost use Rattle.rss_session.specs.Uniques.{IsBehind, IsUniqueBehind, IsBefore, IsNextUnique, FindsDuplicate, FindsLeast};
 
 use crate::Session;
 use rss_base::{IMAGES_MOST, Kind, Name, PageFault, Refusal, Tid};
@@ -31,12 +31,29 @@ impl<S: Saving> Session<S> {
     {
         let mut least = None;
         for place in 0..self.store.catalog.last_image() {
-            let number = place + 1;
-            if self.is_unique_behind(number, relation, after) && self.is_before(number, least) {
-                least = Some(number);
-            }
+            least = self.lesser_unique(relation, after, place + 1, least);
         }
         least
+    }
+
+    /// The least of this number and those below it, where `least` is that of those below it.
+    fn lesser_unique(
+        &self,
+        relation: u8,
+        after: Option<Name>,
+        number: u8,
+        least: Option<u8>,
+    ) -> Option<u8>
+        requires { FindsLeast (view S.view self.now).store.catalog.listing relation after number
+            least }
+        ensures { FindsLeast (view S.view self.now).store.catalog.listing relation after (number + 1)
+            result }
+    {
+        if self.is_unique_behind(number, relation, after) && self.is_before(number, least) {
+            Some(number)
+        } else {
+            least
+        }
     }
 
     /// Whether this is the number of a unique image of a relation, whose name stands behind `after`.
@@ -93,7 +110,8 @@ impl<S: Saving> Session<S> {
                 return Ok(None);
             };
             let name = self.store.catalog.image(image).name;
-            if let Some(tid) = self.find_owner(image, values, own)? {
+            let owner = self.find_owner(image, values, own)?;
+            if let Some(tid) = owner {
                 return Ok(Some(duplicate(name, tid)));
             }
             after = Some(name);

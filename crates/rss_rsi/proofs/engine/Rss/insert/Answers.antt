@@ -11,7 +11,6 @@ use Rattle.rss_lock.specs.Table.{told}
 use Rattle.rss_scan.specs.Scans.{told as scans_told}
 use Rattle.rss_lock.specs.declared.locks.Locks.{Locks as LockTable}
 use Rattle.rss_model.specs.Locks.{first_bar, granted}
-use Rattle.rss_model.specs.Needs.{tuple_changed}
 use Rattle.rss_model.specs.Steps.{if_used_up}
 use Rattle.rss_model.specs.Tables.{Tables}
 use Rattle.rss_access.proofs.Numbered.{entry_at}
@@ -19,6 +18,7 @@ use Rattle.rss_session.specs.Looks.{LooksOn}
 use Rattle.rss_session.specs.Parts.{view as session_view}
 use Rattle.rss_session.specs.declared.session.Session.{Session}
 use Rattle.rss_trans.specs.Transactions.{OpenView, is_open}
+use Rattle.rss_rsi.specs.Locking.{putting, MayBeOf}
 use Rattle.rss_rsi.specs.Parts.{parts_of, session_of}
 use Rattle.rss_rsi.proofs.Changes.{still_made, ends_short, ends_made}
 use Rattle.rss_rsi.proofs.Claims.{claimed_from, claimed_free}
@@ -66,8 +66,13 @@ returns-in_err-tid-clause-did g c =
     ends_so g.S.Pages.view c.from_residual-in_err-tid.result c.from_residual-in_err-tid.ensures.1 counted.session counted.locks counted.scans (counted.up ∙ sym counted.was_up)
     (c.in_err-tid.ensures.fails c.args.self.now.calls (Insert c.args.transaction c.args.relation.now c.args.tuple.now) (omega (arith, counted.counted)) (insert_places (parts_of c.ask.new.self) admitted))
 
-pub tuple_needs-requires : goal.tuple_needs-requires
-tuple_needs-requires g c = record { known = subst (λ (catalog : CatalogView). IsNumberOf RelationKind catalog.listing c.args.relation.now c.in_ok-number.number) (sym c.in_ok-tid.ensures.looks.catalog) c.in_ok-number.ensures.known }
+pub new_needs-requires-clause-known : goal.new_needs-requires-clause-known
+new_needs-requires-clause-known g c = subst (λ (catalog : CatalogView). IsNumberOf RelationKind catalog.listing c.args.relation.now c.in_ok-number.number) (sym c.in_ok-tid.ensures.looks.catalog) c.in_ok-number.ensures.known
+
+pub new_needs-requires-clause-tuple : goal.new_needs-requires-clause-tuple
+new_needs-requires-clause-tuple g c =
+    subst (λ (catalog : CatalogView). MayBeOf catalog.listing c.in_ok-number.number c.args.tuple.now) (sym c.in_ok-tid.ensures.looks.catalog)
+    (record { fit = c.in_ok-number.ensures.fit; storable = c.values_of-values.ensures.spelled.storable })
 
 pub returns-in_default-clause-did : goal.returns-in_default-clause-did
 returns-in_default-clause-did g c =
@@ -86,7 +91,7 @@ returns-in_err-needs-clause-did g c =
     let same = ap (λ (t : LockTable). (told t).locks) c.in_ok-tid.ensures.locks in
     asked g.S.Pages.view counted.session counted.locks counted.scans
     (passed_call c.from_residual-in_err-needs.result c.from_residual-in_err-needs.ensures.1
-    (insert_lost (parts_of c.ask.new.self) admitted placed.looks placed.place (lists_before (parts_of c.ask.new.self) (parts_of c.place_for.new.self) (λ (tables : Tables). tuple_changed tables c.args.relation.now c.in_ok-tid.tid) c.in_ok-tid.ensures.looks (record { locks = same; scans = ap scans_told c.in_ok-tid.ensures.scans }) c.in-Ok.ensures.lists)
+    (insert_lost (parts_of c.ask.new.self) admitted placed.looks placed.place (lists_before (parts_of c.ask.new.self) (parts_of c.place_for.new.self) (λ (tables : Tables). putting tables c.args.relation.now c.in_ok-tid.tid c.args.tuple.now) c.in_ok-tid.ensures.looks (record { locks = same; scans = ap scans_told c.in_ok-tid.ensures.scans }) c.in-Ok.ensures.lists)
     (parts_of c.claim.new.self) (Vec Need Global) (told c.place_for.new.self.locks) (told c.claim.new.self.locks) (ap (session_view g.S.Pages.view) claim.session) (record { locks = claim.locks ∙ same; scans = ap scans_told (claim.scans ∙ placed.scans) }) same counted.was_up (claim.down ∙ placed.up) (omega (arith, counted.counted, placed.calls, claim.calls)) c.in_err-needs.ensures.ends))
 
 pub change-requires-clause-open : goal.change-requires-clause-open
@@ -116,7 +121,7 @@ returns-in_err-change-clause-did g c =
     let spelled = subst (λ (fields : List FieldDef). Spells (kinds fields) c.values_of-values.result c.args.tuple.now) c.as_slice-fields.ensures c.values_of-values.ensures.spelled in
     asked g.S.Pages.view counted.session counted.locks counted.scans
     (ends_short (subst (λ (session : Session _). LooksOn (session_of c.ask.new.self) (session_view g.S.Pages.view session) (Ok c.in_ok-tid.tid)) (sym claim.session) placed.looks)
-    (insert_ends (parts_of c.ask.new.self) admitted placed.looks placed.place (lists_before (parts_of c.ask.new.self) (parts_of c.place_for.new.self) (λ (tables : Tables). tuple_changed tables c.args.relation.now c.in_ok-tid.tid) c.in_ok-tid.ensures.looks (record { locks = same; scans = ap scans_told c.in_ok-tid.ensures.scans }) c.in-Ok.ensures.lists)
+    (insert_ends (parts_of c.ask.new.self) admitted placed.looks placed.place (lists_before (parts_of c.ask.new.self) (parts_of c.place_for.new.self) (λ (tables : Tables). putting tables c.args.relation.now c.in_ok-tid.tid c.args.tuple.now) c.in_ok-tid.ensures.looks (record { locks = same; scans = ap scans_told c.in_ok-tid.ensures.scans }) c.in-Ok.ensures.lists)
     (claimed_from (told c.ask.new.self.locks) (told c.place_for.new.self.locks) (told c.claim.new.self.locks) same claim.ends) spelled c.values_of-values.ensures.short (omega arith) (omega arith) (omega arith))
     c.from_residual-in_err-change.result c.from_residual-in_err-change.ensures.1 (record { locks = ap (λ (t : LockTable). (told t).locks) c.change.ensures.locks ∙ claim.locks ∙ same; scans = ap scans_told (c.change.ensures.scans ∙ claim.scans ∙ placed.scans) })
     counted.was_up (omega (arith, counted.counted, placed.calls, claim.calls, c.change.ensures.calls)) c.in_err-change.ensures.did)
@@ -147,7 +152,7 @@ returns-clause-did g c =
     let admitted = is_admitted c.in_ok-number.ensures.known c.relation.ensures.is c.in_ok-number.ensures.tests (c.in_ok-test_limit.ensures c.relation.result.now c.relation.ensures.is) in
     let same = ap (λ (t : LockTable). (told t).locks) c.in_ok-tid.ensures.locks in
     let spelled = subst (λ (fields : List FieldDef). Spells (kinds fields) c.values_of-values.result c.args.tuple.now) c.as_slice-fields.ensures c.values_of-values.ensures.spelled in
-    let lists = lists_before (parts_of c.ask.new.self) (parts_of c.place_for.new.self) (λ (tables : Tables). tuple_changed tables c.args.relation.now c.in_ok-tid.tid) c.in_ok-tid.ensures.looks (record { locks = same; scans = ap scans_told c.in_ok-tid.ensures.scans }) c.in-Ok.ensures.lists in
+    let lists = lists_before (parts_of c.ask.new.self) (parts_of c.place_for.new.self) (λ (tables : Tables). putting tables c.args.relation.now c.in_ok-tid.tid c.args.tuple.now) c.in_ok-tid.ensures.looks (record { locks = same; scans = ap scans_told c.in_ok-tid.ensures.scans }) c.in-Ok.ensures.lists in
     let claimed = claimed_from (told c.ask.new.self.locks) (told c.place_for.new.self.locks) (told c.claim.new.self.locks) same claim.ends in
     asked g.S.Pages.view counted.session counted.locks counted.scans
     (ends_made (subst (λ (session : Session _). LooksOn (session_of c.ask.new.self) (session_view g.S.Pages.view session) (Ok c.in_ok-tid.tid)) (sym claim.session) placed.looks)
