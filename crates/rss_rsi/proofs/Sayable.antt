@@ -71,11 +71,11 @@ width_of_key (TextField n ∷ fields) = omega (arith, width_of_key fields, sum_b
 
 few_chosen : (numbers : List ℕ) (fields : List FieldKind) → length (chosen numbers fields) ≤ length numbers
 few_chosen [] fields = omega arith
-few_chosen (number ∷ numbers) fields = by (slice_get fields (number - 1))
+few_chosen (number ∷ numbers) fields = by (slice_get fields (number - 1)) (chosen numbers fields) (few_chosen numbers fields)
   where
-    by : (o : Option FieldKind) → length (cons_option o (chosen numbers fields)) ≤ suc (length numbers)
-    by None = omega (arith, few_chosen numbers fields)
-    by (Some field) = omega (arith, few_chosen numbers fields)
+    by : (o : Option FieldKind) (rest : List FieldKind) → length rest ≤ length numbers → length (cons_option o rest) ≤ suc (length numbers)
+    by None rest few = omega (arith, few)
+    by (Some field) rest few = omega (arith, few)
 
 pub key_sayable : (image : ImageEntry) (values : List Value) → HasKey image values → length image.name.bytes ≡ 16 → IsSayable (Key image.name (chosen (field_numbers image) values))
 key_sayable image values has long =

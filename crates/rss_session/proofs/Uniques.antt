@@ -28,6 +28,7 @@ use Rattle.rss_model.specs.Tables.{ImageDef, RelationDef, Definitions, Tables}
 use Rattle.rss_model.proofs.Codes.{name_total, name_apart}
 use Rattle.rss_model.proofs.ImageLists.{T_parts}
 use Rattle.rss_model.proofs.Listed.{at_place, listed}
+use Rattle.rss_model.proofs.LogLists.{by_test}
 use Rattle.rss_model.proofs.Mixing.{In, in_filter, in_left, in_parts, in_right}
 use Rattle.rss_model.proofs.Relisted.{number_of}
 use Rattle.rss_model.proofs.SeenAlike.{all_below, got_in, not_below}
@@ -41,7 +42,7 @@ use Rattle.rss_session.specs.Uniques.{IsBehind, IsUniqueBehind, AreInOrder, IsBe
 abbrev Images : Type 0
 Images = List (Name × ImageDef)
 
-Rise : Images → Type 0
+abbrev Rise : Images → Type 0
 Rise [] = ⊤
 Rise (image ∷ images) = ((other : Name × ImageDef) → In other images → name_cmp image.0 other.0 ≡ Less) × Rise images
 
@@ -53,11 +54,9 @@ rise_sorted (image ∷ images) sorted =
 
 rise_filter : (p : Name × ImageDef → Bool) (images : Images) → Rise images → Rise (filter p images)
 rise_filter p [] rise = tt
-rise_filter p (image ∷ images) rise = by (p image)
-  where
-    by : (passes : Bool) → Rise (if passes then image ∷ filter p images else filter p images)
-    by true = ((λ other is. rise.0 other (in_filter p images other is).0), rise_filter p images rise.1)
-    by false = rise_filter p images rise.1
+rise_filter p (image ∷ images) rise =
+    let rest = rise_filter p images rise.1 in
+    by_test (p image) (λ t. rw t ((λ other is. rise.0 other (in_filter p images other is).0), rest)) (λ t. rw t rest)
 
 rise_unique : (definitions : Definitions) (relation : Name) → Rise (unique_images definitions relation)
 rise_unique definitions relation = rise_filter _ (map.entries definitions.images) (rise_sorted (map.entries definitions.images) (entries_sorted definitions.images))
@@ -70,8 +69,8 @@ rise_left (image ∷ passed) left rise = rise_left passed left rise.1
 
 -- the last of some
 last_of : (image : Name × ImageDef) (images : Images) → (last : Name × ImageDef) × In last (image ∷ images) × (last_name (image ∷ images) ≡ Some last.0)
-last_of image [] = (image, (inl refl, refl))
-last_of image (next ∷ images) = let last = last_of next images in (last.0, (inr last.1, last.2))
+last_of image [] = (image, inl refl, refl)
+last_of image (next ∷ images) = let last = last_of next images in (last.0, inr last.1, last.2)
 
 left_behind : (passed left : Images) → Rise (passed ++ left) → (image : Name × ImageDef) → In image left → IsBehind (last_name passed) image.0
 left_behind [] left rise image is = tt
@@ -96,11 +95,11 @@ image_named : (listing : Listing) (name : Name) (number : ℕ) → IsNumberOf Im
 image_named listing name zero is = absurd (none-some name is)
 image_named listing name (suc k) is =
     let some = entry listing.images k (sym (at_place (list_map (option_map (λ (i : ImageEntry). i.name)) listing.images) k) ∙ is) in
-    (some.0, (at_place listing.images k ∙ some.1, some.2))
+    (some.0, at_place listing.images k ∙ some.1, some.2)
   where
     named : (found : Option ImageEntry) → option_map (λ (i : ImageEntry). i.name) found ≡ Some name → (i : ImageEntry) × (found ≡ Some i) × (i.name ≡ name)
     named None is = absurd (cc)
-    named (Some i) is = (i, (refl, same_Some _ _ is))
+    named (Some i) is = (i, refl, same_Some _ _ is)
 
     entry : (images : List (Option ImageEntry)) (k : ℕ) → get_or (list_map (option_map (λ (i : ImageEntry). i.name)) images) k None ≡ Some name → (i : ImageEntry) × (get_or images k None ≡ Some i) × (i.name ≡ name)
     entry [] k is = absurd (cc)
@@ -197,32 +196,32 @@ module _ {listing : Listing} (definitions : Definitions) (relation : ℕ) (entry
       leads = by left (rise_left passed left rise) among none_before
         where
           by : (images : Images) → Rise images → In here images → ((one : Name × ImageDef) → In one images → name_cmp one.0 here.0 ≡ Less → ⊥) → AreLed listing (Some number) images
-          by [] rise among never = absurd among
-          by (one ∷ images) rise (inl same) never = record {
+          by [] rises there never = absurd there
+          by (one ∷ images) rises (inl same) never = record {
             image = is.image;
             relation = entry;
             others = images;
             at = record { at = is.at; within = ap (relation_at listing) is.of ∙ at };
             first = ap (λ (o : Name × ImageDef). o ∷ images) same;
           }
-          by (one ∷ images) rise (inr among) never = absurd (never one (inl refl) (rise.0 here among))
+          by (one ∷ images) rises (inr there) never = absurd (never one (inl refl) (rises.0 here there))
 
 -- ---- the least of the numbers, one after another
 
-module _ {listing : Listing} {relation : ℕ} {after : Option Name} where
+module _ (listing : Listing) (relation : ℕ) (after : Option Name) where
   pub none_below : FindsLeast listing relation after 1 None
-  none_below k low is = none-some is.image (sym (ap (image_at listing) (zero_is k low)) ∙ is.at)
+  none_below k low is = none-some is.image (ap (image_at listing) (zero_is k low) ∙ is.at)
     where
       zero_is : (k : ℕ) → k < 1 → zero ≡ k
       zero_is k low = omega (arith, low)
 
   -- there is one number more, which isn't that of a unique image behind
-  pub least_passes : {number : ℕ} (least : Option ℕ) → FindsLeast listing relation after number least → (IsUniqueBehind listing relation after number → ⊥) → FindsLeast listing relation after (number + 1) least
-  least_passes {number = number} None none not k low is = elim (cases_eq k number) [
+  pub least_passes : (number : ℕ) (least : Option ℕ) → FindsLeast listing relation after number least → (IsUniqueBehind listing relation after number → ⊥) → FindsLeast listing relation after (number + 1) least
+  least_passes number None none not = λ k low is. elim (cases_eq k number) [
     | inl same ↦ absurd (not (subst (IsUniqueBehind listing relation after) same is))
     | inr other ↦ none k (omega (arith, low, other)) is
   ]
-  least_passes {number = number} (Some m) least not = record {
+  least_passes number (Some m) least not = record {
     is = least.is;
     least = λ k low is order. elim (cases_eq k number) [
       | inl same ↦ absurd (not (subst (IsUniqueBehind listing relation after) same is))
@@ -231,9 +230,9 @@ module _ {listing : Listing} {relation : ℕ} {after : Option Name} where
   }
 
   -- or which isn't before the least
-  pub least_stays : {number : ℕ} (least : Option ℕ) → FindsLeast listing relation after number least → (IsBefore listing number least → ⊥) → FindsLeast listing relation after (number + 1) least
-  least_stays None none not = absurd (not tt)
-  least_stays {number = number} (Some m) least not = record {
+  pub least_stays : (number : ℕ) (least : Option ℕ) → FindsLeast listing relation after number least → (IsBefore listing number least → ⊥) → FindsLeast listing relation after (number + 1) least
+  least_stays number None none not = absurd (not tt)
+  least_stays number (Some m) least not = record {
     is = least.is;
     least = λ k low is order. elim (cases_eq k number) [
       | inl same ↦ absurd (not (subst (λ (n : ℕ). AreInOrder listing n m) same order))
@@ -241,13 +240,13 @@ module _ {listing : Listing} {relation : ℕ} {after : Option Name} where
     ];
   }
 
-  order_then : {one number other : ℕ} {image : ImageEntry} → image_at listing number ≡ Some image → AreInOrder listing one number → AreInOrder listing number other → AreInOrder listing one other
-  order_then {image = image} at before behind first second at_first at_second =
+  order_then : (one number other : ℕ) {image : ImageEntry} → image_at listing number ≡ Some image → AreInOrder listing one number → AreInOrder listing number other → AreInOrder listing one other
+  order_then one number other {image = image} at before behind first second at_first at_second =
       name_total.trans first.name image.name second.name (before first image at_first at) (behind image second at at_second)
 
   -- or which is the least now
-  pub least_new : {number : ℕ} (least : Option ℕ) → FindsLeast listing relation after number least → IsUniqueBehind listing relation after number → IsBefore listing number least → FindsLeast listing relation after (number + 1) (Some number)
-  least_new {number = number} least found is before = record {
+  pub least_new : (number : ℕ) (least : Option ℕ) → FindsLeast listing relation after number least → IsUniqueBehind listing relation after number → IsBefore listing number least → FindsLeast listing relation after (number + 1) (Some number)
+  least_new number least found is before = record {
     is = is;
     least = λ k low other order. elim (cases_eq k number) [
       | inl same ↦ absurd (not_below name_total name_apart is.image.name (order is.image is.image (ap (image_at listing) same ∙ is.at) is.at))
@@ -257,7 +256,7 @@ module _ {listing : Listing} {relation : ℕ} {after : Option Name} where
     where
       by : (least : Option ℕ) → FindsLeast listing relation after number least → IsBefore listing number least → (k : ℕ) → k < number → IsUniqueBehind listing relation after k → AreInOrder listing k number → ⊥
       by None none before k low other order = none k low other
-      by (Some m) found before k low other order = found.least k low other (order_then is.at order before)
+      by (Some m) found before k low other order = found.least k low other (order_then k number m is.at order before)
 
 -- where all numbers were looked at
 pub next_unique : {listing : Listing} {relation : ℕ} {after : Option Name} {below : ℕ} (found : Option ℕ) → ((k : ℕ) → IsUniqueBehind listing relation after k → k < below) → FindsLeast listing relation after below found → IsNextUnique listing relation after found
