@@ -3,15 +3,14 @@ use Rattle.std.proofs.Common.{◌≡◌, ℕ, ◌+◌, ◌-◌, ◌<◌, ◌≤�
 use Rattle.std.specs.Prelude.{Option, Some, None, IfSome, All, Result, Ok, Err, map, flat_map, option_map, option_to_list, slice_get, if◌then◌else◌, Bool}
 use Rattle.std.specs.List.{cons_option}
 use Rattle.std.proofs.lemmas.Grind.{flat_map-append}
-use Rattle.std.proofs.lemmas.List.{length-map, map-append}
+use Rattle.std.proofs.lemmas.List.{map-append}
 use Rattle.std.proofs.lemmas.Option.{same_Some}
 use Rattle.rss_base.specs.DiskRule.{IsTold}
-use Rattle.rss_base.specs.Listings.{Listing, IsFieldNumber, IsNumberOf, field_numbers, image_at, relation_at}
+use Rattle.rss_base.specs.Listings.{Listing, IsNumberOf, field_numbers, image_at, relation_at}
 use Rattle.rss_base.specs.TupleTypes.{chosen, kinds, Spells}
 use Rattle.rss_base.specs.declared.answer.CallError.TheVariants.{Refused}
 use Rattle.rss_base.specs.declared.call.Call.{Call}
 use Rattle.rss_base.specs.declared.fault.PageFault.{PageFault}
-use Rattle.rss_base.specs.declared.field.FieldDef.{FieldDef}
 use Rattle.rss_base.specs.declared.image.ImageEntry.{ImageEntry}
 use Rattle.rss_base.specs.declared.item.Item.TheVariants.{Tuple as TupleItem, Key as KeyItem}
 use Rattle.rss_base.specs.declared.name.Name.{Name}
@@ -120,10 +119,10 @@ keys_all many passed told state is_in relation at =
 -- a tuple of the relation has a key in each of its images
 pub has_key : {listing : Listing} {number : ℕ} {image : ImageEntry} {values : List Value} → MayBeOf listing number values → IsSafeImage listing image → image.relation ≡ number → HasKey image values
 has_key {listing = listing} may safe of = record {
-  fields = kinds safe.relation.fields;
+  fields = safe.relation.fields;
   fit = may.fit safe.relation (ap (relation_at listing) (sym of) ∙ safe.listed);
   storable = may.storable;
-  within = subst (λ (n : ℕ). All (IsFieldNumber n) (field_numbers _)) (sym (length-map safe.relation.fields (λ (f : FieldDef). f.kind))) safe.within;
+  within = safe.within;
   narrow = narrow_key safe;
   few = safe.few;
 }

@@ -6,7 +6,7 @@ use Rattle.std.proofs.lemmas.Fmt.{length-decimal-le}
 use Rattle.std.proofs.lemmas.List.Elements.{All-append, All-nil, All-push}
 use Rattle.std.proofs.lemmas.List.Sums.{sum_by-append, sum_by-cons}
 use Rattle.rss_base.specs.Listings.{field_numbers}
-use Rattle.rss_base.specs.TupleTypes.{chosen, misfit, width, field_width, key_bytes, key_part_width, key_width, tuple_bytes, IsStorable}
+use Rattle.rss_base.specs.TupleTypes.{chosen, kinds, misfit, width, field_width, key_bytes, key_part_width, key_width, tuple_bytes, IsStorable}
 use Rattle.rss_base.specs.declared.image.ImageEntry.{ImageEntry}
 use Rattle.rss_base.specs.declared.item.Item.{Item}
 use Rattle.rss_base.specs.declared.item.Item.TheVariants.{Segment, Relation, Tuple, Key}
@@ -81,9 +81,9 @@ pub key_sayable : (image : ImageEntry) (values : List Value) → HasKey image va
 key_sayable image values has long =
     let numbers : List ℕ = field_numbers image in
     let key : List Value = chosen numbers values in
-    let made = key_made has.fields (tuple_bytes values) numbers (length numbers) (key_bytes (chosen (take (length numbers) numbers) has.fields) (chosen (take (length numbers) numbers) values)) values (omega arith) (record { fit = has.fit; storable = has.storable; same = refl }) refl in
-    let narrow : width (chosen numbers has.fields) ≤ 1024 = omega (arith, width_of_key (chosen numbers has.fields), has.narrow, few_chosen numbers has.fields, length-take image.count image.fields, has.few) in
-    busy_short (Key image.name key) (omega (arith, name_short image.name long, values_short (chosen numbers has.fields) key made.fit made.storable narrow, length-append (name_text image.name) (values_text key)))
+    let made = key_made (kinds has.fields) (tuple_bytes values) numbers (length numbers) (key_bytes (chosen (take (length numbers) numbers) (kinds has.fields)) (chosen (take (length numbers) numbers) values)) values (omega arith) (record { fit = has.fit; storable = has.storable; same = refl }) refl in
+    let narrow : width (chosen numbers (kinds has.fields)) ≤ 1024 = omega (arith, width_of_key (chosen numbers (kinds has.fields)), has.narrow, few_chosen numbers (kinds has.fields), length-take image.count image.fields, has.few) in
+    busy_short (Key image.name key) (omega (arith, name_short image.name long, values_short (chosen numbers (kinds has.fields)) key made.fit made.storable narrow, length-append (name_text image.name) (values_text key)))
 
 -- ---- lists
 

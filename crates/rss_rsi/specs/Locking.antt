@@ -5,6 +5,7 @@ use Rattle.rss_base.specs.Listings.{Listing, IsFieldNumber, field_numbers, relat
 use Rattle.rss_base.specs.TupleTypes.{kinds, chosen, misfit, most_fields, key_width, most_key_width, IsStorable}
 use Rattle.rss_base.specs.declared.answer.CallError.{CallError}
 use Rattle.rss_base.specs.declared.answer.CallError.TheVariants.{Refused, NoMemory}
+use Rattle.rss_base.specs.declared.field.FieldDef.{FieldDef}
 use Rattle.rss_base.specs.declared.image.ImageEntry.{ImageEntry}
 use Rattle.rss_base.specs.declared.item.Item.{Item}
 use Rattle.rss_base.specs.declared.item.Item.TheVariants.{Tuple as TupleItem, Key as KeyItem}
@@ -15,7 +16,6 @@ use Rattle.rss_base.specs.declared.refusal.Refusal.{Refusal}
 use Rattle.rss_base.specs.declared.refusal.Refusal.TheVariants.{Busy}
 use Rattle.rss_base.specs.declared.relation.RelationEntry.{RelationEntry}
 use Rattle.rss_base.specs.declared.tid.Tid.{Tid}
-use Rattle.rss_base.specs.declared.value.FieldKind.{FieldKind}
 use Rattle.rss_base.specs.declared.value.Value.{Value}
 use Rattle.rss_lock.specs.Locks.{LocksView}
 use Rattle.rss_model.specs.Items.{Values}
@@ -74,11 +74,11 @@ pub record MayBeOf (listing : Listing) (number : ℕ) (values : List Value) : Ty
 
 -- they are those of a tuple that has a key in the image
 pub record HasKey (image : ImageEntry) (values : List Value) : Type 0 where
-  pub fields : List FieldKind
-  pub fit : misfit fields values ≡ None
+  pub fields : List FieldDef
+  pub fit : misfit (kinds fields) values ≡ None
   pub storable : All IsStorable values
   pub within : All (IsFieldNumber (length fields)) (field_numbers image)
-  pub narrow : key_width (chosen (field_numbers image) fields) ≤ most_key_width
+  pub narrow : key_width (chosen (field_numbers image) (kinds fields)) ≤ most_key_width
   pub few : image.count ≤ most_fields
 
 -- the lock of its key
