@@ -2,6 +2,7 @@
 ghost use Rattle.std.specs.Prelude.{◌≡◌, ◌+◌, ◌<◌, ◌≤◌, ◌++◌, true, false, Err, map, vec_len, length, option_copied, option_to_list, is_some, All, IfOk, IfSome, OnOk, OnErr};
 ghost use Rattle.rss_base.specs.Listings.{IsFieldNumber, relation_at};
 ghost use Rattle.rss_base.specs.TupleTypes.{chosen, kinds, SpellsSome};
+ghost use Rattle.rss_base.specs.declared.item.Item.TheVariants.{Key};
 ghost use Rattle.rss_base.specs.declared.relation.RelationEntry.{RelationEntry as AnyEntry};
 ghost use Rattle.rss_model.specs.ReplyText.{IsShort};
 ghost use Rattle.rss_model.specs.Steps.{keeps_locks};
@@ -110,13 +111,21 @@ fn key_need(alloc: Global, image: &ImageEntry, tuple: &Tuple) -> Result<Need, Al
     ensures is { IfOk result (λ made. made ≡ key_lock image.now tuple.now) }
     ensures sayable { IfOk result (λ made. IsSayable made.item) }
 {
-    let Name { bytes } = image.name;
     let which = &image.fields[..usize::from(image.count)];
     let key = key_values(alloc, which, tuple)?;
     Ok(Need {
-        item: Item::Key(Name { bytes }, key),
+        item: key_item(&image.name, key),
         mode: Mode::X,
     })
+}
+
+/// A key of an image as what can be locked.
+fn key_item(image: &Name, key: Tuple) -> Item
+    ensures is { result ≡ Key image.now key }
+    ensures long { length image.now.bytes ≡ 16 }
+{
+    let Name { bytes } = *image;
+    Item::Key(Name { bytes }, key)
 }
 
 /// The values of the fields of these numbers.

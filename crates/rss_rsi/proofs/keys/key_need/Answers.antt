@@ -1,9 +1,8 @@
-use Rattle.std.proofs.Common.{ℕ, List, length, take, rules, sym, ◌∙◌, ap, subst}
+use Rattle.std.proofs.Common.{ℕ, length, take, sym, ◌∙◌, ap, subst}
 use Rattle.std.specs.Prelude.{All}
 use Rattle.rss_base.specs.Listings.{IsFieldNumber}
 use Rattle.rss_base.specs.TupleTypes.{chosen}
 use Rattle.rss_base.specs.declared.item.Item.TheVariants.{Key}
-use Rattle.rss_base.specs.declared.value.Value.{Value}
 use Rattle.rss_value.proofs.Fitting.{length-fitting}
 use Rattle.rss_rsi.specs.Locking.{IsSayable}
 use Rattle.rss_rsi.proofs.Sayable.{key_sayable}
@@ -16,6 +15,5 @@ key_values-requires c =
 
 pub returns-clause-sayable : goal.returns-clause-sayable
 returns-clause-sayable c =
-    subst (λ (values : List Value). IsSayable (Key c.args.image.now.name values))
-    (sym (c.in_ok-key.ensures ∙ ap (λ (n : ℕ). chosen (take n c.args.image.now.fields) c.args.tuple.now) c.from.ensures))
-    (key_sayable c.args.image.now c.args.tuple.now c.requires (search rules))
+    subst IsSayable (sym (c.key_item.ensures.is ∙ ap (Key c.args.image.now.name) (c.in_ok-key.ensures ∙ ap (λ (n : ℕ). chosen (take n c.args.image.now.fields) c.args.tuple.now) c.from.ensures)))
+    (key_sayable c.args.image.now c.args.tuple.now c.requires c.key_item.ensures.long)
