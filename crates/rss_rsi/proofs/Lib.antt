@@ -13,7 +13,7 @@ pub mod Held
 pub mod TwoLooks
 pub mod Beside
 pub mod Placed
-pub mod Keys
+pub mod KeyLocks
 pub mod TupleTests
 pub mod Fetches
 pub mod Scans

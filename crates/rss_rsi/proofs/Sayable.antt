@@ -25,7 +25,7 @@ use Rattle.rss_model.specs.ReplyText.{answer_line, item_text, values_text}
 use Rattle.rss_model.specs.Spellings.{space, name_text, tid_text, value_text}
 use Rattle.rss_model.proofs.Lengths.{tuple_line}
 use Rattle.rss_rsi.specs.Locking.{HasKey, IsSayable, AreSayable}
-use Rattle.rss_rsi.proofs.NoTuple.{name_short, tid_short}
+use Rattle.rss_session.proofs.Lines.{name_short, tid_short}
 
 busy_short : (item : Item) → length (item_text item) ≤ 4200 → (holder : ℕ) → holder < 2 ^ 32 → length (answer_line (Err (Busy item holder))) ≤ 8192
 busy_short item short holder low =

@@ -26,7 +26,7 @@ use Rattle.rss_session.specs.Looks.{LooksOn}
 use Rattle.rss_session.specs.Sessions.{SessionView}
 use Rattle.rss_session.specs.Shown.{Shows}
 use Rattle.rss_session.specs.Uniques.{FindsDuplicate, IsNextUnique, defined_image}
-use Rattle.rss_session.proofs.Uniques.{ArePassed, none_passed, one_more, all_passed, many_passed, few_unique, first_behind}
+use Rattle.rss_session.proofs.NextUniques.{ArePassed, none_passed, one_more, all_passed, many_passed, few_unique, first_behind}
 
 first_alone : (test : Option Refusal) → first_of (test ∷ []) ≡ test
 first_alone None = refl

@@ -31,5 +31,5 @@ pub mod Restored
 pub mod Aborted
 pub mod Props
 pub mod Behind
-pub mod Uniques
+pub mod NextUniques
 pub mod Duplicates

@@ -16,6 +16,7 @@ ghost use Rattle.rss_session.specs.Uniques.{IsBehind, IsUniqueBehind, IsBefore, 
 use crate::Session;
 use rss_base::{IMAGES_MOST, Kind, Name, PageFault, Refusal, Tid};
 use rss_buffer::Saving;
+use rss_catalog::Catalog;
 use std::cmp::Ordering;
 
 impl<S: Saving> Session<S> {
@@ -29,61 +30,7 @@ impl<S: Saving> Session<S> {
         ensures next { IsNextUnique (view S.view self.now).store.catalog.listing relation after
             result }
     {
-        let mut least = None;
-        for place in 0..self.store.catalog.last_image() {
-            least = self.lesser_unique(relation, after, place + 1, least);
-        }
-        least
-    }
-
-    /// The least of this number and those below it, where `least` is that of those below it.
-    fn lesser_unique(
-        &self,
-        relation: u8,
-        after: Option<Name>,
-        number: u8,
-        least: Option<u8>,
-    ) -> Option<u8>
-        requires { FindsLeast (view S.view self.now).store.catalog.listing relation after number
-            least }
-        ensures { FindsLeast (view S.view self.now).store.catalog.listing relation after (number + 1)
-            result }
-    {
-        if self.is_unique_behind(number, relation, after) && self.is_before(number, least) {
-            Some(number)
-        } else {
-            least
-        }
-    }
-
-    /// Whether this is the number of a unique image of a relation, whose name stands behind `after`.
-    fn is_unique_behind(&self, number: u8, relation: u8, after: Option<Name>) -> bool
-        ensures { IsTrue result
-            ↔ IsUniqueBehind (view S.view self.now).store.catalog.listing relation after number }
-    {
-        if !self.store.catalog.used(Kind::Image, number) {
-            return false;
-        }
-        let image = self.store.catalog.image(number);
-        image.relation == relation && image.is_unique && is_behind(after, &image.name)
-    }
-
-    /// Whether the name of an image stands before that of another one, if there is another one.
-    fn is_before(&self, number: u8, other: Option<u8>) -> bool
-        requires there { is_some (image_at (view S.view self.now).store.catalog.listing number)
-            ≡ true }
-        requires other { IfSome other (λ k.
-            is_some (image_at (view S.view self.now).store.catalog.listing k) ≡ true) }
-        ensures { IsTrue result
-            ↔ IsBefore (view S.view self.now).store.catalog.listing number other }
-    {
-        match other {
-            Some(other) => is_less(
-                &self.store.catalog.image(number).name,
-                &self.store.catalog.image(other).name,
-            ),
-            None => true,
-        }
+        next_of(&self.store.catalog, relation, after)
     }
 
     /// Why a tuple with the values of these bytes is refused in the relation of this number: of the
@@ -117,6 +64,60 @@ impl<S: Saving> Session<S> {
             after = Some(name);
         }
         Ok(None)
+    }
+}
+
+/// The number of the unique image of a relation whose name stands next behind `after`, if there is
+/// one.
+fn next_of(catalog: &Catalog, relation: u8, after: Option<Name>) -> Option<u8>
+    ensures of { IfSome result (λ number. IsImageOf catalog.now.listing number relation) }
+    ensures next { IsNextUnique catalog.now.listing relation after result }
+{
+    let mut least = None;
+    for place in 0..catalog.last_image() {
+        least = lesser_of(catalog, relation, after, place + 1, least);
+    }
+    least
+}
+
+/// The least of this number and those below it, where `least` is that of those below it.
+fn lesser_of(
+    catalog: &Catalog,
+    relation: u8,
+    after: Option<Name>,
+    number: u8,
+    least: Option<u8>,
+) -> Option<u8>
+    requires { FindsLeast catalog.now.listing relation after number least }
+    ensures { FindsLeast catalog.now.listing relation after (number + 1) result }
+{
+    if is_unique_behind(catalog, number, relation, after) && is_before(catalog, number, least) {
+        Some(number)
+    } else {
+        least
+    }
+}
+
+/// Whether this is the number of a unique image of a relation, whose name stands behind `after`.
+fn is_unique_behind(catalog: &Catalog, number: u8, relation: u8, after: Option<Name>) -> bool
+    ensures { IsTrue result ↔ IsUniqueBehind catalog.now.listing relation after number }
+{
+    if !catalog.used(Kind::Image, number) {
+        return false;
+    }
+    let image = catalog.image(number);
+    image.relation == relation && image.is_unique && is_behind(after, &image.name)
+}
+
+/// Whether the name of an image stands before that of another one, if there is another one.
+fn is_before(catalog: &Catalog, number: u8, other: Option<u8>) -> bool
+    requires there { is_some (image_at catalog.now.listing number) ≡ true }
+    requires other { IfSome other (λ k. is_some (image_at catalog.now.listing k) ≡ true) }
+    ensures { IsTrue result ↔ IsBefore catalog.now.listing number other }
+{
+    match other {
+        Some(other) => is_less(&catalog.image(number).name, &catalog.image(other).name),
+        None => true,
     }
 }
 

@@ -10,7 +10,7 @@ use Rattle.rss_session.proofs.Behind.{looks_as}
 use Rattle.rss_rsi.specs.Locking.{accessing, Lists, IsClaimed}
 use Rattle.rss_rsi.specs.Parts.{parts_of, session_of}
 use Rattle.rss_rsi.proofs.Claims.{claimed_from}
-use Rattle.rss_rsi.proofs.Keys.{access_before, may_be_found, may_be_still}
+use Rattle.rss_rsi.proofs.KeyLocks.{access_before, may_be_found, may_be_still}
 use Rattle.rss_rsi.proofs.Looks.{passed_on, each_looks, still_looked, lacks_looked, claim_lost, lacks_tuple}
 use Rattle.rss_rsi.proofs.engine.Rss.find.Goals as goal
 

@@ -29,7 +29,7 @@ use Rattle.rss_rsi.specs.Parts.{parts_of, session_of}
 use Rattle.rss_rsi.proofs.Changes.{still_made, ends_short, ends_made}
 use Rattle.rss_rsi.proofs.Claims.{claimed_from, claimed_free}
 use Rattle.rss_rsi.proofs.Inserts.{is_admitted, insert_unfit, insert_used_up, may_insert, insert_places, insert_no_needs, insert_lost, insert_owned, gets_place, insert_ends}
-use Rattle.rss_rsi.proofs.Keys.{duplicate_said, refused_keeping}
+use Rattle.rss_rsi.proofs.KeyLocks.{duplicate_said, refused_keeping}
 use Rattle.rss_rsi.proofs.Looks.{ends_so, asked_looked, costly_fails, lists_before, passed_call}
 use Rattle.rss_rsi.proofs.Placed.{fails_then}
 use Rattle.rss_rsi.proofs.TupleTests.{values_keep, used_up_keeps}

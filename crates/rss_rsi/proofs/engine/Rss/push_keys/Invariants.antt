@@ -3,7 +3,7 @@ use Rattle.std.proofs.Common.{◌+◌, ◌*◌, ◌≤◌, vec_len}
 use Rattle.std.specs.Prelude.{option_copied}
 use Rattle.rss_rsi.specs.Locking.{given, AreSayable}
 use Rattle.rss_rsi.specs.Parts.{parts_of}
-use Rattle.rss_rsi.proofs.Keys.{AllPassed}
+use Rattle.rss_rsi.proofs.KeyLocks.{AllPassed}
 use Rattle.rss_rsi.proofs.engine.Rss.push_keys.Given as goal
 
 abbrev pub invariant-loop-_place : goal.invariant-loop-_place

@@ -25,7 +25,7 @@ use Rattle.rss_trans.specs.Transactions.{OpenView, is_open}
 use Rattle.rss_rsi.specs.Parts.{parts_of, session_of}
 use Rattle.rss_rsi.proofs.Changes.{still_made, ends_short, ends_made}
 use Rattle.rss_rsi.proofs.Claims.{claimed_free}
-use Rattle.rss_rsi.proofs.Keys.{duplicate_said, refused_keeping}
+use Rattle.rss_rsi.proofs.KeyLocks.{duplicate_said, refused_keeping}
 use Rattle.rss_rsi.proofs.Looks.{ends_so, asked_looked, costly_fails}
 use Rattle.rss_rsi.proofs.Placed.{fails_then}
 use Rattle.rss_rsi.proofs.TupleTests.{update_unfit, values_keep}

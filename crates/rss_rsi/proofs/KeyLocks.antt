@@ -40,7 +40,7 @@ use Rattle.rss_access.proofs.Numbered.{entry_at, name_of}
 use Rattle.rss_session.specs.Looks.{LooksOn}
 use Rattle.rss_session.specs.Sessions.{SessionView}
 use Rattle.rss_session.specs.Uniques.{IsNextUnique, FindsDuplicate, defined_image}
-use Rattle.rss_session.proofs.Uniques.{ArePassed, none_passed, one_more, all_passed, many_passed, few_unique, key_listed, narrow_key}
+use Rattle.rss_session.proofs.NextUniques.{ArePassed, none_passed, one_more, all_passed, many_passed, few_unique, key_listed, narrow_key}
 use Rattle.rss_rsi.specs.Locking.{accessing, given, key_lock, putting, HasKey, MayBeOf, Lists, ListsAccess, ListsKeys}
 use Rattle.rss_rsi.specs.Looking.{FindsAny, FindsNone}
 use Rattle.rss_rsi.specs.Placing.{MayCost}

@@ -1,13 +1,13 @@
 -- The least listed image behind those that were passed is the next of the machine's list.
 use Rattle.std.proofs.Common.{◌≡◌, ◌⊎◌, inl, inr, ⊎_elim, ℕ, zero, suc, ◌+◌, ◌<◌, ◌≤◌, Bool, true, List, [], ◌∷◌, ◌++◌, length, get_or, refl, sym, ◌∙◌, ap, subst, arith, append_assoc, append-nil, length-append}
-use Rattle.std.specs.Prelude.{Option, Some, None, false, All, is_some, option_map, unwrap_or, filter, ◌&&◌, if◌then◌else◌, map as list_map, ⊤}
+use Rattle.std.specs.Prelude.{Option, Some, None, IfSome, All, is_some, option_map, unwrap_or, filter, ◌&&◌, if◌then◌else◌, map as list_map, ⊤}
 use Rattle.std.specs.Ordering.{eq_by_cmp}
 use Rattle.std.specs.Cmp.{Equal-is}
 use Rattle.std.specs.FinMap as map
 use Rattle.std.specs.FinMap.{entries_sorted, is_sorted, len-entries}
 use Rattle.std.specs.declared.cmp.Ordering.TheVariants.{Less}
 use Rattle.std.proofs.Math.Dec.{T}
-use Rattle.std.proofs.lemmas.Bool.{and_parts, cases_eq}
+use Rattle.std.proofs.lemmas.Bool.{and_parts, cases_eq, cases_lt}
 use Rattle.std.proofs.lemmas.List.Sums.{length-filter, count_by-le-length}
 use Rattle.std.proofs.lemmas.Option.{none-some, same_Some}
 use Rattle.rss_base.specs.Listings.{Listing, ListingFits, IsFieldNumber, IsNumberOf, field_numbers, image_at, relation_at}
@@ -34,6 +34,7 @@ use Rattle.rss_model.proofs.Relisted.{number_of}
 use Rattle.rss_model.proofs.SeenAlike.{all_below, got_in, not_below}
 use Rattle.rss_model.proofs.Testing.{unique_in}
 use Rattle.rss_catalog.specs.Catalogs.{IsSafeImage}
+use Rattle.rss_access.specs.Moved.{IsImageOf}
 use Rattle.rss_entries.proofs.Fields.{numbers_back, chosen_kinds}
 use Rattle.rss_session.specs.Uniques.{IsBehind, IsUniqueBehind, AreInOrder, IsBefore, FindsLeast, last_name, defined_image, AreLed, IsNextUnique}
 
@@ -257,6 +258,18 @@ module _ (listing : Listing) (relation : ℕ) (after : Option Name) where
       by : (least : Option ℕ) → FindsLeast listing relation after number least → IsBefore listing number least → (k : ℕ) → k < number → IsUniqueBehind listing relation after k → AreInOrder listing k number → ⊥
       by None none before k low other order = none k low other
       by (Some m) found before k low other order = found.least k low other (order_then k number m is.at order before)
+
+-- it is an image of the relation
+pub least_of : (listing : Listing) (relation : ℕ) (after : Option Name) (below : ℕ) (least : Option ℕ) → FindsLeast listing relation after below least → IfSome least (λ number. IsImageOf listing number relation)
+least_of listing relation after below None none = tt
+least_of listing relation after below (Some number) least = record { image = least.is.image; at = least.is.at; of = least.is.of }
+
+-- behind the last image there is none
+pub below_last : (listing : Listing) (relation : ℕ) (after : Option Name) (last : ℕ) → ((number : ℕ) → last < number → image_at listing number ≡ None) → (k : ℕ) → IsUniqueBehind listing relation after k → k < last + 1
+below_last listing relation after last none k is = elim (cases_lt k (last + 1)) [
+  | inl low ↦ low
+  | inr past ↦ absurd (none-some is.image (sym (none k (omega (arith, past))) ∙ is.at))
+]
 
 -- where all numbers were looked at
 pub next_unique : {listing : Listing} {relation : ℕ} {after : Option Name} {below : ℕ} (found : Option ℕ) → ((k : ℕ) → IsUniqueBehind listing relation after k → k < below) → FindsLeast listing relation after below found → IsNextUnique listing relation after found
