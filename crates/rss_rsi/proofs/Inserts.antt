@@ -57,8 +57,8 @@ use Rattle.rss_rsi.proofs.TupleTests.{three_stop, three_pass, last_test}
 use Rattle.rss_rsi.proofs.Ways.{goes, lacks_behind}
 
 -- what stands before the last of two lists
-front_same : {A : Type 0} (one other : List A) {a b : A} → one ++ a ∷ [] ≡ other ++ b ∷ [] → one ≡ other
-front_same one other {a = a} {b = b} same = (split_alike one other (a ∷ []) (b ∷ []) (omega (arith, ap length same, length-append one (a ∷ []), length-append other (b ∷ []))) same).0
+front_same : {A : Type 0} (one other : List A) (a b : A) → one ++ a ∷ [] ≡ other ++ b ∷ [] → one ≡ other
+front_same one other a b same = (split_alike one other (a ∷ []) (b ∷ []) (omega (arith, ap length same, length-append one (a ∷ []), length-append other (b ∷ []))) same).0
 
 -- ---- the tests
 
@@ -187,7 +187,7 @@ module _ (parts : RssParts) {t : ℕ} {relation : Name} {values : List Value} {n
       pub insert_owned : {kept : List Need} {last : Need} → list ≡ kept ++ last ∷ [] → {why : Refusal} → (IsTold parts.session.store.pages.disk → (state : State) → IsIn parts state → if_duplicate state relation None values ≡ Some why)
           → IsTold parts.session.store.pages.disk → (state : State) → IsIn parts state → (needs (now state) (Insert t relation values) ≡ kept) × (refusal state (Insert t relation values) ≡ Some why)
       insert_owned {kept = kept} {last = last} is owned told state is_in = (
-        front_same (needs (now state) (Insert t relation values)) kept (lists told state is_in ∙ is),
+        front_same (needs (now state) (Insert t relation values)) kept (need (TupleItem relation tid) X) last (lists told state is_in ∙ is),
         insert_duplicate state t relation values (admitted.fits told state is_in.shows) (few_so state (admitted.few told state is_in.shows)) tid (its_free state told is_in) (bars_too state told is_in ∙ claims.free) (owned told state is_in),
       )
 

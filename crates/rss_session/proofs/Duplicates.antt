@@ -84,7 +84,7 @@ module _ {view mid : SessionView} {T : Type 0} {looked : T} (looks : LooksOn vie
         let within : relation_at mid.store.catalog.listing image.relation ≡ Some relation = ap (λ (c : CatalogView). relation_at c.listing image.relation) looks.catalog ∙ ap (relation_at view.store.catalog.listing) its ∙ at in
         let more = one_more had.are led here_too its at in
         let f = if_owned state own values in
-        let is = owns (looks.goes.told.0 told) state kept (looks.shows told state shows) image relation (record { at = here; within = within }) values spelled in
+        let is = owns (looks.goes.told.0 told) state kept (looks.shows told state shows) image relation (record { at = here; within = within }) (ap (λ (i : ImageEntry). i.is_unique) (same_Some _ _ (sym here_too ∙ led.at.at)) ∙ led.unique) values spelled in
         record {
           are = more.are;
           first = ap (λ (l : List (Name × ImageDef)). first_of (map f l)) more.more

@@ -203,6 +203,7 @@ module _ {listing : Listing} (definitions : Definitions) (relation : ℕ) (entry
             relation = entry;
             others = images;
             at = record { at = is.at; within = ap (relation_at listing) is.of ∙ at };
+            unique = is.unique;
             first = ap (λ (o : Name × ImageDef). o ∷ images) same;
           }
           by (one ∷ images) rises (inr there) never = absurd (never one (inl refl) (rises.0 here there))

@@ -1,5 +1,5 @@
 -- What a look at an image finds.
-use Rattle.std.specs.Prelude.{◌≡◌, ℕ, List, Option}
+use Rattle.std.specs.Prelude.{◌≡◌, ℕ, true, List, Option}
 use Rattle.rss_base.specs.DiskRule.{IsTold}
 use Rattle.rss_base.specs.TupleTypes.{kinds, Spells}
 use Rattle.rss_base.specs.declared.image.ImageEntry.{ImageEntry}
@@ -13,12 +13,12 @@ use Rattle.rss_model.specs.Store.{IsListedImage, image_definition}
 use Rattle.rss_session.specs.Sessions.{SessionView}
 use Rattle.rss_session.specs.Shown.{Shows}
 
--- the tuple that has the key of these values in each state, other than `own`
+-- where the image is unique, the tuple that has the key of these values in each state, other than `own`
 abbrev pub FindsOwner : SessionView → ℕ → List ℕ → Option Tid → Option Tid → Type 0
 FindsOwner view number bytes own found =
     IsTold view.store.pages.disk → (state : State) → Kept state → Shows view state
     → (image : ImageEntry) (relation : RelationEntry)
-    → IsListedImage view.store.catalog.listing number image relation
+    → IsListedImage view.store.catalog.listing number image relation → image.is_unique ≡ true
     → (values : List Value) → Spells (kinds relation.fields) bytes values
     → found ≡ owner_of_key (now state) (image_definition image relation) own
     (key_in (now state).definitions (image_definition image relation) values)

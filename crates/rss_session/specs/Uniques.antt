@@ -74,6 +74,7 @@ pub record IsFirst (listing : Listing) (number : ℕ) (images : List (Name × Im
   pub relation : RelationEntry
   pub others : List (Name × ImageDef)
   pub at : IsListedImage listing number image relation
+  pub unique : image.is_unique ≡ true
   pub first : images ≡ defined_image image relation ∷ others
 
 abbrev pub AreLed : Listing → Option ℕ → List (Name × ImageDef) → Type 0

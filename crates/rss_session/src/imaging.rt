@@ -17,8 +17,8 @@ use rss_buffer::Saving;
 impl<S: Saving> Session<S> {
     ghost use Rattle.rss_session.specs.Parts.{view};
 
-    /// The tuple that has, in the image of this number, the key of a tuple with the values of these
-    /// bytes, if there is one, other than `own`, the tuple that the key is for.
+    /// The tuple that has, in the unique image of this number, the key of a tuple with the values of
+    /// these bytes, if there is one, other than `own`, the tuple that the key is for.
     pub fn find_owner(
         &mut self,
         number: u8,
