@@ -66,40 +66,41 @@ pub record KeysPassed (tables : Tables) (relation : Name) (all : List (List Valu
   pub are : ArePassed (unique_images tables.definitions relation) count after
   pub keys : before ++ flat_map (keys_of_each tables all) are.passed ≡ list
 
-abbrev pub AllPassed : RssParts → ℕ → List (List Value) → List Need → List Need → ℕ → Option Name → Type 0
-AllPassed parts number all before list count after =
-    IsTold parts.session.store.pages.disk → (state : State) → IsIn parts state → (relation : RelationEntry) → relation_at parts.session.store.catalog.listing number ≡ Some relation
-    → KeysPassed (now state) relation.name all before list count after
+pub record AllPassed (parts : RssParts) (number : ℕ) (all : List (List Value)) (before list : List Need) (count : ℕ) (after : Option Name) : Type 0 where
+  pub each : IsTold parts.session.store.pages.disk → (state : State) → IsIn parts state → (relation : RelationEntry) → relation_at parts.session.store.catalog.listing number ≡ Some relation
+      → KeysPassed (now state) relation.name all before list count after
 
 pub keys_begun : (parts : RssParts) (number : ℕ) (all : List (List Value)) (before : List Need) → AllPassed parts number all before before 0 None
-keys_begun parts number all before told state is_in relation at = record { are = none_passed _; keys = append-nil before }
+keys_begun parts number all before = record { each = λ told state is_in relation at. record { are = none_passed (unique_images (now state).definitions relation.name); keys = append-nil before } }
 
 flat_behind : {A B : Type 0} (f : A → List B) (xs : List A) (x : A) → flat_map f (xs ++ x ∷ []) ≡ flat_map f xs ++ f x
 flat_behind f xs x = flat_map-append f xs (x ∷ []) ∙ ap (λ (l : List _). flat_map f xs ++ l) (append-nil (f x))
 
 -- one more image was passed
-pub keys_more : {parts : RssParts} {number count : ℕ} {was to : Option (List Value)} {before list middle longer : List Need} {after : Option Name} {found : ℕ} {image : ImageEntry} → AllPassed parts number (given was to) before list count after → IsNextUnique parts.session.store.catalog.listing number after (Some found)
+pub keys_more : {parts : RssParts} {number count : ℕ} (was to : Option (List Value)) {before list middle longer : List Need} {after : Option Name} (found : ℕ) {image : ImageEntry} → AllPassed parts number (given was to) before list count after → IsNextUnique parts.session.store.catalog.listing number after (Some found)
     → image_at parts.session.store.catalog.listing found ≡ Some image → IsImageOf parts.session.store.catalog.listing found number
     → middle ≡ list ++ map (key_lock image) (option_to_list was) → longer ≡ middle ++ map (key_lock image) (option_to_list to) → AllPassed parts number (given was to) before longer (count + 1) (Some image.name)
-keys_more {parts = parts} {number = number} {was = was} {to = to} {before = before} {list = list} {found = found} {image = image} passed next here of first second told state is_in relation at =
-    let all = given was to in
-    let had = passed told state is_in relation at in
-    let spells = is_in.shows.store.spells in
-    let its : image.relation ≡ number = ap (λ (i : ImageEntry). i.relation) (same_Some _ _ (sym here ∙ of.at)) ∙ of.of in
-    let led = next (now state).definitions relation spells.listed spells.defines at had.are.passed had.are.left had.are.split had.are.ends in
-    let more = one_more had.are led here its at in
-    let listed : IsListedImage parts.session.store.catalog.listing found image relation = record { at = here; within = ap (relation_at parts.session.store.catalog.listing) its ∙ at } in
-    let f = keys_of_each (now state) all in
-    record {
-      are = more.are;
-      keys = ap (λ (l : List (Name × ImageDef)). before ++ flat_map f l) more.more
-          ∙ ap (λ (l : List Need). before ++ l) (flat_behind f had.are.passed (defined_image image relation))
-          ∙ sym (append_assoc before (flat_map f had.are.passed) (f (defined_image image relation)))
-          ∙ (λ i. had.keys i ++ image_keys is_in listed all i)
-          ∙ ap (λ (l : List Need). list ++ l) (map-append (key_lock image) (option_to_list was) (option_to_list to))
-          ∙ sym (append_assoc list (map (key_lock image) (option_to_list was)) (map (key_lock image) (option_to_list to)))
-          ∙ sym (second ∙ ap (λ (l : List Need). l ++ map (key_lock image) (option_to_list to)) first);
-    }
+keys_more {parts = parts} {number = number} was to {before = before} {list = list} found {image = image} passed next here of first second = record {
+  each = λ told state is_in relation at.
+      let all = given was to in
+      let had = passed.each told state is_in relation at in
+      let spells = is_in.shows.store.spells in
+      let its : image.relation ≡ number = ap (λ (i : ImageEntry). i.relation) (same_Some _ _ (sym here ∙ of.at)) ∙ of.of in
+      let led = next (now state).definitions relation spells.listed spells.defines at had.are.passed had.are.left had.are.split had.are.ends in
+      let more = one_more had.are led here its at in
+      let listed : IsListedImage parts.session.store.catalog.listing found image relation = record { at = here; within = ap (relation_at parts.session.store.catalog.listing) its ∙ at } in
+      let f = keys_of_each (now state) all in
+      record {
+        are = more.are;
+        keys = ap (λ (l : List (Name × ImageDef)). before ++ flat_map f l) more.more
+            ∙ ap (λ (l : List Need). before ++ l) (flat_behind f had.are.passed (defined_image image relation))
+            ∙ sym (append_assoc before (flat_map f had.are.passed) (f (defined_image image relation)))
+            ∙ (λ i. had.keys i ++ image_keys is_in listed all i)
+            ∙ ap (λ (l : List Need). list ++ l) (map-append (key_lock image) (option_to_list was) (option_to_list to))
+            ∙ sym (append_assoc list (map (key_lock image) (option_to_list was)) (map (key_lock image) (option_to_list to)))
+            ∙ sym (second ∙ ap (λ (l : List Need). l ++ map (key_lock image) (option_to_list to)) first);
+      };
+}
 
 -- none is left
 keys_done : {tables : Tables} {relation : Name} {all : List (List Value)} {before list : List Need} {count : ℕ} {after : Option Name} (passed : KeysPassed tables relation all before list count after) → passed.are.left ≡ [] → before ++ key_needs tables relation all ≡ list
@@ -107,13 +108,13 @@ keys_done {tables = tables} {all = all} {before = before} passed none = ap (λ (
 
 pub keys_ended : {parts : RssParts} {number count : ℕ} {all : List (List Value)} {before list : List Need} {after : Option Name} → AllPassed parts number all before list count after → IsNextUnique parts.session.store.catalog.listing number after None → ListsKeys parts number all before list
 keys_ended passed next told state is_in relation at =
-    let had = passed told state is_in relation at in
+    let had = passed.each told state is_in relation at in
     let spells = is_in.shows.store.spells in
     keys_done had (next (now state).definitions relation spells.listed spells.defines at had.are.passed had.are.left had.are.split had.are.ends)
 
 pub keys_all : {parts : RssParts} {number count : ℕ} {all : List (List Value)} {before list : List Need} {after : Option Name} → 128 ≤ count → AllPassed parts number all before list count after → ListsKeys parts number all before list
 keys_all many passed told state is_in relation at =
-    let had = passed told state is_in relation at in
+    let had = passed.each told state is_in relation at in
     keys_done had (many_passed had.are (omega (arith, many, few_unique (now state) (kept_fit state is_in.kept).1 relation.name)))
 
 -- a tuple of the relation has a key in each of its images

@@ -42,14 +42,13 @@ pub record Unowned (state : State) (relation : RelationEntry) (own : Option Tid)
   pub are : ArePassed (unique_images state.base.definitions relation.name) count after
   pub none : first_of (map (if_owned state own values) are.passed) ≡ None
 
-abbrev pub NonePassed : SessionView → ℕ → List ℕ → Option Tid → ℕ → Option Name → Type 0
-NonePassed view number bytes own count after =
-    IsTold view.store.pages.disk → (state : State) → Kept state → Shows view state
-    → (relation : RelationEntry) → relation_at view.store.catalog.listing number ≡ Some relation
-    → (values : List Value) → Spells (kinds relation.fields) bytes values → Unowned state relation own values count after
+pub record NonePassed (view : SessionView) (number : ℕ) (bytes : List ℕ) (own : Option Tid) (count : ℕ) (after : Option Name) : Type 0 where
+  pub each : IsTold view.store.pages.disk → (state : State) → Kept state → Shows view state
+      → (relation : RelationEntry) → relation_at view.store.catalog.listing number ≡ Some relation
+      → (values : List Value) → Spells (kinds relation.fields) bytes values → Unowned state relation own values count after
 
 pub none_begun : (view : SessionView) (number : ℕ) (bytes : List ℕ) (own : Option Tid) → NonePassed view number bytes own 0 None
-none_begun view number bytes own told state kept shows relation at values spelled = record { are = none_passed _; none = refl }
+none_begun view number bytes own = record { each = λ told state kept shows relation at values spelled. record { are = none_passed (unique_images state.base.definitions relation.name); none = refl } }
 
 module _ {view mid : SessionView} {T : Type 0} {looked : T} (looks : LooksOn view mid (Ok looked)) {number count : ℕ} {bytes : List ℕ} {own : Option Tid} {after : Option Name} (passed : NonePassed view number bytes own count after) where
   -- none is left
@@ -58,13 +57,13 @@ module _ {view mid : SessionView} {T : Type 0} {looked : T} (looks : LooksOn vie
 
   pub none_more : IsNextUnique mid.store.catalog.listing number after None → FindsDuplicate view number bytes own None
   none_more next told state kept shows relation at values spelled =
-      let had = passed told state kept shows relation at values spelled in
+      let had = passed.each told state kept shows relation at values spelled in
       let spells = shows.store.spells in
       ended had (subst (λ (c : CatalogView). IsNextUnique c.listing number after None) looks.catalog next state.base.definitions relation spells.listed spells.defines at had.are.passed had.are.left had.are.split had.are.ends)
 
   pub none_many : 128 ≤ count → FindsDuplicate view number bytes own None
   none_many many told state kept shows relation at values spelled =
-      let had = passed told state kept shows relation at values spelled in
+      let had = passed.each told state kept shows relation at values spelled in
       ended had (many_passed had.are (omega (arith, many, few_unique (now state) (kept_fit state kept).1 relation.name)))
 
   -- the next image
@@ -76,7 +75,7 @@ module _ {view mid : SessionView} {T : Type 0} {looked : T} (looks : LooksOn vie
 
     owned : IsTold view.store.pages.disk → (state : State) → Kept state → Shows view state → (relation : RelationEntry) → relation_at view.store.catalog.listing number ≡ Some relation → (values : List Value) → Spells (kinds relation.fields) bytes values → Owned state relation values
     owned told state kept shows relation at values spelled =
-        let had = passed told state kept shows relation at values spelled in
+        let had = passed.each told state kept shows relation at values spelled in
         let spells = shows.store.spells in
         let led = subst (λ (c : CatalogView). IsNextUnique c.listing number after (Some found)) looks.catalog next state.base.definitions relation spells.listed spells.defines at had.are.passed had.are.left had.are.split had.are.ends in
         let its : image.relation ≡ number = ap (λ (i : ImageEntry). i.relation) (same_Some _ _ (sym here ∙ of.at)) ∙ of.of in
@@ -95,9 +94,11 @@ module _ {view mid : SessionView} {T : Type 0} {looked : T} (looks : LooksOn vie
         }
 
     pub none_owned : owner ≡ None → NonePassed view number bytes own (count + 1) (Some image.name)
-    none_owned none told state kept shows relation at values spelled =
-        let has = owned told state kept shows relation at values spelled in
-        record { are = has.are; none = has.first ∙ ap (option_map (Duplicate image.name)) none }
+    none_owned none = record {
+      each = λ told state kept shows relation at values spelled.
+          let has = owned told state kept shows relation at values spelled in
+          record { are = has.are; none = has.first ∙ ap (option_map (Duplicate image.name)) none };
+    }
 
     pub some_owned : {tid : Tid} {why : Refusal} → owner ≡ Some tid → why ≡ Duplicate image.name tid → FindsDuplicate view number bytes own (Some why)
     some_owned some is told state kept shows relation at values spelled =

@@ -289,7 +289,7 @@ pub record ArePassed (images : Images) (count : ℕ) (after : Option Name) : Typ
   pub ends : after ≡ last_name passed
   pub many : length passed ≡ count
 
-pub none_passed : (images : Images) → ArePassed images 0 None
+abbrev pub none_passed : (images : Images) → ArePassed images 0 None
 none_passed images = record { passed = []; left = images; split = refl; ends = refl; many = refl }
 
 last_behind : (passed : Images) (image : Name × ImageDef) → last_name (passed ++ image ∷ []) ≡ Some image.0

@@ -42,7 +42,6 @@ impl<S: Saving> Session<S> {
         ensures owner { IfOk result
             (FindsOwner (view S.view self.old) number values.now own) }
     {
-        let _ = (&self.store, number, values, own);
         unreachable!()
     }
 }
