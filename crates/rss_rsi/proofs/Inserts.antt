@@ -184,9 +184,9 @@ module _ (parts : RssParts) {t : ℕ} {relation : Name} {values : List Value} {n
 
     module _ {claimed : LocksView} (claims : IsClaimed parts.locks claimed t list) where
       -- another tuple has a key, and only the locks of the call's list are kept
-      pub insert_owned : {kept : List Need} {last : Need} → list ≡ kept ++ last ∷ [] → {why : Refusal} → (IsTold parts.session.store.pages.disk → (state : State) → IsIn parts state → if_duplicate state relation None values ≡ Some why)
+      pub insert_owned : (kept : List Need) (last : Need) → list ≡ kept ++ last ∷ [] → {why : Refusal} → (IsTold parts.session.store.pages.disk → (state : State) → IsIn parts state → if_duplicate state relation None values ≡ Some why)
           → IsTold parts.session.store.pages.disk → (state : State) → IsIn parts state → (needs (now state) (Insert t relation values) ≡ kept) × (refusal state (Insert t relation values) ≡ Some why)
-      insert_owned {kept = kept} {last = last} is owned told state is_in = (
+      insert_owned kept last is owned told state is_in = (
         front_same (needs (now state) (Insert t relation values)) kept (need (TupleItem relation tid) X) last (lists told state is_in ∙ is),
         insert_duplicate state t relation values (admitted.fits told state is_in.shows) (few_so state (admitted.few told state is_in.shows)) tid (its_free state told is_in) (bars_too state told is_in ∙ claims.free) (owned told state is_in),
       )

@@ -118,8 +118,8 @@ keys_all many passed told state is_in relation at =
     keys_done had (many_passed had.are (omega (arith, many, few_unique (now state) (kept_fit state is_in.kept).1 relation.name)))
 
 -- a tuple of the relation has a key in each of its images
-pub has_key : {listing : Listing} {number : ℕ} {image : ImageEntry} {values : List Value} → MayBeOf listing number values → IsSafeImage listing image → image.relation ≡ number → HasKey image values
-has_key {listing = listing} may safe of = record {
+pub has_key : (listing : Listing) (number : ℕ) {image : ImageEntry} {values : List Value} → MayBeOf listing number values → IsSafeImage listing image → image.relation ≡ number → HasKey image values
+has_key listing number may safe of = record {
   fields = safe.relation.fields;
   fit = may.fit safe.relation (ap (relation_at listing) (sym of) ∙ safe.listed);
   storable = may.storable;
@@ -128,20 +128,20 @@ has_key {listing = listing} may safe of = record {
   few = safe.few;
 }
 
-pub have_key : {listing : Listing} {number : ℕ} {image : ImageEntry} (values : Option (List Value)) → IfSome values (MayBeOf listing number) → IsSafeImage listing image → image.relation ≡ number → IfSome values (HasKey image)
-have_key None may safe of = tt
-have_key (Some values) may safe of = has_key may safe of
+pub have_key : (listing : Listing) (number : ℕ) {image : ImageEntry} (values : Option (List Value)) → IfSome values (MayBeOf listing number) → IsSafeImage listing image → image.relation ≡ number → IfSome values (HasKey image)
+have_key listing number None may safe of = tt
+have_key listing number (Some values) may safe of = has_key listing number may safe of
 
 -- ---- the needs of tuples
 
 -- the lock of a tuple behind others
-pub tuple_pushed : {parts : RssParts} {wanted : Tables → List Need} {before after : List Need} {one last : Need} → Lists parts wanted before → after ≡ before ++ one ∷ [] → one ≡ last → Lists parts (λ tables. wanted tables ++ last ∷ []) after
-tuple_pushed lists is one_is told state is_in = (λ i. lists told state is_in i ++ sym one_is i ∷ []) ∙ sym is
+pub tuple_pushed : (parts : RssParts) (wanted : Tables → List Need) (before after : List Need) (one last : Need) → Lists parts wanted before → after ≡ before ++ one ∷ [] → one ≡ last → Lists parts (λ tables. wanted tables ++ last ∷ []) after
+tuple_pushed parts wanted before after one last lists is one_is told state is_in = (λ i. lists told state is_in i ++ sym one_is i ∷ []) ∙ sym is
 
-module _ {parts : RssParts} {relation : Name} {tid : Tid} {new : List (List Value)} where
+module _ (parts : RssParts) (relation : Name) (tid : Tid) (new : List (List Value)) where
   -- a tuple is read
-  pub reads_access : {found : Option (List Value)} {list : List Need} → Lists parts (λ tables. tuple_read tables relation tid) list → ListsAccess parts Read relation tid found new list
-  reads_access lists told state is_in holds = lists told state is_in
+  pub reads_access : (found : Option (List Value)) {list : List Need} → Lists parts (λ tables. tuple_read tables relation tid) list → ListsAccess parts Read relation tid found new list
+  reads_access found lists told state is_in holds = lists told state is_in
 
   -- one that isn't there has no keys
   pub misses_access : {list : List Need} → Lists parts (λ tables. tuple_changed tables relation tid) list → ListsAccess parts Change relation tid None new list
@@ -150,9 +150,9 @@ module _ {parts : RssParts} {relation : Name} {tid : Tid} {new : List (List Valu
       ∙ append-nil (tuple_changed (now state) relation tid) ∙ lists told state is_in
 
 -- and one that is there has those of its values, and of the new ones
-pub changes_access : {parts : RssParts} {relation : Name} {tid : Tid} {number : ℕ} {was : List Value} {to : Option (List Value)} {before list : List Need} → IsNumberOf RelationKind parts.session.store.catalog.listing relation number
+pub changes_access : (parts : RssParts) (relation : Name) (tid : Tid) (number : ℕ) (was : List Value) (to : Option (List Value)) (before list : List Need) → IsNumberOf RelationKind parts.session.store.catalog.listing relation number
     → Lists parts (λ tables. tuple_changed tables relation tid) before → ListsKeys parts number (given (Some was) to) before list → ListsAccess parts Change relation tid (Some was) (option_to_list to) list
-changes_access {parts = parts} {relation = relation} {tid = tid} {number = number} {was = was} {to = to} known lists keys told state is_in holds =
+changes_access parts relation tid number was to before list known lists keys told state is_in holds =
     let has = entry_at parts.session.store.catalog.listing relation number known in
     let new : List (List Value) = option_to_list to in
     ap (λ (held : Option Content). tuple_changed (now state) relation tid ++ keys_where_live (now state) relation held new) holds
@@ -160,41 +160,41 @@ changes_access {parts = parts} {relation = relation} {tid = tid} {number = numbe
     ∙ keys told state is_in has.entry has.at
 
 -- a new one has those of its values
-pub puts_access : {parts : RssParts} {relation : Name} {tid : Tid} {number : ℕ} {values : List Value} {before middle list : List Need} {one : Need} → IsNumberOf RelationKind parts.session.store.catalog.listing relation number
+pub puts_access : (parts : RssParts) (relation : Name) (tid : Tid) (number : ℕ) (values : List Value) (before middle list : List Need) (one : Need) → IsNumberOf RelationKind parts.session.store.catalog.listing relation number
     → Lists parts (λ tables. changing tables relation) before → ListsKeys parts number (given None (Some values)) before middle → list ≡ middle ++ one ∷ [] → one ≡ need (TupleItem relation tid) X → Lists parts (λ tables. putting tables relation tid values) list
-puts_access {parts = parts} {relation = relation} {number = number} {values = values} known lists keys is one_is =
+puts_access parts relation tid number values before middle list one known lists keys is one_is =
     let has = entry_at parts.session.store.catalog.listing relation number known in
-    tuple_pushed (λ told state is_in. (λ i. lists told state is_in i ++ key_needs (now state) (sym has.named i) (values ∷ [])) ∙ keys told state is_in has.entry has.at) is one_is
+    tuple_pushed parts (λ tables. changing tables relation ++ key_needs tables relation (values ∷ [])) middle list one (need (TupleItem relation tid) X) (λ told state is_in. (λ i. lists told state is_in i ++ key_needs (now state) (sym has.named i) (values ∷ [])) ∙ keys told state is_in has.entry has.at) is one_is
 
 -- ---- what was found before the needs
 
 -- the values of the tuple, if it is there
-pub holds_found : {old : RssParts} {number : ℕ} {relation : Name} {tid : Tid} (found : Option (List Value)) → IsNumberOf RelationKind old.session.store.catalog.listing relation number → FindsAny old number tid found
+pub holds_found : (old : RssParts) (number : ℕ) (relation : Name) (tid : Tid) (found : Option (List Value)) → IsNumberOf RelationKind old.session.store.catalog.listing relation number → FindsAny old number tid found
     → IsTold old.session.store.pages.disk → (state : State) → IsIn old state → content (now state).contents (TupleItem relation tid) ≡ option_map Values found
-holds_found {relation = relation} None known finds told state is_in = finds relation known told state is_in
-holds_found {relation = relation} (Some values) known finds told state is_in = (finds relation known).has told state is_in
+holds_found old number relation tid None known finds told state is_in = finds relation known told state is_in
+holds_found old number relation tid (Some values) known finds told state is_in = (finds relation known).has told state is_in
 
-pub may_be_found : {old : RssParts} {catalog : CatalogView} {number : ℕ} {relation : Name} {tid : Tid} (found : Option (List Value)) → IsNumberOf RelationKind old.session.store.catalog.listing relation number → FindsAny old number tid found → catalog ≡ old.session.store.catalog → IfSome found (MayBeOf catalog.listing number)
-may_be_found None known finds same = tt
-may_be_found {number = number} {relation = relation} (Some values) known finds same =
+pub may_be_found : (old : RssParts) {catalog : CatalogView} (number : ℕ) (relation : Name) (tid : Tid) (found : Option (List Value)) → IsNumberOf RelationKind old.session.store.catalog.listing relation number → FindsAny old number tid found → catalog ≡ old.session.store.catalog → IfSome found (MayBeOf catalog.listing number)
+may_be_found old number relation tid None known finds same = tt
+may_be_found old number relation tid (Some values) known finds same =
     subst (λ (c : CatalogView). MayBeOf c.listing number values) (sym same) (record { fit = (finds relation known).fit; storable = (finds relation known).storable })
 
-pub may_be_still : {catalog later : CatalogView} {number : ℕ} (values : Option (List Value)) → later ≡ catalog → IfSome values (MayBeOf catalog.listing number) → IfSome values (MayBeOf later.listing number)
-may_be_still {number = number} values same may = subst (λ (c : CatalogView). IfSome values (MayBeOf c.listing number)) (sym same) may
+pub may_be_still : {catalog later : CatalogView} (number : ℕ) (values : Option (List Value)) → later ≡ catalog → IfSome values (MayBeOf catalog.listing number) → IfSome values (MayBeOf later.listing number)
+may_be_still number values same may = subst (λ (c : CatalogView). IfSome values (MayBeOf c.listing number)) (sym same) may
 
 -- the needs are the same before the look
-pub access_before : (old mid : RssParts) {T : Type 0} {looked : Result T PageFault} (access : Access) {number : ℕ} {relation : Name} {tid : Tid} (found : Option (List Value)) {new : List (List Value)} {list : List Need} → IsNumberOf RelationKind old.session.store.catalog.listing relation number
+pub access_before : (old mid : RssParts) {T : Type 0} {looked : Result T PageFault} (access : Access) (number : ℕ) (relation : Name) (tid : Tid) (found : Option (List Value)) (new : List (List Value)) {list : List Need} → IsNumberOf RelationKind old.session.store.catalog.listing relation number
     → LooksOn old.session mid.session looked → SameHeld old mid → FindsAny old number tid found → ListsAccess mid access relation tid found new list → Lists old (λ tables. accessing tables access relation tid new) list
-access_before old mid access found known looks held finds lists told state is_in =
-    lists (looks.goes.told.0 told) state (in_held held (looks.shows told state is_in.shows) is_in) (holds_found found known finds told state is_in)
+access_before old mid access number relation tid found new known looks held finds lists told state is_in =
+    lists (looks.goes.told.0 told) state (in_held held (looks.shows told state is_in.shows) is_in) (holds_found old number relation tid found known finds told state is_in)
 
 -- ---- duplicates
 
 -- what was found behind looks is so in the states from before them
-pub duplicate_said : (first : RssParts) {mid : SessionView} {T : Type 0} {looked : T} (looks : LooksOn first.session mid (Ok looked)) {relation : Name} {number : ℕ} {entry : RelationEntry} → IsNumberOf RelationKind first.session.store.catalog.listing relation number → relation_at first.session.store.catalog.listing number ≡ Some entry
-    → {bytes : List ℕ} {values : List Value} → Spells (kinds entry.fields) bytes values → (own : Option Tid) {found : Option Refusal} → FindsDuplicate mid number bytes own found
+pub duplicate_said : (first : RssParts) {mid : SessionView} {T : Type 0} {looked : T} (looks : LooksOn first.session mid (Ok looked)) (relation : Name) (number : ℕ) {entry : RelationEntry} → IsNumberOf RelationKind first.session.store.catalog.listing relation number → relation_at first.session.store.catalog.listing number ≡ Some entry
+    → (bytes : List ℕ) {values : List Value} → Spells (kinds entry.fields) bytes values → (own : Option Tid) {found : Option Refusal} → FindsDuplicate mid number bytes own found
     → IsTold first.session.store.pages.disk → (state : State) → IsIn first state → if_duplicate state relation own values ≡ found
-duplicate_said first looks {relation = relation} {number = number} {entry = entry} known at {values = values} spelled own finds told state is_in =
+duplicate_said first looks relation number {entry = entry} known at bytes {values = values} spelled own finds told state is_in =
     ap (λ (name : Name). if_duplicate state name own values) (sym (name_of first.session.store.catalog.listing relation number entry known at))
     ∙ sym (finds (looks.goes.told.0 told) state is_in.kept (looks.shows told state is_in.shows) entry (ap (λ (c : CatalogView). relation_at c.listing number) looks.catalog ∙ at) values spelled)
 

@@ -2,7 +2,7 @@
 ghost use Rattle.std.specs.Prelude.{◌≡◌, ◌<◌, ◌≤◌, [], ◌∷◌, ◌++◌, Err, None, false, true, option_copied, option_to_list, vec_len, IfOk, IfSome};
 ghost use Rattle.rss_base.specs.Listings.{IsNumberOf};
 ghost use Rattle.rss_base.specs.declared.call.Call.TheVariants.{Lock};
-ghost use Rattle.rss_base.specs.declared.item.Item.TheVariants.{Segment, Relation, Tuple};
+ghost use Rattle.rss_base.specs.declared.item.Item.TheVariants.{Segment, Relation, Tuple as TupleItem};
 ghost use Rattle.rss_base.specs.declared.refusal.Kind.TheVariants.{Relation as RelationKind};
 ghost use Rattle.rss_base.specs.declared.refusal.Refusal.TheVariants.{Busy};
 ghost use Rattle.rss_lock.specs.Table.{told};
@@ -166,7 +166,7 @@ impl<S: Saving> Rss<S> {
             relation.now number }
         ensures lists { IfOk result (λ needs. Lists (parts_of self.now)
             (λ tables. relation_needs tables relation.now coarse coarse
-            ++ need (Tuple relation.now tid) mode ∷ []) needs.items) }
+            ++ need (TupleItem relation.now tid) mode ∷ []) needs.items) }
         ensures few { IfOk result (λ needs. vec_len needs ≤ 3) }
         ensures sayable { IfOk result (λ needs. AreSayable needs.items) }
     {
@@ -188,6 +188,7 @@ impl<S: Saving> Rss<S> {
         requires tuple { MayBeOf (session_of self.now).store.catalog.listing number tuple.now }
         ensures lists { IfOk result (λ needs. Lists (parts_of self.now)
             (λ tables. putting tables relation.now tid tuple.now) needs.items) }
+        ensures some { IfOk result (λ needs. 1 ≤ vec_len needs) }
         ensures few { IfOk result (λ needs. vec_len needs ≤ 300) }
         ensures sayable { IfOk result (λ needs. AreSayable needs.items) }
     {
@@ -266,8 +267,8 @@ fn relation_need(relation: &Name, mode: Mode) -> Need
 }
 
 pub(crate) fn tuple_need(relation: &Name, tid: Tid, mode: Mode) -> Need
-    ensures is { result ≡ need (Tuple relation.now tid) mode }
-    ensures sayable { IsSayable (Tuple relation.now tid) }
+    ensures is { result ≡ need (TupleItem relation.now tid) mode }
+    ensures sayable { IsSayable (TupleItem relation.now tid) }
 {
     let Name { bytes } = *relation;
     Need {

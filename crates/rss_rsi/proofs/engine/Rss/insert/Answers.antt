@@ -151,7 +151,7 @@ returns-in-Some-clause-did g c =
     ?
     (ap scans_told (held.scans ∙ owned.scans ∙ claim.scans ∙ placed.scans))
     (insert_owned (parts_of c.ask.new.self) admitted placed.looks placed.place lists claimed ?
-    (duplicate_said (parts_of c.ask.new.self) looks c.in_ok-number.ensures.known c.relation.ensures.is spelled None
+    (duplicate_said (parts_of c.ask.new.self) looks c.args.relation.now c.in_ok-number.number c.in_ok-number.ensures.known c.relation.ensures.is c.values_of-values.result spelled None
     (subst (FindsDuplicate (session_of c.claim.new.self) c.in_ok-number.number c.values_of-values.result None) c.in-Some.is owned.finds))))
 
 pub hold-requires-clause-open : goal.hold-requires-clause-open
@@ -198,7 +198,7 @@ returns-in_err-change-clause-did g c =
     asked g.S.Pages.view counted.session counted.locks counted.scans
     (ends_short (looks_then looks owned.looks)
     (insert_ends (parts_of c.ask.new.self) admitted placed.looks placed.place lists claimed spelled c.values_of-values.ensures.short (omega arith) (omega arith) (omega arith)
-    (duplicate_said (parts_of c.ask.new.self) looks c.in_ok-number.ensures.known c.relation.ensures.is spelled None
+    (duplicate_said (parts_of c.ask.new.self) looks c.args.relation.now c.in_ok-number.number c.in_ok-number.ensures.known c.relation.ensures.is c.values_of-values.result spelled None
     (subst (FindsDuplicate (session_of c.claim.new.self) c.in_ok-number.number c.values_of-values.result None) none owned.finds)))
     c.from_residual-in_err-change.result c.from_residual-in_err-change.ensures.1 (record { locks = ap (λ (t : LockTable). (told t).locks) (c.change.ensures.locks ∙ owned.locks) ∙ claim.locks ∙ same; scans = ap scans_told (c.change.ensures.scans ∙ owned.scans ∙ claim.scans ∙ placed.scans) })
     counted.was_up (omega (arith, counted.counted, placed.calls, claim.calls, owned.calls, c.change.ensures.calls)) c.in_err-change.ensures.did)
@@ -236,7 +236,7 @@ returns-clause-did g c =
     asked g.S.Pages.view counted.session counted.locks counted.scans
     (ends_made (looks_then looks owned.looks)
     (insert_ends (parts_of c.ask.new.self) admitted placed.looks placed.place lists claimed spelled c.values_of-values.ensures.short (omega arith) (omega arith) (omega arith)
-    (duplicate_said (parts_of c.ask.new.self) looks c.in_ok-number.ensures.known c.relation.ensures.is spelled None
+    (duplicate_said (parts_of c.ask.new.self) looks c.args.relation.now c.in_ok-number.number c.in_ok-number.ensures.known c.relation.ensures.is c.values_of-values.result spelled None
     (subst (FindsDuplicate (session_of c.claim.new.self) c.in_ok-number.number c.values_of-values.result None) none owned.finds)))
     (held.locks
     ∙ ap (λ (t : LockTable). granted c.args.transaction c.in_ok-needs.needs.items (told t).locks) (c.change.ensures.locks ∙ owned.locks)

@@ -94,7 +94,7 @@ returns-in-Some-clause-did g c =
     (held.locks ∙ ap (λ (t : LockTable). granted c.args.transaction c.in_ok-found.found.needs.items (told t).locks) owned.locks ∙ ap (granted c.args.transaction c.in_ok-found.found.needs.items) found.finds.claimed.same)
     (ap scans_told (held.scans ∙ owned.scans ∙ found.scans))
     (update_owned _ c.args.transaction c.args.relation.now c.args.tid c.args.tuple.now admitted.tests found.finds
-    (duplicate_said (parts_of c.ask.new.self) found.finds.looked.looks admitted.known c.relation-entry.ensures.is spelled (Some c.args.tid)
+    (duplicate_said (parts_of c.ask.new.self) found.finds.looked.looks c.args.relation.now c.in_ok-number.number admitted.known c.relation-entry.ensures.is c.values_of-to.result spelled (Some c.args.tid)
     (subst (FindsDuplicate (session_of c.find.new.self) c.in_ok-number.number c.values_of-to.result (Some c.args.tid)) c.in-Some.is owned.finds))))
 
 pub hold-requires-clause-open : goal.hold-requires-clause-open
@@ -143,7 +143,7 @@ returns-in_err-change-clause-did g c =
     asked g.S.Pages.view counted.session counted.locks counted.scans
     (ends_short (looks_then found.finds.looked.looks owned.looks)
     (update_ends _ c.args.transaction c.args.relation.now c.args.tid c.args.tuple.now admitted.tests found.finds admitted.known c.relation-entry.ensures.is (omega arith) (omega arith) (spelled_as c.as_slice-2.ensures one c.values_of.ensures.spelled) spelled c.values_of.ensures.short c.values_of-to.ensures.short
-    (duplicate_said (parts_of c.ask.new.self) found.finds.looked.looks admitted.known c.relation-entry.ensures.is spelled (Some c.args.tid)
+    (duplicate_said (parts_of c.ask.new.self) found.finds.looked.looks c.args.relation.now c.in_ok-number.number admitted.known c.relation-entry.ensures.is c.values_of-to.result spelled (Some c.args.tid)
     (subst (FindsDuplicate (session_of c.find.new.self) c.in_ok-number.number c.values_of-to.result (Some c.args.tid)) none owned.finds)))
     c.from_residual-in_err-change.result c.from_residual-in_err-change.ensures.1 (record { locks = ap (λ (t : LockTable). (told t).locks) (c.change.ensures.locks ∙ owned.locks) ∙ found.finds.claimed.same; scans = ap scans_told (c.change.ensures.scans ∙ owned.scans ∙ found.scans) })
     counted.was_up (omega (arith, counted.counted, found.calls, owned.calls, c.change.ensures.calls)) c.in_err-change.ensures.did)
@@ -173,7 +173,7 @@ returns-clause-did g c =
     asked g.S.Pages.view counted.session counted.locks counted.scans
     (ends_made (looks_then found.finds.looked.looks owned.looks)
     (update_ends _ c.args.transaction c.args.relation.now c.args.tid c.args.tuple.now admitted.tests found.finds admitted.known c.relation-entry.ensures.is (omega arith) (omega arith) (spelled_as c.as_slice-2.ensures one c.values_of.ensures.spelled) spelled c.values_of.ensures.short c.values_of-to.ensures.short
-    (duplicate_said (parts_of c.ask.new.self) found.finds.looked.looks admitted.known c.relation-entry.ensures.is spelled (Some c.args.tid)
+    (duplicate_said (parts_of c.ask.new.self) found.finds.looked.looks c.args.relation.now c.in_ok-number.number admitted.known c.relation-entry.ensures.is c.values_of-to.result spelled (Some c.args.tid)
     (subst (FindsDuplicate (session_of c.find.new.self) c.in_ok-number.number c.values_of-to.result (Some c.args.tid)) none owned.finds)))
     (held.locks ∙ ap (λ (t : LockTable). granted c.args.transaction c.in_ok-found.found.needs.items (told t).locks) (c.change.ensures.locks ∙ owned.locks) ∙ ap (granted c.args.transaction c.in_ok-found.found.needs.items) found.finds.claimed.same)
     (ap scans_told (held.scans ∙ c.change.ensures.scans ∙ owned.scans ∙ found.scans))
