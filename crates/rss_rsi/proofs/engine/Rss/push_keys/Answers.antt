@@ -25,8 +25,8 @@ push_key-requires-clause-has g c =
     let of = rw c.in-Some.is at c.next_unique.ensures.of in
     have_key (session_of c.args.self.now).store.catalog.listing c.args.number (option_copied c.args.was) c.requires.was c.image-entry.ensures.safe (ap (λ (i : ImageEntry). i.relation) (same_Some _ _ (sym c.image-entry.ensures.is ∙ of.at)) ∙ of.of)
 
-pub push_key-2-requires-clause-has : goal.push_key-2-requires-clause-has
-push_key-2-requires-clause-has g c =
+pub push_key-requires-in-loop-place-clause-has : goal.push_key-requires-in-loop-place-clause-has
+push_key-requires-in-loop-place-clause-has g c =
     let of = rw c.in-Some.is at c.next_unique.ensures.of in
     have_key (session_of c.args.self.now).store.catalog.listing c.args.number (option_copied c.args.to) c.requires.to c.image-entry.ensures.safe (ap (λ (i : ImageEntry). i.relation) (same_Some _ _ (sym c.image-entry.ensures.is ∙ of.at)) ∙ of.of)
 
