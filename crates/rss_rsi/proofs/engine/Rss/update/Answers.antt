@@ -73,7 +73,7 @@ returns-in_err-owned-clause-did g c =
     let owned = c.in_err-owned.ensures in
     ends_so g.S.Pages.view c.from_residual-in_err-owned.result c.from_residual-in_err-owned.ensures.1 counted.session counted.locks counted.scans (counted.up ∙ sym counted.was_up)
     (costly_fails (parts_of c.ask.new.self) (parts_of c.find_duplicate.new.self) (fails_then found.finds.looked.looks owned.looks) c.ask.new.self.calls c.find_duplicate.new.self.calls (owned.calls ∙ found.calls) counted.up (λ up. absurd (cc (up, owned.down)))
-    c.args.self.now.calls (Update c.args.transaction c.args.relation.now c.args.tid c.args.tuple.now) (omega (arith, counted.counted)) (may_update _ c.args.transaction c.args.relation.now c.args.tid c.args.tuple.now c.in_ok-number.ensures.tests))
+    c.args.self.now.calls (Update c.args.transaction c.args.relation.now c.args.tid c.args.tuple.now) (omega (arith, counted.counted)) (may_update (parts_of c.ask.new.self) c.args.transaction c.args.relation.now c.args.tid c.args.tuple.now c.in_ok-number.ensures.tests))
 
 -- another tuple has a key
 pub returns-in-Some-clause-did : goal.returns-in-Some-clause-did
@@ -88,12 +88,12 @@ returns-in-Some-clause-did g c =
     (refused_keeping (parts_of c.ask.new.self) (parts_of c.hold.new.self)
     (subst (λ (session : Session _). LooksOn (session_of c.ask.new.self) (session_view g.S.Pages.view session) (Ok c.in_ok-owned.owned)) (sym held.session) (looks_then found.finds.looked.looks owned.looks))
     (omega (arith, counted.counted, found.calls, owned.calls, held.calls)) counted.was_up (held.down ∙ owned.up)
-    (may_update _ c.args.transaction c.args.relation.now c.args.tid c.args.tuple.now admitted.tests) refl
+    (may_update (parts_of c.ask.new.self) c.args.transaction c.args.relation.now c.args.tid c.args.tuple.now admitted.tests) refl
     (subst (λ (why : Option Refusal). IfSome why (λ w. IsShort (Err w))) c.in-Some.is owned.short)
     (subst (λ (why : Option Refusal). IfSome why (λ w. keeps_locks w ≡ true)) c.in-Some.is owned.kept)
     (held.locks ∙ ap (λ (t : LockTable). granted c.args.transaction c.in_ok-found.found.needs.items (told t).locks) owned.locks ∙ ap (granted c.args.transaction c.in_ok-found.found.needs.items) found.finds.claimed.same)
     (ap scans_told (held.scans ∙ owned.scans ∙ found.scans))
-    (update_owned _ c.args.transaction c.args.relation.now c.args.tid c.args.tuple.now admitted.tests found.finds
+    (update_owned (parts_of c.ask.new.self) c.args.transaction c.args.relation.now c.args.tid c.args.tuple.now admitted.tests found.finds
     (duplicate_said (parts_of c.ask.new.self) found.finds.looked.looks c.args.relation.now c.in_ok-number.number admitted.known c.relation-entry.ensures.is c.values_of-to.result spelled (Some c.args.tid)
     (subst (FindsDuplicate (session_of c.find.new.self) c.in_ok-number.number c.values_of-to.result (Some c.args.tid)) c.in-Some.is owned.finds))))
 
@@ -111,8 +111,8 @@ hold-requires-clause-room g c =
 
 -- ---- no other tuple has one
 
-pub relation-entry-2-requires : goal.relation-entry-2-requires
-relation-entry-2-requires g c =
+pub relation-entry-requires-2 : goal.relation-entry-requires-2
+relation-entry-requires-2 g c =
     ap (λ (catalog : CatalogView). is_some (relation_at catalog.listing c.in_ok-number.number)) (c.in_ok-owned.ensures.looks.catalog ∙ c.in_ok-found.ensures.finds.looked.looks.catalog)
     ∙ ap is_some (entry_at c.ask.new.self.session.store.catalog.listing c.args.relation.now c.in_ok-number.number c.in_ok-number.ensures.known).at
 
@@ -128,8 +128,8 @@ change-requires-clause-asked g c =
     (record { locks = ap (λ (t : LockTable). (told t).locks) owned.locks ∙ found.finds.claimed.same; scans = ap scans_told (owned.scans ∙ found.scans) }) (owned.calls ∙ found.calls ∙ counted.counted)
 
 -- the values that it has and gets, by the fields of its relation
-spelled_as : {bytes : List ℕ} {values : List Value} {fields : List FieldDef} {one other : RelationEntry} → fields ≡ other.fields → other ≡ one → Spells (kinds fields) bytes values → Spells (kinds one.fields) bytes values
-spelled_as {bytes = bytes} {values = values} fields same = subst (λ (f : List FieldDef). Spells (kinds f) bytes values) (fields ∙ ap (λ (r : RelationEntry). r.fields) same)
+spelled_as : {bytes : List ℕ} {values : List Value} {fields : List FieldDef} {one : RelationEntry} (other : RelationEntry) → fields ≡ other.fields → other ≡ one → Spells (kinds fields) bytes values → Spells (kinds one.fields) bytes values
+spelled_as {bytes = bytes} {values = values} other fields same = subst (λ (f : List FieldDef). Spells (kinds f) bytes values) (fields ∙ ap (λ (r : RelationEntry). r.fields) same)
 
 pub returns-in_err-change-clause-did : goal.returns-in_err-change-clause-did
 returns-in_err-change-clause-did g c =
@@ -138,26 +138,26 @@ returns-in_err-change-clause-did g c =
     let found = c.in_ok-found.ensures in
     let owned = c.in_ok-owned.ensures in
     let one = same_Some _ _ (sym c.relation-entry-2.ensures.is ∙ ap (λ (catalog : CatalogView). relation_at catalog.listing c.in_ok-number.number) (owned.looks.catalog ∙ found.finds.looked.looks.catalog) ∙ c.relation-entry.ensures.is) in
-    let spelled = spelled_as c.as_slice.ensures refl c.values_of-to.ensures.spelled in
+    let spelled = subst (λ (fields : List FieldDef). Spells (kinds fields) c.values_of-to.result c.args.tuple.now) c.as_slice.ensures c.values_of-to.ensures.spelled in
     let none : c.in_ok-owned.owned ≡ None = cc in
     asked g.S.Pages.view counted.session counted.locks counted.scans
     (ends_short (looks_then found.finds.looked.looks owned.looks)
-    (update_ends _ c.args.transaction c.args.relation.now c.args.tid c.args.tuple.now admitted.tests found.finds admitted.known c.relation-entry.ensures.is (omega arith) (omega arith) (spelled_as c.as_slice-2.ensures one c.values_of.ensures.spelled) spelled c.values_of.ensures.short c.values_of-to.ensures.short
+    (update_ends (parts_of c.ask.new.self) c.args.transaction c.args.relation.now c.args.tid c.args.tuple.now admitted.tests found.finds admitted.known c.relation-entry.ensures.is (omega arith) (omega arith) (spelled_as c.relation-entry-2.result.now c.as_slice-2.ensures one c.values_of.ensures.spelled) spelled c.values_of.ensures.short c.values_of-to.ensures.short
     (duplicate_said (parts_of c.ask.new.self) found.finds.looked.looks c.args.relation.now c.in_ok-number.number admitted.known c.relation-entry.ensures.is c.values_of-to.result spelled (Some c.args.tid)
     (subst (FindsDuplicate (session_of c.find.new.self) c.in_ok-number.number c.values_of-to.result (Some c.args.tid)) none owned.finds)))
     c.from_residual-in_err-change.result c.from_residual-in_err-change.ensures.1 (record { locks = ap (λ (t : LockTable). (told t).locks) (c.change.ensures.locks ∙ owned.locks) ∙ found.finds.claimed.same; scans = ap scans_told (c.change.ensures.scans ∙ owned.scans ∙ found.scans) })
     counted.was_up (omega (arith, counted.counted, found.calls, owned.calls, c.change.ensures.calls)) c.in_err-change.ensures.did)
 
-pub hold-2-requires-clause-open : goal.hold-2-requires-clause-open
-hold-2-requires-clause-open g c = c.in_ok-change.ensures.stay c.args.transaction (ap (λ (o : OpenView). is_open o c.args.transaction) (c.in_ok-owned.ensures.looks.opened ∙ c.in_ok-found.ensures.finds.looked.looks.opened) ∙ c.in_ok-number.ensures.open)
+pub hold-requires-2-clause-open : goal.hold-requires-2-clause-open
+hold-requires-2-clause-open g c = c.in_ok-change.ensures.stay c.args.transaction (ap (λ (o : OpenView). is_open o c.args.transaction) (c.in_ok-owned.ensures.looks.opened ∙ c.in_ok-found.ensures.finds.looked.looks.opened) ∙ c.in_ok-number.ensures.open)
 
-pub hold-2-requires-clause-free : goal.hold-2-requires-clause-free
-hold-2-requires-clause-free g c =
+pub hold-requires-2-clause-free : goal.hold-requires-2-clause-free
+hold-requires-2-clause-free g c =
     ap (λ (t : LockTable). first_bar (told t).locks c.args.transaction c.in_ok-found.found.needs.items) (c.change.ensures.locks ∙ c.find_duplicate.ensures.locks)
     ∙ claimed_free (told c.ask.new.self.locks) (told c.find.new.self.locks) c.in_ok-found.ensures.finds.claimed
 
-pub hold-2-requires-clause-room : goal.hold-2-requires-clause-room
-hold-2-requires-clause-room g c =
+pub hold-requires-2-clause-room : goal.hold-requires-2-clause-room
+hold-requires-2-clause-room g c =
     omega (arith, c.in_ok-found.ensures.finds.claimed.room, c.in_ok-found.found.needs.ok, ap (λ (t : LockTable). (told t).spare) (c.change.ensures.locks ∙ c.find_duplicate.ensures.locks))
 
 pub returns-clause-did : goal.returns-clause-did
@@ -168,11 +168,11 @@ returns-clause-did g c =
     let owned = c.in_ok-owned.ensures in
     let held = c.hold-2.ensures in
     let one = same_Some _ _ (sym c.relation-entry-2.ensures.is ∙ ap (λ (catalog : CatalogView). relation_at catalog.listing c.in_ok-number.number) (owned.looks.catalog ∙ found.finds.looked.looks.catalog) ∙ c.relation-entry.ensures.is) in
-    let spelled = spelled_as c.as_slice.ensures refl c.values_of-to.ensures.spelled in
+    let spelled = subst (λ (fields : List FieldDef). Spells (kinds fields) c.values_of-to.result c.args.tuple.now) c.as_slice.ensures c.values_of-to.ensures.spelled in
     let none : c.in_ok-owned.owned ≡ None = cc in
     asked g.S.Pages.view counted.session counted.locks counted.scans
     (ends_made (looks_then found.finds.looked.looks owned.looks)
-    (update_ends _ c.args.transaction c.args.relation.now c.args.tid c.args.tuple.now admitted.tests found.finds admitted.known c.relation-entry.ensures.is (omega arith) (omega arith) (spelled_as c.as_slice-2.ensures one c.values_of.ensures.spelled) spelled c.values_of.ensures.short c.values_of-to.ensures.short
+    (update_ends (parts_of c.ask.new.self) c.args.transaction c.args.relation.now c.args.tid c.args.tuple.now admitted.tests found.finds admitted.known c.relation-entry.ensures.is (omega arith) (omega arith) (spelled_as c.relation-entry-2.result.now c.as_slice-2.ensures one c.values_of.ensures.spelled) spelled c.values_of.ensures.short c.values_of-to.ensures.short
     (duplicate_said (parts_of c.ask.new.self) found.finds.looked.looks c.args.relation.now c.in_ok-number.number admitted.known c.relation-entry.ensures.is c.values_of-to.result spelled (Some c.args.tid)
     (subst (FindsDuplicate (session_of c.find.new.self) c.in_ok-number.number c.values_of-to.result (Some c.args.tid)) none owned.finds)))
     (held.locks ∙ ap (λ (t : LockTable). granted c.args.transaction c.in_ok-found.found.needs.items (told t).locks) (c.change.ensures.locks ∙ owned.locks) ∙ ap (granted c.args.transaction c.in_ok-found.found.needs.items) found.finds.claimed.same)
