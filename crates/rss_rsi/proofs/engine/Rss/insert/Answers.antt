@@ -1,4 +1,4 @@
-use Rattle.std.proofs.Common.{◌≡◌, ◌∙◌, List, Vec, Global, length, true, refl, sym, ap, subst, arith}
+use Rattle.std.proofs.Common.{◌≡◌, ◌∙◌, List, [], ◌∷◌, Vec, Global, length, true, refl, sym, ap, subst, arith, length-append}
 use Rattle.std.specs.Prelude.{is_some, Option, None, IfSome, Ok, Err}
 use Rattle.std.proofs.lemmas.Option.{same_Some}
 use Rattle.rss_base.specs.Listings.{IsNumberOf, relation_at}
@@ -27,7 +27,7 @@ use Rattle.rss_trans.specs.Transactions.{OpenView, is_open}
 use Rattle.rss_rsi.specs.Locking.{putting, MayBeOf}
 use Rattle.rss_rsi.specs.Parts.{parts_of, session_of}
 use Rattle.rss_rsi.proofs.Changes.{still_made, ends_short, ends_made}
-use Rattle.rss_rsi.proofs.Claims.{claimed_from, claimed_free}
+use Rattle.rss_rsi.proofs.Claims.{claimed_from, claimed_free, free_front}
 use Rattle.rss_rsi.proofs.Inserts.{is_admitted, insert_unfit, insert_used_up, may_insert, insert_places, insert_no_needs, insert_lost, insert_owned, gets_place, insert_ends}
 use Rattle.rss_rsi.proofs.KeyLocks.{duplicate_said, refused_keeping}
 use Rattle.rss_rsi.proofs.Looks.{ends_so, asked_looked, costly_fails, lists_before, passed_call}
@@ -148,9 +148,9 @@ returns-in-Some-clause-did g c =
     (may_insert (parts_of c.ask.new.self) admitted) refl
     (subst (λ (why : Option Refusal). IfSome why (λ w. IsShort (Err w))) c.in-Some.is owned.short)
     (subst (λ (why : Option Refusal). IfSome why (λ w. keeps_locks w ≡ true)) c.in-Some.is owned.kept)
-    ?
+    (held.locks ∙ ap (λ (t : LockTable). granted c.args.transaction c.pop.new.self.items (told t).locks) owned.locks ∙ ap (granted c.args.transaction c.pop.new.self.items) claimed.same)
     (ap scans_told (held.scans ∙ owned.scans ∙ claim.scans ∙ placed.scans))
-    (insert_owned (parts_of c.ask.new.self) admitted placed.looks placed.place lists claimed ?
+    (insert_owned (parts_of c.ask.new.self) admitted placed.looks placed.place lists claimed c.pop.new.self.items c.in-Some-pop.field-0 (ap (λ (needs : Vec Need Global). needs.items) (sym claim.same) ∙ c.in-Some-pop.ensures.items)
     (duplicate_said (parts_of c.ask.new.self) looks c.args.relation.now c.in_ok-number.number c.in_ok-number.ensures.known c.relation.ensures.is c.values_of-values.result spelled None
     (subst (FindsDuplicate (session_of c.claim.new.self) c.in_ok-number.number c.values_of-values.result None) c.in-Some.is owned.finds))))
 
@@ -159,10 +159,19 @@ hold-requires-clause-open g c =
     ap (λ (o : OpenView). is_open o c.args.transaction) (looks_then (subst (λ (session : Session _). LooksOn (session_of c.ask.new.self) (session_view g.S.Pages.view session) (Ok c.in_ok-tid.tid)) (sym c.in_ok-needs.ensures.session) c.in_ok-tid.ensures.looks) c.in_ok-owned.ensures.looks).opened ∙ c.in_ok-number.ensures.open
 
 pub hold-requires-clause-free : goal.hold-requires-clause-free
-hold-requires-clause-free g c = ?
+hold-requires-clause-free g c =
+    let claim = c.in_ok-needs.ensures in
+    free_front (told c.find_duplicate.new.self.locks).locks c.args.transaction c.pop.new.self.items c.in-Some-pop.field-0
+    (ap (first_bar (told c.find_duplicate.new.self.locks).locks c.args.transaction) (sym c.in-Some-pop.ensures.items)
+    ∙ ap (λ (t : LockTable). first_bar (told t).locks c.args.transaction c.in_ok-needs.needs.items) c.find_duplicate.ensures.locks
+    ∙ ap (λ (needs : Vec Need Global). first_bar (told c.claim.new.self.locks).locks c.args.transaction needs.items) claim.same
+    ∙ claimed_free (told c.place_for.new.self.locks) (told c.claim.new.self.locks) claim.ends)
 
 pub hold-requires-clause-room : goal.hold-requires-clause-room
-hold-requires-clause-room g c = ?
+hold-requires-clause-room g c =
+    let claim = c.in_ok-needs.ensures in
+    omega (arith, claim.ends.room, ap (λ (needs : Vec Need Global). length needs.items) claim.same, c.pop.new.self.ok, ap length c.in-Some-pop.ensures.items, length-append c.pop.new.self.items (c.in-Some-pop.field-0 ∷ []),
+    ap (λ (t : LockTable). (told t).spare) c.find_duplicate.ensures.locks)
 
 -- ---- no other tuple has one
 
@@ -203,19 +212,19 @@ returns-in_err-change-clause-did g c =
     c.from_residual-in_err-change.result c.from_residual-in_err-change.ensures.1 (record { locks = ap (λ (t : LockTable). (told t).locks) (c.change.ensures.locks ∙ owned.locks) ∙ claim.locks ∙ same; scans = ap scans_told (c.change.ensures.scans ∙ owned.scans ∙ claim.scans ∙ placed.scans) })
     counted.was_up (omega (arith, counted.counted, placed.calls, claim.calls, owned.calls, c.change.ensures.calls)) c.in_err-change.ensures.did)
 
-pub hold-2-requires-clause-open : goal.hold-2-requires-clause-open
-hold-2-requires-clause-open g c = c.in_ok-change.ensures.stay c.args.transaction
+pub hold-requires-2-clause-open : goal.hold-requires-2-clause-open
+hold-requires-2-clause-open g c = c.in_ok-change.ensures.stay c.args.transaction
     (ap (λ (o : OpenView). is_open o c.args.transaction) (looks_then (subst (λ (session : Session _). LooksOn (session_of c.ask.new.self) (session_view g.S.Pages.view session) (Ok c.in_ok-tid.tid)) (sym c.in_ok-needs.ensures.session) c.in_ok-tid.ensures.looks) c.in_ok-owned.ensures.looks).opened ∙ c.in_ok-number.ensures.open)
 
-pub hold-2-requires-clause-free : goal.hold-2-requires-clause-free
-hold-2-requires-clause-free g c =
+pub hold-requires-2-clause-free : goal.hold-requires-2-clause-free
+hold-requires-2-clause-free g c =
     let claim = c.in_ok-needs.ensures in
     ap (λ (t : LockTable). first_bar (told t).locks c.args.transaction c.in_ok-needs.needs.items) (c.change.ensures.locks ∙ c.find_duplicate.ensures.locks)
     ∙ ap (λ (needs : Vec Need Global). first_bar (told c.claim.new.self.locks).locks c.args.transaction needs.items) claim.same
     ∙ claimed_free (told c.place_for.new.self.locks) (told c.claim.new.self.locks) claim.ends
 
-pub hold-2-requires-clause-room : goal.hold-2-requires-clause-room
-hold-2-requires-clause-room g c =
+pub hold-requires-2-clause-room : goal.hold-requires-2-clause-room
+hold-requires-2-clause-room g c =
     let claim = c.in_ok-needs.ensures in
     omega (arith, claim.ends.room, ap (λ (needs : Vec Need Global). length needs.items) claim.same, c.in_ok-needs.needs.ok, ap (λ (t : LockTable). (told t).spare) (c.change.ensures.locks ∙ c.find_duplicate.ensures.locks))
 
