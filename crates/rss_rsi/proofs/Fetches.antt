@@ -1,5 +1,5 @@
 -- A fetch, by what was found.
-use Rattle.std.proofs.Common.{◌≡◌, ℕ, ◌+◌, ◌≤◌, List, refl, sym, ◌∙◌, ap, subst, arith}
+use Rattle.std.proofs.Common.{[], ◌≡◌, ℕ, ◌+◌, ◌≤◌, List, refl, sym, ◌∙◌, ap, subst, arith}
 use Rattle.std.specs.Prelude.{None, Ok, is_some}
 use Rattle.rss_base.specs.declared.answer.Reply.TheVariants.{Tuple as TupleReply}
 use Rattle.rss_base.specs.declared.call.Call.TheVariants.{Fetch}

@@ -40,7 +40,7 @@ use Rattle.rss_access.proofs.Numbered.{entry_at, name_of}
 use Rattle.rss_session.specs.Looks.{LooksOn}
 use Rattle.rss_session.specs.Sessions.{SessionView}
 use Rattle.rss_session.specs.Uniques.{IsNextUnique, FindsDuplicate, defined_image}
-use Rattle.rss_session.proofs.NextUniques.{ArePassed, none_passed, one_more, all_passed, many_passed, few_unique, key_listed, narrow_key}
+use Rattle.rss_session.proofs.NextUniques.{ArePassed, none_passed, one_more, all_passed, many_passed, few_unique, key_listed, narrow_key, of_relation}
 use Rattle.rss_rsi.specs.Locking.{accessing, given, key_lock, putting, HasKey, MayBeOf, Lists, ListsAccess, ListsKeys}
 use Rattle.rss_rsi.specs.Looking.{FindsAny, FindsNone}
 use Rattle.rss_rsi.specs.Placing.{MayCost}
@@ -85,7 +85,7 @@ keys_more {parts = parts} {number = number} was to {before = before} {list = lis
       let all = given was to in
       let had = passed.each told state is_in relation at in
       let spells = is_in.shows.store.spells in
-      let its : image.relation ≡ number = ap (λ (i : ImageEntry). i.relation) (same_Some _ _ (sym here ∙ of.at)) ∙ of.of in
+      let its : image.relation ≡ number = of_relation here of in
       let led = next (now state).definitions relation spells.listed spells.defines at had.are.passed had.are.left had.are.split had.are.ends in
       let more = one_more had.are led here its at in
       let listed : IsListedImage parts.session.store.catalog.listing found image relation = record { at = here; within = ap (relation_at parts.session.store.catalog.listing) its ∙ at } in

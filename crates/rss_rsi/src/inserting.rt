@@ -45,9 +45,7 @@ impl<S: Saving> Rss<S> {
         let owned = self.find_duplicate(number, &values, None)?;
         if let Some(why) = owned {
             // No tuple comes, and its identifier isn't held.
-            let Some(_) = needs.pop() else {
-                unreachable!()
-            };
+            let Some(_) = needs.pop() else { unreachable!() };
             self.hold(transaction, needs);
             return Err(CallError::Refused(why));
         }

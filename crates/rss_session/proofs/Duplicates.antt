@@ -26,7 +26,7 @@ use Rattle.rss_session.specs.Looks.{LooksOn}
 use Rattle.rss_session.specs.Sessions.{SessionView}
 use Rattle.rss_session.specs.Shown.{Shows}
 use Rattle.rss_session.specs.Uniques.{FindsDuplicate, IsNextUnique, defined_image}
-use Rattle.rss_session.proofs.NextUniques.{ArePassed, none_passed, one_more, all_passed, many_passed, few_unique, first_behind}
+use Rattle.rss_session.proofs.NextUniques.{ArePassed, none_passed, one_more, all_passed, many_passed, few_unique, first_behind, of_relation}
 
 first_alone : (test : Option Refusal) → first_of (test ∷ []) ≡ test
 first_alone None = refl
@@ -78,7 +78,7 @@ module _ {view mid : SessionView} {T : Type 0} {looked : T} (looks : LooksOn vie
         let had = passed.each told state kept shows relation at values spelled in
         let spells = shows.store.spells in
         let led = subst (λ (c : CatalogView). IsNextUnique c.listing number after (Some found)) looks.catalog next state.base.definitions relation spells.listed spells.defines at had.are.passed had.are.left had.are.split had.are.ends in
-        let its : image.relation ≡ number = ap (λ (i : ImageEntry). i.relation) (same_Some _ _ (sym here ∙ of.at)) ∙ of.of in
+        let its : image.relation ≡ number = of_relation here of in
         let here_too : image_at view.store.catalog.listing found ≡ Some image = ap (λ (c : CatalogView). image_at c.listing found) (sym looks.catalog) ∙ here in
         let within : relation_at mid.store.catalog.listing image.relation ≡ Some relation = ap (λ (c : CatalogView). relation_at c.listing image.relation) looks.catalog ∙ ap (relation_at view.store.catalog.listing) its ∙ at in
         let more = one_more had.are led here_too its at in

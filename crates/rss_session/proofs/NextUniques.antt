@@ -1,7 +1,6 @@
 -- The least listed image behind those that were passed is the next of the machine's list.
-use Rattle.std.proofs.Common.{◌≡◌, ◌⊎◌, inl, inr, ⊎_elim, ℕ, zero, suc, ◌+◌, ◌<◌, ◌≤◌, Bool, true, List, [], ◌∷◌, ◌++◌, length, get_or, refl, sym, ◌∙◌, ap, subst, arith, append_assoc, append-nil, length-append}
-use Rattle.std.specs.Prelude.{Option, Some, None, IfSome, All, is_some, option_map, unwrap_or, filter, ◌&&◌, if◌then◌else◌, map as list_map, ⊤}
-use Rattle.std.specs.Ordering.{eq_by_cmp}
+use Rattle.std.proofs.Common.{◌≡◌, inl, inr, ⊎_elim, ℕ, zero, suc, ◌+◌, ◌<◌, ◌≤◌, Bool, true, List, [], ◌∷◌, ◌++◌, length, get_or, refl, sym, ◌∙◌, ap, subst, arith, append_assoc, append-nil, length-append}
+use Rattle.std.specs.Prelude.{Option, Some, None, IfSome, All, is_some, option_map, unwrap_or, filter, ◌&&◌, map as list_map, ⊤}
 use Rattle.std.specs.Cmp.{Equal-is}
 use Rattle.std.specs.FinMap as map
 use Rattle.std.specs.FinMap.{entries_sorted, is_sorted, len-entries}
@@ -278,6 +277,10 @@ next_unique None all none definitions entry fits defines at passed left split en
     none_left definitions _ entry fits defines at passed left split ends (λ k is. none k (all k is) is)
 next_unique (Some number) all least definitions entry fits defines at passed left split ends =
     leads definitions _ entry fits defines at passed left split ends number least.is (λ k is. least.least k (all k is) is)
+
+-- the image of a number is one of the relation
+pub of_relation : {listing : Listing} {found number : ℕ} {image : ImageEntry} → image_at listing found ≡ Some image → IsImageOf listing found number → image.relation ≡ number
+of_relation at of = ap (λ (i : ImageEntry). i.relation) (same_Some _ _ (sym at ∙ of.at)) ∙ of.of
 
 -- ---- a walk along them
 

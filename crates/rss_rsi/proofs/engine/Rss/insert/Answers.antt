@@ -170,8 +170,15 @@ hold-requires-clause-free g c =
 pub hold-requires-clause-room : goal.hold-requires-clause-room
 hold-requires-clause-room g c =
     let claim = c.in_ok-needs.ensures in
-    omega (arith, claim.ends.room, ap (λ (needs : Vec Need Global). length needs.items) claim.same, c.pop.new.self.ok, ap length c.in-Some-pop.ensures.items, length-append c.pop.new.self.items (c.in-Some-pop.field-0 ∷ []),
-    ap (λ (t : LockTable). (told t).spare) c.find_duplicate.ensures.locks)
+    omega (
+      arith,
+      claim.ends.room,
+      ap (λ (needs : Vec Need Global). length needs.items) claim.same,
+      c.pop.new.self.ok,
+      ap length c.in-Some-pop.ensures.items,
+      length-append c.pop.new.self.items (c.in-Some-pop.field-0 ∷ []),
+      ap (λ (t : LockTable). (told t).spare) c.find_duplicate.ensures.locks,
+    )
 
 -- ---- no other tuple has one
 
@@ -193,6 +200,7 @@ change-requires-clause-bounded g c = (c.in_ok-tid.ensures.place.named.low, c.val
 
 pub returns-in_err-change-clause-did : goal.returns-in_err-change-clause-did
 returns-in_err-change-clause-did g c =
+    let none : c.in_ok-owned.owned ≡ None = cc in
     let counted = c.in_ok-ask.ensures in
     let placed = c.in_ok-tid.ensures in
     let claim = c.in_ok-needs.ensures in
@@ -203,7 +211,6 @@ returns-in_err-change-clause-did g c =
     let spelled = subst (λ (fields : List FieldDef). Spells (kinds fields) c.values_of-values.result c.args.tuple.now) c.as_slice-fields.ensures c.values_of-values.ensures.spelled in
     let lists = lists_before (parts_of c.ask.new.self) (parts_of c.place_for.new.self) (λ (tables : Tables). putting tables c.args.relation.now c.in_ok-tid.tid c.args.tuple.now) placed.looks (record { locks = same; scans = ap scans_told placed.scans }) c.in-Ok.ensures.lists in
     let claimed = claimed_from (told c.ask.new.self.locks) (told c.place_for.new.self.locks) (told c.claim.new.self.locks) same claim.ends in
-    let none : c.in_ok-owned.owned ≡ None = cc in
     asked g.S.Pages.view counted.session counted.locks counted.scans
     (ends_short (looks_then looks owned.looks)
     (insert_ends (parts_of c.ask.new.self) admitted placed.looks placed.place lists claimed spelled c.values_of-values.ensures.short (omega arith) (omega arith) (omega arith)
@@ -230,6 +237,7 @@ hold-requires-2-clause-room g c =
 
 pub returns-clause-did : goal.returns-clause-did
 returns-clause-did g c =
+    let none : c.in_ok-owned.owned ≡ None = cc in
     let counted = c.in_ok-ask.ensures in
     let placed = c.in_ok-tid.ensures in
     let claim = c.in_ok-needs.ensures in
@@ -241,7 +249,6 @@ returns-clause-did g c =
     let lists = lists_before (parts_of c.ask.new.self) (parts_of c.place_for.new.self) (λ (tables : Tables). putting tables c.args.relation.now c.in_ok-tid.tid c.args.tuple.now) placed.looks (record { locks = same; scans = ap scans_told placed.scans }) c.in-Ok.ensures.lists in
     let claimed = claimed_from (told c.ask.new.self.locks) (told c.place_for.new.self.locks) (told c.claim.new.self.locks) same claim.ends in
     let held = c.hold-2.ensures in
-    let none : c.in_ok-owned.owned ≡ None = cc in
     asked g.S.Pages.view counted.session counted.locks counted.scans
     (ends_made (looks_then looks owned.looks)
     (insert_ends (parts_of c.ask.new.self) admitted placed.looks placed.place lists claimed spelled c.values_of-values.ensures.short (omega arith) (omega arith) (omega arith)

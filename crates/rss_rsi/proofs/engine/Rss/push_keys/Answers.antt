@@ -1,8 +1,7 @@
-use Rattle.std.proofs.Common.{◌≡◌, ◌∙◌, sym, ap, subst, arith}
+use Rattle.std.proofs.Common.{◌≡◌, subst, arith}
 use Rattle.std.specs.Prelude.{None, option_copied}
-use Rattle.std.proofs.lemmas.Option.{same_Some}
-use Rattle.rss_base.specs.declared.image.ImageEntry.{ImageEntry}
 use Rattle.rss_session.specs.Uniques.{IsNextUnique}
+use Rattle.rss_session.proofs.NextUniques.{of_relation}
 use Rattle.rss_rsi.specs.Locking.{given}
 use Rattle.rss_rsi.specs.Parts.{parts_of, session_of}
 use Rattle.rss_rsi.proofs.KeyLocks.{have_key, keys_all, keys_begun, keys_ended, keys_more}
@@ -23,12 +22,12 @@ returns-in_default-clause-keys g c =
 pub push_key-requires-clause-has : goal.push_key-requires-clause-has
 push_key-requires-clause-has g c =
     let of = rw c.in-Some.is at c.next_unique.ensures.of in
-    have_key (session_of c.args.self.now).store.catalog.listing c.args.number (option_copied c.args.was) c.requires.was c.image-entry.ensures.safe (ap (λ (i : ImageEntry). i.relation) (same_Some _ _ (sym c.image-entry.ensures.is ∙ of.at)) ∙ of.of)
+    have_key (session_of c.args.self.now).store.catalog.listing c.args.number (option_copied c.args.was) c.requires.was c.image-entry.ensures.safe (of_relation c.image-entry.ensures.is of)
 
 pub push_key-requires-in-loop-place-clause-has : goal.push_key-requires-in-loop-place-clause-has
 push_key-requires-in-loop-place-clause-has g c =
     let of = rw c.in-Some.is at c.next_unique.ensures.of in
-    have_key (session_of c.args.self.now).store.catalog.listing c.args.number (option_copied c.args.to) c.requires.to c.image-entry.ensures.safe (ap (λ (i : ImageEntry). i.relation) (same_Some _ _ (sym c.image-entry.ensures.is ∙ of.at)) ∙ of.of)
+    have_key (session_of c.args.self.now).store.catalog.listing c.args.number (option_copied c.args.to) c.requires.to c.image-entry.ensures.safe (of_relation c.image-entry.ensures.is of)
 
 pub loop-place-preserved : goal.loop-place-preserved
 loop-place-preserved g c = record {

@@ -1,14 +1,12 @@
 use Rattle.std.proofs.Common.{◌≡◌, ◌∙◌, sym, ap, subst, arith}
-use Rattle.std.specs.Prelude.{Some, None, Option, IfSome}
-use Rattle.std.proofs.lemmas.Option.{same_Some}
+use Rattle.std.specs.Prelude.{None}
 use Rattle.rss_base.specs.Listings.{relation_at}
-use Rattle.rss_base.specs.declared.image.ImageEntry.{ImageEntry}
 use Rattle.rss_catalog.specs.Catalogs.{CatalogView}
-use Rattle.rss_access.specs.Moved.{IsImageOf}
 use Rattle.rss_session.specs.Parts.{view}
 use Rattle.rss_session.specs.Uniques.{IsNextUnique}
 use Rattle.rss_session.proofs.Behind.{looks_as, looks_failed, looks_itself, looks_then}
 use Rattle.rss_session.proofs.Duplicates.{none_begun, none_many, none_more, none_owned, some_owned}
+use Rattle.rss_session.proofs.NextUniques.{of_relation}
 use Rattle.rss_session.proofs.session.Session.find_duplicate.Goals as goal
 
 pub loop-place-init : goal.loop-place-init
@@ -32,7 +30,7 @@ find_owner-requires-clause-ready g c = c.loop-place.invariant.looks.ready
 pub find_owner-requires-clause-spelled : goal.find_owner-requires-clause-spelled
 find_owner-requires-clause-spelled g c = λ entry relation listed.
     let of = rw c.in-Some.is at c.next_unique.ensures.of in
-    let its : entry.relation ≡ c.args.number = ap (λ (i : ImageEntry). i.relation) (same_Some _ _ (sym listed.at ∙ of.at)) ∙ of.of in
+    let its : entry.relation ≡ c.args.number = of_relation listed.at of in
     c.requires.spelled relation (ap (λ (catalog : CatalogView). relation_at catalog.listing c.args.number) (sym c.loop-place.invariant.looks.catalog)
     ∙ ap (relation_at (view g.S.Pages.view c.loop-place.self).store.catalog.listing) (sym its) ∙ listed.within)
 
