@@ -10,3 +10,4 @@ pub mod Admissions
 pub mod FieldTests
 pub mod Definitions
 pub mod Imaging
+pub mod Uniques

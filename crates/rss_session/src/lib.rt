@@ -14,6 +14,7 @@ mod looking;
 mod opening;
 mod saving;
 mod session;
+mod uniques;
 mod weighing;
 
 pub use defining::{has_twice, test_fields};
