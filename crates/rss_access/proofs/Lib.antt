@@ -8,6 +8,7 @@ pub mod Heaped
 pub mod Imaged
 pub mod Spelling
 pub mod Writing
+pub mod Within
 pub mod Telling
 pub mod Between
 pub mod Showing

@@ -77,6 +77,7 @@ module _ (old : SessionView) {pages : PagesView} {asks writes : ℕ} (passes : P
       only = λ key is. ready.store.only key (sym (ap (λ (m : Mapped). m key) mapped) ∙ is);
       pending_places = ready.store.pending_places;
       settled_now = passes.leaves.stays_settled ready.store.settled_now;
+      no_links = ready.store.no_links;
       plain = ready.store.plain;
       heaps = heaps;
       tables = has_tables_still passes.slots refl passes.leaves.told.1 (λ told key off. ap (λ (h : Held). h key) (held told)) ready.store.tables;
