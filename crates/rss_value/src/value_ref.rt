@@ -71,7 +71,8 @@ impl<'a> ValueRef<'a> {
     pub fn write_key_part(&self, kind: FieldKind, into: &mut Key)
         requires fit { fits kind (value_of self.now) ≡ true }
         requires room { length into.old + key_part_width kind ≤ KEY_BYTES }
-        ensures { into.new ≡ into.old ++ key_part kind (value_of self.now) }
+        ensures written { into.new ≡ into.old ++ key_part kind (value_of self.now) }
+        ensures storable { IsStorable (value_of self.now) }
     {
         match (self, kind) {
             (ValueRef::Int(number), _) => {
