@@ -6,6 +6,7 @@ use Rattle.std.proofs.lemmas.Option.{same_Some}
 use Rattle.rss_base.specs.Trees.{Pair}
 use Rattle.rss_base.specs.TupleTypes.{kinds, field_names, chosen, misfit, IsStorable}
 use Rattle.rss_base.specs.Listings.{Listing, ListingFits, IsNumberOf, IsFieldNumber, field_numbers}
+use Rattle.rss_base.specs.declared.field.FieldDef.{FieldDef}
 use Rattle.rss_base.specs.declared.name.Name.{Name}
 use Rattle.rss_base.specs.declared.tid.Tid.{Tid}
 use Rattle.rss_base.specs.declared.value.Value.{Value}
@@ -16,7 +17,7 @@ use Rattle.rss_base.specs.declared.refusal.Kind.TheVariants.{Relation as Relatio
 use Rattle.rss_node.specs.Pairs.{pair_bytes, pair_from, IsSpelledTid}
 use Rattle.rss_model.specs.Items.{Content, Values}
 use Rattle.rss_model.specs.Tables.{RelationDef, Tables, content, fields_in, fields_of}
-use Rattle.rss_model.specs.Images.{image_list, numbers_of}
+use Rattle.rss_model.specs.Images.{image_list, key_kinds, numbers_of}
 use Rattle.rss_model.specs.Store.{Defines, IsListedImage, image_definition, pair_spelled}
 use Rattle.rss_model.proofs.Listed.{listed}
 use Rattle.rss_model.proofs.LogChanging.{by_item, put_here, put_other}
@@ -26,6 +27,7 @@ use Rattle.rss_model.proofs.Putting.{same_parts, values_of}
 use Rattle.rss_model.proofs.Relisted.{number_of}
 use Rattle.rss_model.proofs.SeenAlike.{entries_same}
 use Rattle.rss_entries.specs.Rooms.{width_of}
+use Rattle.rss_entries.specs.Seeking.{kinds_in}
 use Rattle.rss_entries.specs.Moving.{KeyKinds, pair_with, less, more, moved_pairs, HoldsEntry}
 use Rattle.rss_entries.specs.Images.{key_of, AreTuples, TupleMove, after_move, CanMove}
 use Rattle.rss_entries.proofs.Orders.{Rise, same_pairs, each_of_in, in_contains, with_in, in_with, with_rises, without_in, in_without, without_rises}
@@ -92,6 +94,12 @@ module _ {listing : Listing} (tables : Tables) (fits : ListingFits listing) (def
       let same : its.relation ≡ relation = same_Some _ _ (sym its.listed ∙ at.within) in
       numbers_back relation.fields (fits.relations image.relation relation at.within).fields.apart (field_numbers image)
       (subst (λ (r : RelationEntry). All (IsFieldNumber (length r.fields)) (field_numbers image)) same its.within)
+
+  -- the kinds of the image's fields by their names are those by their numbers
+  pub kinds_listed : key_kinds (fields_in tables.definitions relation.name) (image_definition image relation).fields ≡ kinds_in image relation
+  kinds_listed =
+      ap (λ (fields : List FieldDef). key_kinds fields (image_definition image relation).fields) fields_are
+      ∙ ap (λ (numbers : List ℕ). kinds (chosen numbers relation.fields)) numbers_are
 
   -- where the tuples are their relations', and their values and identifiers can be spelled
   pub listed_shows : AreTuples tables → ((name : Name) (tid : Tid) (values : List Value) → content tables.contents (TupleItem name tid) ≡ Some (Values values) → All IsStorable values)

@@ -23,3 +23,6 @@ pub mod Updates
 pub mod Inserts
 pub mod Deletes
 mod Opened
+pub mod Spelled
+pub mod Long
+pub mod ImageScans

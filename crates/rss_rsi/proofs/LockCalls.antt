@@ -30,7 +30,8 @@ use Rattle.rss_session.specs.Sessions.{SessionView}
 use Rattle.rss_rsi.specs.Locking.{Lists, IsClaimed, ClaimEnds}
 use Rattle.rss_rsi.specs.Views.{RssParts, SameHeld, engine_view}
 use Rattle.rss_rsi.proofs.Claims.{bars_as, locked_as, free_as, claim_fails}
-use Rattle.rss_rsi.proofs.Ways.{answers, goes_nowhere, keeps_same, leads_by, refused_early, shows_locked, still_scanned}
+use Rattle.rss_rsi.proofs.Spelled.{still_scans}
+use Rattle.rss_rsi.proofs.Ways.{answers, goes_nowhere, keeps_same, leads_by, refused_early, shows_locked}
 
 -- ---- refusals that keep no locks
 
@@ -92,4 +93,4 @@ module _ {parts : RssParts} (t : ℕ) (item : Item) (exclusive : Bool) {n m : �
           granule)
           (shows_locked _ (subst (λ (session : SessionView). Shows session state) (sym same) is_in.shows))
           (locked_as is_in (Lock t item exclusive) list_is t refl ∙ ap (granted t list) (sym free.same) ∙ sym taken)
-          (still_scanned scans refl is_in.scanned)))
+          (still_scans scans refl is_in.scanned)))

@@ -53,7 +53,8 @@ use Rattle.rss_rsi.proofs.Looks.{goes_costly, passed_call}
 use Rattle.rss_rsi.proofs.Scans.{StandsAlong, last_of, none_unlisted, not_scanned, scans_full, scans_left, stands_along, stands_for, unused}
 use Rattle.rss_rsi.proofs.TransactionSteps.{number_line}
 use Rattle.rss_rsi.proofs.TupleTests.{admission_keeps}
-use Rattle.rss_rsi.proofs.Ways.{answers, goes_nowhere, keeps_same, left_bare, left_same, leads_by, refused_alike, refused_early, shows_locked, shows_scanned, still_scanned}
+use Rattle.rss_rsi.proofs.Spelled.{still_scans}
+use Rattle.rss_rsi.proofs.Ways.{answers, goes_nowhere, keeps_same, left_bare, left_same, leads_by, refused_alike, refused_early, shows_locked, shows_scanned}
 
 -- ---- the tests
 
@@ -202,7 +203,7 @@ module _ {parts : RssParts} (t number : ℕ) (opened : Says parts.session (λ st
           let stand = stand_in state is_in in
           leads_by state looks.moments told is_in
           (stops t number stand.scan (passes_in told state is_in) stand.there (along_listed known named stand None (none known state (record { told = told; is_in = is_in; at = listed }))))
-          (looks.shows told state is_in.shows) (is_in.locked ∙ sym locks) (still_scanned scans refl is_in.scanned)))
+          (looks.shows told state is_in.shows) (is_in.locked ∙ sym locks) (still_scans scans refl is_in.scanned)))
 
       -- or a tuple does
       pub next_gives : (tid : Tid) (values : List Value) → FindsRow parts place after tid values

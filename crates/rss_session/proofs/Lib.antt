@@ -30,3 +30,5 @@ pub mod Backwards
 pub mod Restored
 pub mod Aborted
 pub mod Props
+pub mod Starts
+pub mod ImagesShown

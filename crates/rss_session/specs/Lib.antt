@@ -8,3 +8,4 @@ pub mod Parts
 pub mod Admissions
 pub mod FieldTests
 pub mod Definitions
+pub mod Imaging

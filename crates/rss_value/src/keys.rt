@@ -1,5 +1,5 @@
 // Keys: the bytes by which tuples are ordered.
-ghost use Rattle.std.specs.Prelude.{◌≡◌, ◌↔◌, ◌+◌, ◌≤◌, [], ◌∷◌, ◌++◌, List, length, Some, None, All, OnOk, IfErr};
+ghost use Rattle.std.specs.Prelude.{◌≡◌, ◌↔◌, ◌+◌, ◌≤◌, [], ◌∷◌, ◌++◌, List, length, replicate, Some, None, All, OnOk, IfErr};
 ghost use Rattle.std.specs.Ordering.{nat_cmp};
 ghost use Rattle.std.specs.Cmp.Lexicographic.{slice_cmp};
 ghost use Rattle.rss_base.specs.TupleTypes.{kinds, misfit, most_fields, values_cmp, most_key_width, key_width, key_bytes, chosen, Spells, SpellsSome, IsKeyOf};
@@ -8,7 +8,8 @@ ghost use Rattle.rss_base.specs.declared.value.FieldKind.{FieldKind};
 ghost use Rattle.rss_value.specs.Numbers.{IsNumberOf};
 
 use crate::cursor::Cursor;
-use crate::value_ref::ValueRef;
+use crate::value_ref::{ValueRef, push_zeros};
+use crate::widths::key_width;
 use rss_base::{FieldDef, KEY_BYTES, Key, Tuple};
 use std::cmp::Ordering;
 
@@ -86,6 +87,17 @@ pub fn key_from(fields: &[FieldDef], which: &[u8], key: &Tuple, into: &mut Key)
         let field = &fields[usize::from(*place) - 1];
         ValueRef::new(value).write_key_part(field.kind, into);
     }
+}
+
+/// Writes the bytes that are at or below each key of an image of these of the fields: zeros.
+pub fn least_key(fields: &[FieldDef], which: &[u8], into: &mut Key)
+    requires numbers { All (IsNumberOf fields.now) which.now }
+    requires few { length which.now ≤ most_fields }
+    requires narrow { key_width (chosen which.now (kinds fields.now)) ≤ most_key_width }
+    requires empty { into.old ≡ [] }
+    ensures { into.new ≡ replicate (key_width (chosen which.now (kinds fields.now))) 0 }
+{
+    push_zeros(into, key_width(fields, which));
 }
 
 /// The order of two keys, which is that of the values that they are made from.

@@ -108,7 +108,7 @@ fn invert_sign(number: [u8; 8]) -> [u8; 8]
     inverted
 }
 
-fn push_zeros(into: &mut Key, count: usize)
+pub(crate) fn push_zeros(into: &mut Key, count: usize)
     requires { length into.old + count ≤ KEY_BYTES }
     ensures { into.new ≡ into.old ++ replicate count 0 }
 {
