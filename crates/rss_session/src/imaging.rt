@@ -40,7 +40,6 @@ impl<S: Saving> Session<S> {
         ensures wide { IfOk result (λ found. IfSome found (λ pair.
             IsKeyLong (view S.view self.old).store.catalog.listing number pair.0)) }
     {
-        let _ = (&self.store, number, start, last);
         unreachable!()
     }
 }
