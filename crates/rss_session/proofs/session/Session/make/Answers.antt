@@ -6,7 +6,8 @@ use Rattle.rss_model.specs.Rules.{saved_now}
 use Rattle.rss_model.proofs.OpenKeeping.{keeps_meter}
 use Rattle.rss_session.proofs.Made.{weighed_again, may_then, makes_then}
 use Rattle.rss_session.proofs.Passing.{goes_then}
-use Rattle.rss_session.proofs.StaysOpen.{same_stay}
+use Rattle.rss_store.proofs.Definitions.{same_then}
+use Rattle.rss_session.proofs.StaysOpen.{same_listed, same_stay}
 use Rattle.rss_session.proofs.session.Session.make.Goals as goal
 
 pub change-requires-2-clause-place : goal.change-requires-2-clause-place
@@ -51,3 +52,7 @@ returns-clause-goes g c = goes_then c.in_ok-checkpoint.ensures.goes c.change-2.e
 pub returns-clause-stay : goal.returns-clause-stay
 returns-clause-stay g c =
     on_ok_weaker c.change-2.result (λ stays u is. stays u (same_stay _ c.in_ok-checkpoint.ensures.anew.transactions u is)) c.change-2.ensures.stay
+
+pub returns-clause-listed : goal.returns-clause-listed
+returns-clause-listed g c =
+    on_ok_weaker c.change-2.result (λ listed. same_then (same_listed c.in_ok-checkpoint.ensures.anew.listing) listed) c.change-2.ensures.listed
