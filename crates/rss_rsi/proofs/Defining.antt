@@ -209,7 +209,7 @@ module _ {S : Type 0} (pages_view : S → PagesView) {to : Definition S} {now : 
           (subst (λ (v : SessionView). Appends largest_checkpoint v new) (sym (but_catalog pages_view redefines)) appends)
           (λ t. omega (arith, on_before.saves t))
           (holders_stay before (with_held new) is.ready.holders (opened_stay before.session new (opened_same transactions)) (ap (λ (l : LocksView). l.locks) is.locked))
-          (λ number scan has. absurd (true≢false (sym (is.ready.scans number scan (ap (λ (s : OpenScans). get s number) (sym is.scanned) ∙ has)).open ∙ none_open_in before.session redefines.closed scan.owner)))
+          (λ number scan has. absurd (true≢false (sym (is.ready.scans number scan (ap (λ (s : OpenScans). get s number) (sym is.scanned) ∙ has)).owner ∙ none_open_in before.session redefines.closed scan.owner)))
 
     -- the device failed, or shows damage, which none does that tells its contents
     pub redefining_fails : {new : SessionView} {fault : PageFault} {up_now : Type 0} (answer : Result Reply CallError) → IsErrAnd answer (λ why. why ≡ page_error fault) → (up_now → ⊥)

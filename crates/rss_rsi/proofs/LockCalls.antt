@@ -35,7 +35,7 @@ use Rattle.rss_rsi.proofs.Ways.{answers, goes_nowhere, keeps_same, leads_by, ref
 
 -- ---- refusals that keep no locks
 
-unless_keeps : (holds : Bool) (other : Refusal) {why : Refusal} → keeps_locks other ≡ false → refused_unless holds other ≡ Some why → keeps_locks why ≡ false
+pub unless_keeps : (holds : Bool) (other : Refusal) {why : Refusal} → keeps_locks other ≡ false → refused_unless holds other ≡ Some why → keeps_locks why ≡ false
 unless_keeps true other none is = absurd (cc)
 unless_keeps false other none is = let same : other ≡ _ = cc in ap keeps_locks (sym same) ∙ none
 

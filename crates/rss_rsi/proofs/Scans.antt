@@ -149,36 +149,36 @@ last_of cursor = option_map (λ given. given.1) cursor.last
 -- what gives the cursor along a relation goes along it, and gave this last
 pub record GoesAlong (path : MachinePath) (last : Option Entry) (relation : Name) (after : Option Tid) : Type 0 where
   pub along : path ≡ RelationPath relation
-  pub last : last ≡ option_map (entry []) after
+  pub gave : last ≡ option_map (entry []) after
 
-pub goes_along : {definitions : Definitions} (path : MachinePath) (last : Option Entry) {cursor : Cursor} (relation : Name) → spelling definitions path last ≡ cursor → HasKeys definitions path last → cursor.path ≡ Relation relation → GoesAlong path last relation (last_of cursor)
-goes_along (RelationPath name) last {cursor = cursor} relation is keys at =
+pub goes_along : (definitions : Definitions) (path : MachinePath) (last : Option Entry) {cursor : Cursor} (relation : Name) → spelling definitions path last ≡ cursor → HasKeys definitions path last → cursor.path ≡ Relation relation → GoesAlong path last relation (last_of cursor)
+goes_along definitions (RelationPath name) last {cursor = cursor} relation is keys at =
     let same : Relation name ≡ Relation relation = ap (λ (c : Cursor). c.path) is ∙ at in
     let one : name ≡ relation = cc (same) in
-    record { along = ap RelationPath one; last = by last keys ∙ ap (λ (c : Cursor). option_map (entry []) (last_of c)) is }
+    record { along = ap RelationPath one; gave = by last keys ∙ ap (λ (c : Cursor). option_map (entry []) (last_of c)) is }
   where
     by : (last : Option Entry) → IfSome last (λ e. e.key ≡ []) → last ≡ option_map (entry []) (option_map (λ (given : List ℕ × Tid). given.1) (option_map (pair_spelled []) last))
     by None keys = refl
     by (Some e) keys = ap (λ (key : List Value). Some (entry key e.tid)) keys
-goes_along (ImagePath image start) last relation is keys at =
+goes_along definitions (ImagePath image start) last relation is keys at =
     let same : Image image _ ≡ Relation relation = ap (λ (c : Cursor). c.path) is ∙ at in absurd (cc (same))
-goes_along (LinkPath link parent) last relation is keys at =
+goes_along definitions (LinkPath link parent) last relation is keys at =
     let same : Link link parent ≡ Relation relation = ap (λ (c : Cursor). c.path) is ∙ at in absurd (cc (same))
 
 -- no scan that may go on loses its place
-pub none_lost : {definitions : Definitions} {listing : Listing} (state : State) (path : MachinePath) (last : Option Entry) {cursor : Cursor} → spelling definitions path last ≡ cursor → AreLong listing cursor.path cursor.last → unless_in_chain state path last ≡ None
-none_lost state (RelationPath relation) last is long = refl
-none_lost state (ImagePath image start) last is long = refl
-none_lost {listing = listing} state (LinkPath link parent) last is long = absurd (subst (λ (c : Cursor). AreLong listing c.path c.last) (sym is) long)
+pub none_lost : (definitions : Definitions) (listing : Listing) (state : State) (path : MachinePath) (last : Option Entry) {cursor : Cursor} → spelling definitions path last ≡ cursor → AreLong listing cursor.path cursor.last → unless_in_chain state path last ≡ None
+none_lost definitions listing state (RelationPath relation) last is long = refl
+none_lost definitions listing state (ImagePath image start) last is long = refl
+none_lost definitions listing state (LinkPath link parent) last is long = absurd (subst (λ (c : Cursor). AreLong listing c.path c.last) (sym is) long)
 
 -- ---- along a relation
 
 module _ {parts : RssParts} {t number : ℕ} {cursor : Cursor} (has : cursor_of parts.scans t number ≡ Some cursor) (relation : Name) (at : cursor.path ≡ Relation relation) (after : Option Tid) (last : after ≡ last_of cursor) where
   its_way : {state : State} {scan : MachineScan} → IsScanIn parts t number state scan → GoesAlong scan.path scan.last relation after
-  its_way {scan = scan} in_it = subst (GoesAlong scan.path scan.last relation) (sym last) (goes_along scan.path scan.last relation (spelled_in in_it has) (keys_in in_it) at)
+  its_way {state = state} {scan = scan} in_it = subst (GoesAlong scan.path scan.last relation) (sym last) (goes_along state.base.definitions scan.path scan.last relation (spelled_in in_it has) (keys_in in_it) at)
 
   next_is : {state : State} {scan : MachineScan} → IsScanIn parts t number state scan → next_of_scan (now state) scan ≡ next_along (now state) (RelationPath relation) (option_map (entry []) after)
-  next_is {state = state} in_it = let way = its_way in_it in λ i. next_along (now state) (way.along i) (way.last i)
+  next_is {state = state} in_it = let way = its_way in_it in λ i. next_along (now state) (way.along i) (way.gave i)
 
   -- one that isn't listed has none
   pub unlisted_next : IsUnlisted RelationKind parts.session.store.catalog.listing relation → FindsNext parts t number None
@@ -266,7 +266,7 @@ module _ {listing : Listing} {opened : OpenView} (scans : OpenScans) (may : AllM
 
   -- a scan has given a key, or was closed
   pub given_may : (key : List ℕ) (tid : Tid) (was : Scan) → map.get scans number ≡ Some was → AreLong listing was.cursor.path (Some (key, tid)) → AllMayGoOn listing opened (map.insert scans number (given key tid was))
-  given_may key tid was there long = put_scan (given key tid was) (record { open = (may number was there).open; long = long })
+  given_may key tid was there long = put_scan (given key tid was) (record { owner = (may number was there).owner; long = long })
 
   pub closed_may : AllMayGoOn listing opened (map.remove scans number)
   closed_may k found has = by (eq_by_cmp nat_cmp k number) (sym (get-remove nat_cmp_total scans number k) ∙ has)
@@ -279,4 +279,4 @@ module _ {listing : Listing} {opened : OpenView} (scans : OpenScans) (may : AllM
 pub opened_may : {listing : Listing} {opened : OpenView} (scans later : OpenScans) (t : ℕ) (path : Path) (number : Option ℕ) → IfSome number (λ n. later ≡ map.insert scans n (begun t path)) → IfNone number (later ≡ scans) → is_open opened t ≡ true → AreLong listing path None → AllMayGoOn listing opened scans → AllMayGoOn listing opened later
 opened_may {listing = listing} {opened = opened} scans later t path None added same mine long may = subst (AllMayGoOn listing opened) (sym same) may
 opened_may {listing = listing} {opened = opened} scans later t path (Some number) added same mine long may =
-    subst (AllMayGoOn listing opened) (sym added) (put_scan scans may number (begun t path) (record { open = mine; long = long }))
+    subst (AllMayGoOn listing opened) (sym added) (put_scan scans may number (begun t path) (record { owner = mine; long = long }))

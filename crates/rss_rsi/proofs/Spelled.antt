@@ -29,9 +29,9 @@ removed_from scans number q scan is = by (eq_by_cmp nat_cmp q number) (sym (get-
     by true is = absurd (none-some _ is)
     by false is = is
 
-put_keys : {definitions : Definitions} (machine : Scans) (number : ℕ) (put : MachineScan) → HasKeys definitions put.path put.last → ((q : ℕ) (scan : MachineScan) → map.get machine q ≡ Some scan → HasKeys definitions scan.path scan.last)
+put_keys : (definitions : Definitions) (machine : Scans) (number : ℕ) (put : MachineScan) → HasKeys definitions put.path put.last → ((q : ℕ) (scan : MachineScan) → map.get machine q ≡ Some scan → HasKeys definitions scan.path scan.last)
     → (q : ℕ) (scan : MachineScan) → map.get (map.insert machine number put) q ≡ Some scan → HasKeys definitions scan.path scan.last
-put_keys {definitions = definitions} machine number put keys others q scan is = by (eq_by_cmp nat_cmp q number) (sym (get-insert nat_cmp_total machine number put q) ∙ is)
+put_keys definitions machine number put keys others q scan is = by (eq_by_cmp nat_cmp q number) (sym (get-insert nat_cmp_total machine number put q) ∙ is)
   where
     by : (b : Bool) → cond b (Some put) (map.get machine q) ≡ Some scan → HasKeys definitions scan.path scan.last
     by true is = subst (λ (s : MachineScan). HasKeys definitions s.path s.last) (same_Some _ _ is) keys
@@ -59,7 +59,7 @@ none_scanning {state = state} kept closed number = by (map.get state.scans numbe
 
 -- as they were
 pub still_scans : {definitions : Definitions} {old new : OpenScans} {was next : Scans} → new ≡ old → next ≡ was → AreScans definitions was old → AreScans definitions next new
-still_scans {definitions = definitions} same as_was are = subst (λ (s : OpenScans). AreScans definitions _ s) (sym same) (subst (λ (m : Scans). AreScans definitions m _) (sym as_was) are)
+still_scans {definitions = definitions} {old = old} {next = next} same as_was are = subst (AreScans definitions next) (sym same) (subst (λ (m : Scans). AreScans definitions m old) (sym as_was) are)
 
 pub closed_scans : {definitions : Definitions} {machine : Scans} {scans : OpenScans} (t : ℕ) → AreScans definitions machine scans → AreScans definitions (closed t machine) (closed_for t scans)
 closed_scans {definitions = definitions} {machine = machine} {scans = scans} t are = record {
@@ -84,7 +84,7 @@ pub added_scans : {definitions : Definitions} {machine : Scans} {scans : OpenSca
     → AreScans definitions (map.insert machine number (new_scan t along)) (map.insert scans number (begun t path))
 added_scans {definitions = definitions} {machine = machine} {scans = scans} t number along path are same keys = record {
   spelled = added_spelled (spelling definitions) machine scans t number along path are.spelled same;
-  keys = put_keys machine number (new_scan t along) keys are.keys;
+  keys = put_keys definitions machine number (new_scan t along) keys are.keys;
 }
 
 pub given_scans : {definitions : Definitions} {machine : Scans} {scans : OpenScans} (number : ℕ) (scan : MachineScan) (next : Entry) (key : List ℕ) (tid : Tid) → AreScans definitions machine scans
@@ -92,5 +92,5 @@ pub given_scans : {definitions : Definitions} {machine : Scans} {scans : OpenSca
     → AreScans definitions (map.insert machine number (with_given scan next)) (map.insert scans number (given key tid (spelled (spelling definitions) scan)))
 given_scans {definitions = definitions} {machine = machine} {scans = scans} number scan next key tid are same keys = record {
   spelled = given_spelled (spelling definitions) machine scans number scan next key tid are.spelled same;
-  keys = put_keys machine number (with_given scan next) keys are.keys;
+  keys = put_keys definitions machine number (with_given scan next) keys are.keys;
 }

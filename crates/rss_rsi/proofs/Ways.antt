@@ -262,7 +262,7 @@ pub scans_stay : (old new : RssParts) → AllMayGoOn old.session.store.catalog.l
     → AllMayGoOn new.session.store.catalog.listing new.session.opened new.scans
 scans_stay old new may stay listed same number scan has =
     let was = may number scan (ap (λ (s : OpenScans). get s number) (sym same) ∙ has) in
-    record { open = stay scan.owner was.open; long = long_still listed scan.cursor.path scan.cursor.last was.long }
+    record { owner = stay scan.owner was.owner; long = long_still listed scan.cursor.path scan.cursor.last was.long }
 
 -- a transaction is gone with its scans
 pub scans_gone : (old new : RssParts) (t : ℕ) → AllMayGoOn old.session.store.catalog.listing old.session.opened old.scans → OthersStayOpen t old.session new.session → StaysListed old.session new.session → new.scans ≡ closed_for t old.scans
@@ -270,7 +270,7 @@ pub scans_gone : (old new : RssParts) (t : ℕ) → AllMayGoOn old.session.store
 scans_gone old new t may others listed closed number scan has =
     let left = closed_left t old.scans number scan (ap (λ (s : OpenScans). get s number) (sym closed) ∙ has) in
     let was = may number scan left.0 in
-    record { open = others scan.owner left.1 was.open; long = long_still listed scan.cursor.path scan.cursor.last was.long }
+    record { owner = others scan.owner left.1 was.owner; long = long_still listed scan.cursor.path scan.cursor.last was.long }
 
 -- from before the call on, the log has so many bytes more, and no transaction more than one save point more
 pub ready_then : {old new : RssParts} {calls more appended : ℕ} → IsReady old calls → more ≡ calls + 1 → appended ≤ 2 ^ 13 → IsSessionReady new.session → Appends appended old.session new.session

@@ -16,10 +16,10 @@ use Rattle.rss_rsi.specs.Views.{RssParts, IsIn, AreLong}
 
 -- any two proofs that a scan's keys are long are equal
 pub AreLong-prop : (listing : Listing) (path : Path) (last : Option (List ℕ × Tid)) → IsProp (AreLong listing path last)
-AreLong-prop listing (Relation relation) last one other = refl
+AreLong-prop listing (Relation relation) last = hlevel props
 AreLong-prop listing (Image image start) None = hlevel props
 AreLong-prop listing (Image image start) (Some given) = hlevel props
-AreLong-prop listing (Link link parent) last one other = absurd one
+AreLong-prop listing (Link link parent) last = hlevel props
 
 -- In each state that the store may be in, a stop leaves its committed tables; and behind a checkpoint, the overflow pages that it counts.
 pub opens_shown : {parts : RssParts} {state : State} → IsIn parts state

@@ -145,7 +145,7 @@ AreLong listing (Link link parent) last = ⊥
 
 -- A scan may go on: its transaction is open.
 pub record MayGoOn (listing : Listing) (opened : OpenView) (scan : Scan) : Type 0 where
-  pub open : is_open opened scan.owner ≡ true
+  pub owner : is_open opened scan.owner ≡ true
   pub long : AreLong listing scan.cursor.path scan.cursor.last
 
 abbrev pub AllMayGoOn : Listing → OpenView → OpenScans → Type 0
