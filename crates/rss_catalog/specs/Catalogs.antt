@@ -5,7 +5,7 @@ use Rattle.rss_base.specs.DiskRule.{IsTold}
 use Rattle.rss_base.specs.Paged.{Mapped, page_key}
 use Rattle.rss_base.specs.Steps.{PagesView}
 use Rattle.rss_base.specs.TupleTypes.{kinds, width, key_width, chosen, most_fields, most_width, most_key_width, are_kinds}
-use Rattle.rss_base.specs.Listings.{Listing, ListingFits, IsFieldNumber, HoldsListing, catalog_page, relation_at, image_at, field_numbers, with_segment, with_relation, with_image, relations_of_page, relation_pages, images_of_page}
+use Rattle.rss_base.specs.Listings.{Listing, ListingFits, IsNumberOf, IsFieldNumber, HoldsListing, catalog_page, relation_at, image_at, field_numbers, with_segment, with_relation, with_image, relations_of_page, relation_pages, images_of_page}
 use Rattle.rss_base.specs.declared.relation.RelationEntry.{RelationEntry}
 use Rattle.rss_base.specs.declared.image.ImageEntry.{ImageEntry}
 use Rattle.rss_base.specs.declared.refusal.Kind.{Kind}
@@ -114,6 +114,10 @@ pub record IsSafe (relation : RelationEntry) : Type 0 where
   pub few : length relation.fields ≤ most_fields
   pub narrow : width (kinds relation.fields) ≤ most_width
   pub formed : are_kinds (kinds relation.fields) ≡ true
+
+-- no lesser number of a kind has this name
+abbrev pub HasNoLesser : Kind → Listing → Name → ℕ → Type 0
+HasNoLesser kind listing name number = (k : ℕ) → k < number → IsNumberOf kind listing name k → ⊥
 
 -- an image that a listing may have, as far as its numbers go
 pub record IsSafeImage (listing : Listing) (image : ImageEntry) : Type 0 where

@@ -15,7 +15,7 @@ ghost use Rattle.rss_base.specs.declared.relation.RelationEntry.{RelationEntry a
 ghost use Rattle.rss_base.specs.declared.image.ImageEntry.{ImageEntry as AnImage};
 ghost use Rattle.rss_base.specs.declared.refusal.Kind.TheVariants.{Segment, Relation, Image};
 ghost use Rattle.rss_catalog.specs.Catalogs.{none_pending, pending_pages, page_of, Loads, IsCatalogPlace};
-ghost use Rattle.rss_catalog.specs.Catalogs.{StoresListing, HasSystemPages, Lists, without, HasRelationIn, HasImageOf, IsNamedIn};
+ghost use Rattle.rss_catalog.specs.Catalogs.{StoresListing, HasSystemPages, Lists, without, HasNoLesser, HasRelationIn, HasImageOf, IsNamedIn};
 ghost use Rattle.rss_catalog.specs.Catalogs.{IsSafe, IsSafeImage};
 ghost use Rattle.rss_catalog.specs.Checking.{AreSafeIn};
 
@@ -197,6 +197,7 @@ impl Catalog {
     /// The number of the definition of a kind that has this name.
     pub fn find(&self, kind: Kind, name: &Name) -> Option<u8>
         ensures some { IfSome result (IsNumberOf kind self.now.listing name.now) }
+        ensures first { IfSome result (HasNoLesser kind self.now.listing name.now) }
         ensures none { IfNone result (IsUnlisted kind self.now.listing name.now) }
     {
         for place in 0..self.places(kind) {

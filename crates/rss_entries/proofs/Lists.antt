@@ -4,8 +4,9 @@ use Rattle.std.specs.Prelude.{Option, Some, None, All, Contains, IfSome, is_some
 use Rattle.std.proofs.lemmas.List.{length-map}
 use Rattle.std.proofs.lemmas.Option.{same_Some}
 use Rattle.rss_base.specs.Trees.{Pair}
-use Rattle.rss_base.specs.TupleTypes.{kinds, misfit, IsStorable}
+use Rattle.rss_base.specs.TupleTypes.{kinds, chosen, misfit, IsStorable}
 use Rattle.rss_base.specs.Listings.{Listing, ListingFits, IsNumberOf}
+use Rattle.rss_base.specs.declared.field.FieldDef.{FieldDef}
 use Rattle.rss_base.specs.declared.name.Name.{Name}
 use Rattle.rss_base.specs.declared.tid.Tid.{Tid}
 use Rattle.rss_base.specs.declared.value.Value.{Value}
@@ -15,8 +16,8 @@ use Rattle.rss_base.specs.declared.relation.RelationEntry.{RelationEntry}
 use Rattle.rss_base.specs.declared.refusal.Kind.TheVariants.{Relation as RelationKind}
 use Rattle.rss_node.specs.Pairs.{pair_bytes, pair_from, IsSpelledTid}
 use Rattle.rss_model.specs.Items.{Content, Values}
-use Rattle.rss_model.specs.Tables.{RelationDef, Tables, content, fields_of}
-use Rattle.rss_model.specs.Images.{image_list}
+use Rattle.rss_model.specs.Tables.{RelationDef, Tables, content, fields_in, fields_of}
+use Rattle.rss_model.specs.Images.{image_list, key_kinds}
 use Rattle.rss_model.specs.Store.{Defines, IsListedImage, image_definition, pair_spelled}
 use Rattle.rss_model.proofs.Listed.{listed}
 use Rattle.rss_model.proofs.LogChanging.{by_item, put_here, put_other}
@@ -26,6 +27,7 @@ use Rattle.rss_model.proofs.Putting.{same_parts, values_of}
 use Rattle.rss_model.proofs.Relisted.{number_of}
 use Rattle.rss_model.proofs.SeenAlike.{entries_same}
 use Rattle.rss_entries.specs.Rooms.{width_of}
+use Rattle.rss_entries.specs.Seeking.{kinds_in}
 use Rattle.rss_entries.specs.Moving.{KeyKinds, pair_with, less, more, moved_pairs, HoldsEntry}
 use Rattle.rss_entries.specs.Images.{key_of, AreTuples, TupleMove, after_move, CanMove}
 use Rattle.rss_entries.proofs.Orders.{Rise, same_pairs, each_of_in, in_contains, with_in, in_with, with_rises, without_in, in_without, without_rises}
@@ -80,6 +82,12 @@ module _ {listing : Listing} (tables : Tables) (fits : ListingFits listing) (def
   kinds_are =
       let so = listed fits defines image.relation relation at.within in
       ap (option_map (λ (r : RelationDef). kinds r.fields)) (defines.relations image.relation relation so.0 so.1)
+
+  -- the kinds of the image's fields by their names are those by their numbers
+  pub kinds_listed : key_kinds (fields_in tables.definitions relation.name) (image_definition image relation).fields ≡ kinds_in image relation
+  kinds_listed =
+      ap (λ (fields : List FieldDef). key_kinds fields (image_definition image relation).fields) (fields_are fits defines at)
+      ∙ ap (λ (numbers : List ℕ). kinds (chosen numbers relation.fields)) (numbers_are fits defines at)
 
   -- where the tuples are their relations', and their values and identifiers can be spelled
   pub listed_shows : AreTuples tables → ((name : Name) (tid : Tid) (values : List Value) → content tables.contents (TupleItem name tid) ≡ Some (Values values) → All IsStorable values)

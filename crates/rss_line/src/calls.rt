@@ -26,6 +26,7 @@ pub(crate) fn is_built(call: &Call) -> bool
             | Call::Update(..)
             | Call::Delete(..)
             | Call::OpenRelation(..)
+            | Call::OpenImage(..)
             | Call::Next(..)
             | Call::CloseScan(..)
             | Call::Lock(..)

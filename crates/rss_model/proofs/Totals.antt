@@ -6,7 +6,7 @@ use Rattle.rss_base.specs.DiskRule.{Disk, Passes}
 use Rattle.rss_base.specs.declared.item.Item.{Item}
 use Rattle.rss_base.specs.declared.item.Item.TheVariants.{Tuple}
 use Rattle.rss_base.specs.declared.call.Call.{Call}
-use Rattle.rss_base.specs.declared.call.Call.TheVariants.{Begin, Save, Restore, End, Abort, Insert, Fetch, Update, Delete, OpenRelation, Next, CloseScan, Lock, Checkpoint, MakeSegment, MakeRelation, DropSegment, DropRelation}
+use Rattle.rss_base.specs.declared.call.Call.TheVariants.{Begin, Save, Restore, End, Abort, Insert, Fetch, Update, Delete, OpenRelation, OpenImage, Next, CloseScan, Lock, Checkpoint, MakeSegment, MakeRelation, DropSegment, DropRelation}
 use Rattle.rss_base.specs.declared.answer.Reply.TheVariants.{Ok as Done, Tid as Identifier, Number, Tuple as TupleReply, Row, End as AtEnd}
 use Rattle.rss_base.specs.declared.refusal.Refusal.{Refusal}
 use Rattle.rss_base.proofs.Moments.{widened}
@@ -23,7 +23,7 @@ use Rattle.rss_model.specs.Meter.{MayLead}
 use Rattle.rss_model.specs.Steps.{Answer, Step, tests, refusal, is_open, with_scan, with_given, MayUndo, undone_to, left_at, left_by, locked, holding, begun, with_save, restored, gone, changed, insertion, replacement, deletion, ended, redefined}
 use Rattle.rss_model.specs.Steps.MayUndo.{none, more}
 use Rattle.rss_model.specs.Rules.{saved_now}
-use Rattle.rss_model.specs.Scans.{RelationPath, Scan, scans_most, scan_of, new_scan, next_of_scan}
+use Rattle.rss_model.specs.Scans.{RelationPath, ImagePath, Scan, scans_most, scan_of, new_scan, next_of_scan}
 use Rattle.rss_model.specs.Steps.StepBy.{refuses, begins, saves, restores, aborts, checkpoints, inserts, fetches, updates, deletes, opens, gives, stops as ends_scan, closes, locks, ends, defines}
 use Rattle.rss_model.specs.Store.{OpensToEither}
 use Rattle.rss_model.specs.Turns.{IsStopped, IsUnmade}
@@ -140,6 +140,15 @@ module _ {state : State} (kept : Kept state) where
         answer = Ok (Number free.0);
         next = with_scan free.0 (new_scan t (RelationPath relation)) (locked (OpenRelation t relation) state);
         step = opens (OpenRelation t relation) t free.0 (RelationPath relation) is refl refl (omega (arith, free.1)) free.2;
+        same_base = λ not. refl;
+      }
+  passes (OpenImage t image start) built names granule is =
+      let passed = all_none (tests state (OpenImage t image start)) is in
+      let free = free_below state.scans scans_most (holds_not _ _ (passed 3 None (omega arith))) in
+      record {
+        answer = Ok (Number free.0);
+        next = with_scan free.0 (new_scan t (ImagePath image start)) (locked (OpenImage t image start) state);
+        step = opens (OpenImage t image start) t free.0 (ImagePath image start) is refl refl (omega (arith, free.1)) free.2;
         same_base = λ not. refl;
       }
   passes (Next t number) built names granule is =

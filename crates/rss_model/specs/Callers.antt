@@ -54,7 +54,7 @@ is_definition call = by (class_of call)
     by Defines = true
     by class = false
 
--- the calls that the engine makes as yet: of scans those of relations alone can be opened
+-- the calls that the engine makes as yet: of scans those of relations and of images can be opened
 abbrev pub is_built : Call → Bool
 is_built (Begin t) = true
 is_built (Save t) = true
@@ -66,6 +66,7 @@ is_built (Fetch t relation tid) = true
 is_built (Update t relation tid values) = true
 is_built (Delete t relation tid) = true
 is_built (OpenRelation t relation) = true
+is_built (OpenImage t image start) = true
 is_built (Next t scan) = true
 is_built (CloseScan t scan) = true
 is_built (Lock t item exclusive) = true

@@ -2,7 +2,7 @@
 use Rattle.std.specs.Prelude.{ℕ, ◌+◌, ◌*◌, ◌≤◌, Bool, true, false, Option, Some, None, IfSome}
 use Rattle.rss_base.specs.Runs.{run_pages}
 use Rattle.rss_base.specs.declared.call.Call.{Call}
-use Rattle.rss_base.specs.declared.call.Call.TheVariants.{Begin, Save, Restore, End, Abort, Fetch, OpenRelation, CloseScan, Lock, Checkpoint, MakeSegment, MakeRelation, DropSegment, DropRelation, DropImage, DropLink}
+use Rattle.rss_base.specs.declared.call.Call.TheVariants.{Begin, Save, Restore, End, Abort, Fetch, OpenRelation, OpenImage, CloseScan, Lock, Checkpoint, MakeSegment, MakeRelation, DropSegment, DropRelation, DropImage, DropLink}
 
 -- a count has risen by no more than this, where a bound is claimed
 abbrev pub RisesAtMost : Option ℕ → ℕ → ℕ → Type 0
@@ -15,6 +15,7 @@ most_asks (Save transaction) = Some 0
 most_asks (End transaction) = Some 0
 most_asks (Fetch transaction relation tid) = Some 2
 most_asks (OpenRelation transaction relation) = Some 0
+most_asks (OpenImage transaction image start) = Some 0
 most_asks (CloseScan transaction scan) = Some 0
 most_asks (Lock transaction item exclusive) = Some 0
 most_asks (MakeSegment name) = Some 0
@@ -29,6 +30,7 @@ most_writes (Begin transaction) = Some 0
 most_writes (Save transaction) = Some 0
 most_writes (Fetch transaction relation tid) = Some (run_pages * 2)
 most_writes (OpenRelation transaction relation) = Some 0
+most_writes (OpenImage transaction image start) = Some 0
 most_writes (CloseScan transaction scan) = Some 0
 most_writes (Lock transaction item exclusive) = Some 0
 most_writes call = None

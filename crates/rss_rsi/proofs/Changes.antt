@@ -49,7 +49,8 @@ use Rattle.rss_session.proofs.Passing.{goes_then, goes_still, goes_opened}
 use Rattle.rss_rsi.specs.Changing.{RulesSay, StillShows, ChangeEnds, IsChangeOf}
 use Rattle.rss_rsi.specs.Placing.{MayCost}
 use Rattle.rss_rsi.specs.Views.{RssParts, IsIn, SameHeld, engine_view}
-use Rattle.rss_rsi.proofs.Ways.{shows_locked, still_scanned, in_held, in_left, left_same, goes, LeadsAll, answers}
+use Rattle.rss_rsi.proofs.Spelled.{still_scans}
+use Rattle.rss_rsi.proofs.Ways.{shows_locked, in_held, in_left, left_same, goes, LeadsAll, answers}
 
 -- ---- what was weighed
 
@@ -210,7 +211,7 @@ module _ {first : RssParts} {mid : SessionView} {after : Locks} {t : ℕ} {told_
           step = last.steps passes one.over one.allowed;
           shows = shows_locked after one.shows;
           locked = sym locked;
-          scanned = still_scanned scans refl is_in.scanned;
+          scanned = still_scans scans refl is_in.scanned;
           moments = widened (keeps_all new change told state is_in.kept is_in.shows) (λ image opens. inl opens);
         }
 

@@ -1,7 +1,9 @@
 -- The ways in which a call that defines ends.
 use Rattle.std.proofs.Common.{◌≡◌, ℕ, ◌+◌, ◌<◌, Bool, false, refl, sym, ◌∙◌, ap, subst, arith}
-use Rattle.std.specs.Prelude.{Some, None, Result, Ok, Err, IsErrAnd}
-use Rattle.std.specs.FinMap.{empty}
+use Rattle.std.specs.Prelude.{Option, Some, None, is_some, Result, Ok, Err, IsErrAnd}
+use Rattle.std.specs.FinMap.{FinMap, contains_key, empty, get, get-empty}
+use Rattle.std.specs.Ordering.{nat_cmp}
+use Rattle.std.proofs.lemmas.Bool.{true≢false}
 use Rattle.rss_base.specs.Answers.{page_error}
 use Rattle.rss_base.specs.DiskRule.{IsTold, Passes}
 use Rattle.rss_base.specs.Listings.{Listing}
@@ -31,6 +33,7 @@ use Rattle.rss_catalog.specs.Catalogs.{CatalogView}
 use Rattle.rss_lock.specs.Locks.{LocksView}
 use Rattle.rss_scan.specs.Scans.{OpenScans}
 use Rattle.rss_trans.specs.Tables.{told}
+use Rattle.rss_trans.specs.Transactions.{Transaction, is_open}
 use Rattle.rss_session.specs.Admissions.{Says}
 use Rattle.rss_session.specs.Calls.{with_catalog, IsRedefined, RedefinesTables, Appends}
 use Rattle.rss_session.specs.Calls.{GoesOn as SessionGoesOn}
@@ -44,7 +47,8 @@ use Rattle.rss_session.specs.declared.session.Session.{Session}
 use Rattle.rss_session.proofs.Relisting.{but_catalog, ready_redefined, closed_redefined, early_redefined, is_redefined, defines_some}
 use Rattle.rss_rsi.specs.Definitions.{Definition, IsDefining, parts_before, view_of}
 use Rattle.rss_rsi.specs.Views.{RssParts, IsIn, engine_view, IsReady}
-use Rattle.rss_rsi.proofs.Ways.{GoOverRelations, NeedsNone, still_scanned, goes, failed_within, refused_test, ready_counted, ready_then, opened_stay, holders_stay}
+use Rattle.rss_rsi.proofs.Spelled.{none_open, none_scanning, still_scans, vacant}
+use Rattle.rss_rsi.proofs.Ways.{NeedsNone, goes, failed_within, refused_test, ready_counted, ready_then, opened_stay, holders_stay}
 
 -- a call that defines asks for no page
 no_asks : {old new : Listing} {call : Call} (before now : ℕ) → now ≡ before → Relists old call new → RisesAtMost (most_asks call) before now
@@ -73,6 +77,10 @@ but_listed catalog on = record {
   frames = on.frames;
   saves = on.saves;
 }
+
+-- no transaction is open
+none_open_in : (session : SessionView) → session.opened.transactions ≡ empty → (t : ℕ) → is_open session.opened t ≡ false
+none_open_in session none t = ap (λ (m : FinMap nat_cmp Transaction). contains_key m t) none ∙ ap (λ (o : Option Transaction). is_some o) (get-empty {X = Transaction} nat_cmp t)
 
 -- what was made is a definition, where it is no refusal
 pub made_ok : (made : Result (Unit {0}) Refusal) → ((why : Refusal) → made ≡ Err why → ⊥) → made ≡ Ok tt
@@ -180,7 +188,9 @@ module _ {S : Type 0} (pages_view : S → PagesView) {to : Definition S} {now : 
           shows = record {
             shows = shows (told_then told) to.session.store.catalog state definitions redefining;
             locked = is_in.locked ∙ ap (λ (l : LocksView). l.locks) (sym is.locked);
-            scanned = still_scanned is.scanned refl is_in.scanned;
+            scanned =
+                let none = none_scanning is_in.kept redefining.none_open in
+                still_scans is.scanned refl (none_open definitions state.scans to.scans none (vacant is_in.scanned none));
             kept = steps_keep state (redefined definitions state) to.call (Ok Done) step is_in.kept;
           };
           moments = either;
@@ -199,7 +209,7 @@ module _ {S : Type 0} (pages_view : S → PagesView) {to : Definition S} {now : 
           (subst (λ (v : SessionView). Appends largest_checkpoint v new) (sym (but_catalog pages_view redefines)) appends)
           (λ t. omega (arith, on_before.saves t))
           (holders_stay before (with_held new) is.ready.holders (opened_stay before.session new (opened_same transactions)) (ap (λ (l : LocksView). l.locks) is.locked))
-          (subst GoOverRelations (sym is.scanned) is.ready.relations)
+          (λ number scan has. absurd (true≢false (sym (is.ready.scans number scan (ap (λ (s : OpenScans). get s number) (sym is.scanned) ∙ has)).owner ∙ none_open_in before.session redefines.closed scan.owner)))
 
     -- the device failed, or shows damage, which none does that tells its contents, where what is listed may be committed
     pub redefining_fails : {new : SessionView} {fault : PageFault} {up_now : Type 0} (answer : Result Reply CallError) → IsErrAnd answer (λ why. why ≡ page_error fault) → (up_now → ⊥)

@@ -20,7 +20,8 @@ use Rattle.rss_rsi.specs.declared.locking.Access.TheVariants.{Read}
 use Rattle.rss_rsi.proofs.Claims.{free_as, locked_as}
 use Rattle.rss_rsi.proofs.Looks.{goes_looked}
 use Rattle.rss_rsi.proofs.TupleTests.{fetch_busy, fetch_lacks, fetch_passes}
-use Rattle.rss_rsi.proofs.Ways.{shows_locked, still_scanned, answers, leads_by}
+use Rattle.rss_rsi.proofs.Spelled.{still_scans}
+use Rattle.rss_rsi.proofs.Ways.{shows_locked, answers, leads_by}
 
 module _ (parts : RssParts) (t : ℕ) (relation : Name) (tid : Tid) (admitted : Says parts.session (λ state. admission state t relation) None) where
   -- it looks for its tuple first
@@ -46,4 +47,4 @@ module _ (parts : RssParts) (t : ℕ) (relation : Name) (tid : Tid) (admitted : 
       (fetches t relation tid values (fetch_passes state t relation tid (admitted told state is_in.shows) (free_as is_in (Fetch t relation tid) listed found.claimed) (ap is_some has)) has)
       (shows_locked _ (looked.looks.shows told state is_in.shows))
       (locked_as is_in (Fetch t relation tid) listed t refl ∙ ap (granted t list) (sym found.claimed.same) ∙ sym taken)
-      (still_scanned scans refl is_in.scanned)))
+      (still_scans scans refl is_in.scanned)))

@@ -24,3 +24,6 @@ pub mod Updates
 pub mod Inserts
 pub mod Deletes
 mod Opened
+pub mod Spelled
+pub mod Long
+pub mod ImageScans

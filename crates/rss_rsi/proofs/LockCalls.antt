@@ -30,11 +30,12 @@ use Rattle.rss_session.specs.Sessions.{SessionView}
 use Rattle.rss_rsi.specs.Locking.{Lists, IsClaimed, ClaimEnds}
 use Rattle.rss_rsi.specs.Views.{RssParts, SameHeld, engine_view}
 use Rattle.rss_rsi.proofs.Claims.{bars_as, locked_as, free_as, claim_fails}
-use Rattle.rss_rsi.proofs.Ways.{answers, goes_nowhere, keeps_same, leads_by, refused_early, shows_locked, still_scanned}
+use Rattle.rss_rsi.proofs.Spelled.{still_scans}
+use Rattle.rss_rsi.proofs.Ways.{answers, goes_nowhere, keeps_same, leads_by, refused_early, shows_locked}
 
 -- ---- refusals that keep no locks
 
-unless_keeps : (holds : Bool) (other : Refusal) {why : Refusal} → keeps_locks other ≡ false → refused_unless holds other ≡ Some why → keeps_locks why ≡ false
+pub unless_keeps : (holds : Bool) (other : Refusal) {why : Refusal} → keeps_locks other ≡ false → refused_unless holds other ≡ Some why → keeps_locks why ≡ false
 unless_keeps true other none is = absurd (cc)
 unless_keeps false other none is = let same : other ≡ _ = cc in ap keeps_locks (sym same) ∙ none
 
@@ -92,4 +93,4 @@ module _ {parts : RssParts} (t : ℕ) (item : Item) (exclusive : Bool) {n m : �
           granule)
           (shows_locked _ (subst (λ (session : SessionView). Shows session state) (sym same) is_in.shows))
           (locked_as is_in (Lock t item exclusive) list_is t refl ∙ ap (granted t list) (sym free.same) ∙ sym taken)
-          (still_scanned scans refl is_in.scanned)))
+          (still_scans scans refl is_in.scanned)))

@@ -57,7 +57,8 @@ use Rattle.rss_rsi.specs.Looking.{EndsEach, MayLook, LooksFor, CostsTwo, LooksUp
 use Rattle.rss_rsi.specs.Placing.{FailsToLook, MayCost}
 use Rattle.rss_rsi.specs.declared.locking.Access.{Access}
 use Rattle.rss_rsi.proofs.Claims.{bars_as, locked_as, claim_fails}
-use Rattle.rss_rsi.proofs.Ways.{GoOverRelations, ScanTable, asked, failed_within, goes, holders_stay, in_held, keeps_same, lacks_behind, refused_behind, rss_parts}
+use Rattle.rss_session.proofs.StaysOpen.{same_listed}
+use Rattle.rss_rsi.proofs.Ways.{ScanTable, asked, failed_within, goes, holders_stay, in_held, keeps_same, lacks_behind, refused_behind, rss_parts, scans_stay}
 
 -- ---- what a look passes on
 
@@ -242,7 +243,7 @@ ready_looked old new ready looks held = record {
   session = looks.ready;
   paced = omega (arith, ready.paced, ap (λ (l : LogView). l.end) looks.log);
   saves = λ t. omega (arith, ready.saves t, ap (λ (o : OpenView). length (transaction_in o t).saves) looks.opened);
-  relations = subst GoOverRelations (sym held.scans) ready.relations;
+  scans = scans_stay old new ready.scans (λ t opened. ap (λ (o : OpenView). is_open o t) looks.opened ∙ opened) (same_listed (ap (λ (c : CatalogView). c.listing) looks.catalog)) held.scans;
   holders = holders_stay old new ready.holders (λ t opened. ap (λ (o : OpenView). is_open o t) looks.opened ∙ opened) held.locks;
 }
 

@@ -23,7 +23,6 @@ use Rattle.rss_model.proofs.LogPlaced.{recovered_fit}
 use Rattle.rss_model.proofs.StepKeeping.{rest_keeps}
 use Rattle.rss_model.proofs.StorePages.{pages_are, pages_split}
 use Rattle.rss_scan.specs.Scans.{OpenScans}
-use Rattle.rss_scan.proofs.Spelled.{none_spelled}
 use Rattle.rss_trans.specs.Transactions.{Transaction, nothing, OpenView, transaction_in}
 use Rattle.rss_store.specs.Opening.{OpensStore}
 use Rattle.rss_store.specs.Opening.{BeginsIn as StoreBeginsIn}
@@ -35,8 +34,8 @@ use Rattle.rss_session.specs.Sessions.{SessionView}
 use Rattle.rss_session.specs.Sessions.{IsReady as IsSessionReady, HasRoomAtRest}
 use Rattle.rss_session.specs.Shown.{Shows, IsRested}
 use Rattle.rss_rsi.specs.Opening.{BeginsIn, IsOpened, OpensOver}
-use Rattle.rss_rsi.specs.Views.{IsReady, spelling, engine_view}
-use Rattle.rss_rsi.proofs.Ways.{still_scanned}
+use Rattle.rss_rsi.specs.Views.{IsReady, engine_view}
+use Rattle.rss_rsi.proofs.Spelled.{none_open, still_scans}
 
 -- ---- ready
 
@@ -64,7 +63,7 @@ opened_ready {session = session} is same ready none = record {
   session = ready;
   paced = omega (arith, is.early, ap (λ (s : StoreView). s.log.end) same);
   saves = λ t. omega (arith, none_saved session.opened none t);
-  relations = λ number scan has. absurd (none-some scan (sym (get-empty nat_cmp number) ∙ has));
+  scans = λ number scan has. absurd (none-some scan (sym (get-empty nat_cmp number) ∙ has));
   holders = λ t item mode has. absurd (none-some mode (sym (get-empty claim_cmp (claim t item)) ∙ has));
 }
 
@@ -85,7 +84,7 @@ module _ (session : SessionView) (ready : IsStoreReady session.store) (saved : I
     shows = record {
       shows = shows _ stored.tables begins.state begins.shows begins.rest (record { metered = begins.metered; log = begins.room }) (rested_saved begins.shows);
       locked = begins.rest.idle.none_locked ∙ sym none;
-      scanned = still_scanned none_scanned begins.rest.idle.none_scanned (none_spelled spelling);
+      scanned = still_scans none_scanned begins.rest.idle.none_scanned (none_open begins.state.base.definitions empty empty (λ number. get-empty nat_cmp number) (λ number. get-empty nat_cmp number));
       kept = rest_keeps (size_of stored.root) stored.tables begins.state begins.rest.idle (recovered_fit store.log);
     };
     rest = begins.rest;

@@ -1,6 +1,6 @@
 -- What a scan of a relation finds next, and the open scans as the machine has them.
-use Rattle.std.proofs.Common.{Bor, ◌≡◌, ℕ, Bool, true, false, cond, List, [], ◌∷◌, refl, sym, ◌∙◌, ap, subst, arith}
-use Rattle.std.specs.Prelude.{Option, Some, None, ◌==◌, is_some, option_copied, option_map, option_and_then, IfNone, IfSome, Ok, pos, negsuc}
+use Rattle.std.proofs.Common.{Bor, ◌≡◌, ℕ, Bool, true, false, cond, List, [], refl, sym, ◌∙◌, ap, subst, arith, eqb-true}
+use Rattle.std.specs.Prelude.{Option, Some, None, ◌==◌, is_some, option_copied, option_map, option_and_then, IfNone, IfSome, Ok}
 use Rattle.std.specs.Cmp.{nat_cmp_total}
 use Rattle.std.specs.FinMap as map
 use Rattle.std.specs.FinMap.{get-insert, get-remove}
@@ -8,7 +8,7 @@ use Rattle.std.specs.Ordering.{eq_by_cmp, nat_cmp}
 use Rattle.std.proofs.lemmas.Bool.{le-leb, lt-leb, true≢false}
 use Rattle.std.proofs.lemmas.Option.{none-some, same_Some}
 use Rattle.rss_base.specs.DiskRule.{IsTold}
-use Rattle.rss_base.specs.Listings.{IsUnlisted, relation_at}
+use Rattle.rss_base.specs.Listings.{Listing, IsUnlisted, relation_at}
 use Rattle.rss_base.specs.TupleTypes.{kinds}
 use Rattle.rss_base.specs.declared.answer.Reply.TheVariants.{Row}
 use Rattle.rss_base.specs.declared.name.Name.{Name}
@@ -19,30 +19,32 @@ use Rattle.rss_base.specs.declared.relation.RelationEntry.{RelationEntry}
 use Rattle.rss_base.specs.declared.tid.Tid.{Tid}
 use Rattle.rss_base.specs.declared.value.FieldKind.{FieldKind}
 use Rattle.rss_base.specs.declared.value.Value.{Value}
-use Rattle.rss_base.specs.declared.value.Value.TheVariants.{Int, Text}
 use Rattle.rss_model.specs.Images.{Entry, entry}
-use Rattle.rss_model.specs.Items.{Values, values_code}
+use Rattle.rss_model.specs.Items.{Values}
 use Rattle.rss_model.specs.Machine.{State, now}
-use Rattle.rss_model.specs.Refusals.{if_scans_used_up}
+use Rattle.rss_model.specs.Refusals.{if_scans_used_up, unless_in_chain}
 use Rattle.rss_model.specs.ReplyText.{IsShort}
-use Rattle.rss_model.specs.Scans.{RelationPath, ImagePath, LinkPath, scans_most, scan_of, next_along}
+use Rattle.rss_model.specs.Scans.{RelationPath, ImagePath, LinkPath, scans_most, scan_of, next_along, next_of_scan, path_relation}
 use Rattle.rss_model.specs.Scans.{Path as MachinePath, Scan as MachineScan}
-use Rattle.rss_model.specs.Tables.{RelationDef}
+use Rattle.rss_model.specs.Tables.{Definitions, RelationDef}
 use Rattle.rss_model.proofs.RelationLists.{next_none}
+use Rattle.rss_model.proofs.ScanKeeping.{its_scan}
 use Rattle.rss_model.proofs.StepKeeping.{kept_fit}
 use Rattle.rss_model.proofs.Tests.{passes_if, refuses_if}
 use Rattle.rss_access.specs.Bodies.{IsBodyOf}
 use Rattle.rss_scan.specs.Scans.{OpenScans, begun, cursor_of, given, if_owner}
+use Rattle.rss_scan.specs.Ties.{AreSpelled}
 use Rattle.rss_scan.specs.declared.cursor.Cursor.{Cursor}
+use Rattle.rss_scan.specs.declared.cursor.Path.{Path}
 use Rattle.rss_scan.specs.declared.cursor.Path.TheVariants.{Relation, Image, Link}
 use Rattle.rss_scan.specs.declared.cursor.Scan.{Scan}
 use Rattle.rss_scan.proofs.Spelled.{counted_spelled, found_spelled}
+use Rattle.rss_trans.specs.Transactions.{OpenView, is_open}
 use Rattle.rss_session.specs.Looks.{FindsNextTuple, HasTuple}
 use Rattle.rss_session.specs.Looks.{IsRelationIn as IsListedIn}
 use Rattle.rss_rsi.specs.Placing.{IsRelationIn}
-use Rattle.rss_rsi.specs.Scanning.{FindsRow}
-use Rattle.rss_rsi.specs.Views.{RssParts, spelling, IsIn, GoesOverRelation, IsReady}
-use Rattle.rss_rsi.proofs.Ways.{GoOverRelations}
+use Rattle.rss_rsi.specs.Scanning.{FindsBehind, FindsNext, FindsNextRow, FindsRow, GoesOnBy, IsScanIn}
+use Rattle.rss_rsi.specs.Views.{RssParts, spelling, pair_spelled, HasKeys, AreLong, MayGoOn, AllMayGoOn, IsIn, IsReady}
 
 -- ---- what comes next
 
@@ -98,27 +100,29 @@ map_some : {A B : Type 0} (f : A → B) (o : Option A) (b : B) → option_map f 
 map_some f None b is = absurd (none-some _ is)
 map_some f (Some a) b is = (a, refl, same_Some _ _ is)
 
--- the machine has a scan that is spelled so
-pub record StandsFor (state : State) (t number : ℕ) (cursor : Cursor) : Type 0 where
+-- the machine has such a scan
+pub record HasScan (state : State) (t number : ℕ) : Type 0 where
   pub scan : MachineScan
   pub there : scan_of state.scans t number ≡ Some scan
-  pub spelled : spelling scan.path scan.last ≡ cursor
 
 module _ {parts : RssParts} {state : State} (is_in : IsIn parts state) where
+  abbrev spelled_so : AreSpelled (spelling state.base.definitions) state.scans parts.scans
+  spelled_so = is_in.scanned.spelled
+
   pub unused : (number : ℕ) → map.get parts.scans number ≡ None → map.get state.scans number ≡ None
-  unused number free = map_none _ (map.get state.scans number) (sym (is_in.scanned number) ∙ free)
+  unused number free = map_none _ (map.get state.scans number) (sym (spelled_so number) ∙ free)
 
   pub not_scanned : (t number : ℕ) → cursor_of parts.scans t number ≡ None → scan_of state.scans t number ≡ None
-  not_scanned t number none = map_none _ (scan_of state.scans t number) (sym (found_spelled spelling state.scans parts.scans t number is_in.scanned) ∙ none)
+  not_scanned t number none = map_none _ (scan_of state.scans t number) (sym (found_spelled (spelling state.base.definitions) state.scans parts.scans t number spelled_so) ∙ none)
 
-  pub stands_for : (t number : ℕ) (cursor : Cursor) → cursor_of parts.scans t number ≡ Some cursor → StandsFor state t number cursor
-  stands_for t number cursor some =
-      let of = map_some _ (scan_of state.scans t number) cursor (sym (found_spelled spelling state.scans parts.scans t number is_in.scanned) ∙ some) in
-      record { scan = of.0; there = of.1; spelled = of.2 }
+  pub has_scan : (t number : ℕ) (cursor : Cursor) → cursor_of parts.scans t number ≡ Some cursor → HasScan state t number
+  has_scan t number cursor some =
+      let of = map_some _ (scan_of state.scans t number) cursor (sym (found_spelled (spelling state.base.definitions) state.scans parts.scans t number spelled_so) ∙ some) in
+      record { scan = of.0; there = of.1 }
 
   -- as many are open
   as_many : map.len parts.scans ≡ map.len state.scans
-  as_many = counted_spelled spelling state.scans parts.scans is_in.scanned
+  as_many = counted_spelled (spelling state.base.definitions) state.scans parts.scans spelled_so
 
   pub scans_full : map.len parts.scans ≡ scans_most → if_scans_used_up state ≡ Some (Limit ScanLimit)
   scans_full full = refuses_if (Limit ScanLimit) (le-leb scans_most (map.len state.scans) (omega (arith, full, as_many)))
@@ -126,78 +130,110 @@ module _ {parts : RssParts} {state : State} (is_in : IsIn parts state) where
   pub scans_left : (map.len parts.scans ≡ scans_most → ⊥) → if_scans_used_up state ≡ None
   scans_left room = passes_if (Limit ScanLimit) (lt-leb scans_most (map.len state.scans) (omega (arith, room, as_many, is_in.kept.few_scans)))
 
--- ---- cursors along relations
+-- ---- the machine's scan of a cursor
 
--- a key without bytes has no values
-no_key : (key : List Value) → values_code key ≡ [] → key ≡ []
-no_key [] is = refl
-no_key (Int (pos n) ∷ key) is = absurd (cc (is))
-no_key (Int (negsuc n) ∷ key) is = absurd (cc (is))
-no_key (Text bytes ∷ key) is = absurd (cc (is))
+module _ {parts : RssParts} {t number : ℕ} {state : State} {scan : MachineScan} (in_it : IsScanIn parts t number state scan) where
+  -- its keys
+  pub keys_in : HasKeys state.base.definitions scan.path scan.last
+  keys_in = in_it.is_in.scanned.keys number scan (its_scan state.scans t number scan in_it.there).0
 
--- what gives the cursor along a relation goes along it
-path_of : (path : MachinePath) (last : Option Entry) {cursor : Cursor} {relation : Name} → spelling path last ≡ cursor → cursor.path ≡ Relation relation → path ≡ RelationPath relation
-path_of (RelationPath name) last {cursor = cursor} {relation = relation} is at =
-    let same : Relation name ≡ Relation relation = ap (λ (c : Cursor). c.path) is ∙ at in
-    let one : name ≡ relation = cc (same) in
-    ap RelationPath one
-path_of (ImagePath image start) last {relation = relation} is at =
-    let same : Image image _ ≡ Relation relation = ap (λ (c : Cursor). c.path) is ∙ at in absurd (cc (same))
-path_of (LinkPath link parent) last {relation = relation} is at =
-    let same : Link link parent ≡ Relation relation = ap (λ (c : Cursor). c.path) is ∙ at in absurd (cc (same))
+  pub spelled_in : {cursor : Cursor} → cursor_of parts.scans t number ≡ Some cursor → spelling state.base.definitions scan.path scan.last ≡ cursor
+  spelled_in has = same_Some _ _ (
+      sym (ap (option_map (λ (s : MachineScan). spelling state.base.definitions s.path s.last)) in_it.there)
+      ∙ sym (found_spelled (spelling state.base.definitions) state.scans parts.scans t number in_it.is_in.scanned.spelled) ∙ has)
 
 -- the identifier that was given last
 abbrev pub last_of : Cursor → Option Tid
 last_of cursor = option_map (λ given. given.1) cursor.last
 
--- and gave this last
-last_is : (relation : Name) (last : Option Entry) {cursor : Cursor} → spelling (RelationPath relation) last ≡ cursor → GoesOverRelation cursor → last ≡ option_map (entry []) (last_of cursor)
-last_is relation None is over = ap (λ (c : Cursor). option_map (entry []) (last_of c)) is
-last_is relation (Some e) is over =
-    let none = no_key e.key (over.keyless (values_code e.key) e.tid (ap (λ (c : Cursor). c.last) (sym is))) in
-    ap (λ (key : List Value). Some (entry key e.tid)) none ∙ ap (λ (c : Cursor). option_map (entry []) (last_of c)) is
+-- what gives the cursor along a relation goes along it, and gave this last
+pub record GoesAlong (path : MachinePath) (last : Option Entry) (relation : Name) (after : Option Tid) : Type 0 where
+  pub along : path ≡ RelationPath relation
+  pub gave : last ≡ option_map (entry []) after
 
--- the scan that it stands for, along a relation
-pub record StandsAlong (state : State) (t number : ℕ) (relation : Name) (after : Option Tid) : Type 0 where
-  pub scan : MachineScan
-  pub there : scan_of state.scans t number ≡ Some scan
-  pub along : scan.path ≡ RelationPath relation
-  pub last : scan.last ≡ option_map (entry []) after
+pub goes_along : (definitions : Definitions) (path : MachinePath) (last : Option Entry) {cursor : Cursor} (relation : Name) → spelling definitions path last ≡ cursor → HasKeys definitions path last → cursor.path ≡ Relation relation → GoesAlong path last relation (last_of cursor)
+goes_along definitions (RelationPath name) last {cursor = cursor} relation is keys at =
+    let same : Relation name ≡ Relation relation = ap (λ (c : Cursor). c.path) is ∙ at in
+    let one : name ≡ relation = cc (same) in
+    record { along = ap RelationPath one; gave = by last keys ∙ ap (λ (c : Cursor). option_map (entry []) (last_of c)) is }
+  where
+    by : (last : Option Entry) → IfSome last (λ e. e.key ≡ []) → last ≡ option_map (entry []) (option_map (λ (given : List ℕ × Tid). given.1) (option_map (pair_spelled []) last))
+    by None keys = refl
+    by (Some e) keys = ap (λ (key : List Value). Some (entry key e.tid)) keys
+goes_along definitions (ImagePath image start) last relation is keys at =
+    let same : Image image _ ≡ Relation relation = ap (λ (c : Cursor). c.path) is ∙ at in absurd (cc (same))
+goes_along definitions (LinkPath link parent) last relation is keys at =
+    let same : Link link parent ≡ Relation relation = ap (λ (c : Cursor). c.path) is ∙ at in absurd (cc (same))
 
-pub stands_along : {state : State} {t number : ℕ} {cursor : Cursor} (relation : Name) → StandsFor state t number cursor → GoesOverRelation cursor → cursor.path ≡ Relation relation → StandsAlong state t number relation (last_of cursor)
-stands_along {cursor = cursor} relation stands over at =
-    let along = path_of stands.scan.path stands.scan.last stands.spelled at in
-    record {
-      scan = stands.scan;
-      there = stands.there;
-      along = along;
-      last = last_is relation stands.scan.last (ap (λ (path : MachinePath). spelling path stands.scan.last) (sym along) ∙ stands.spelled) over;
+-- no scan that may go on loses its place
+pub none_lost : (definitions : Definitions) (listing : Listing) (state : State) (path : MachinePath) (last : Option Entry) {cursor : Cursor} → spelling definitions path last ≡ cursor → AreLong listing cursor.path cursor.last → unless_in_chain state path last ≡ None
+none_lost definitions listing state (RelationPath relation) last is long = refl
+none_lost definitions listing state (ImagePath image start) last is long = refl
+none_lost definitions listing state (LinkPath link parent) last is long = absurd (subst (λ (c : Cursor). AreLong listing c.path c.last) (sym is) long)
+
+-- ---- along a relation
+
+module _ {parts : RssParts} {t number : ℕ} {cursor : Cursor} (has : cursor_of parts.scans t number ≡ Some cursor) (relation : Name) (at : cursor.path ≡ Relation relation) (after : Option Tid) (last : after ≡ last_of cursor) where
+  its_way : {state : State} {scan : MachineScan} → IsScanIn parts t number state scan → GoesAlong scan.path scan.last relation after
+  its_way {state = state} {scan = scan} in_it = subst (GoesAlong scan.path scan.last relation) (sym last) (goes_along state.base.definitions scan.path scan.last relation (spelled_in in_it has) (keys_in in_it) at)
+
+  next_is : {state : State} {scan : MachineScan} → IsScanIn parts t number state scan → next_of_scan (now state) scan ≡ next_along (now state) (RelationPath relation) (option_map (entry []) after)
+  next_is {state = state} in_it = let way = its_way in_it in λ i. next_along (now state) (way.along i) (way.gave i)
+
+  -- one that isn't listed has none
+  pub unlisted_next : IsUnlisted RelationKind parts.session.store.catalog.listing relation → FindsNext parts t number None
+  unlisted_next unlisted state scan in_it = next_is in_it ∙ none_unlisted in_it.is_in relation unlisted after
+
+  module _ (place : ℕ) {known : RelationEntry} (listed : relation_at parts.session.store.catalog.listing place ≡ Some known) (named : known.name ≡ relation) where
+    listed_in : {state : State} {scan : MachineScan} → IsScanIn parts t number state scan → IsRelationIn parts place known state
+    listed_in in_it = record { told = in_it.told; is_in = in_it.is_in; at = listed }
+
+    next_listed : {state : State} {scan : MachineScan} → IsScanIn parts t number state scan → (next : Option Tid) → GoesOnBy state known after next → next_of_scan (now state) scan ≡ option_map (entry []) next
+    next_listed {state = state} in_it next is = next_is in_it ∙ ap (λ (name : Name). next_along (now state) (RelationPath name) (option_map (entry []) after)) (sym named) ∙ is
+
+    -- nothing comes behind
+    pub none_next : FindsBehind parts place after None → FindsNext parts t number None
+    none_next none state scan in_it = next_listed in_it None (none known state (listed_in in_it))
+
+    -- or a tuple does
+    pub row_next : (key : List ℕ) → key ≡ [] → (tid : Tid) (values : List Value) → FindsRow parts place after tid values → FindsNextRow parts t number key tid values
+    row_next key keyless tid values row = record {
+      gives = λ state scan in_it.
+          let way = its_way in_it in record {
+            given = [];
+            next = next_listed in_it (Some tid) (row.next known state (listed_in in_it));
+            spelled = subst (λ (path : MachinePath). spelling state.base.definitions path (Some (entry [] tid)) ≡ record (spelling state.base.definitions path scan.last) { last = Some (key, tid) }) (sym way.along)
+                (λ i. record { path = Relation relation; last = Some (sym keyless i, tid) });
+            keys = subst (λ (path : MachinePath). HasKeys state.base.definitions path (Some (entry [] tid))) (sym way.along) refl;
+            relation = known.name;
+            along = ap (path_relation state.base) way.along ∙ ap Some (sym named);
+            has = row.has known state (listed_in in_it);
+          };
+      long = λ other there.
+          let same : other ≡ cursor = same_Some _ _ (sym there ∙ has) in
+          subst (λ (path : Path). AreLong parts.session.store.catalog.listing path (Some (key, tid))) (sym (ap (λ (c : Cursor). c.path) same ∙ at)) tt;
+      short = row.short;
     }
 
 -- ---- the scan of a cursor
 
 -- an open scan of a transaction
-pub record HasCursor (scans : OpenScans) (number : ℕ) (cursor : Cursor) : Type 0 where
+pub record HasCursor (scans : OpenScans) (t number : ℕ) (cursor : Cursor) : Type 0 where
   pub scan : Scan
   pub there : map.get scans number ≡ Some scan
   pub at : scan.cursor ≡ cursor
+  pub by : scan.owner ≡ t
 
-pub has_cursor : (scans : OpenScans) (t number : ℕ) (cursor : Cursor) → cursor_of scans t number ≡ Some cursor → HasCursor scans number cursor
+pub has_cursor : (scans : OpenScans) (t number : ℕ) (cursor : Cursor) → cursor_of scans t number ≡ Some cursor → HasCursor scans t number cursor
 has_cursor scans t number cursor is = by (map.get scans number) refl is
   where
-    owned : (scan : Scan) → map.get scans number ≡ Some scan → (b : Bool) → cond b (Some scan.cursor) None ≡ Some cursor → HasCursor scans number cursor
-    owned scan there true is = record { scan = scan; there = there; at = same_Some _ _ is }
-    owned scan there false is = absurd (none-some _ is)
+    owned : (scan : Scan) → map.get scans number ≡ Some scan → (b : Bool) → (scan.owner == t) ≡ b → cond b (Some scan.cursor) None ≡ Some cursor → HasCursor scans t number cursor
+    owned scan there true mine is = record { scan = scan; there = there; at = same_Some _ _ is; by = eqb-true scan.owner t mine }
+    owned scan there false mine is = absurd (none-some _ is)
 
-    by : (o : Option Scan) → map.get scans number ≡ o → option_and_then (if_owner t) o ≡ Some cursor → HasCursor scans number cursor
+    by : (o : Option Scan) → map.get scans number ≡ o → option_and_then (if_owner t) o ≡ Some cursor → HasCursor scans t number cursor
     by None there is = absurd (none-some _ is)
-    by (Some scan) there is = owned scan there (scan.owner == t) is
-
--- it goes over a relation, as all do
-pub cursor_over : (scans : OpenScans) (t number : ℕ) {cursor : Cursor} → cursor_of scans t number ≡ Some cursor → GoOverRelations scans → GoesOverRelation cursor
-cursor_over scans t number {cursor = cursor} is over =
-    let has = has_cursor scans t number cursor is in
-    subst GoesOverRelation has.at (over number has.scan has.there)
+    by (Some scan) there is = owned scan there (scan.owner == t) refl is
 
 -- what is lent of none, and of one
 pub lent_none : (lent : Option (Bor Cursor)) {found : Option Cursor} → option_copied lent ≡ found → is_some lent ≡ false → found ≡ None
@@ -208,48 +244,39 @@ pub lent_some : (lent : Option (Bor Cursor)) {found : Option Cursor} → option_
 lent_some None is some = absurd (true≢false (sym some))
 lent_some (Some cursor) is some = (cursor.now, sym is)
 
--- what it gave behind a look, which changed no scan
-pub gave_behind : (scans mid later : OpenScans) (number : ℕ) (key : List ℕ) (tid : Tid) → mid ≡ scans → key ≡ [] → ((was : Scan) → map.get mid number ≡ Some was → later ≡ map.insert mid number (given key tid was))
-    → (was : Scan) → map.get scans number ≡ Some was → later ≡ map.insert scans number (given [] tid was)
-gave_behind scans mid later number key tid same none gave was there =
-    gave was (ap (λ (s : OpenScans). map.get s number) same ∙ there) ∙ (λ i. map.insert (same i) number (given (none i) tid was))
-
 -- ---- what may follow
 
--- another call may be made where the scans go over relations
-pub ready_scans : {parts : RssParts} {calls : ℕ} (scans : OpenScans) → GoOverRelations scans → IsReady parts calls → IsReady (record { session = parts.session; locks = parts.locks; scans = scans }) calls
-ready_scans scans over ready = record {
+-- another call may be made where these scans may go on
+pub ready_scans : {parts : RssParts} {calls : ℕ} (scans : OpenScans) → AllMayGoOn parts.session.store.catalog.listing parts.session.opened scans → IsReady parts calls → IsReady (record { session = parts.session; locks = parts.locks; scans = scans }) calls
+ready_scans scans may ready = record {
   session = ready.session;
   paced = ready.paced;
   saves = ready.saves;
-  relations = over;
+  scans = may;
   holders = ready.holders;
 }
 
-module _ (scans : OpenScans) (over : GoOverRelations scans) (number : ℕ) where
-  put_over : (scan : Scan) → GoesOverRelation scan.cursor → GoOverRelations (map.insert scans number scan)
-  put_over scan goes k found has = by (eq_by_cmp nat_cmp k number) (sym (get-insert nat_cmp_total scans number scan k) ∙ has)
+module _ {listing : Listing} {opened : OpenView} (scans : OpenScans) (may : AllMayGoOn listing opened scans) (number : ℕ) where
+  put_scan : (scan : Scan) → MayGoOn listing opened scan → AllMayGoOn listing opened (map.insert scans number scan)
+  put_scan scan goes k found has = by (eq_by_cmp nat_cmp k number) (sym (get-insert nat_cmp_total scans number scan k) ∙ has)
     where
-      by : (b : Bool) → cond b (Some scan) (map.get scans k) ≡ Some found → GoesOverRelation found.cursor
-      by true is = subst (λ (s : Scan). GoesOverRelation s.cursor) (same_Some _ _ is) goes
-      by false is = over k found is
+      by : (b : Bool) → cond b (Some scan) (map.get scans k) ≡ Some found → MayGoOn listing opened found
+      by true is = subst (MayGoOn listing opened) (same_Some _ _ is) goes
+      by false is = may k found is
 
-  -- a scan has given an identifier, or was closed
-  pub given_over : (tid : Tid) (was : Scan) → map.get scans number ≡ Some was → GoOverRelations (map.insert scans number (given [] tid was))
-  given_over tid was there = put_over (given [] tid was) (record {
-    path = (over number was there).path;
-    keyless = λ key t is. ap (λ (e : List ℕ × Tid). e.0) (sym (same_Some _ _ is));
-  })
+  -- a scan has given a key, or was closed
+  pub given_may : (key : List ℕ) (tid : Tid) (was : Scan) → map.get scans number ≡ Some was → AreLong listing was.cursor.path (Some (key, tid)) → AllMayGoOn listing opened (map.insert scans number (given key tid was))
+  given_may key tid was there long = put_scan (given key tid was) (record { owner = (may number was there).owner; long = long })
 
-  pub closed_over : GoOverRelations (map.remove scans number)
-  closed_over k found has = by (eq_by_cmp nat_cmp k number) (sym (get-remove nat_cmp_total scans number k) ∙ has)
+  pub closed_may : AllMayGoOn listing opened (map.remove scans number)
+  closed_may k found has = by (eq_by_cmp nat_cmp k number) (sym (get-remove nat_cmp_total scans number k) ∙ has)
     where
-      by : (b : Bool) → cond b None (map.get scans k) ≡ Some found → GoesOverRelation found.cursor
+      by : (b : Bool) → cond b None (map.get scans k) ≡ Some found → MayGoOn listing opened found
       by true is = absurd (none-some _ is)
-      by false is = over k found is
+      by false is = may k found is
 
 -- a scan was opened, if one could be
-pub opened_over : (scans later : OpenScans) (t : ℕ) (relation : Name) (number : Option ℕ) → IfSome number (λ n. later ≡ map.insert scans n (begun t (Relation relation))) → IfNone number (later ≡ scans) → GoOverRelations scans → GoOverRelations later
-opened_over scans later t relation None added same over = subst GoOverRelations (sym same) over
-opened_over scans later t relation (Some number) added same over =
-    subst GoOverRelations (sym added) (put_over scans over number (begun t (Relation relation)) (record { path = tt; keyless = λ key tid is. absurd (none-some _ is) }))
+pub opened_may : {listing : Listing} {opened : OpenView} (scans later : OpenScans) (t : ℕ) (path : Path) (number : Option ℕ) → IfSome number (λ n. later ≡ map.insert scans n (begun t path)) → IfNone number (later ≡ scans) → is_open opened t ≡ true → AreLong listing path None → AllMayGoOn listing opened scans → AllMayGoOn listing opened later
+opened_may {listing = listing} {opened = opened} scans later t path None added same mine long may = subst (AllMayGoOn listing opened) (sym same) may
+opened_may {listing = listing} {opened = opened} scans later t path (Some number) added same mine long may =
+    subst (AllMayGoOn listing opened) (sym added) (put_scan scans may number (begun t path) (record { owner = mine; long = long }))

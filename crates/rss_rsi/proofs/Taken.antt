@@ -47,7 +47,7 @@ ready_locks locks same ready = record {
   session = ready.session;
   paced = ready.paced;
   saves = ready.saves;
-  relations = ready.relations;
+  scans = ready.scans;
   holders = λ t item mode has. ready.holders t item mode (ap (λ (l : Locks). held l t item) (sym same) ∙ has);
 }
 
@@ -57,7 +57,7 @@ ready_granted {parts = parts} t needs locks opened same ready = record {
   session = ready.session;
   paced = ready.paced;
   saves = ready.saves;
-  relations = ready.relations;
+  scans = ready.scans;
   holders = λ u item mode has. elim (cases_eq u t) [
     | inl here ↦ ap (is_open parts.session.opened) here ∙ opened
     | inr off ↦ ready.holders u item mode (sym (held_others t needs parts.locks.locks u item off) ∙ ap (λ (l : Locks). held l u item) (sym same) ∙ has)

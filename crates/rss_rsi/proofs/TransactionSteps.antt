@@ -20,15 +20,14 @@ use Rattle.rss_model.proofs.StepKeeping.{steps_keep}
 use Rattle.rss_model.proofs.Tests.{goes_on}
 use Rattle.rss_model.proofs.Transfer.{undo_same}
 use Rattle.rss_scan.specs.Scans.{closed_for}
-use Rattle.rss_scan.specs.Ties.{AreSpelled}
-use Rattle.rss_scan.proofs.Spelled.{closed_spelled}
+use Rattle.rss_rsi.proofs.Spelled.{closed_scans, still_scans}
 use Rattle.rss_trans.specs.Transactions.{is_open, transaction_in}
 use Rattle.rss_trans.proofs.Told.{open_saves}
 use Rattle.rss_session.specs.Admissions.{Says}
 use Rattle.rss_session.specs.Calls.{KeepsTables, CommitsTables, HasMarks, Restores, Aborts}
 use Rattle.rss_session.specs.Sessions.{SessionView}
 use Rattle.rss_session.specs.Shown.{Shows}
-use Rattle.rss_rsi.specs.Views.{RssParts, spelling, IsIn, SameHeld}
+use Rattle.rss_rsi.specs.Views.{RssParts, AreScans, IsIn, SameHeld}
 use Rattle.rss_rsi.proofs.Ways.{Leads, LeadsAll, stopped_by, leads_by, leads_held, keeps_same}
 
 -- an open transaction has the save points that are listed
@@ -39,7 +38,7 @@ has_marks t opened shows = open_saves shows.told t opened
 
 pub begin_leads : (old new : RssParts) (t : ℕ) → new.session.store ≡ old.session.store → SameHeld old new → Says old.session (λ state. refusal state (Begin t)) None → ((state : State) → Shows old.session state → Shows new.session (begun t state)) → LeadsAll old new (Begin t) (Ok Done)
 begin_leads old new t same held passes begins_so told state is_in =
-    leads_held (begun t state) (keeps_same old.session new.session same) told is_in (begins t (passes told state is_in.shows)) (begins_so state is_in.shows) held refl refl
+    leads_held (begun t state) (keeps_same old.session new.session same) told is_in (begins t (passes told state is_in.shows)) (begins_so state is_in.shows) held refl refl refl
 
 pub number_line : (n : ℕ) → n < 2 ^ 32 → length (answer_line (Ok (Number n))) ≤ 8192
 number_line n small =
@@ -54,7 +53,7 @@ save_leads old new t save opened same held passes saves_so told state is_in =
     let has = has_marks t opened is_in.shows in
     let so = saves_so state marks has is_in.shows in
     subst (λ (n : ℕ). Leads old new state (Save t) (Ok (Number n))) (sym so.0)
-    (leads_held (with_save t marks state) (keeps_same old.session new.session same) told is_in (saves t marks (goes_on [] (passes told state is_in.shows)) has) so.1 held refl refl)
+    (leads_held (with_save t marks state) (keeps_same old.session new.session same) told is_in (saves t marks (goes_on [] (passes told state is_in.shows)) has) so.1 held refl refl refl)
 
 -- ---- ways back
 
@@ -80,7 +79,7 @@ module _ (old new : RssParts) (t save : ℕ) (opened : is_open old.session.opene
       let so = restores_so told state marks is_in.kept has is_in.shows in
       let next = restored t save marks so.over state in
       let step : Step state (Restore t save) (Ok Done) next = restores t save marks so.over (restore_passes told state is_in.shows) has so.way in
-      leads_held next keeps told is_in step (so.shows (steps_keep state next (Restore t save) (Ok Done) step is_in.kept).fit) held refl refl
+      leads_held next keeps told is_in step (so.shows (steps_keep state next (Restore t save) (Ok Done) step is_in.kept).fit) held refl refl refl
 
 module _ (old new : RssParts) (t : ℕ) (passes : Says old.session (λ state. unless_open state t) None) where
   abort_passes : IsTold old.session.store.pages.disk → (state : State) → Shows old.session state → refusal state (Abort t) ≡ None
@@ -100,8 +99,8 @@ module _ (old new : RssParts) (t : ℕ) (passes : Says old.session (λ state. un
   released_so locks is_in = ap (released t) is_in.locked ∙ sym locks
 
   -- and its scans are closed
-  closed_so : new.scans ≡ closed_for t old.scans → {state : State} → IsIn old state → AreSpelled spelling (closed t state.scans) new.scans
-  closed_so scans {state = state} is_in = subst (AreSpelled spelling (closed t state.scans)) (sym scans) (closed_spelled spelling state.scans old.scans t is_in.scanned)
+  closed_so : new.scans ≡ closed_for t old.scans → {state : State} → IsIn old state → AreScans state.base.definitions (closed t state.scans) new.scans
+  closed_so scans {state = state} is_in = still_scans scans refl (closed_scans t is_in.scanned)
 
   pub abort_leads : new.locks.locks ≡ released t old.locks.locks → new.scans ≡ closed_for t old.scans → KeepsTables old.session new.session → (IsTold old.session.store.pages.disk → (state : State) → Kept state → Shows old.session state → Aborts new.session state t) → LeadsAll old new (Abort t) (Ok Done)
   abort_leads locks scans keeps aborts_so told state is_in =
@@ -150,4 +149,4 @@ module _ (old new : RssParts) (passes : Says old.session if_no_log_room None) (k
 
   pub checkpoint_leads : SameHeld old new → (IsTold old.session.store.pages.disk → (state : State) → Kept state → Shows old.session state → Shows new.session (record state { meter = saved_now state })) → LeadsAll old new Checkpoint (Ok Done)
   checkpoint_leads held saves_so told state is_in =
-      leads_held _ keeps told is_in (checkpoint_step told state is_in.shows) (saves_so told state is_in.kept is_in.shows) held refl refl
+      leads_held _ keeps told is_in (checkpoint_step told state is_in.shows) (saves_so told state is_in.kept is_in.shows) held refl refl refl

@@ -32,9 +32,10 @@ use Rattle.rss_model.specs.Scans.{Scans}
 use Rattle.rss_model.specs.Steps.{Answer, Step, refusal, left_by, locked, locked_by, keeps_locks}
 use Rattle.rss_model.specs.Callers.{caller}
 use Rattle.rss_model.specs.Store.{OpensToEither}
-use Rattle.rss_model.specs.Tables.{Tables}
+use Rattle.rss_model.specs.Tables.{Definitions, Tables}
 use Rattle.rss_model.specs.Turns.{IsStopped}
 use Rattle.rss_model.proofs.Endings.{within_most, refused_by, comes_to, failed}
+use Rattle.rss_model.proofs.Committing.{left_base}
 use Rattle.rss_model.proofs.Locking.{released_was}
 use Rattle.rss_model.proofs.OpenKeeping.{keeps_refused}
 use Rattle.rss_model.proofs.StepKeeping.{steps_keep}
@@ -47,13 +48,15 @@ use Rattle.rss_session.specs.Parts.{view as session_view}
 use Rattle.rss_session.specs.declared.session.Session.{Session}
 use Rattle.rss_session.specs.Sessions.{SessionView}
 use Rattle.rss_session.specs.Sessions.{IsReady as IsSessionReady}
-use Rattle.rss_session.specs.Calls.{Appends, KeepsTables, NoMoreSaves, StayOpen, OthersStayOpen}
+use Rattle.rss_session.specs.Calls.{Appends, KeepsTables, NoMoreSaves, StayOpen, StaysListed, OthersStayOpen}
 use Rattle.rss_session.specs.Calls.{GoesOn as SessionGoesOn}
 use Rattle.rss_session.specs.Shown.{Shows}
 use Rattle.rss_store.specs.Stores.{StoreView}
 use Rattle.rss_store.specs.Shown.{HoldsTables}
 use Rattle.rss_session.proofs.Steady.{shows_same}
-use Rattle.rss_rsi.specs.Views.{RssParts, spelling, IsIn, SameHeld, engine_view, GoesOverRelation, IsReady}
+use Rattle.rss_rsi.specs.Views.{RssParts, AreScans, IsIn, SameHeld, engine_view, AllMayGoOn, IsReady}
+use Rattle.rss_rsi.proofs.Long.{closed_left, long_still}
+use Rattle.rss_rsi.proofs.Spelled.{still_scans}
 
 -- ---- states that are shown
 
@@ -87,13 +90,9 @@ shows_scanned {state = state} scans shows = shows_with state.locks scans shows
 
 -- ---- what is held
 
--- scans that are as they were spell those of a state that has them as they were
-pub still_scanned : {old new : OpenScans} {was next : Scans} → new ≡ old → next ≡ was → AreSpelled spelling was old → AreSpelled spelling next new
-still_scanned same as_was are number = ap (λ (s : OpenScans). get s number) same ∙ are number ∙ ap (λ (m : Scans). option_map (spelled spelling) (get m number)) (sym as_was)
-
 -- the engine is in the same state where all that is held is as it was
 pub in_held : {old new : RssParts} {state : State} → SameHeld old new → Shows new.session state → IsIn old state → IsIn new state
-in_held held shows is_in = record { shows = shows; locked = is_in.locked ∙ sym held.locks; scanned = still_scanned held.scans refl is_in.scanned; kept = is_in.kept }
+in_held held shows is_in = record { shows = shows; locked = is_in.locked ∙ sym held.locks; scanned = still_scans held.scans refl is_in.scanned; kept = is_in.kept }
 
 -- a refusal leaves the scans
 left_scans : (state : State) (call : Call) (why : Refusal) → (left_by state call why).scans ≡ state.scans
@@ -108,7 +107,7 @@ pub in_left : {old new : RssParts} {state : State} (call : Call) {why : Refusal}
 in_left {new = new} {state = state} call {why = why} is_in is shows locked scans = record {
   shows = by (keeps_locks why) (caller call);
   locked = locked;
-  scanned = still_scanned scans (left_scans state call why) is_in.scanned;
+  scanned = subst (λ (tables : Tables). AreScans tables.definitions (left_by state call why).scans new.scans) (sym (left_base state call why)) (still_scans scans (left_scans state call why) is_in.scanned);
   kept = keeps_refused is_in.kept call why is;
 }
   where
@@ -174,7 +173,7 @@ pub record Leads (old new : RssParts) (state : State) (call : Call) (answer : An
   pub step : Step state call answer next
   pub shows : Shows new.session next
   pub locked : next.locks ≡ new.locks.locks
-  pub scanned : AreSpelled spelling next.scans new.scans
+  pub scanned : AreScans next.base.definitions next.scans new.scans
   pub moments : Passes old.session.store.pages.disk new.session.store.pages.disk (OpensToEither state.size state.base next.base)
 
 abbrev pub LeadsAll : RssParts → RssParts → Call → Answer → Type 0
@@ -210,7 +209,7 @@ stopped_by new {state = state} keeps told is_in may = record {
 }
 
 -- and one that made the step leads there
-pub leads_by : {old new : RssParts} {state : State} {call : Call} {answer : Answer} (next : State) → KeepsTables old.session new.session → IsTold old.session.store.pages.disk → IsIn old state → Step state call answer next → Shows new.session next → next.locks ≡ new.locks.locks → AreSpelled spelling next.scans new.scans → Leads old new state call answer
+pub leads_by : {old new : RssParts} {state : State} {call : Call} {answer : Answer} (next : State) → KeepsTables old.session new.session → IsTold old.session.store.pages.disk → IsIn old state → Step state call answer next → Shows new.session next → next.locks ≡ new.locks.locks → AreScans next.base.definitions next.scans new.scans → Leads old new state call answer
 leads_by {state = state} next keeps told is_in step shows locked scanned = record {
   next = next;
   step = step;
@@ -221,8 +220,9 @@ leads_by {state = state} next keeps told is_in step shows locked scanned = recor
 }
 
 -- by a step that leaves all that is held
-pub leads_held : {old new : RssParts} {state : State} {call : Call} {answer : Answer} (next : State) → KeepsTables old.session new.session → IsTold old.session.store.pages.disk → IsIn old state → Step state call answer next → Shows new.session next → SameHeld old new → next.locks ≡ state.locks → next.scans ≡ state.scans → Leads old new state call answer
-leads_held next keeps told is_in step shows held locks scans = leads_by next keeps told is_in step shows (locks ∙ is_in.locked ∙ sym held.locks) (still_scanned held.scans scans is_in.scanned)
+pub leads_held : {old new : RssParts} {state : State} {call : Call} {answer : Answer} (next : State) → KeepsTables old.session new.session → IsTold old.session.store.pages.disk → IsIn old state → Step state call answer next → Shows new.session next → SameHeld old new → next.locks ≡ state.locks → next.scans ≡ state.scans → next.base.definitions ≡ state.base.definitions → Leads old new state call answer
+leads_held {new = new} next keeps told is_in step shows held locks scans same = leads_by next keeps told is_in step shows (locks ∙ is_in.locked ∙ sym held.locks)
+    (subst (λ (definitions : Definitions). AreScans definitions next.scans new.scans) (sym same) (still_scans held.scans scans is_in.scanned))
 
 -- where the store is as it was
 pub keeps_same : (old new : SessionView) → new.store ≡ old.store → KeepsTables old new
@@ -236,7 +236,7 @@ ready_counted fewer ready = record {
   session = ready.session;
   paced = omega (arith, ready.paced, fewer);
   saves = λ t. omega (arith, ready.saves t, fewer);
-  relations = ready.relations;
+  scans = ready.scans;
   holders = ready.holders;
 }
 
@@ -258,36 +258,38 @@ holders_gone old new t holders others same u item mode has =
     let was = released_was t u old.locks.locks item mode (ap (λ (locks : Locks). held locks u item) (sym same) ∙ has) in
     others u was.0 (holders u item mode was.1)
 
--- the scans go over relations
-abbrev pub GoOverRelations : OpenScans → Type 0
-GoOverRelations scans = (number : ℕ) (scan : Scan) → get scans number ≡ Some scan → GoesOverRelation scan.cursor
+-- who was open still is, the same is defined, and the scans are those that there were
+pub scans_stay : (old new : RssParts) → AllMayGoOn old.session.store.catalog.listing old.session.opened old.scans → StayOpen old.session new.session → StaysListed old.session new.session → new.scans ≡ old.scans
+    → AllMayGoOn new.session.store.catalog.listing new.session.opened new.scans
+scans_stay old new may stay listed same number scan has =
+    let was = may number scan (ap (λ (s : OpenScans). get s number) (sym same) ∙ has) in
+    record { owner = stay scan.owner was.owner; long = long_still listed scan.cursor.path scan.cursor.last was.long }
 
--- and those of other transactions do
-relations_left : (t : ℕ) (scans : OpenScans) → GoOverRelations scans → GoOverRelations (closed_for t scans)
-relations_left t scans over number scan has =
-    over number scan (by (not (is_of t (get scans number))) (sym (get-retain_keys scans (λ n. not (is_of t (get scans n))) number (λ x tie. ap (λ (n : ℕ). not (is_of t (get scans n))) (sym (nat_cmp-IsAntisymmetric number x tie)))) ∙ has))
-  where
-    by : (kept : Bool) → (if kept then get scans number else None) ≡ Some scan → get scans number ≡ Some scan
-    by true is = is
-    by false is = absurd (cc (is))
+-- a transaction is gone with its scans
+pub scans_gone : (old new : RssParts) (t : ℕ) → AllMayGoOn old.session.store.catalog.listing old.session.opened old.scans → OthersStayOpen t old.session new.session → StaysListed old.session new.session → new.scans ≡ closed_for t old.scans
+    → AllMayGoOn new.session.store.catalog.listing new.session.opened new.scans
+scans_gone old new t may others listed closed number scan has =
+    let left = closed_left t old.scans number scan (ap (λ (s : OpenScans). get s number) (sym closed) ∙ has) in
+    let was = may number scan left.0 in
+    record { owner = others scan.owner left.1 was.owner; long = long_still listed scan.cursor.path scan.cursor.last was.long }
 
 -- from before the call on, the log has so many bytes more, and no transaction more than one save point more
 pub ready_then : {old new : RssParts} {calls more appended : ℕ} → IsReady old calls → more ≡ calls + 1 → appended ≤ 2 ^ 13 → IsSessionReady new.session → Appends appended old.session new.session
-    → ((t : ℕ) → length (transaction_in new.session.opened t).saves ≤ length (transaction_in old.session.opened t).saves + 1) → HoldersOpen new → GoOverRelations new.scans → IsReady new more
-ready_then ready counted few session appends saves holders relations = record {
+    → ((t : ℕ) → length (transaction_in new.session.opened t).saves ≤ length (transaction_in old.session.opened t).saves + 1) → HoldersOpen new → AllMayGoOn new.session.store.catalog.listing new.session.opened new.scans → IsReady new more
+ready_then ready counted few session appends saves holders scans = record {
   session = session;
   paced = omega (arith, ready.paced, appends, few, counted);
   saves = λ t. omega (arith, ready.saves t, saves t, counted);
-  relations = relations;
+  scans = scans;
   holders = holders;
 }
 
 -- a transaction is gone
 pub ready_gone : {old new : RssParts} {calls more appended : ℕ} (t : ℕ) → IsReady old calls → more ≡ calls + 1 → appended ≤ 2 ^ 13 → IsSessionReady new.session → Appends appended old.session new.session → NoMoreSaves old.session new.session
-    → OthersStayOpen t old.session new.session → new.locks.locks ≡ released t old.locks.locks → new.scans ≡ closed_for t old.scans → IsReady new more
-ready_gone {old = old} {new = new} t ready counted few session appends saves others gone closed =
+    → OthersStayOpen t old.session new.session → StaysListed old.session new.session → new.locks.locks ≡ released t old.locks.locks → new.scans ≡ closed_for t old.scans → IsReady new more
+ready_gone {old = old} {new = new} t ready counted few session appends saves others listed gone closed =
     ready_then ready counted few session appends (λ u. omega (arith, saves u)) (holders_gone old new t ready.holders others gone)
-    (subst GoOverRelations (sym closed) (relations_left t old.scans ready.relations))
+    (scans_gone old new t ready.scans others listed closed)
 
 -- ---- whole calls
 

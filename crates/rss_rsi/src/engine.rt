@@ -10,7 +10,7 @@ ghost use Rattle.rss_scan.specs.Scans.{told as scans_told};
 ghost use Rattle.rss_model.specs.Calls.{calls_most};
 ghost use Rattle.rss_session.proofs.Props.{AreRising-prop};
 ghost use Rattle.rss_session.specs.Parts.{view as session_view};
-ghost use Rattle.rss_rsi.specs.RsiLaws.{IsAlongRelation-prop};
+ghost use Rattle.rss_rsi.specs.RsiLaws.{AreLong-prop};
 ghost use Rattle.rss_rsi.specs.Views.{IsReady};
 
 use rss_base::{Call, CallError, Reply};
@@ -46,7 +46,7 @@ pub struct Rss<S: Saving> {
           session = session_view S.view session;
           locks = told locks;
           scans = scans_told scans;
-        }) calls } by { Prim.hlevel (props, system_or_heap-prop, AreHeaps-prop, AreRising-prop, IsAlongRelation-prop) },
+        }) calls } by { Prim.hlevel (props, system_or_heap-prop, AreHeaps-prop, AreRising-prop, AreLong-prop) },
 }
 
 impl<S: Saving> Rss<S> {
@@ -123,6 +123,7 @@ impl<S: Saving> Engine for Rss<S> {
             }
             Call::Delete(transaction, relation, tid) => self.delete(*transaction, relation, *tid),
             Call::OpenRelation(transaction, relation) => self.open_relation(*transaction, relation),
+            Call::OpenImage(transaction, image, from) => self.open_image(*transaction, image, from),
             Call::Next(transaction, scan) => self.next(*transaction, *scan),
             Call::CloseScan(transaction, scan) => self.close_scan(*transaction, *scan),
             Call::Lock(transaction, item, exclusive) => self.lock(*transaction, item, *exclusive),

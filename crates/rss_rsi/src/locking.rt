@@ -1,16 +1,17 @@
 // The locks of calls.
-ghost use Rattle.std.specs.Prelude.{◌≡◌, ◌<◌, ◌≤◌, [], ◌∷◌, ◌++◌, Err, None, false, true, option_copied, option_to_list, vec_len, IfOk, IfSome};
-ghost use Rattle.rss_base.specs.Listings.{IsNumberOf};
+ghost use Rattle.std.specs.Prelude.{◌≡◌, ◌<◌, ◌≤◌, [], ◌∷◌, ◌++◌, Err, None, false, true, is_some, option_copied, option_to_list, vec_len, IfOk, IfSome};
+ghost use Rattle.std.specs.FinMap.{get};
+ghost use Rattle.rss_base.specs.Listings.{IsNumberOf, image_at};
 ghost use Rattle.rss_base.specs.declared.call.Call.TheVariants.{Lock};
 ghost use Rattle.rss_base.specs.declared.item.Item.TheVariants.{Segment, Relation, Tuple as TupleItem};
-ghost use Rattle.rss_base.specs.declared.refusal.Kind.TheVariants.{Relation as RelationKind};
+ghost use Rattle.rss_base.specs.declared.refusal.Kind.TheVariants.{Relation as RelationKind, Image as ImageKind};
 ghost use Rattle.rss_base.specs.declared.refusal.Refusal.TheVariants.{Busy};
 ghost use Rattle.rss_lock.specs.Table.{told};
 ghost use Rattle.rss_model.specs.Calls.{calls_most};
 ghost use Rattle.rss_model.specs.Defining.{IsGranule, LocksGranule};
 ghost use Rattle.rss_model.specs.Locks.{first_bar, granted, least_holder};
 ghost use Rattle.rss_model.specs.Machine.{State};
-ghost use Rattle.rss_model.specs.Needs.{need, lock_needs, relation_needs};
+ghost use Rattle.rss_model.specs.Needs.{need, image_scan_needs, lock_needs, relation_needs};
 ghost use Rattle.rss_model.specs.ReplyText.{IsShort};
 ghost use Rattle.rss_session.specs.Admissions.{IsGranuleOf};
 ghost use Rattle.rss_trans.specs.Transactions.{is_open};
@@ -118,6 +119,21 @@ impl<S: Saving> Rss<S> {
         }
         needs.push(relation_need(relation, mode))?;
         Ok(needs)
+    }
+
+    /// The locks of a scan of the image of this number: its relation is read.
+    pub(crate) fn image_needs(&self, number: u8) -> Result<Vec<Need>, AllocError>
+        requires { is_some (image_at (session_of self.now).store.catalog.listing number) ≡ true }
+        ensures lists { IfOk result (λ needs. (image : Name)
+            → IsNumberOf ImageKind (session_of self.now).store.catalog.listing image number
+            → Lists (parts_of self.now)
+            (λ tables. image_scan_needs tables (get tables.definitions.images image)) needs.items) }
+        ensures few { IfOk result (λ needs. vec_len needs ≤ 2) }
+        ensures sayable { IfOk result (λ needs. AreSayable needs.items) }
+    {
+        let relation = self.session.store.catalog.image(number).relation;
+        let name = self.session.store.catalog.relation(relation).name;
+        self.relation_needs(relation, &name, Mode::IS, Mode::S)
     }
 
     /// The locks with which a tuple of a relation, which has this number, is read, or changed to the

@@ -1,20 +1,23 @@
 // Scans.
-ghost use Rattle.std.specs.Prelude.{◌≡◌, ◌<◌, true, false, Some, None, Err, is_some, option_map, IfOk, IfErr, OnOk};
+ghost use Rattle.std.specs.Prelude.{◌≡◌, ◌<◌, true, false, Some, None, Err, is_some, option_map, IsSome, IfOk, IfErr, OnOk};
 ghost use Rattle.std.specs.Prelude.{IsErrOf};
 ghost use Rattle.rss_base.specs.Listings.{relation_at};
 ghost use Rattle.rss_base.specs.declared.answer.CallError.TheVariants.{Refused, NoMemory};
-ghost use Rattle.rss_base.specs.declared.call.Call.TheVariants.{OpenRelation, Next, CloseScan};
+ghost use Rattle.rss_base.specs.declared.call.Call.TheVariants.{OpenRelation, OpenImage, Next, CloseScan};
 ghost use Rattle.rss_base.specs.declared.refusal.Kind.TheVariants.{Scan as ScanKind};
 ghost use Rattle.rss_base.specs.declared.refusal.Refusal.TheVariants.{NoSuch};
 ghost use Rattle.rss_model.specs.Calls.{calls_most};
 ghost use Rattle.rss_rsi.specs.Looking.{EndsEach};
 ghost use Rattle.rss_rsi.specs.Placing.{MayCost};
-ghost use Rattle.rss_rsi.specs.Scanning.{FindsBehind, LooksBehind};
+ghost use Rattle.rss_rsi.specs.Scanning.{FindsBehind, LooksBehind, FindsNext, GoesAlongImage, CostsLevels};
+ghost use Rattle.rss_scan.specs.Scans.{cursor_of};
 
 use crate::Rss;
 use crate::looking::test_read;
 use rss_access::tuple_of;
-use rss_base::{Body, CallError, Key, Kind, LimitKind, Mode, Name, Refusal, Reply, Tid, Tuple};
+use rss_base::{
+    Body, CallError, Key, Kind, LimitKind, Mode, Name, Place, Refusal, Reply, Tid, Tuple,
+};
 use rss_buffer::Saving;
 use rss_scan::{Cursor, Path};
 
@@ -46,30 +49,54 @@ impl<S: Saving> Rss<S> {
         Ok(Reply::Number(scan))
     }
 
-    /// Gives the next tuple of a scan with its identifier, or tells that there is none: of a relation,
-    /// the tuple with the least identifier above the one that was given last, in the tables as they are
-    /// now. It locks nothing more.
+    /// Opens a scan of an image, from the first key on that is not below this one, or from the least,
+    /// and answers its number: the least that isn't in use. The relation of the image is locked for
+    /// reading until the transaction ends, and the scan ends with it.
+    pub fn open_image(
+        &mut self,
+        transaction: u32,
+        image: &Name,
+        from: &Option<Tuple>,
+    ) -> Result<Reply, CallError>
+        requires few { (view self.old).calls < calls_most }
+        ensures did { IsCallOf (view self.old) (view self.new)
+            (OpenImage transaction image.now from.now) result }
+        ensures untouched { ((view self.old).is_up → ⊥) → self.new ≡ self.old }
+    {
+        self.ask()?;
+        let number = self.session.admit_image(transaction, image, from)?;
+        if self.scans.is_full() {
+            return Err(CallError::Refused(Refusal::Limit(LimitKind::Scans)));
+        }
+        let Ok(needs) = self.image_needs(number) else {
+            return Err(CallError::NoMemory);
+        };
+        let needs = self.claim(transaction, needs)?;
+        self.hold(transaction, needs);
+        let start = self.session.start_key(number, from);
+        let Some(scan) = self.scans.add(transaction, Path::Image(*image, start)) else {
+            unreachable!()
+        };
+        Ok(Reply::Number(scan))
+    }
+
+    /// Gives the next tuple of a scan with its identifier, or tells that there is none, in the tables
+    /// as they are now: of a relation, the tuple with the least identifier above the one that was given
+    /// last; of an image, that of the next entry. It locks nothing more.
     pub fn next(&mut self, transaction: u32, scan: u32) -> Result<Reply, CallError>
         requires few { (view self.old).calls < calls_most }
         ensures did { IsCallOf (view self.old) (view self.new) (Next transaction scan) result }
         ensures untouched { ((view self.old).is_up → ⊥) → self.new ≡ self.old }
+        ensures costs { CostsLevels (parts_of self.old) (parts_of self.new) transaction scan }
     {
         self.ask()?;
         self.session.test_open(transaction)?;
-        let Some(cursor) = self.scans.get(transaction, scan) else {
+        if self.scans.get(transaction, scan).is_none() {
             return Err(no_scan());
-        };
-        let Path::Relation(relation) = &cursor.path else {
-            unreachable!()
-        };
-        let after = last_of(cursor);
-        // A relation that isn't there has no tuples.
-        let Some(number) = self.session.store.catalog.find(Kind::Relation, relation) else {
-            return Ok(Reply::End);
-        };
-        match self.find_behind(number, after)? {
-            Some((tid, tuple)) => {
-                self.scans.gave(scan, &Key::new(), tid);
+        }
+        match self.find_next(transaction, scan)? {
+            Some((key, tid, tuple)) => {
+                self.scans.gave(scan, &key, tid);
                 Ok(Reply::Row(tid, tuple))
             }
             None => Ok(Reply::End),
@@ -90,6 +117,100 @@ impl<S: Saving> Rss<S> {
         }
         self.scans.close(scan);
         Ok(Reply::Ok)
+    }
+
+    /// What a scan of a transaction gives next, with its key. Nothing is changed.
+    fn find_next(
+        &mut self,
+        transaction: u32,
+        scan: u32,
+    ) -> Result<Option<(Key, Tid, Tuple)>, CallError>
+        requires up { self.old.down ≡ false }
+        requires there { IsSome (cursor_of (parts_of self.old).scans transaction scan) }
+        ensures up { OnOk result (self.new.down ≡ false) }
+        ensures calls { OnOk result (self.new.calls ≡ self.old.calls) }
+        ensures locks { self.new.locks ≡ self.old.locks }
+        ensures scans { self.new.scans ≡ self.old.scans }
+        ensures looks { IfOk result (LooksBehind (session_of self.old) (session_of self.new)) }
+        ensures finds { IfOk result (FindsNext (parts_of self.old) transaction scan) }
+        ensures fails { IfErr result (λ why. EndsEach MayCost (view self.old) (view self.new)
+            (Err why)) }
+        ensures costs { CostsLevels (parts_of self.old) (parts_of self.new) transaction scan }
+    {
+        let Some(cursor) = self.scans.get(transaction, scan) else {
+            unreachable!()
+        };
+        match &cursor.path {
+            Path::Relation(relation) => {
+                let after = last_of(cursor);
+                // A relation that isn't there has no tuples.
+                let Some(number) = self.session.store.catalog.find(Kind::Relation, relation) else {
+                    return Ok(None);
+                };
+                match self.find_behind(number, after)? {
+                    Some((tid, tuple)) => Ok(Some((Key::new(), tid, tuple))),
+                    None => Ok(None),
+                }
+            }
+            Path::Image(image, _) => {
+                // An image that isn't there has no entries.
+                let Some(number) = self.session.store.catalog.find(Kind::Image, image) else {
+                    return Ok(None);
+                };
+                self.find_entry(transaction, scan, number)
+            }
+            Path::Link(..) => unreachable!(),
+        }
+    }
+
+    /// The next entry of a scan that goes along the image of this number, with its tuple. Nothing is
+    /// changed.
+    fn find_entry(
+        &mut self,
+        transaction: u32,
+        scan: u32,
+        number: u8,
+    ) -> Result<Option<(Key, Tid, Tuple)>, CallError>
+        requires up { self.old.down ≡ false }
+        requires along { GoesAlongImage (parts_of self.old) transaction scan number }
+        ensures up { OnOk result (self.new.down ≡ false) }
+        ensures calls { OnOk result (self.new.calls ≡ self.old.calls) }
+        ensures locks { self.new.locks ≡ self.old.locks }
+        ensures scans { self.new.scans ≡ self.old.scans }
+        ensures looks { IfOk result (LooksBehind (session_of self.old) (session_of self.new)) }
+        ensures finds { IfOk result (FindsNext (parts_of self.old) transaction scan) }
+        ensures fails { IfErr result (λ why. EndsEach MayCost (view self.old) (view self.new)
+            (Err why)) }
+        ensures costs { CostsLevels (parts_of self.old) (parts_of self.new) transaction scan }
+    {
+        let Some(cursor) = self.scans.get(transaction, scan) else {
+            unreachable!()
+        };
+        let Path::Image(_, start) = &cursor.path else {
+            unreachable!()
+        };
+        self.down = true;
+        let found = self.session.next_entry(number, start, &cursor.last)?;
+        let Some((key, tid)) = found else {
+            self.down = false;
+            return Ok(None);
+        };
+        let relation = self.session.store.catalog.image(number).relation;
+        let segment = self.session.store.catalog.relation(relation).segment;
+        let mut body = Body::new();
+        if !self.session.look(segment, relation, tid, &mut body)? {
+            return Err(CallError::Damaged(Place::Tuple(segment, tid)));
+        }
+        self.down = false;
+        let entry = self.session.store.catalog.relation(relation);
+        let fields = entry.fields.as_slice();
+        let Ok(read) = tuple_of(self.alloc, relation, fields, body.as_slice()) else {
+            return Err(CallError::NoMemory);
+        };
+        self.down = true;
+        let tuple = test_read(read, segment, tid)?;
+        self.down = false;
+        Ok(Some((key, tid, tuple)))
     }
 
     /// The tuple of the relation of this number with the least identifier behind this one, or the least

@@ -25,8 +25,9 @@ use Rattle.rss_trans.proofs.Noting.{all_stay}
 use Rattle.rss_store.specs.Changing.{own_positions, IsOwnAt, AltersPages, MayNotTakeBack}
 use Rattle.rss_store.specs.Shown.{ShowsWith}
 use Rattle.rss_session.specs.Sessions.{SessionView, CountsStill, IsReady}
+use Rattle.rss_store.proofs.Definitions.{same_again, same_then}
 use Rattle.rss_session.specs.Shown.{Shows, ShowsBack}
-use Rattle.rss_session.specs.Calls.{NoMoreSaves, GoesOn, KeepsTables, ShowsNone, HasMarks, taken_to, TakesNewest, TakesBackOne, TakesBack, GoesBack}
+use Rattle.rss_session.specs.Calls.{NoMoreSaves, StaysListed, GoesOn, KeepsTables, ShowsNone, HasMarks, taken_to, TakesNewest, TakesBackOne, TakesBack, GoesBack}
 use Rattle.rss_session.proofs.Fewer.{IsLastAt, put_here, put_open, taken_all, taken_then, newest_at, newest_none, taken_get, length_taken, none_from}
 use Rattle.rss_session.proofs.Steady.{changes_kept, none_there}
 use Rattle.rss_session.proofs.ToldBack.{turned_back, tells_back}
@@ -54,6 +55,7 @@ pub record WayBack (t save : ℕ) (old new : SessionView) (first : Option ℕ) :
   pub backing : new.store.pages.backing ≡ old.store.pages.backing
   pub leaves : LeavesFixed (old.store.pages.settled ≡ true) (new.store.pages.settled ≡ true) old.store.pages.disk new.store.pages.disk old.store.pages.fixed new.store.pages.fixed
   pub later : old.store.pages.faults ≤ new.store.pages.faults
+  pub listed : StaysListed old new
   pub shows : IsTold old.store.pages.disk → (state : State) → Shows old state → ShowsBack new state t left
 
 -- ---- what is shown at the beginning
@@ -108,6 +110,7 @@ begins_back view t save ready opened =
       backing = refl;
       leaves = leaves_rests _ view.store.pages.disk view.store.pages.fixed;
       later = omega arith;
+      listed = same_again view.store.catalog.listing;
       shows = λ told state shows. all_shown view state t whole (omega arith) shows;
     }
 
@@ -162,6 +165,7 @@ module _ (old mid : SessionView) (t save : ℕ) (first : Option ℕ) (opened : i
       backing = did.step.passes.backing ∙ way.backing;
       leaves = leaves_then way.leaves did.step.passes.leaves;
       later = omega (arith, way.later, did.step.passes.later);
+      listed = same_then way.listed did.definitions;
       shows = λ told state shows. back (way.leaves.told.0 told) state last.older mid_count (own_at old state t last.older position shows place_is) (shown_mid told state shows);
     }
 
@@ -198,6 +202,7 @@ module _ (old mid : SessionView) (t save : ℕ) (first : Option ℕ) (opened : i
       root = way.root;
       number = way.number;
       backing = way.backing;
+      listed = way.listed;
     }
 
     pub goes_back : IsTold old.store.pages.disk → (state : State) (marks : List ℕ) → HasMarks state t marks → Shows old state → GoesBack mid state t (left_at marks save) first

@@ -37,3 +37,5 @@ pub mod Props
 pub mod Behind
 pub mod NextUniques
 pub mod Duplicates
+pub mod Starts
+pub mod ImagesShown

@@ -1,15 +1,22 @@
--- Which transactions are still open behind a step of one of them.
-use Rattle.std.proofs.Common.{◌≡◌, ℕ, true, ◌∙◌, ap}
+-- Which transactions are still open behind a step of one of them, and that the same is defined.
+use Rattle.std.proofs.Common.{◌≡◌, ℕ, true, sym, ◌∙◌, ap, subst}
 use Rattle.std.specs.Prelude.{is_some}
 use Rattle.std.specs.FinMap.{contains_key, insert, remove}
 use Rattle.rss_model.proofs.LogLists.{by_same}
 use Rattle.rss_trans.specs.Transactions.{Transaction}
+use Rattle.rss_base.specs.Listings.{Listing}
+use Rattle.rss_model.specs.Meanings.{SameDefinitions}
+use Rattle.rss_store.proofs.Definitions.{same_again}
 use Rattle.rss_session.proofs.Sums.{here, elsewhere, gone_elsewhere}
 use Rattle.rss_session.proofs.SavePoints.{Opened}
 
 -- nothing was done to them
 pub same_stay : {new : Opened} (old : Opened) → new ≡ old → (u : ℕ) → contains_key old u ≡ true → contains_key new u ≡ true
 same_stay old same u is = ap (λ (m : Opened). contains_key m u) same ∙ is
+
+-- and what is listed is as it was
+pub same_listed : {one other : Listing} → other ≡ one → SameDefinitions one other
+same_listed {one = one} same = subst (SameDefinitions one) (sym same) (same_again one)
 
 -- one of them took a step, or is new
 pub put_stay : {new : Opened} (old : Opened) (t : ℕ) (x : Transaction) → new ≡ insert old t x → (u : ℕ) → contains_key old u ≡ true → contains_key new u ≡ true

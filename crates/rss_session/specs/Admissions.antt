@@ -1,15 +1,27 @@
 -- What a call is refused for by a test that looks neither at pages nor at room.
-use Rattle.std.specs.Prelude.{◌≡◌, ℕ, Option, Some, None, Result, Ok, Err}
+use Rattle.std.specs.Prelude.{◌≡◌, ℕ, List, [], ◌∷◌, Option, Some, None, is_some, Result, Ok, Err}
 use Rattle.rss_base.specs.DiskRule.{IsTold}
 use Rattle.rss_base.specs.Listings.{Listing, IsNumberOf}
 use Rattle.rss_base.specs.declared.item.Item.{Item}
 use Rattle.rss_base.specs.declared.item.Item.TheVariants.{Segment as SegmentItem, Relation as RelationItem, Tuple as TupleItem, Chain as ChainItem, Key as KeyItem}
-use Rattle.rss_base.specs.declared.refusal.Kind.TheVariants.{Segment as SegmentKind, Relation as RelationKind}
+use Rattle.rss_base.specs.declared.name.Name.{Name}
+use Rattle.rss_base.specs.declared.refusal.Kind.TheVariants.{Segment as SegmentKind, Relation as RelationKind, Image as ImageKind}
 use Rattle.rss_base.specs.declared.refusal.Refusal.{Refusal}
+use Rattle.rss_base.specs.declared.refusal.Refusal.TheVariants.{NoSuch}
+use Rattle.rss_base.specs.declared.value.Value.{Value}
+use Rattle.rss_model.specs.Defining.{refused_unless}
 use Rattle.rss_model.specs.Machine.{State}
+use Rattle.rss_model.specs.Refusals.{image_of, unless_key_fits}
 use Rattle.rss_model.specs.ReplyText.{IsShort}
+use Rattle.rss_model.specs.Steps.{first_of, unless_open}
 use Rattle.rss_session.specs.Sessions.{SessionView}
 use Rattle.rss_session.specs.Shown.{Shows}
+
+-- the tests that an opening of a scan of an image begins with: they look neither at scans nor at locks
+abbrev pub image_admission : State → ℕ → Name → Option (List Value) → Option Refusal
+image_admission state t image from =
+    first_of (unless_open state t ∷ refused_unless (is_some (image_of state image)) (NoSuch ImageKind)
+    ∷ unless_key_fits state (image_of state image) from ∷ [])
 
 -- on a device that tells its contents the test says this in each state in which the session may be
 abbrev pub Says : SessionView → (State → Option Refusal) → Option Refusal → Type 0

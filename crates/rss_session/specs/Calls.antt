@@ -14,6 +14,7 @@ use Rattle.rss_model.specs.Tables.{Definitions}
 use Rattle.rss_model.specs.Fits.{Fits}
 use Rattle.rss_model.specs.Defining.{with_definitions}
 use Rattle.rss_model.specs.Machine.{State, now}
+use Rattle.rss_model.specs.Meanings.{SameDefinitions}
 use Rattle.rss_model.specs.Ruled.{HasBothRooms, ruled}
 use Rattle.rss_model.specs.Kept.{Kept, FitMixed}
 use Rattle.rss_model.specs.Steps.{IsOver, MayUndo, undone_to, left_at, restored, gone, committing, redefined}
@@ -47,6 +48,10 @@ StayOpen old new = (t : ℕ) → is_open old.opened t ≡ true → is_open new.o
 abbrev pub OthersStayOpen : ℕ → SessionView → SessionView → Type 0
 OthersStayOpen t old new =
     (u : ℕ) → (u ≡ t → ⊥) → is_open old.opened u ≡ true → is_open new.opened u ≡ true
+
+-- the same is defined, under the same numbers
+abbrev pub StaysListed : SessionView → SessionView → Type 0
+StaysListed old new = SameDefinitions old.store.catalog.listing new.store.catalog.listing
 
 -- By the result: the device tells its contents and its history as before, each failure of it has its cause, and memory never runs out. The store has its size, and no transaction more save points.
 pub record GoesOn {T : Type 0} (old new : SessionView) (result : Result T PageFault) : Type 0 where
@@ -157,6 +162,7 @@ pub record TakesBack (t save : ℕ) (old new : SessionView) (first : Option ℕ)
   pub root : new.store.root ≡ old.store.root
   pub number : new.store.number ≡ old.store.number
   pub backing : new.store.pages.backing ≡ old.store.pages.backing
+  pub listed : StaysListed old new
 
 -- the newest of its changes has this position, and so many older ones
 pub record HasNewest (opened : OpenView) (t position : ℕ) : Type 0 where

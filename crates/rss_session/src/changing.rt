@@ -11,7 +11,7 @@ ghost use Rattle.rss_access.specs.Changes.{IsTupleRecord};
 ghost use Rattle.rss_session.specs.Changes.{is_delete_told, relation_told};
 ghost use Rattle.rss_session.specs.Sessions.{IsReady, IsEarly};
 ghost use Rattle.rss_session.specs.Weighing.{weighed, RulesSo};
-ghost use Rattle.rss_session.specs.Calls.{GoesOn, NoMoreSaves, StayOpen, Appends, KeepsTables, Makes, MayNotMake};
+ghost use Rattle.rss_session.specs.Calls.{GoesOn, NoMoreSaves, StayOpen, StaysListed, Appends, KeepsTables, Makes, MayNotMake};
 ghost use Rattle.rss_session.specs.Shown.{Shows};
 ghost use Rattle.rss_model.specs.Machine.{State};
 ghost use Rattle.rss_model.specs.ReplyText.{IsShort};
@@ -91,6 +91,7 @@ impl<S: Saving> Session<S> {
             → MayNotMake (view S.view self.old) transaction change }
         ensures moments { KeepsTables (view S.view self.old) (view S.view self.new) }
         ensures stay { OnOk result (StayOpen (view S.view self.old) (view S.view self.new)) }
+        ensures listed { OnOk result (StaysListed (view S.view self.old) (view S.view self.new)) }
         ensures appends { Appends (longest_record + largest_checkpoint)
             (view S.view self.old) (view S.view self.new) }
         ensures goes { GoesOn (view S.view self.old) (view S.view self.new) result }
@@ -120,6 +121,7 @@ impl<S: Saving> Session<S> {
             → MayNotMake (view S.view self.old) transaction change }
         ensures moments { KeepsTables (view S.view self.old) (view S.view self.new) }
         ensures stay { OnOk result (StayOpen (view S.view self.old) (view S.view self.new)) }
+        ensures listed { OnOk result (StaysListed (view S.view self.old) (view S.view self.new)) }
         ensures appends { Appends longest_record (view S.view self.old) (view S.view self.new) }
         ensures goes { GoesOn (view S.view self.old) (view S.view self.new) result }
     {

@@ -88,6 +88,8 @@ impl<S: Saving> Session<S> {
         ensures still { length (transaction_in (view S.view self.old).opened transaction).changes ≡ 0
             → self.new.store ≡ self.old.store }
         ensures others { OthersStayOpen transaction (view S.view self.old) (view S.view self.new) }
+        ensures catalog { (view S.view self.new).store.catalog
+            ≡ (view S.view self.old).store.catalog }
         ensures appends { Appends end_size (view S.view self.old) (view S.view self.new) }
         ensures goes { GoesOn (view S.view self.old) (view S.view self.new) result }
     {

@@ -11,7 +11,7 @@ ghost use Rattle.rss_trans.specs.Transactions.{is_open, transaction_in};
 ghost use Rattle.rss_session.specs.Sessions.{IsReady, IsEarly};
 ghost use Rattle.rss_session.specs.Shown.{Shows};
 ghost use Rattle.rss_session.specs.Calls.{GoesOn, Appends, KeepsTables, HasMarks, Restores, Aborts, ShowsNone};
-ghost use Rattle.rss_session.specs.Calls.{NoMoreSaves, StayOpen, OthersStayOpen, TakesBack, GoesBack, HasNewest, TakesNewest, TakesBackOne};
+ghost use Rattle.rss_session.specs.Calls.{NoMoreSaves, StayOpen, StaysListed, OthersStayOpen, TakesBack, GoesBack, HasNewest, TakesNewest, TakesBackOne};
 ghost use Rattle.rss_store.specs.Changing.{AltersPages, MayNotTakeBack};
 
 use crate::Session;
@@ -37,6 +37,7 @@ impl<S: Saving> Session<S> {
             → IsTold (view S.view self.old).store.pages.disk → ShowsNone (view S.view self.old) }
         ensures moments { KeepsTables (view S.view self.old) (view S.view self.new) }
         ensures stay { OnOk result (StayOpen (view S.view self.old) (view S.view self.new)) }
+        ensures listed { OnOk result (StaysListed (view S.view self.old) (view S.view self.new)) }
         ensures appends { Appends restore_size (view S.view self.old) (view S.view self.new) }
         ensures goes { GoesOn (view S.view self.old) (view S.view self.new) result }
     {
@@ -62,6 +63,7 @@ impl<S: Saving> Session<S> {
         ensures moments { KeepsTables (view S.view self.old) (view S.view self.new) }
         ensures others { OnOk result
             (OthersStayOpen transaction (view S.view self.old) (view S.view self.new)) }
+        ensures listed { OnOk result (StaysListed (view S.view self.old) (view S.view self.new)) }
         ensures appends { Appends end_size (view S.view self.old) (view S.view self.new) }
         ensures goes { GoesOn (view S.view self.old) (view S.view self.new) result }
     {

@@ -14,6 +14,7 @@ mod looking;
 mod opening;
 mod saving;
 mod session;
+mod starting;
 mod uniques;
 mod weighing;
 

@@ -3,20 +3,21 @@ use Rattle.std.proofs.Common.{◌≡◌, ℕ, zero, suc, ◌-◌, List, [], ◌�
 use Rattle.std.specs.Prelude.{map, Option, Some, None, is_some, option_map, unwrap_or, slice_set}
 use Rattle.std.proofs.lemmas.Option.{none-some, same_Some}
 use Rattle.rss_base.specs.TupleTypes.{kinds, Spells}
-use Rattle.rss_base.specs.Listings.{Listing, numbered, names_of, relation_at, link_at, with_relation, with_count}
+use Rattle.rss_base.specs.Listings.{Listing, numbered, names_of, relation_at, image_at, link_at, with_relation, with_count}
 use Rattle.rss_base.specs.declared.name.Name.{Name}
 use Rattle.rss_base.specs.declared.tid.Tid.{Tid}
 use Rattle.rss_base.specs.declared.item.Item.TheVariants.{Tuple as TupleItem, Chain as ChainItem}
 use Rattle.rss_base.specs.declared.field.FieldDef.{FieldDef}
+use Rattle.rss_base.specs.declared.image.ImageEntry.{ImageEntry}
 use Rattle.rss_base.specs.declared.link.LinkEntry.{LinkEntry}
 use Rattle.rss_base.specs.declared.relation.RelationEntry.{RelationEntry}
-use Rattle.rss_base.specs.declared.refusal.Kind.TheVariants.{Relation as RelationKind, Link as LinkKind}
+use Rattle.rss_base.specs.declared.refusal.Kind.TheVariants.{Relation as RelationKind, Image as ImageKind, Link as LinkKind}
 use Rattle.rss_base.specs.declared.change.Change as told
 use Rattle.rss_base.specs.declared.change.Change.TheVariants.{Insert, Delete, Update, Connect, Disconnect}
 use Rattle.rss_catalog.specs.Catalogs.{CatalogView}
 use Rattle.rss_model.specs.Items.{Content}
 use Rattle.rss_model.specs.Changes.{Change}
-use Rattle.rss_model.specs.Meanings.{endless, SameDefinitions, nameless, item_told, TellsValues, TellsPlace, Means}
+use Rattle.rss_model.specs.Meanings.{endless, rootless, SameDefinitions, nameless, item_told, TellsValues, TellsPlace, Means}
 use Rattle.rss_model.specs.LogLaws.{IsToldBy}
 use Rattle.rss_model.proofs.Listed.{at_place}
 use Rattle.rss_access.specs.Relisted.{Recounted}
@@ -82,14 +83,20 @@ same_back same = record {
 -- ---- what a record tells by them
 
 module _ {one other : Listing} (same : SameDefinitions one other) where
-  relation_still : (number : ℕ) (entry : RelationEntry) → relation_at one number ≡ Some entry → (still : RelationEntry) × ((relation_at other number ≡ Some still) × (with_count 0 still ≡ with_count 0 entry))
+  pub relation_still : (number : ℕ) (entry : RelationEntry) → relation_at one number ≡ Some entry → (still : RelationEntry) × ((relation_at other number ≡ Some still) × (with_count 0 still ≡ with_count 0 entry))
   relation_still number entry at = at_still (with_count 0) one.relations other.relations same.relations number entry at
+
+  pub image_still : (number : ℕ) (entry : ImageEntry) → image_at one number ≡ Some entry → (still : ImageEntry) × ((image_at other number ≡ Some still) × (rootless still ≡ rootless entry))
+  image_still number entry at = at_still rootless one.images other.images same.images number entry at
 
   link_still : (number : ℕ) (entry : LinkEntry) → link_at one number ≡ Some entry → (still : LinkEntry) × ((link_at other number ≡ Some still) × (endless still ≡ endless entry))
   link_still number entry at = at_still endless one.links other.links same.links number entry at
 
   relation_names : names_of RelationKind other ≡ names_of RelationKind one
   relation_names = parts_same (with_count 0) (λ (r : RelationEntry). r.name) one.relations other.relations same.relations
+
+  pub image_names : names_of ImageKind other ≡ names_of ImageKind one
+  image_names = parts_same rootless (λ (i : ImageEntry). i.name) one.images other.images same.images
 
   link_names : names_of LinkKind other ≡ names_of LinkKind one
   link_names = parts_same endless (λ (l : LinkEntry). l.name) one.links other.links same.links

@@ -8,3 +8,4 @@ pub mod Walking
 pub mod Choosing
 pub mod Sums
 pub mod Spelling
+pub mod GivenKeys

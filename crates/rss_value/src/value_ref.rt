@@ -71,7 +71,8 @@ impl<'a> ValueRef<'a> {
     pub fn write_key_part(&self, kind: FieldKind, into: &mut Key)
         requires fit { fits kind (value_of self.now) ≡ true }
         requires room { length into.old + key_part_width kind ≤ KEY_BYTES }
-        ensures { into.new ≡ into.old ++ key_part kind (value_of self.now) }
+        ensures written { into.new ≡ into.old ++ key_part kind (value_of self.now) }
+        ensures storable { IsStorable (value_of self.now) }
     {
         match (self, kind) {
             (ValueRef::Int(number), _) => {
@@ -107,7 +108,7 @@ fn invert_sign(number: [u8; 8]) -> [u8; 8]
     inverted
 }
 
-fn push_zeros(into: &mut Key, count: usize)
+pub(crate) fn push_zeros(into: &mut Key, count: usize)
     requires { length into.old + count ≤ KEY_BYTES }
     ensures { into.new ≡ into.old ++ replicate count 0 }
 {

@@ -27,4 +27,4 @@ returns c tuple spelled =
     let one =
     read_number c.args.fields.now c.from-at.result c.args.number c.loop-field.field-index _ c.loop-field.cursor c.read.result c.read.new.self tuple c.from-at.ensures c.requires.number c.loop-field-test.false c.loop-field.auto.field-index-end
     (c.loop-field.invariant tuple spelled) c.read.ensures in
-    part_put c.args.fields.now c.from-at.result c.args.number _ c.read.new.self tuple c.unwrap-value.result c.read.result c.args.into.now c.write_key_part.new.into c.from-at.ensures c.requires.number one c.unwrap-value.ensures c.write_key_part.ensures
+    part_put c.args.fields.now c.from-at.result c.args.number _ c.read.new.self tuple c.unwrap-value.result c.read.result c.args.into.now c.write_key_part.new.into c.from-at.ensures c.requires.number one c.unwrap-value.ensures c.write_key_part.ensures.written

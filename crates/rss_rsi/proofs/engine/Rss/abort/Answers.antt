@@ -36,4 +36,4 @@ pub invariant_of-self-2 : goal.invariant_of-self-2
 invariant_of-self-2 g c =
     let asked_so = c.in_ok-ask.ensures in
     let gone = c.in_ok-abort.ensures in
-    record { ready = λ up. ready_gone c.args.transaction asked_so.ready asked_so.counted (omega arith) gone.ready gone.appends gone.goes.saves gone.others c.release_all.ensures.released c.close_all.ensures }
+    record { ready = λ up. ready_gone c.args.transaction asked_so.ready asked_so.counted (omega arith) gone.ready gone.appends gone.goes.saves gone.others gone.listed c.release_all.ensures.released c.close_all.ensures }

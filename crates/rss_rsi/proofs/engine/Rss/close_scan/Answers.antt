@@ -1,8 +1,10 @@
 use Rattle.std.proofs.Common.{arith, refl, sym, subst}
 use Rattle.rss_model.proofs.Tests.{refuses_at}
+use Rattle.rss_session.specs.Parts.{view as session_view}
+use Rattle.rss_rsi.specs.Views.{AllMayGoOn}
 use Rattle.rss_rsi.proofs.ScanCalls.{close_lacks, closes_scan}
-use Rattle.rss_rsi.proofs.Scans.{closed_over, lent_none, lent_some, ready_scans}
-use Rattle.rss_rsi.proofs.Ways.{GoOverRelations, asked, refused_test}
+use Rattle.rss_rsi.proofs.Scans.{closed_may, lent_none, lent_some, ready_scans}
+use Rattle.rss_rsi.proofs.Ways.{asked, refused_test}
 use Rattle.rss_rsi.proofs.engine.Rss.close_scan.Goals as goal
 
 pub returns-in_err-test_open-clause-did : goal.returns-in_err-test_open-clause-did
@@ -19,7 +21,7 @@ returns-then-is_none-clause-did g c =
     (close_lacks c.args.transaction c.args.scan c.in_ok-test_open.ensures.tests counted.was_up counted.up (omega (arith, counted.counted)) (lent_none _ c.get.ensures c.if-is_none.ensures) c.no_scan.result c.no_scan.ensures)
 
 pub invariant_of-self : goal.invariant_of-self
-invariant_of-self g c = record { ready = λ up. ready_scans _ (subst GoOverRelations (sym c.close.ensures) (closed_over _ (c.ask.new.self.ready up).relations c.args.scan)) (c.ask.new.self.ready up) }
+invariant_of-self g c = record { ready = λ up. ready_scans _ (subst (AllMayGoOn c.ask.new.self.session.store.catalog.listing (session_view g.S.Pages.view c.ask.new.self.session).opened) (sym c.close.ensures) (closed_may _ (c.ask.new.self.ready up).scans c.args.scan)) (c.ask.new.self.ready up) }
 
 pub returns-clause-did : goal.returns-clause-did
 returns-clause-did g c =

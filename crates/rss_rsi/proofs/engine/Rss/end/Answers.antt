@@ -4,6 +4,8 @@ use Rattle.rss_model.proofs.Tests.{refuses_at}
 use Rattle.rss_lock.specs.Table.{told}
 use Rattle.rss_scan.specs.Scans.{told as scans_told}
 use Rattle.rss_session.specs.Parts.{view as session_view}
+use Rattle.rss_catalog.specs.Catalogs.{CatalogView}
+use Rattle.rss_session.proofs.StaysOpen.{same_listed}
 use Rattle.rss_rsi.proofs.TransactionSteps.{end_stops, end_leads}
 use Rattle.rss_rsi.proofs.Ways.{asked, answers, goes, ready_gone, refused_test, failed_within}
 use Rattle.rss_rsi.proofs.engine.Rss.end.Goals as goal
@@ -36,4 +38,4 @@ pub invariant_of-self-2 : goal.invariant_of-self-2
 invariant_of-self-2 g c =
     let asked_so = c.in_ok-ask.ensures in
     let ended = c.in_ok-commit.ensures in
-    record { ready = λ up. ready_gone c.args.transaction asked_so.ready asked_so.counted (omega arith) ended.ready ended.appends ended.goes.saves ended.others c.release_all.ensures.released c.close_all.ensures }
+    record { ready = λ up. ready_gone c.args.transaction asked_so.ready asked_so.counted (omega arith) ended.ready ended.appends ended.goes.saves ended.others (same_listed (ap (λ (catalog : CatalogView). catalog.listing) ended.catalog)) c.release_all.ensures.released c.close_all.ensures }

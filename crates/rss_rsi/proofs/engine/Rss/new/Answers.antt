@@ -1,5 +1,6 @@
 use Rattle.std.proofs.Common.{sym, subst}
-use Rattle.rss_rsi.proofs.Ways.{GoOverRelations}
+use Rattle.rss_session.specs.Parts.{view as session_view}
+use Rattle.rss_rsi.specs.Views.{AllMayGoOn}
 use Rattle.rss_rsi.proofs.Scans.{ready_scans}
 use Rattle.rss_rsi.proofs.Taken.{ready_locks}
 use Rattle.rss_lock.specs.Table.{told}
@@ -8,6 +9,6 @@ use Rattle.rss_rsi.proofs.engine.Rss.new.Goals as goal
 pub invariant_of-result : goal.invariant_of-result
 invariant_of-result g c = record {
   ready = λ up.
-      let over = subst GoOverRelations (sym c.requires.none_scanned) c.requires.ready.relations in
-      ready_scans _ over (ready_locks (told c.new.result) c.new.ensures c.requires.ready);
+      let may = subst (AllMayGoOn c.args.session.store.catalog.listing (session_view g.S.Pages.view c.args.session).opened) (sym c.requires.none_scanned) c.requires.ready.scans in
+      ready_scans _ may (ready_locks (told c.new.result) c.new.ensures c.requires.ready);
 }

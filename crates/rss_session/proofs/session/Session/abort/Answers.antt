@@ -16,7 +16,9 @@ use Rattle.rss_session.proofs.Ended.{ready_left}
 use Rattle.rss_session.proofs.Restored.{still_open, undone_own, none_own}
 use Rattle.rss_session.proofs.Passing.{goes_still}
 use Rattle.rss_session.proofs.SavePoints.{gone_saves}
-use Rattle.rss_session.proofs.StaysOpen.{put_stay, others_stay}
+use Rattle.rss_catalog.specs.Catalogs.{CatalogView}
+use Rattle.rss_store.proofs.Definitions.{same_then}
+use Rattle.rss_session.proofs.StaysOpen.{put_stay, others_stay, same_listed}
 use Rattle.rss_session.proofs.session.Session.abort.Goals as goal
 
 -- a position was found, or none
@@ -91,3 +93,6 @@ returns-else-is_some-clause-others g c = λ u off is. others_stay _ c.args.trans
 
 pub returns-in_err-first-clause-sound : goal.returns-in_err-first-clause-sound
 returns-in_err-first-clause-sound g c = λ place is on. c.in_err-first.ensures.sound place (fault_passed c.from_residual.ensures.1 is) on
+
+pub returns-then-is_some-clause-listed : goal.returns-then-is_some-clause-listed
+returns-then-is_some-clause-listed g c = same_then c.in_ok-first.ensures.takes.listed (same_listed (ap (λ (catalog : CatalogView). catalog.listing) c.abort.ensures.catalog))

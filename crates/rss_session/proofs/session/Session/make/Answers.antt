@@ -7,7 +7,8 @@ use Rattle.rss_model.proofs.OpenKeeping.{keeps_meter}
 use Rattle.rss_store.proofs.Altered.{fault_passed}
 use Rattle.rss_session.proofs.Made.{weighed_again, may_then, makes_then}
 use Rattle.rss_session.proofs.Passing.{goes_then}
-use Rattle.rss_session.proofs.StaysOpen.{same_stay}
+use Rattle.rss_store.proofs.Definitions.{same_then}
+use Rattle.rss_session.proofs.StaysOpen.{same_listed, same_stay}
 use Rattle.rss_session.proofs.session.Session.make.Goals as goal
 
 pub change-requires-2-clause-place : goal.change-requires-2-clause-place
@@ -55,3 +56,7 @@ returns-clause-stay g c =
 
 pub returns-in_err-checkpoint-clause-sound : goal.returns-in_err-checkpoint-clause-sound
 returns-in_err-checkpoint-clause-sound g c = λ place is told state change by kept shows may. c.in_err-checkpoint.ensures.sound place (fault_passed c.from_residual.ensures.1 is) told state kept shows
+
+pub returns-clause-listed : goal.returns-clause-listed
+returns-clause-listed g c =
+    on_ok_weaker c.change-2.result (λ listed. same_then (same_listed c.in_ok-checkpoint.ensures.anew.listing) listed) c.change-2.ensures.listed

@@ -9,7 +9,9 @@ use Rattle.rss_session.specs.Sessions.{SessionView}
 use Rattle.rss_session.proofs.Restored.{still_open, save_there, restore_room, ready_restored, ready_unchanged, restores_some, restores_none, undone_own, none_own}
 use Rattle.rss_session.proofs.Passing.{goes_still}
 use Rattle.rss_session.proofs.SavePoints.{cut_saves}
-use Rattle.rss_session.proofs.StaysOpen.{put_stay}
+use Rattle.rss_catalog.specs.Catalogs.{CatalogView}
+use Rattle.rss_store.proofs.Definitions.{same_then}
+use Rattle.rss_session.proofs.StaysOpen.{put_stay, same_listed}
 use Rattle.rss_session.proofs.session.Session.restore.Goals as goal
 
 pub cut-requires-clause-open : goal.cut-requires-clause-open
@@ -72,3 +74,6 @@ returns-in_default-clause-stay g c = λ u is. put_stay _ c.args.transaction _ c.
 
 pub returns-in_err-first-clause-sound : goal.returns-in_err-first-clause-sound
 returns-in_err-first-clause-sound g c = λ place is on. c.in_err-first.ensures.sound place (fault_passed c.from_residual.ensures.1 is) on
+
+pub returns-in-Some-clause-listed : goal.returns-in-Some-clause-listed
+returns-in-Some-clause-listed g c = same_then c.in_ok-first.ensures.takes.listed (same_listed (ap (λ (catalog : CatalogView). catalog.listing) c.cut-in-Some.ensures.catalog))
