@@ -18,3 +18,4 @@ pub mod ImageRooms
 pub mod Rooted
 pub mod ImageMoves
 mod NextTuples
+mod Looking

@@ -3,6 +3,7 @@
 
 mod applying;
 mod bodies;
+mod checking;
 mod edit;
 mod moving;
 mod rooms;
@@ -10,5 +11,6 @@ mod tuples;
 
 pub use applying::{apply, undo};
 pub use bodies::{body_of, tuple_of};
+pub use checking::check_image;
 pub use edit::TUPLES_MOST;
 pub use tuples::{delete, find, find_next, insert, update};
