@@ -35,6 +35,13 @@ module _ {start now : PagesView} {asks outs : ℕ} (step : PagesStep no_page ask
   pub tuple_back : (key : KeyKinds) (number : ℕ) (tid : Tid) (image : Image) → HasEntryOf key number tid image now → HasEntryOf key number tid image start
   tuple_back key number tid image has = λ bytes is. entry_back key tid bytes image (has bytes (body_still image.segment tid ∙ is))
 
+-- the bytes behind the number of a relation, where a tuple of it was found
+pub rest_is : {segment number : ℕ} {tid : Tid} {view : PagesView} {body : List ℕ} → FindsBody segment number tid view true body → (bytes : List ℕ) → body_at view segment tid ≡ Some (number ∷ bytes) → body ≡ number ∷ bytes
+rest_is finds bytes is = let found = finds.some refl in some_same (sym found.1 ∙ is)
+  where
+    some_same : {a b : List ℕ} → Some a ≡ Some b → a ≡ b
+    some_same same = cc
+
 -- The pages were looked at. Each tuple of the relation that doesn't stand behind `last` has its entry.
 pub record Looked (key : KeyKinds) (number : ℕ) (image : Image) (start now : PagesView) (last : Option Tid) : Type 0 where
   pub most : ℕ
