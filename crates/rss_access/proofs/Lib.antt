@@ -19,3 +19,7 @@ pub mod Rooted
 pub mod ImageMoves
 mod NextTuples
 mod Looking
+mod AsMany
+mod Repeats
+mod NodesWithin
+mod Checked

@@ -1,5 +1,5 @@
 // Images that are checked against the tuples of their relations.
-ghost use Rattle.std.specs.Prelude.{◌≡◌, ◌+◌, ◌≤◌, ℕ, true, false, is_some, Err, All, IfOk, OnOk};
+ghost use Rattle.std.specs.Prelude.{◌≡◌, ◌+◌, ◌≤◌, ℕ, true, false, is_some, Err, None, All, IfOk, OnOk};
 ghost use Rattle.rss_base.specs.DiskRule.{IsTold};
 ghost use Rattle.rss_base.specs.Steps.{PagesCall, no_page};
 ghost use Rattle.rss_base.specs.TupleTypes.{kinds, chosen, key_width};
@@ -46,6 +46,8 @@ pub fn check_image<P: Pages>(
         → AreHeaps (P.view tuples.new.pages)) }
     ensures did { LooksAt (P.view tuples.old.pages) (P.view tuples.new.pages) result }
 {
+    // Numbers of pages are below this, so none of them is the one that stands for no page.
+    let _slots = tuples.pages.slots();
     let damaged = PageFault::Damaged(Place::Image(number));
     let entry = *catalog.image(number);
     let relation = catalog.relation(entry.relation);
@@ -66,13 +68,21 @@ pub fn check_image<P: Pages>(
     if census.pairs != u64::from(relation.live) {
         return Err(damaged);
     }
-    if entry.is_unique && census.repeats.is_some() {
+    if is_doubled(entry.is_unique, census.repeats) {
         return Err(damaged);
     }
     if !has_entries(tuples, &image, key, entry.relation)? {
         return Err(damaged);
     }
     Ok(census.pages)
+}
+
+/// Whether an image is unique and has a key twice.
+fn is_doubled(is_unique: bool, repeats: Option<Tid>) -> bool
+    ensures yes { result ≡ true → (is_unique ≡ true) × (repeats ≡ None → ⊥) }
+    ensures no { result ≡ false → is_unique ≡ true → repeats ≡ None }
+{
+    is_unique && repeats.is_some()
 }
 
 /// Whether an image has the entry of each tuple of the relation of this number.
