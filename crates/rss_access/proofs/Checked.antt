@@ -1,5 +1,5 @@
 -- An image that was checked is the list of its relation's tuples; and one that isn't what a check wants of it shows no tables.
-use Rattle.std.proofs.Common.{◌≡◌, inl, inr, ⊎_elim, ℕ, suc, ◌+◌, ◌<◌, ◌^◌, true, Bool, List, [], ◌∷◌, length, refl, sym, ◌∙◌, ap, subst, arith}
+use Rattle.std.proofs.Common.{◌≡◌, inl, inr, ⊎_elim, ℕ, suc, ◌+◌, ◌<◌, ◌^◌, true, Bool, List, [], ◌∷◌, length, take, refl, sym, ◌∙◌, ap, subst, arith}
 use Rattle.std.specs.Prelude.{Option, Some, None, All, Contains, is_some, map as list_map}
 use Rattle.std.proofs.lemmas.List.{length-map}
 use Rattle.std.proofs.lemmas.Option.{same_Some}
@@ -11,7 +11,9 @@ use Rattle.rss_base.specs.declared.key.PageKey.{PageKey}
 use Rattle.rss_base.specs.declared.key.Space.TheVariants.{Image as ImageSpace}
 use Rattle.rss_base.specs.Trees.{IsNodeAt}
 use Rattle.rss_base.specs.TupleTypes.{kinds, misfit, tuple_bytes, IsStorable, Spells}
-use Rattle.rss_base.specs.Listings.{Listing, relation_at}
+use Rattle.rss_base.specs.Listings.{Listing, relation_at, image_at}
+use Rattle.rss_base.specs.declared.field.FieldDef.{FieldDef}
+use Rattle.rss_catalog.specs.Catalogs.{IsSafe, IsSafeImage}
 use Rattle.rss_base.specs.declared.name.Name.{Name}
 use Rattle.rss_base.specs.declared.tid.Tid.{Tid}
 use Rattle.rss_base.specs.declared.value.Value.{Value}
@@ -55,6 +57,7 @@ use Rattle.rss_access.specs.Changes.{AccessView}
 use Rattle.rss_access.specs.Tuples.{body_at}
 use Rattle.rss_access.specs.Checking.{ShowsTuples, IsSound, IsSoundIn, ShowsThem, HasEntry, HasEntries}
 use Rattle.rss_access.proofs.AsMany.{as_many, contains_in, same_count}
+use Rattle.rss_access.proofs.ImageKeys.{image_nodes as fitting}
 use Rattle.rss_access.proofs.NodesWithin.{nodes_below, made_below}
 use Rattle.rss_access.proofs.Repeats.{single_of, none_twice}
 
@@ -220,8 +223,8 @@ some_slot {image = image} {pairs = pairs} view holds allowed tree =
     let low : tree.top.number < view.slots = (allowed (page_key image.segment ImageSpace tree.top.number) there).number in
     omega (arith, low)
 
-low_at : {at : AccessView} → at.pages.slots < 2 ^ 32 → ((key : PageKey) → is_some (at.pages.held key) ≡ at.pages.mapped key) → ((key : PageKey) → at.pages.mapped key ≡ true → IsKey at.pages.slots key) → AreLow at.pages.held
-low_at {at = at} small holds allowed = low_held at.pages (omega (arith, small)) holds allowed
+low_at : (at : AccessView) → at.pages.slots < 2 ^ 32 → ((key : PageKey) → is_some (at.pages.held key) ≡ at.pages.mapped key) → ((key : PageKey) → at.pages.mapped key ≡ true → IsKey at.pages.slots key) → AreLow at.pages.held
+low_at at small holds allowed = low_held at.pages (omega (arith, small)) holds allowed
 
 module _ {at : AccessView} (small : at.pages.slots < 2 ^ 32) (holds : (key : PageKey) → is_some (at.pages.held key) ≡ at.pages.mapped key) (allowed : (key : PageKey) → at.pages.mapped key ≡ true → IsKey at.pages.slots key)
     (number : ℕ) (entry : ImageEntry) (relation : RelationEntry) (its : IsListedImage at.catalog.listing number entry relation) (fit : AreNodes (image_nodes (image_of number entry relation)))
@@ -232,13 +235,13 @@ module _ {at : AccessView} (small : at.pages.slots < 2 ^ 32) (holds : (key : Pag
       let here = subst (λ (i : Image). IsCensus i at.pages census) (sym image_is) is in
       let entries = subst (λ (i : Image). HasEntries (key_of entry relation) entry.relation i at.pages) (sym image_is) (subst (λ (k : KeyKinds). HasEntries k entry.relation image at.pages) (sym key_is) has) in
       at_same (λ n e r. IsSoundIn census.pages at tables n e r) refl (same_entry its listed refl)
-      (checked small shows (low_at small holds allowed) its fit (some_slot at.pages holds allowed here.tree) census here live once entries)
+      (checked small shows (low_at at small holds allowed) its fit (some_slot at.pages holds allowed here.tree) census here live once entries)
 
   -- and what it has where it does
   pub found_where : (tables : Tables) (other : ImageEntry) (others : RelationEntry) → ShowsTuples at tables → IsListedImage at.catalog.listing number other others → IsSound at tables number other others → IsFound image key entry.relation relation.live entry.is_unique at.pages
   found_where tables other others shows listed sound =
       let here = at_same (λ n e r. IsSound at tables n e r) refl (same_entry listed its refl) sound in
-      let low = low_at small holds allowed in
+      let low = low_at at small holds allowed in
       let some = some_slot at.pages holds allowed (rowed low fit here.spells).tree in
       let found : IsFound (image_of number entry relation) (key_of entry relation) entry.relation relation.live entry.is_unique at.pages = record {
         tree = found_sound small shows low its fit some here;
@@ -247,3 +250,25 @@ module _ {at : AccessView} (small : at.pages.slots < 2 ^ 32) (holds : (key : Pag
         entries = found_entries small shows low its fit some here;
       } in
       subst (λ (k : KeyKinds). IsFound image k entry.relation relation.live entry.is_unique at.pages) key_is (subst (λ (i : Image). IsFound i (key_of entry relation) entry.relation relation.live entry.is_unique at.pages) image_is found)
+
+-- by what the catalog tells of the image and its relation
+module _ (at : AccessView) (small : at.pages.slots < 2 ^ 32) (holds : (key : PageKey) → is_some (at.pages.held key) ≡ at.pages.mapped key) (allowed : (key : PageKey) → at.pages.mapped key ≡ true → IsKey at.pages.slots key)
+    (number : ℕ) (entry : ImageEntry) (relation : RelationEntry) (entry_at : image_at at.catalog.listing number ≡ Some entry) (safe : IsSafeImage at.catalog.listing entry) (its : relation_at at.catalog.listing entry.relation ≡ Some relation) (safe_too : IsSafe relation) (places : length entry.fields ≡ 16)
+    {width count : ℕ} {fields : List FieldDef} (width_is : width ≡ width_of entry relation) (fields_are : fields ≡ relation.fields) (count_is : count ≡ entry.count) where
+  abbrev image : Image
+  image = record { segment = relation.segment; number = number; width = width; root = entry.root; levels = entry.levels }
+
+  abbrev key : KeyKinds
+  key = record { fields = kinds fields; which = take count entry.fields }
+
+  image_is : image_of number entry relation ≡ image
+  image_is = λ i. record { segment = relation.segment; number = number; width = sym width_is i; root = entry.root; levels = entry.levels }
+
+  key_is : key_of entry relation ≡ key
+  key_is = λ i. record { fields = kinds (sym fields_are i); which = take (sym count_is i) entry.fields }
+
+  pub shows_here : (census : Census) → IsCensus image at.pages census → census.pairs ≡ relation.live → (entry.is_unique ≡ true → census.repeats ≡ None) → HasEntries key entry.relation image at.pages → ShowsThem at number census.pages
+  shows_here = shows_them small holds allowed number entry relation (record { at = entry_at; within = its }) (fitting its safe places safe_too number) image image_is key key_is
+
+  pub found_here : (tables : Tables) (other : ImageEntry) (others : RelationEntry) → ShowsTuples at tables → IsListedImage at.catalog.listing number other others → IsSound at tables number other others → IsFound image key entry.relation relation.live entry.is_unique at.pages
+  found_here = found_where small holds allowed number entry relation (record { at = entry_at; within = its }) (fitting its safe places safe_too number) image image_is key key_is

@@ -1,9 +1,10 @@
 -- The walk along the tuples of a segment that looks for their entries in an image.
 use Rattle.std.proofs.Common.{◌≡◌, ◌⊎◌, inl, inr, ⊎_elim, ℕ, ◌+◌, true, false, List, ◌∷◌, refl, sym, ◌∙◌, ap, subst}
-use Rattle.std.specs.Prelude.{Option, Some, None, is_some, IfSome}
+use Rattle.std.specs.Prelude.{Option, Some, None, is_some, IfSome, Result}
 use Rattle.rss_base.specs.DiskRule.{IsTold}
 use Rattle.rss_base.specs.Paged.{Held}
-use Rattle.rss_base.specs.Steps.{PagesView, PagesStep, no_page}
+use Rattle.rss_base.specs.Steps.{PagesView, PagesStep, PagesCall, no_page}
+use Rattle.rss_base.specs.declared.fault.PageFault.{PageFault}
 use Rattle.rss_base.specs.declared.tid.Tid.{Tid}
 use Rattle.rss_base.proofs.Steps.{rests, then, all_held}
 use Rattle.rss_tuple.specs.Finding.{IsAfter, IsNext}
@@ -12,8 +13,12 @@ use Rattle.rss_image.specs.Images.{ImageTree, HasImage}
 use Rattle.rss_image.specs.declared.image.Image.{Image}
 use Rattle.rss_entries.specs.Moving.{KeyKinds}
 use Rattle.rss_access.specs.Tuples.{body_at, FindsBody}
-use Rattle.rss_access.specs.Checking.{HasEntry, HasEntryOf, HasEntries}
+use Rattle.rss_access.specs.Checking.{LooksAt, HasEntry, HasEntryOf, HasEntries}
 use Rattle.rss_access.proofs.NextTuples.{IsTid, cases_tid}
+
+-- what a call passes on
+pub looks : {T : Type 0} {most : ℕ} {old new : PagesView} {result : Result T PageFault} → PagesCall no_page most most old new result → LooksAt old new result
+looks {most = most} call = record { most = most; step = call.step; failed = call.failed; memory = call.memory }
 
 -- where nothing was touched, there is the same to find
 module _ {start now : PagesView} {asks outs : ℕ} (step : PagesStep no_page asks outs start now) (told : IsTold start.disk) where
