@@ -1,5 +1,5 @@
 -- Lists with as many members: a list that rises and has all members of another one, which rises too and is as long, is that one; and the same numbers, none of them twice, are as many.
-use Rattle.std.proofs.Common.{◌≡◌, ◌≢◌, ◌⊎◌, inl, inr, ⊎_elim, ℕ, zero, suc, ◌+◌, ◌<◌, ◌≤◌, List, [], ◌∷◌, ◌++◌, length, refl, sym, ◌∙◌, ap, subst, arith}
+use Rattle.std.proofs.Common.{◌≡◌, ◌≢◌, inl, inr, ⊎_elim, ℕ, zero, suc, ◌<◌, ◌≤◌, List, [], ◌∷◌, ◌++◌, length, refl, sym, ◌∙◌, ap, subst, arith}
 use Rattle.std.specs.Prelude.{Contains, slice_index_or}
 use Rattle.std.proofs.lemmas.List.{length-append}
 use Rattle.rss_levels.specs.Entries.{IsLess, IsIn, Each, Pairwise}
@@ -77,9 +77,9 @@ few_numbers [] ms apart into = omega arith
 few_numbers (n ∷ ns) ms apart into =
     let cut = split_in ms n (into n (inl refl)) in
     let rest = few_numbers ns (cut.front ++ cut.back) apart.1 (λ m is. ⊎_elim
-        (λ (front : IsIn cut.front m). in_left cut.front cut.back m front)
-        (λ (from : IsIn (n ∷ cut.back) m). ⊎_elim (λ (here : n ≡ m). absurd (off_it ns n m apart.0 is here)) (λ (back : IsIn cut.back m). in_right cut.front cut.back m back) from)
-        (in_append cut.front (n ∷ cut.back) m (subst (λ (l : List ℕ). IsIn l m) cut.is (into m (inr is))))) in
+    (λ (front : IsIn cut.front m). in_left cut.front cut.back m front)
+    (λ (from : IsIn (n ∷ cut.back) m). ⊎_elim (λ (here : n ≡ m). absurd (off_it ns n m apart.0 is here)) (λ (back : IsIn cut.back m). in_right cut.front cut.back m back) from)
+    (in_append cut.front (n ∷ cut.back) m (subst (λ (l : List ℕ). IsIn l m) cut.is (into m (inr is))))) in
     omega (arith, rest, ap (λ (l : List ℕ). length l) cut.is, length-append cut.front (n ∷ cut.back), length-append cut.front cut.back)
 
 pub same_count : (ns ms : List ℕ) → AreSameNumbers ns ms → Pairwise (λ a b. a ≢ b) ms → length ns ≡ length ms

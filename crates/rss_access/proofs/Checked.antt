@@ -1,16 +1,14 @@
 -- An image that was checked is the list of its relation's tuples; and one that isn't what a check wants of it shows no tables.
-use Rattle.std.proofs.Common.{◌≡◌, inl, inr, ⊎_elim, ℕ, suc, ◌+◌, ◌<◌, ◌^◌, true, Bool, List, [], ◌∷◌, length, take, refl, sym, ◌∙◌, ap, subst, arith}
+use Rattle.std.proofs.Common.{◌≡◌, ℕ, ◌<◌, ◌^◌, true, Bool, List, [], ◌∷◌, length, take, refl, sym, ◌∙◌, ap, subst, arith}
 use Rattle.std.specs.Prelude.{Option, Some, None, All, Contains, is_some, map as list_map}
 use Rattle.std.proofs.lemmas.List.{length-map}
 use Rattle.std.proofs.lemmas.Option.{same_Some}
-use Rattle.rss_base.specs.Nodes.{Node}
 use Rattle.rss_base.specs.PageMap.{IsKey}
-use Rattle.rss_base.specs.Paged.{Held, page_key}
+use Rattle.rss_base.specs.Paged.{page_key}
 use Rattle.rss_base.specs.Steps.{PagesView}
 use Rattle.rss_base.specs.declared.key.PageKey.{PageKey}
 use Rattle.rss_base.specs.declared.key.Space.TheVariants.{Image as ImageSpace}
-use Rattle.rss_base.specs.Trees.{IsNodeAt}
-use Rattle.rss_base.specs.TupleTypes.{kinds, misfit, tuple_bytes, IsStorable, Spells}
+use Rattle.rss_base.specs.TupleTypes.{kinds, tuple_bytes, IsStorable}
 use Rattle.rss_base.specs.Listings.{Listing, relation_at, image_at}
 use Rattle.rss_base.specs.declared.field.FieldDef.{FieldDef}
 use Rattle.rss_catalog.specs.Catalogs.{IsSafe, IsSafeImage}
@@ -37,7 +35,7 @@ use Rattle.rss_tuple.specs.Directory.{bodies_of}
 use Rattle.rss_model.specs.Items.{Content, Values}
 use Rattle.rss_model.specs.Tables.{Tables, content}
 use Rattle.rss_model.specs.Images.{Entry, image_list}
-use Rattle.rss_model.specs.Store.{IsListedImage, SpellsImage, image_definition, pair_spelled, plain_body}
+use Rattle.rss_model.specs.Store.{IsListedImage, image_definition, pair_spelled}
 use Rattle.rss_model.proofs.Mixing.{In}
 use Rattle.rss_model.proofs.PlainStores.{PlainContents, plain_contents}
 use Rattle.rss_model.proofs.RelationLists.{entry_there}
@@ -46,7 +44,6 @@ use Rattle.rss_entries.specs.Rooms.{width_of}
 use Rattle.rss_entries.specs.Images.{image_of, key_of}
 use Rattle.rss_entries.specs.Keyed.{key_with}
 use Rattle.rss_entries.specs.Moving.{KeyKinds, pair_with}
-use Rattle.rss_entries.specs.Seeking.{AreSingle}
 use Rattle.rss_entries.proofs.Lists.{listed_shows}
 use Rattle.rss_entries.proofs.Orders.{in_contains}
 use Rattle.rss_entries.proofs.Places.{counted_long}
@@ -55,7 +52,7 @@ use Rattle.rss_entries.proofs.Shown.{Shows, byte_list, pair_there, tuple_pair, p
 use Rattle.rss_entries.proofs.Standing.{AreLow, AreSpelledIn, IsRowed, StandsIn, contained, containing, low_cells, low_held, rowed, stands_in}
 use Rattle.rss_access.specs.Changes.{AccessView}
 use Rattle.rss_access.specs.Tuples.{body_at}
-use Rattle.rss_access.specs.Checking.{ShowsTuples, IsSound, IsSoundIn, ShowsThem, HasEntry, HasEntries}
+use Rattle.rss_access.specs.Checking.{ShowsTuples, IsSound, IsSoundIn, ShowsThem, HasEntries}
 use Rattle.rss_access.proofs.AsMany.{as_many, contains_in, same_count}
 use Rattle.rss_access.proofs.ImageKeys.{image_nodes as fitting}
 use Rattle.rss_access.proofs.NodesWithin.{nodes_below, made_below}

@@ -1,7 +1,7 @@
 -- The identifiers in the nodes of an image name pages of the store where the bounds and the pairs of its rows do, and the other way round.
 use Rattle.std.proofs.Common.{◌≡◌, inl, inr, ⊎_elim, ℕ, zero, suc, ◌+◌, ◌<◌, true, Bool, List, [], ◌∷◌, length, take, drop, map, Some, refl, sym, ◌∙◌, ap, subst, arith}
 use Rattle.std.specs.Prelude.{All}
-use Rattle.std.specs.Int.{w16, w32, from_be_bytes}
+use Rattle.std.specs.Int.{w16, from_be_bytes}
 use Rattle.std.specs.Ordering.{nat_cmp, is_lt}
 use Rattle.std.specs.Cmp.{nat_cmp_is}
 use Rattle.std.specs.declared.cmp.Ordering.{Ordering}
@@ -13,17 +13,16 @@ use Rattle.rss_base.specs.Paged.{Held}
 use Rattle.rss_base.specs.Nodes.{NodeEntry, Node, IsNodeEntry}
 use Rattle.rss_base.specs.Trees.{Pair, IsNodeAt, pair_of}
 use Rattle.rss_levels.specs.Entries.{Entry, Each, IsIn, zeros}
-use Rattle.rss_levels.specs.Rows.{Part, Row, Cells, HoldsAt, HoldsRow, HasHead, Begins, IsStack, items, names, name, numbers, pages, link, stored, no_page}
+use Rattle.rss_levels.specs.Rows.{Part, Row, HoldsAt, HoldsRow, HasHead, Begins, IsStack, items, names, name, numbers, pages, link, stored, no_page}
 use Rattle.rss_levels.specs.Spots.{IsMade, AreMade}
-use Rattle.rss_levels.proofs.Lists.{each_append, each_left, each_right, each_unmap}
+use Rattle.rss_levels.proofs.Lists.{each_append, each_unmap}
 use Rattle.rss_levels.proofs.Pages.{in_append, in_left, in_right}
 use Rattle.rss_node.specs.Nodes.{NodeView, AreNodes, Spells}
-use Rattle.rss_node.specs.Pairs.{IsWhole, HasSlot, entry_of, next_from, next_number, node_entry, pair_bytes, pair_from}
+use Rattle.rss_node.specs.Pairs.{IsWhole, HasSlot, entry_of, next_from, next_number, node_entry, pair_bytes}
 use Rattle.rss_node.specs.declared.pair.Nodes.{Nodes}
 use Rattle.rss_node.proofs.Agreed.{base_page, whole_page, pair_said}
 use Rattle.rss_node.proofs.Headers.{says_one}
 use Rattle.rss_node.proofs.Spelled.{spelled_page}
-use Rattle.rss_node.specs.Pairs.{IsSpelledTid}
 use Rattle.rss_image.specs.Trees.{cells_of, spells, node_of}
 use Rattle.rss_image.specs.Images.{has_slot, has_page}
 use Rattle.rss_image.specs.Agreement.{base_of, AreNumbered}
@@ -146,8 +145,11 @@ module _ (held : Held) (of : Nodes) (fit : AreNodes of) (numbered : AreNumbered 
   made_row : (level : ℕ) (row : Row) (end : ℕ) → Each (IsMade (has_slot of.width)) row → Each (λ p. good p.low ≡ true) row → (0 < level → Each HasHead row) → HoldsRow (spells of) (cells_of of held) of.width level row end → ((n : ℕ) → IsIn (numbers row) n → IsBelowIn n) → Each (IsMade good) row
   made_row level [] end slot lows heads holds below = tt
   made_row level (p ∷ row) end slot lows heads holds below = (
-    (lows.0, stored_back good of.width level p lows.0 (λ inner. (heads inner).0)
-        (held_good level p.number (link level row end) (stored of.width level p.items) (stored_each (has_slot of.width) of.width level p.items (zeros_slot of.width) slot.0.1) holds.0 (below p.number (inl refl)))),
+    (
+      lows.0,
+      stored_back good of.width level p lows.0 (λ inner. (heads inner).0)
+          (held_good level p.number (link level row end) (stored of.width level p.items) (stored_each (has_slot of.width) of.width level p.items (zeros_slot of.width) slot.0.1) holds.0 (below p.number (inl refl))),
+    ),
     made_row level row end slot.1 lows.1 (λ inner. (heads inner).1) holds.1 (λ n is. below n (inr is)),
   )
 

@@ -1,5 +1,5 @@
 -- The list of an image has no key twice where no two tuples have one, and the other way round.
-use Rattle.std.proofs.Common.{◌≡◌, ◌≢◌, ◌⊎◌, inl, inr, ⊎_elim, ℕ, ◌+◌, ◌≤◌, true, false, List, [], ◌∷◌, ◌++◌, length, take, drop, refl, sym, ◌∙◌, ap, subst, arith, length-take-le, length-append}
+use Rattle.std.proofs.Common.{◌≡◌, ◌≢◌, inl, inr, ℕ, ◌≤◌, true, false, List, [], ◌∷◌, length, take, drop, refl, sym, ◌∙◌, ap, subst, arith, length-take-le, length-append}
 use Rattle.std.specs.Prelude.{Option, Some, None}
 use Rattle.std.specs.Ordering.{nat_cmp, is_eq, ordering_then}
 use Rattle.std.specs.Cmp.Lexicographic.{slice_cmp}
@@ -20,7 +20,7 @@ use Rattle.rss_value.proofs.KeyOrders.{keys_same}
 use Rattle.rss_value.proofs.Orders.{slice_cmp-append}
 use Rattle.rss_node.specs.Pairs.{pair_bytes, key_from, tid_from}
 use Rattle.rss_image.specs.Checking.{first_repeat}
-use Rattle.rss_model.specs.Images.{HasKey, is_key, key_in}
+use Rattle.rss_model.specs.Images.{is_key, key_in}
 use Rattle.rss_model.specs.Store.{image_definition}
 use Rattle.rss_model.specs.Tables.{ImageDef, Tables, content}
 use Rattle.rss_model.specs.Items.{Values}
@@ -34,7 +34,7 @@ use Rattle.rss_entries.specs.Rooms.{width_of}
 use Rattle.rss_entries.specs.Seeking.{AreSingle, kinds_in}
 use Rattle.rss_entries.proofs.Entries.{length-key}
 use Rattle.rss_entries.proofs.Orders.{Rise, each_in, each_of_in}
-use Rattle.rss_entries.proofs.Shown.{Shows, byte_list, key_fits, key_is, pair_is, pair_there, same_tid, tuple_pair, pairs_rise, spelled_entry, entry_with}
+use Rattle.rss_entries.proofs.Shown.{Shows, byte_list, key_fits, key_is, pair_is, pair_there, same_tid, tuple_pair, pairs_rise}
 
 -- ---- keys in a list that rises
 

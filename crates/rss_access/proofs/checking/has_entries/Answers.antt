@@ -1,10 +1,9 @@
 -- Each tuple of the segment is looked at once.
 use Rattle.std.proofs.Common.{◌+◌, arith}
-use Rattle.std.proofs.Math.Logic.{∥∥₁_map}
 use Rattle.rss_entries.specs.Keyed.{kinds_of}
 use Rattle.rss_base.proofs.Steps.{then, then_call, done, fails}
 use Rattle.rss_tuple.proofs.Seen.{heaps_after}
-use Rattle.rss_access.proofs.Looking.{image_still, tuple_then, looked_more}
+use Rattle.rss_access.proofs.Looking.{tuple_then, looked_more}
 use Rattle.rss_access.proofs.checking.has_entries.Goals as goal
 
 pub next_live-requires-clause-heaps : goal.next_live-requires-clause-heaps

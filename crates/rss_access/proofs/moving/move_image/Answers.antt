@@ -1,5 +1,5 @@
 -- The move is given the image of the catalog's entry, and the values that the change tells; the catalog lists its root then.
-use Rattle.std.proofs.Common.{◌≡◌, ◌<◌, ℕ, true, List, length, take, refl, sym, ◌∙◌, ap, subst, arith}
+use Rattle.std.proofs.Common.{◌≡◌, ℕ, take, sym, ◌∙◌, ap, subst, arith}
 use Rattle.std.specs.Prelude.{Some}
 use Rattle.std.proofs.Math.Logic.{∥∥₁_map}
 use Rattle.std.proofs.lemmas.Option.{same_Some}
