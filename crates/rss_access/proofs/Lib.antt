@@ -22,4 +22,5 @@ mod Looking
 mod AsMany
 mod Repeats
 mod NodesWithin
+pub mod NodesReached
 mod Checked
