@@ -1,7 +1,7 @@
 -- Where each image is sound and each image page is one of theirs, the identifiers in all nodes of the images name pages of the store.
-use Rattle.std.proofs.Common.{◌≡◌, ◌<◌, ℕ, true, List, refl, sym, ◌∙◌, ap, subst}
+use Rattle.std.proofs.Common.{◌≡◌, ◌<◌, ℕ, List, refl, sym, ◌∙◌, ap, subst}
 use Rattle.std.specs.Prelude.{All, Some, is_some}
-use Rattle.rss_base.specs.Nodes.{Node, NodesOf, IsNodePage}
+use Rattle.rss_base.specs.Nodes.{Node, IsNodePage}
 use Rattle.rss_base.specs.Paged.{Held, page_key}
 use Rattle.rss_base.specs.Trees.{IsNodeAt}
 use Rattle.rss_base.specs.Listings.{Listing, ListingFits}
