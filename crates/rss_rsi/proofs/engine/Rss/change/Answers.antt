@@ -27,7 +27,7 @@ returns-clause-did g c =
     _ refl c.in_ok-saves_first.ensures.rules c.in_ok-make.ensures.makes c.make.ensures.moments
 
 pub make-requires-clause-weighed : goal.make-requires-clause-weighed
-make-requires-clause-weighed g c = c.reserve.ensures.weighs (relation_told c.args.change) (record_size (records.Change c.args.transaction c.args.change)) ∙ sym c.in_ok-saves_first.ensures.weighed ∙ c.in_ok-saves_first.was
+make-requires-clause-weighed g c = c.reserve.ensures.weighs (relation_told c.args.change) (record_size (records.Change c.args.transaction c.args.change)) ∙ sym c.in_ok-saves_first.ensures.weighed
 
 pub invariant_of-self-2 : goal.invariant_of-self-2
 invariant_of-self-2 g c =
