@@ -18,7 +18,7 @@ use Rattle.rss_base.specs.declared.relation.RelationEntry.{RelationEntry}
 use Rattle.rss_base.specs.declared.image.ImageEntry.{ImageEntry}
 use Rattle.rss_base.specs.declared.refusal.Kind.TheVariants.{Relation as RelationKind, Image as ImageKind}
 use Rattle.rss_model.specs.Items.{name_cmp}
-use Rattle.rss_model.specs.Tables.{RelationDef, ImageDef, Definitions, fields_in}
+use Rattle.rss_model.specs.Tables.{RelationDef, ImageDef, Definitions}
 use Rattle.rss_model.specs.Images.{field_number, numbers_of}
 use Rattle.rss_model.specs.Fits.{DefinitionsFit, PathsFit, RelationFits, ImageFits, is_field_of}
 use Rattle.rss_model.specs.Store.{Defines, DefinesPaths, IsListedImage, definition_of, image_definition}
