@@ -32,7 +32,7 @@ use Rattle.rss_model.proofs.Contents.{tied, not_tied}
 use Rattle.rss_model.proofs.Counts.{one_if, counts_same, counts_put}
 use Rattle.rss_model.proofs.Listed.{listed, stands_within}
 use Rattle.rss_model.proofs.PlainStores.{spelled_contents, contents_spelled, no_links_defined, PlainContents}
-use Rattle.rss_access.specs.Changes.{IsTupleRecord, number_told, tid_told, body_before, body_after, count_after, reversed, turned, AccessView, HasRoom, CanApply, Applies, Undoes, NoneUndoes, Alters, Makes, Misfits, pages_of_relation, pages_told, applied, HasTables}
+use Rattle.rss_access.specs.Changes.{IsTupleRecord, number_told, tid_told, body_before, body_after, count_after, reversed, turned, AccessView, HasRoom, CanApply, Applies, Undoes, NoneUndoes, Alters, Makes, Misfits, pages_of_relation, pages_told, applied, CanAlter, HasTables}
 use Rattle.rss_access.specs.Tuples.{body_at, size_of_body, SetsBody}
 use Rattle.rss_access.specs.Written.{content_of}
 use Rattle.rss_access.proofs.Counting.{overflows_one}
@@ -255,6 +255,6 @@ module _ {T : Type 0} {old new : AccessView} (told_change : told.Change) (result
       by (Err e) done = tt
 
 -- of a change that is turned round
-pub none_undoes : {at : AccessView} {told_change : told.Change} {place : Place} → IsTupleRecord told_change → (HasTables at → Misfits (reversed told_change) at place) → HasRoom at (number_told told_change) → NoneUndoes told_change at
-none_undoes {at = at} {told_change = told_change} is misfits room tables change can =
-    none_applies (reversed_tuple told_change is) misfits (subst (HasRoom at) (sym (same_number told_change)) room) tables (turned change) (can_turned can)
+pub none_undoes : {at : AccessView} {told_change : told.Change} {place : Place} → CanAlter at → IsTold at.pages.disk → IsTupleRecord told_change → (HasTables at → Misfits (reversed told_change) at place) → HasRoom at (number_told told_change) → NoneUndoes told_change at
+none_undoes {at = at} {told_change = told_change} may disk is misfits room tables change can =
+    none_applies may disk (reversed_tuple told_change is) misfits (subst (HasRoom at) (sym (same_number told_change)) room) tables (turned change) (can_turned can)

@@ -1,13 +1,13 @@
 -- The keys of an image of the catalog: their fields are some of its relation's, and their width is that of a node's keys.
-use Rattle.std.proofs.Common.{◌≡◌, ℕ, zero, suc, ◌+◌, ◌-◌, ◌<◌, ◌≤◌, Bool, true, List, [], ◌∷◌, length, take, get_or, refl, sym, ◌∙◌, ap, subst, arith}
-use Rattle.std.specs.Prelude.{Option, Some, None, is_some, option_map, slice_get, All, nat_le, ◌&&◌}
+use Rattle.std.proofs.Common.{◌≡◌, ℕ, ◌+◌, ◌-◌, ◌≤◌, true, List, [], ◌∷◌, length, get_or, refl, sym, ◌∙◌, ap, subst, arith}
+use Rattle.std.specs.Prelude.{Option, Some, None, option_map, slice_get, All, nat_le}
 use Rattle.std.specs.List.{cons_option, list_all}
 use Rattle.std.proofs.lemmas.Bool.{and_parts, leb-true}
 use Rattle.std.proofs.lemmas.List.{length-take, length-map}
 use Rattle.std.proofs.lemmas.List.Sums.{sum_by-cons, AllPass-from_list_all}
 use Rattle.std.proofs.lemmas.Option.{same_Some, slice_get-map, slice_get-get_or}
-use Rattle.rss_base.specs.TupleTypes.{kinds, chosen, key_width, key_part_width, is_kind, are_kinds}
-use Rattle.rss_base.specs.Listings.{Listing, relation_at, field_numbers}
+use Rattle.rss_base.specs.TupleTypes.{kinds, chosen, key_width, key_part_width, is_kind}
+use Rattle.rss_base.specs.Listings.{Listing, relation_at, image_at, field_numbers}
 use Rattle.rss_base.specs.declared.field.FieldDef.{FieldDef}
 use Rattle.rss_base.specs.declared.value.FieldKind.{FieldKind}
 use Rattle.rss_base.specs.declared.value.FieldKind.TheVariants.{Int as IntField, Text as TextField}
@@ -17,6 +17,7 @@ use Rattle.rss_value.specs.Numbers.{IsNumberOf}
 use Rattle.rss_node.specs.Nodes.{AreNodes}
 use Rattle.rss_image.specs.Images.{nodes_of}
 use Rattle.rss_catalog.specs.Catalogs.{IsSafe, IsSafeImage}
+use Rattle.rss_model.specs.Store.{IsListedImage}
 use Rattle.rss_entries.specs.Rooms.{width_of}
 use Rattle.rss_entries.specs.Images.{image_of}
 
@@ -59,6 +60,12 @@ some_wide fields (n ∷ which) formed some within =
     first_wide (kinds fields) n which formed first.0 (omega (arith, first.1, kinds_long))
 
 -- ---- an image of the catalog
+
+-- its entry and its relation's are those that are listed
+pub same_listed : {listing : Listing} {number : ℕ} {one image : ImageEntry} {its relation : RelationEntry} → image_at listing number ≡ Some one → relation_at listing one.relation ≡ Some its → IsListedImage listing number image relation → (one ≡ image) × (its ≡ relation)
+same_listed {listing = listing} at within listed =
+    let same = same_Some _ _ (sym at ∙ listed.at) in
+    (same, same_Some _ _ (sym within ∙ ap (λ (e : ImageEntry). relation_at listing e.relation) same ∙ listed.within))
 
 -- its keys have at least one field
 pub some_numbers : {listing : Listing} {image : ImageEntry} → IsSafeImage listing image → length image.fields ≡ 16 → 1 ≤ length (field_numbers image)

@@ -6,8 +6,8 @@ use Rattle.std.proofs.lemmas.Bool.{cases_lt}
 use Rattle.std.proofs.lemmas.Option.{none-some, same_Some}
 use Rattle.rss_base.specs.DiskRule.{IsTold}
 use Rattle.rss_base.specs.Steps.{PagesView, PagesStep, AreCounted, pages_in}
-use Rattle.rss_base.specs.TupleTypes.{kinds, misfit, tuple_bytes, IsStorable}
-use Rattle.rss_base.specs.Listings.{Listing, numbered, field_numbers, relation_at, image_at}
+use Rattle.rss_base.specs.TupleTypes.{kinds, misfit, tuple_bytes, IsStorable, SpellsSome}
+use Rattle.rss_base.specs.Listings.{Listing, numbered, relation_at, image_at}
 use Rattle.rss_base.specs.declared.key.PageKey.{PageKey}
 use Rattle.rss_base.specs.declared.key.Space.{Space}
 use Rattle.rss_base.specs.declared.key.Space.TheVariants.{Home, Overflow, Image as ImageSpace, System}
@@ -31,11 +31,10 @@ use Rattle.rss_model.specs.Meanings.{rootless}
 use Rattle.rss_model.proofs.Spelled.{tuple_bytes_same}
 use Rattle.rss_entries.specs.Moving.{KeyKinds, AreSpelled, MayMove, MovesEntry}
 use Rattle.rss_entries.specs.Images.{TupleMove, CanMove, after_move, image_of, key_of}
-use Rattle.rss_entries.specs.Rooms.{width_of}
 use Rattle.rss_access.specs.declared.edit.Edit.{Edit}
 use Rattle.rss_access.specs.declared.edit.Edit.TheVariants.{Insert, Delete, Update}
 use Rattle.rss_access.specs.declared.edit.TupleChange.{TupleChange}
-use Rattle.rss_access.specs.Changes.{AccessView, ShowsMove, both, number_told, tid_told, body_before, body_after}
+use Rattle.rss_access.specs.Changes.{AccessView, ShowsMove, both, number_told, tid_told, body_before, body_after, image_pages_of, AreValuesOf}
 use Rattle.rss_access.specs.Edits.{told_of, told_by, body_lent}
 use Rattle.rss_access.specs.Moved.{IsImageOf, ShowsMoveBelow, Reroots}
 use Rattle.rss_access.specs.Relisted.{Rerooted}
@@ -131,24 +130,55 @@ pub record Lends (change : told.Change) (number : ℕ) (was next : Option (Bor (
   pub before : body_before change ≡ body_lent number was
   pub after : body_after change ≡ body_lent number next
 
--- what a move is given for an image: the fields of its relation and of its keys, their width, and the tuple's identifier
-pub record Passes (change : told.Change) (image : ImageEntry) (relation : RelationEntry) (fields : List FieldDef) (which : List ℕ) (width : ℕ) (tid : Tid) : Type 0 where
+-- they are those of a tuple, where the change's are
+module _ (fields : List FieldDef) (number : ℕ) (tid : Tid) where
+  spelled_was : (edit : Edit) (was : Option (Bor (List ℕ))) → AreValuesOf fields (told_of number tid edit) → body_before (told_of number tid edit) ≡ body_lent number was → IfSome (option_copied was) (SpellsSome (kinds fields))
+  spelled_was (Insert values) None are is = tt
+  spelled_was (Insert values) (Some b) are is = absurd (cc)
+  spelled_was (Delete values) None are is = absurd (cc)
+  spelled_was (Delete values) (Some b) are is = subst (SpellsSome (kinds fields)) (rest_same number number values.now b.now (same_Some _ _ is)) are
+  spelled_was (Update from to) None are is = absurd (cc)
+  spelled_was (Update from to) (Some b) are is = subst (SpellsSome (kinds fields)) (rest_same number number from.now b.now (same_Some _ _ is)) are.0
+
+  spelled_next : (edit : Edit) (next : Option (Bor (List ℕ))) → AreValuesOf fields (told_of number tid edit) → body_after (told_of number tid edit) ≡ body_lent number next → IfSome (option_copied next) (SpellsSome (kinds fields))
+  spelled_next (Delete values) None are is = tt
+  spelled_next (Delete values) (Some b) are is = absurd (cc)
+  spelled_next (Insert values) None are is = absurd (cc)
+  spelled_next (Insert values) (Some b) are is = subst (SpellsSome (kinds fields)) (rest_same number number values.now b.now (same_Some _ _ is)) are
+  spelled_next (Update from to) None are is = absurd (cc)
+  spelled_next (Update from to) (Some b) are is = subst (SpellsSome (kinds fields)) (rest_same number number to.now b.now (same_Some _ _ is)) are.1
+
+-- also by the kinds of the fields that a move is given
+module _ (change : TupleChange) (image : ImageEntry) (relation : RelationEntry) {key : KeyKinds} (is : key ≡ key_of image relation) (are : AreValuesOf relation.fields (told_by change)) where
+  given : (values : Option (List ℕ)) → IfSome values (SpellsSome (kinds relation.fields)) → IfSome values (SpellsSome key.fields)
+  given values = subst (λ (k : KeyKinds). IfSome values (SpellsSome k.fields)) (sym is)
+
+  pub was_given : (was : Option (Bor (List ℕ))) → body_before (told_by change) ≡ body_lent change.number was → IfSome (option_copied was) (SpellsSome key.fields)
+  was_given was tells = given (option_copied was) (spelled_was relation.fields change.number change.tid change.edit was are tells)
+
+  pub next_given : (next : Option (Bor (List ℕ))) → body_after (told_by change) ≡ body_lent change.number next → IfSome (option_copied next) (SpellsSome key.fields)
+  next_given next tells = given (option_copied next) (spelled_next relation.fields change.number change.tid change.edit next are tells)
+
+-- the relation of an image has its number
+pub own_relation : {listing : Listing} {k number : ℕ} {image : ImageEntry} {relation : RelationEntry} → IsListedImage listing k image relation → IsImageOf listing k number → relation_at listing number ≡ Some relation
+own_relation {listing = listing} listed of = ap (relation_at listing) (sym (ap (λ (e : ImageEntry). e.relation) (same_Some _ _ (sym listed.at ∙ of.at)) ∙ of.of)) ∙ listed.within
+
+-- the pages of an image are such as its relation's images have
+pub its_pages : (listing : Listing) (k number : ℕ) (image : ImageEntry) (relation : RelationEntry) {passed : Image} → passed ≡ image_of k image relation → relation_at listing number ≡ Some relation
+    → (key : PageKey) → pages_in passed.segment ImageSpace key → image_pages_of (relation_at listing number) key
+its_pages listing k number image relation is at key touched = subst (λ (o : Option RelationEntry). image_pages_of o key) (sym at) (subst (λ (i : Image). pages_in i.segment ImageSpace key) is touched)
+
+-- what a move is given for an image: the fields of its keys, where its pages are, and the tuple's identifier
+pub record Passes (change : told.Change) (k : ℕ) (image : ImageEntry) (relation : RelationEntry) (key : KeyKinds) (passed : Image) (tid : Tid) : Type 0 where
   pub of : image.relation ≡ number_told change
-  pub fields_are : fields ≡ relation.fields
-  pub which_are : which ≡ field_numbers image
-  pub width_is : width ≡ width_of image relation
+  pub key_is : key ≡ key_of image relation
+  pub image_is : passed ≡ image_of k image relation
   pub tid_is : tid_told change ≡ tid
-
-abbrev pub key_passed : List FieldDef → List ℕ → KeyKinds
-key_passed fields which = record { fields = kinds fields; which = which }
-
-abbrev pub image_passed : ℕ → ImageEntry → RelationEntry → ℕ → Image
-image_passed number image relation width = record { segment = relation.segment; number = number; width = width; root = image.root; levels = image.levels }
 
 -- ---- an image of the relation
 
 module _ {k number : ℕ} {catalog : CatalogView} {image : ImageEntry} {relation : RelationEntry} (at : image_at catalog.listing k ≡ Some image) (within : relation_at catalog.listing image.relation ≡ Some relation)
-    {change : told.Change} {was next : Option (Bor (List ℕ))} (lends : Lends change number was next) {fields : List FieldDef} {which : List ℕ} {width : ℕ} {tid : Tid} (passes : Passes change image relation fields which width tid) {old : PagesView} (low : AreLow old.held)
+    {change : told.Change} {was next : Option (Bor (List ℕ))} (lends : Lends change number was next) {key : KeyKinds} {passed : Image} {tid : Tid} (passes : Passes change k image relation key passed tid) {old : PagesView} (low : AreLow old.held)
     (move : TupleMove) (tables : Tables) (shows : ShowsMoveBelow k (both old catalog) change move tables) where
   its : image.relation ≡ move.number
   its = passes.of ∙ shows.tells.number
@@ -159,17 +189,17 @@ module _ {k number : ℕ} {catalog : CatalogView} {image : ImageEntry} {relation
   listed : IsListedImage catalog.listing k image move.relation
   listed = record { at = at; within = within ∙ ap Some one_relation }
 
-  kinds_same : kinds fields ≡ kinds move.relation.fields
-  kinds_same = ap kinds passes.fields_are ∙ ap (λ (r : RelationEntry). kinds r.fields) one_relation
+  key_same : key ≡ key_of image move.relation
+  key_same = passes.key_is ∙ ap (key_of image) one_relation
 
-  key_same : key_passed fields which ≡ key_of image move.relation
-  key_same = λ i. record { fields = kinds_same i; which = passes.which_are i }
+  kinds_same : key.fields ≡ kinds move.relation.fields
+  kinds_same = ap (λ (k : KeyKinds). k.fields) key_same
 
   tid_same : tid ≡ move.tid
   tid_same = sym passes.tid_is ∙ shows.tells.tid
 
-  image_same : image_passed k image relation width ≡ image_of k image move.relation
-  image_same = (λ i. image_passed k image relation (passes.width_is i)) ∙ ap (image_of k image) one_relation
+  image_same : passed ≡ image_of k image move.relation
+  image_same = passes.image_is ∙ ap (image_of k image) one_relation
 
   was_told : body_lent number was ≡ option_map (plain_body move.number) move.was
   was_told = sym lends.before ∙ shows.tells.before
@@ -178,31 +208,31 @@ module _ {k number : ℕ} {catalog : CatalogView} {image : ImageEntry} {relation
   next_told = sym lends.after ∙ shows.tells.after
 
   -- the values that the bytes spell are those of the tuple
-  pub may_be_moved : ((key : PageKey) → is_some (old.held key) ≡ old.mapped key) → (values : Option (List Value)) → AreSpelled (kinds fields) (option_copied was) values
-      → MayMove (key_passed fields which) tid values (image_passed k image relation width) old
+  pub may_be_moved : ((key : PageKey) → is_some (old.held key) ≡ old.mapped key) → (values : Option (List Value)) → AreSpelled key.fields (option_copied was) values
+      → MayMove key tid values passed old
   may_be_moved holds values spelled =
       let same : values ≡ move.was = same_values (kinds move.relation.fields) move.number number was move.was values was_told (old_fit shows.can) (subst (λ (f : List FieldKind). AreSpelled f (option_copied was) values) kinds_same spelled) in
-      subst (λ (v : Option (List Value)). MayMove (key_passed fields which) tid v (image_passed k image relation width) old) (sym same)
-      (subst (λ (key : KeyKinds). MayMove key tid move.was (image_passed k image relation width) old) (sym key_same)
-      (subst (λ (t : Tid). MayMove (key_of image move.relation) t move.was (image_passed k image relation width) old) (sym tid_same)
-      (subst (λ (passed : Image). MayMove (key_of image move.relation) move.tid move.was passed old) (sym image_same)
+      subst (λ (v : Option (List Value)). MayMove key tid v passed old) (sym same)
+      (subst (λ (k : KeyKinds). MayMove k tid move.was passed old) (sym key_same)
+      (subst (λ (t : Tid). MayMove (key_of image move.relation) t move.was passed old) (sym tid_same)
+      (subst (λ (i : Image). MayMove (key_of image move.relation) move.tid move.was i old) (sym image_same)
       (may_move move shows.can k image old low holds shows.images listed its shows.room))))
 
-  module _ (disk : IsTold old.disk) {new : PagesView} (new_low : AreLow new.held) (counted : AreCounted old) (new_counted : AreCounted new) {asks outs : ℕ} (step : PagesStep (pages_in relation.segment ImageSpace) asks outs old new)
-      (after : Image) (nodes : nodes_of after ≡ nodes_of (image_passed k image relation width))
-      (moves : (values others : Option (List Value)) → AreSpelled (kinds fields) (option_copied was) values → AreSpelled (kinds fields) (option_copied next) others → MovesEntry (key_passed fields which) tid values others (image_passed k image relation width) after old new)
+  module _ (disk : IsTold old.disk) {new : PagesView} (new_low : AreLow new.held) (counted : AreCounted old) (new_counted : AreCounted new) {asks outs : ℕ} (step : PagesStep (pages_in passed.segment ImageSpace) asks outs old new)
+      (after : Image) (nodes : nodes_of after ≡ nodes_of passed)
+      (moves : (values others : Option (List Value)) → AreSpelled key.fields (option_copied was) values → AreSpelled key.fields (option_copied next) others → MovesEntry key tid values others passed after old new)
       {now : CatalogView} (reroots : Reroots k after.root after.levels image catalog now) where
     moved : MovesEntry (key_of image move.relation) move.tid move.was move.next (image_of k image move.relation) after old new
     moved =
-        subst (λ (passed : Image). MovesEntry (key_of image move.relation) move.tid move.was move.next passed after old new) image_same
-        (subst (λ (t : Tid). MovesEntry (key_of image move.relation) t move.was move.next (image_passed k image relation width) after old new) tid_same
-        (subst (λ (key : KeyKinds). MovesEntry key tid move.was move.next (image_passed k image relation width) after old new) key_same
+        subst (λ (i : Image). MovesEntry (key_of image move.relation) move.tid move.was move.next i after old new) image_same
+        (subst (λ (t : Tid). MovesEntry (key_of image move.relation) t move.was move.next passed after old new) tid_same
+        (subst (λ (k : KeyKinds). MovesEntry k tid move.was move.next passed after old new) key_same
         (moves move.was move.next
         (subst (λ (f : List FieldKind). AreSpelled f (option_copied was) move.was) (sym kinds_same) (are_spelled (kinds move.relation.fields) move.number number was move.was was_told (old_fit shows.can)))
         (subst (λ (f : List FieldKind). AreSpelled f (option_copied next) move.next) (sym kinds_same) (are_spelled (kinds move.relation.fields) move.number number next move.next next_told (new_fit shows.can))))))
 
     its_step : PagesStep (pages_in move.relation.segment ImageSpace) asks outs old new
-    its_step = subst (λ (r : RelationEntry). PagesStep (pages_in r.segment ImageSpace) asks outs old new) one_relation step
+    its_step = subst (λ (i : Image). PagesStep (pages_in i.segment ImageSpace) asks outs old new) image_same step
 
     its_nodes : nodes_of after ≡ nodes_of (image_of k image move.relation)
     its_nodes = nodes ∙ ap nodes_of image_same

@@ -8,6 +8,7 @@ pub mod Heaped
 pub mod Imaged
 pub mod Spelling
 pub mod Writing
+pub mod Within
 pub mod Telling
 pub mod Between
 pub mod Showing
@@ -17,4 +18,5 @@ pub mod ImageKeys
 pub mod ImageRooms
 pub mod Rooted
 pub mod ImageMoves
+pub mod Looking
 mod NextTuples

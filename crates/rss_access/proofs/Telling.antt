@@ -2,6 +2,7 @@
 use Rattle.std.proofs.Common.{◌≡◌, ◌≢◌, ℕ, ◌+◌, ◌^◌, ◌≤◌, true, List, ◌∷◌, refl, sym, ◌∙◌, ap, subst, arith, ◌<◌}
 use Rattle.std.specs.Prelude.{Option, Some, None, is_some, option_map, unwrap_or, All, IfSome}
 use Rattle.std.proofs.lemmas.Option.{none-some, same_Some}
+use Rattle.rss_base.specs.DiskRule.{IsTold}
 use Rattle.rss_base.specs.TupleTypes.{kinds, misfit, IsStorable, SpellsSome}
 use Rattle.rss_base.specs.Listings.{Listing, segment_at, relation_at}
 use Rattle.rss_base.specs.declared.name.Name.{Name}
@@ -24,13 +25,14 @@ use Rattle.rss_model.proofs.Codes.{name_total, name_apart}
 use Rattle.rss_model.proofs.Contents.{tied, content_here, content_elsewhere}
 use Rattle.rss_model.proofs.Counts.{one_if, counts_put}
 use Rattle.rss_model.proofs.Listed.{listed, stands_within}
-use Rattle.rss_model.proofs.PlainStores.{contents_spelled, plain_nodes, none_imaged}
+use Rattle.rss_model.proofs.PlainStores.{contents_spelled}
 use Rattle.rss_model.proofs.Putting.{same_parts}
 use Rattle.rss_model.proofs.Relisted.{number_of}
-use Rattle.rss_access.specs.Changes.{IsTupleRecord, number_told, tid_told, body_before, body_after, reversed, turned, ReverseMeans, AreValuesOf, MayBecome, MayCount, AccessView, HasRoom, CanApply, CanUndo, ShowsMove, Misfits, applied, HasTables}
+use Rattle.rss_access.specs.Changes.{IsTupleRecord, number_told, tid_told, body_before, body_after, reversed, turned, ReverseMeans, AreValuesOf, MayBecome, MayCount, AccessView, HasRoom, CanApply, CanUndo, ShowsMove, Misfits, applied, HasTables, CanAlter}
 use Rattle.rss_access.specs.Changes.Misfits.{tuple as tuple_misfits, room as room_misfits, count as count_misfits, unlisted}
 use Rattle.rss_access.specs.Tuples.{body_at}
 use Rattle.rss_access.proofs.Spelling.{all_storable}
+use Rattle.rss_access.proofs.Within.{nodes_within}
 
 -- ---- the change that is told
 
@@ -258,20 +260,20 @@ can_become {at = at} told_change {tables = tables} {change = change} can r = rec
     values_by (Connect link parent child left) means r = tt
     values_by (Disconnect link parent child left) means r = tt
 
--- pages that spell tables that fit
-pub has_tables : {at : AccessView} {tables : Tables} → SpellsTables at.pages.held at.catalog.listing tables → Fits at.pages.slots tables → HasTables at
-has_tables {tables = tables} spells fit = record {
+-- pages that may be changed and spell tables that fit
+has_tables : {at : AccessView} {tables : Tables} → CanAlter at → IsTold at.pages.disk → SpellsTables at.pages.held at.catalog.listing tables → Fits at.pages.slots tables → HasTables at
+has_tables {tables = tables} may told spells fit = record {
   tables = tables;
   spells = spells;
   tuples = fit.tuples;
   tids = fit.tids;
   few = fit.few;
-  nodes = plain_nodes (none_imaged spells);
+  nodes = nodes_within spells.images (may.tables told);
 }
 
 -- where it doesn't go with what is there, and there is room, there are no tables from which it can be applied
-pub none_applies : {at : AccessView} {told_change : told.Change} {place : Place} → IsTupleRecord told_change → (HasTables at → Misfits told_change at place) → HasRoom at (number_told told_change) → (tables : Tables) (change : Change) → CanApply at told_change tables change → ⊥
-none_applies {at = at} {told_change = told_change} is misfits room tables change can = by (misfits (has_tables can.spells can.fit))
+pub none_applies : {at : AccessView} {told_change : told.Change} {place : Place} → CanAlter at → IsTold at.pages.disk → IsTupleRecord told_change → (HasTables at → Misfits told_change at place) → HasRoom at (number_told told_change) → (tables : Tables) (change : Change) → CanApply at told_change tables change → ⊥
+none_applies {at = at} {told_change = told_change} may disk is misfits room tables change can = by (misfits (has_tables may disk can.spells can.fit))
   where
     r : Reads at.catalog.listing told_change change
     r = reads told_change change is can.tells can.means

@@ -5,3 +5,4 @@ pub mod Tuples
 pub mod Changes
 pub mod Edits
 pub mod Moved
+pub mod Imaging

@@ -4,6 +4,7 @@
 mod applying;
 mod bodies;
 mod edit;
+mod imaging;
 mod moving;
 mod rooms;
 mod tuples;
@@ -11,5 +12,6 @@ mod tuples;
 pub use applying::{apply, undo};
 pub use bodies::{body_of, tuple_of};
 pub use edit::TUPLES_MOST;
+pub use imaging::{find_owner, next_entry};
 pub use rooms::image_bound;
 pub use tuples::{delete, find, find_next, insert, update};

@@ -13,11 +13,10 @@ ghost use Rattle.rss_access.specs.Moved.{image_cost, IsImageOf, MayMoveAt, Moves
 ghost use Rattle.rss_access.specs.Relisted.{Rerooted};
 
 use crate::edit::TupleChange;
-use crate::rooms::image_width;
+use crate::imaging::{image_of, key_fields};
 use rss_base::{Kind, PageFault, Pages};
 use rss_catalog::Catalog;
-use rss_entries::{KeyFields, move_entry};
-use rss_image::Image;
+use rss_entries::move_entry;
 
 /// Moves the entries of a tuple in the images of its relation: those of its old values go, and those
 /// of its new values come. Where a key stays, nothing is done.
@@ -104,19 +103,8 @@ fn move_image<P: Pages>(
 {
     // Numbers of pages are below this, so none of them is the one that stands for no page.
     let _slots = pages.slots();
-    let entry = *catalog.image(number);
-    let relation = catalog.relation(entry.relation);
-    let key = KeyFields {
-        fields: relation.fields.as_slice(),
-        which: &entry.fields[..usize::from(entry.count)],
-    };
-    let mut image = Image {
-        segment: relation.segment,
-        number,
-        width: image_width(relation, &entry),
-        root: entry.root,
-        levels: entry.levels,
-    };
+    let mut image = image_of(catalog, number);
+    let key = key_fields(catalog, number);
     move_entry(
         pages,
         &mut image,

@@ -18,7 +18,7 @@ use Rattle.rss_base.proofs.Steps.{rests, then, within}
 use Rattle.rss_log.specs.Logs.{LogView}
 use Rattle.rss_model.specs.Tables.{Tables}
 use Rattle.rss_access.specs.Written.{content_of}
-use Rattle.rss_access.specs.Changes.{AccessView, alter_cost, Takes, HasRoom, applied, pages_of_relation, number_told, Makes, NoneApplies, CanApply}
+use Rattle.rss_access.specs.Changes.{AccessView, alter_cost, Takes, HasRoom, applied, pages_of_relation, number_told, Makes, NoneApplies, CanAlter, CanApply}
 use Rattle.rss_access.proofs.Altering.{applies_by}
 use Rattle.rss_access.proofs.Rerooting.{same_images}
 use Rattle.rss_access.proofs.Telling.{none_applies}
@@ -249,10 +249,10 @@ none_applied next {view = view} {told_change = told_change} tells none other tel
     let same = told_once tells_too tells in
     none (subst (λ (c : told.Change). HasRoom view (number_told (directed next.way c))) same room) tables change (subst (λ (c : told.Change). CanApply view (directed next.way c) tables change) same can)
 
-pub none_recorded : {T U : Type 0} {log : LogView} (next : Turn) {old new : AccessView} {told_change : told.Change} (fault : PageFault) (place : Place) → TellsAt log next.at told_change → Makes {T = U} (directed next.way told_change) old new (Err fault) → ◌≡◌ {A = Result T PageFault} (Err (recorded next.at fault)) (Err (Damaged place)) → IsTold old.pages.disk → NoStep log next old
-none_recorded next DeviceFailed place tells makes is told = absurd (cc (is))
-none_recorded next {told_change = told_change} (Damaged found) place tells makes is told = none_applied next tells (λ room. none_applies (directed_tuple next.way told_change tells.tuple) (makes.damaged found refl told) room)
-none_recorded next NoMemory place tells makes is told = absurd (cc (is))
+pub none_recorded : {T U : Type 0} {log : LogView} (next : Turn) {old new : AccessView} {told_change : told.Change} (fault : PageFault) (place : Place) → CanAlter old → TellsAt log next.at told_change → Makes {T = U} (directed next.way told_change) old new (Err fault) → ◌≡◌ {A = Result T PageFault} (Err (recorded next.at fault)) (Err (Damaged place)) → IsTold old.pages.disk → NoStep log next old
+none_recorded next DeviceFailed place may tells makes is told = absurd (cc (is))
+none_recorded next {told_change = told_change} (Damaged found) place may tells makes is told = none_applied next tells (λ room. none_applies may told (directed_tuple next.way told_change tells.tuple) (makes.damaged found refl told) room)
+none_recorded next NoMemory place may tells makes is told = absurd (cc (is))
 
 -- ---- a change that is made
 

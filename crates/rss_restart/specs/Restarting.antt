@@ -41,7 +41,7 @@ abbrev pub changes_made : List Logged → List Logged → ℕ
 changes_made older newer =
     length (losers (as_entries newer) (lists_at (as_entries older))) + length (redone_at newer)
 
--- how many of these are changes of a relation's tuples
+-- how many changes of a relation's tuples are done again, and how many are undone or done again
 abbrev pub redone_of : List Logged → Name → ℕ
 redone_of [] relation = 0
 redone_of (l ∷ later) relation =

@@ -34,6 +34,15 @@ pub first_bar_behind : (locks : Locks) (t : ℕ) (list : List Need) (last : Need
 first_bar_behind locks t [] last none = ap (λ (holder : Option ℕ). unwrap_or (option_map (λ h. Some (record { item = last.item; holder = h })) holder) None) none
 first_bar_behind locks t (need ∷ list) last none = ap (unwrap_or (option_map (λ h. Some (record { item = need.item; holder = h })) (barred_by locks t need))) (first_bar_behind locks t list last none)
 
+-- and where nobody bars any, nobody bars those before the last
+pub free_front : (locks : Locks) (t : ℕ) (list : List Need) (last : Need) → first_bar locks t (list ++ last ∷ []) ≡ None → first_bar locks t list ≡ None
+free_front locks t [] last none = refl
+free_front locks t (need ∷ list) last none = by (barred_by locks t need) (first_bar locks t list) (first_bar locks t (list ++ last ∷ [])) none (free_front locks t list last)
+  where
+    by : (found : Option ℕ) (front all : Option Bar) → unwrap_or (option_map (λ h. Some (record { item = need.item; holder = h })) found) all ≡ None → (all ≡ None → front ≡ None) → unwrap_or (option_map (λ h. Some (record { item = need.item; holder = h })) found) front ≡ None
+    by None front all is rest = rest is
+    by (Some holder) front all is rest = absurd (cc (is))
+
 pub granted_behind : (t : ℕ) (list : List Need) (last : Need) (locks : Locks) → granted t (list ++ last ∷ []) locks ≡ with_lock t last (granted t list locks)
 granted_behind t [] last locks = refl
 granted_behind t (need ∷ list) last locks = granted_behind t list last (with_lock t need locks)

@@ -1,5 +1,5 @@
 -- A delete, by what was found and what its change comes to.
-use Rattle.std.proofs.Common.{◌≡◌, ℕ, ◌^◌, ◌<◌, List, [], ◌++◌, append-nil, refl, sym, ◌∙◌, ap, subst, arith}
+use Rattle.std.proofs.Common.{◌≡◌, ℕ, ◌^◌, ◌<◌, List, [], refl, sym, ◌∙◌, ap, subst, arith}
 use Rattle.std.specs.Prelude.{Option, Some, None, Ok, is_some, option_map, option_and_then}
 use Rattle.rss_base.specs.DiskRule.{IsTold}
 use Rattle.rss_base.specs.Listings.{relation_at, IsNumberOf}
@@ -19,13 +19,12 @@ use Rattle.rss_model.specs.Items.{Content}
 use Rattle.rss_model.specs.LogLaws.{IsToldBy}
 use Rattle.rss_model.specs.Locks.{Locks, granted}
 use Rattle.rss_model.specs.Machine.{State, now}
-use Rattle.rss_model.specs.Needs.{needs, tuple_changed}
+use Rattle.rss_model.specs.Needs.{needs}
 use Rattle.rss_model.specs.Refusals.{deletion, values_in}
 use Rattle.rss_model.specs.Ruled.{ruled}
 use Rattle.rss_model.specs.Rules.{if_no_room}
 use Rattle.rss_model.specs.Steps.{Step, if_full, locked, refusal, admission}
 use Rattle.rss_model.specs.Steps.StepBy.{deletes}
-use Rattle.rss_model.proofs.PlainStores.{tables_plain}
 use Rattle.rss_model.proofs.Totals.{as_many}
 use Rattle.rss_catalog.specs.Catalogs.{CatalogView}
 use Rattle.rss_session.specs.Admissions.{Says}
@@ -33,28 +32,24 @@ use Rattle.rss_rsi.specs.Views.{RssParts, IsIn}
 use Rattle.rss_rsi.specs.Looking.{LooksFor, FindsHeld}
 use Rattle.rss_rsi.specs.declared.locking.Access.TheVariants.{Change}
 use Rattle.rss_rsi.proofs.Claims.{free_as, locked_as}
-use Rattle.rss_rsi.proofs.NoKeys.{no_tuple_keys}
+use Rattle.rss_rsi.proofs.NoLinks.{none_connected}
 use Rattle.rss_rsi.proofs.Changes.{IsLast, EndsByChange}
 use Rattle.rss_rsi.proofs.Telling.{tells_delete, may_make}
 use Rattle.rss_rsi.proofs.TupleTests.{delete_busy, delete_lacks, delete_there}
 
 module _ (parts : RssParts) (t : ℕ) (relation : Name) (tid : Tid) (admitted : Says parts.session (λ state. admission state t relation) None) where
-  -- it needs no more than the tuple
-  needs_are : (state : State) → IsIn parts state → needs (now state) (Delete t relation tid) ≡ tuple_changed (now state) relation tid
-  needs_are state is_in = ap (λ (keys : List Need). tuple_changed (now state) relation tid ++ keys) (no_tuple_keys (now state) (tables_plain is_in.shows.store.spells) relation tid []) ∙ append-nil _
-
   -- it looks for its tuple first
-  pub delete_looks : LooksFor parts t relation tid Change (Delete t relation tid)
+  pub delete_looks : LooksFor parts t relation tid Change [] (Delete t relation tid)
   delete_looks = record {
     may = record { stop = record { built = refl; names = tt; granule = tt; memory = refl }; asks = tt; writes = tt };
     by = refl;
-    needs_are = needs_are;
+    needs_are = λ state is_in. refl;
     busy_so = λ told state is_in bar. delete_busy state t relation tid (admitted told state is_in.shows) bar;
     lacks = λ told state is_in. delete_lacks state t relation tid (admitted told state is_in.shows);
   }
 
   -- of what was found, by a record of its values
-  module _ {mid : RssParts} {number : ℕ} {entry : RelationEntry} {was : List Value} {list : List Need} (found : FindsHeld parts mid t number relation tid Change was list) (known : IsNumberOf RelationKind parts.session.store.catalog.listing relation number) (at_mid : relation_at mid.session.store.catalog.listing number ≡ Some entry)
+  module _ {mid : RssParts} {number : ℕ} {entry : RelationEntry} {was : List Value} {list : List Need} (found : FindsHeld parts mid t number relation tid Change [] was list) (known : IsNumberOf RelationKind parts.session.store.catalog.listing relation number) (at_mid : relation_at mid.session.store.catalog.listing number ≡ Some entry)
       (small : t < 2 ^ 32) (page : tid.page < 2 ^ 32) {fields : List FieldDef} {bytes : List ℕ} (is_fields : fields ≡ entry.fields) (spelled : Spells (kinds fields) bytes was) (short : IsShort bytes) where
     is_told : IsToldBy parts.session.store.catalog.listing (DeleteRecord number tid bytes) (deletion t relation tid was)
     is_told =
@@ -67,9 +62,9 @@ module _ (parts : RssParts) (t : ℕ) (relation : Name) (tid : Tid) (admitted : 
         let change = deletion t relation tid was in
         let there = found.finds.has told state is_in in
         let fit = admitted told state is_in.shows in
-        let listed : needs (now state) (Delete t relation tid) ≡ list = needs_are state is_in ∙ found.lists told state is_in in
+        let listed : needs (now state) (Delete t relation tid) ≡ list = found.lists told state is_in in
         let rules : if_full state (Delete t relation tid) ≡ if_no_room state change = ap (λ (held : Option Content). option_and_then (if_no_room state) (option_map (deletion t relation tid) (values_in held))) there in
-        let refuses : refusal state (Delete t relation tid) ≡ if_no_room state change = delete_there state t relation tid fit (free_as is_in (Delete t relation tid) listed found.claimed) (tables_plain is_in.shows.store.spells) (ap is_some there) ∙ rules in
+        let refuses : refusal state (Delete t relation tid) ≡ if_no_room state change = delete_there state t relation tid fit (free_as is_in (Delete t relation tid) listed found.claimed) (none_connected is_in.shows relation tid) (ap is_some there) ∙ rules in
         record {
           change = change;
           by = refl;

@@ -1,5 +1,5 @@
 -- An insert, by its tests and by what was found for it.
-use Rattle.std.proofs.Common.{◌≡◌, ℕ, ◌+◌, ◌^◌, ◌≤◌, ◌<◌, List, [], ◌∷◌, ◌++◌, append-nil, length, drop, refl, sym, ◌∙◌, ap, subst, arith}
+use Rattle.std.proofs.Common.{◌≡◌, ℕ, ◌+◌, ◌^◌, ◌≤◌, ◌<◌, List, [], ◌∷◌, ◌++◌, length, drop, refl, sym, ◌∙◌, ap, subst, arith, length-append}
 use Rattle.std.specs.Prelude.{Some, None, is_some, option_map, Ok, Err}
 use Rattle.std.proofs.lemmas.Bool.{false_from_ne_true}
 use Rattle.std.proofs.lemmas.Option.{same_Some}
@@ -26,21 +26,20 @@ use Rattle.rss_base.specs.declared.value.Value.{Value}
 use Rattle.rss_tuple.specs.Placing.{IsChosen}
 use Rattle.rss_lock.specs.Locks.{LocksView}
 use Rattle.rss_model.specs.Calls.{GoesOn, IsCallOf, AreBarred}
-use Rattle.rss_model.specs.Fits.{ArePlain}
 use Rattle.rss_model.specs.LogLaws.{IsToldBy}
 use Rattle.rss_model.specs.Locks.{Bar, Locks, first_bar, with_lock, granted}
 use Rattle.rss_model.specs.Machine.{State, now}
-use Rattle.rss_model.specs.Needs.{need, needs, changing, tuple_changed}
-use Rattle.rss_model.specs.Refusals.{busy}
+use Rattle.rss_model.specs.Needs.{need, needs}
+use Rattle.rss_model.specs.Refusals.{busy, if_duplicate}
 use Rattle.rss_model.specs.Ruled.{ruled}
 use Rattle.rss_model.specs.Rules.{if_no_room}
 use Rattle.rss_model.specs.Steps.{Step, first_of, tests, misfit_of, unless_open, unless_defined, value_admission, if_used_up, if_full, refusal, insertion, locked, holding, IsFree}
 use Rattle.rss_model.specs.Steps.StepBy.{inserts}
 use Rattle.rss_model.specs.Store.{plain_body}
 use Rattle.rss_model.specs.Tables.{fields_of}
+use Rattle.rss_model.proofs.Codes.{split_alike}
 use Rattle.rss_model.proofs.Frees.{some_free_is, free_there}
 use Rattle.rss_model.proofs.Lengths.{identifier_line}
-use Rattle.rss_model.proofs.PlainStores.{tables_plain, none_duplicate}
 use Rattle.rss_model.proofs.Testing.{all_none, holds}
 use Rattle.rss_model.proofs.Tests.{goes_on, refuses_at, passes_unless, refuses_unless}
 use Rattle.rss_model.proofs.Totals.{as_many}
@@ -48,15 +47,18 @@ use Rattle.rss_access.proofs.Numbered.{name_of}
 use Rattle.rss_session.specs.Admissions.{Says}
 use Rattle.rss_session.specs.Looks.{LooksOn}
 use Rattle.rss_session.specs.Sessions.{SessionView}
-use Rattle.rss_rsi.specs.Locking.{Lists, IsClaimed, ClaimEnds}
+use Rattle.rss_rsi.specs.Locking.{putting, Lists, IsClaimed, ClaimEnds}
 use Rattle.rss_rsi.specs.Placing.{IsPlaceFor, IsRelationIn, MayCost, PlacesTuple}
 use Rattle.rss_rsi.specs.Views.{RssParts, IsIn, SameHeld, MayStandAt, engine_view}
 use Rattle.rss_rsi.proofs.Changes.{IsLast, EndsByChange}
 use Rattle.rss_rsi.proofs.Claims.{first_bar_behind, granted_behind, none_bars, claim_fails}
-use Rattle.rss_rsi.proofs.NoKeys.{no_keys}
 use Rattle.rss_rsi.proofs.Telling.{tells_insert, may_make}
 use Rattle.rss_rsi.proofs.TupleTests.{three_stop, three_pass, last_test}
 use Rattle.rss_rsi.proofs.Ways.{goes, lacks_behind}
+
+-- what stands before the last of two lists
+front_same : {A : Type 0} (one other : List A) (a b : A) → one ++ a ∷ [] ≡ other ++ b ∷ [] → one ≡ other
+front_same one other a b same = (split_alike one other (a ∷ []) (b ∷ []) (omega (arith, ap length same, length-append one (a ∷ []), length-append other (b ∷ []))) same).0
 
 -- ---- the tests
 
@@ -89,13 +91,19 @@ module _ (state : State) (t : ℕ) (relation : Name) (values : List Value) where
         pub insert_busy : (bar : Bar) → first_bar state.locks t (needs (now state) (Insert t relation values)) ≡ Some bar → refusal state (Insert t relation values) ≡ Some (busy bar)
         insert_busy bar is = insert_free ∙ refuses_at (drop 6 (tests state (Insert t relation values))) (ap (option_map busy) is)
 
-        -- none does: what is left are the rules
-        pub insert_there : ArePlain state.base.definitions → first_bar state.locks t (needs (now state) (Insert t relation values)) ≡ None → refusal state (Insert t relation values) ≡ if_full state (Insert t relation values)
-        insert_there plain none =
-            insert_free
-            ∙ goes_on (drop 6 (tests state (Insert t relation values))) (ap (option_map busy) none)
-            ∙ goes_on (drop 7 (tests state (Insert t relation values))) (none_duplicate state plain relation None values)
-            ∙ last_test (if_full state (Insert t relation values))
+        module _ (none : first_bar state.locks t (needs (now state) (Insert t relation values)) ≡ None) where
+          insert_unbarred : refusal state (Insert t relation values) ≡ first_of (drop 6 (tests state (Insert t relation values)))
+          insert_unbarred = insert_free ∙ goes_on (drop 6 (tests state (Insert t relation values))) (ap (option_map busy) none)
+
+          -- none does, and another tuple has a key
+          pub insert_duplicate : {why : Refusal} → if_duplicate state relation None values ≡ Some why → refusal state (Insert t relation values) ≡ Some why
+          insert_duplicate is = insert_unbarred ∙ refuses_at (drop 7 (tests state (Insert t relation values))) is
+
+          -- or what is left are the rules
+          pub insert_there : if_duplicate state relation None values ≡ None → refusal state (Insert t relation values) ≡ if_full state (Insert t relation values)
+          insert_there unowned =
+              insert_unbarred ∙ goes_on (drop 7 (tests state (Insert t relation values))) unowned
+              ∙ last_test (if_full state (Insert t relation values))
 
 -- ---- the call
 
@@ -117,7 +125,7 @@ module _ (parts : RssParts) {t : ℕ} {relation : Name} {values : List Value} {n
   few_so : (state : State) → if_used_up state entry.name ≡ None → if_used_up state relation ≡ None
   few_so state is = ap (if_used_up state) (sym named) ∙ is
 
-  may_insert : MayCost (Insert t relation values)
+  pub may_insert : MayCost (Insert t relation values)
   may_insert = record { stop = record { built = refl; names = tt; granule = tt; memory = refl }; asks = refl; writes = refl }
 
   -- it looks for an identifier
@@ -146,27 +154,22 @@ module _ (parts : RssParts) {t : ℕ} {relation : Name} {values : List Value} {n
 
   -- ---- by what was found
 
-  module _ {mid : SessionView} {tid : Tid} {length_of : ℕ} (looks : LooksOn parts.session mid (Ok tid)) (place : IsPlaceFor parts t number length_of tid) {list : List Need} (lists : Lists parts (λ tables. tuple_changed tables relation tid) list) where
+  module _ {mid : SessionView} {tid : Tid} {length_of : ℕ} (looks : LooksOn parts.session mid (Ok tid)) (place : IsPlaceFor parts t number length_of tid) {list : List Need} (lists : Lists parts (λ tables. putting tables relation tid values) list) where
     its_relation : {state : State} → IsTold parts.session.store.pages.disk → IsIn parts state → IsRelationIn parts number entry state
     its_relation told is_in = record { told = told; is_in = is_in; at = admitted.at }
 
     its_free : (state : State) → IsTold parts.session.store.pages.disk → IsIn parts state → IsFree state t relation tid
     its_free state told is_in = subst (λ (name : Name). IsFree state t name tid) named (place.free entry state (its_relation told is_in))
 
-    -- the new tuple is locked behind all that the (Insert t relation values) needs, and nobody bars it from that
-    needs_are : (state : State) → IsIn parts state → needs (now state) (Insert t relation values) ≡ changing (now state) relation
-    needs_are state is_in = ap (λ (keys : List Need). changing (now state) relation ++ keys) (no_keys (now state) (tables_plain is_in.shows.store.spells) relation (values ∷ [])) ∙ append-nil _
-
+    -- the new tuple is locked behind all that the call needs, and nobody bars it from that
     bars_too : (state : State) → IsTold parts.session.store.pages.disk → IsIn parts state → first_bar state.locks t (needs (now state) (Insert t relation values)) ≡ first_bar parts.locks.locks t list
     bars_too state told is_in =
-        ap (first_bar state.locks t) (needs_are state is_in)
-        ∙ sym (first_bar_behind state.locks t (changing (now state) relation) (need (TupleItem relation tid) X) (none_bars state.locks t (TupleItem relation tid) X (λ u apart. (its_free state told is_in).alone relation u refl apart)))
+        sym (first_bar_behind state.locks t (needs (now state) (Insert t relation values)) (need (TupleItem relation tid) X) (none_bars state.locks t (TupleItem relation tid) X (λ u apart. (its_free state told is_in).alone relation u refl apart)))
         ∙ (λ i. first_bar (is_in.locked i) t (lists told state is_in i))
 
     locks_too : (state : State) → IsTold parts.session.store.pages.disk → IsIn parts state → (holding t (TupleItem relation tid) (locked (Insert t relation values) state)).locks ≡ granted t list parts.locks.locks
     locks_too state told is_in =
-        ap (λ (list : List Need). with_lock t (need (TupleItem relation tid) X) (granted t list state.locks)) (needs_are state is_in)
-        ∙ sym (granted_behind t (changing (now state) relation) (need (TupleItem relation tid) X) state.locks)
+        sym (granted_behind t (needs (now state) (Insert t relation values)) (need (TupleItem relation tid) X) state.locks)
         ∙ (λ i. granted t (lists told state is_in i) (is_in.locked i))
 
     -- the claim fails
@@ -180,6 +183,14 @@ module _ (parts : RssParts) {t : ℕ} {relation : Name} {values : List Value} {n
     -- ---- the change
 
     module _ {claimed : LocksView} (claims : IsClaimed parts.locks claimed t list) where
+      -- another tuple has a key, and only the locks of the call's list are kept
+      pub insert_owned : (kept : List Need) (last : Need) → list ≡ kept ++ last ∷ [] → {why : Refusal} → (IsTold parts.session.store.pages.disk → (state : State) → IsIn parts state → if_duplicate state relation None values ≡ Some why)
+          → IsTold parts.session.store.pages.disk → (state : State) → IsIn parts state → (needs (now state) (Insert t relation values) ≡ kept) × (refusal state (Insert t relation values) ≡ Some why)
+      insert_owned kept last is owned told state is_in = (
+        front_same (needs (now state) (Insert t relation values)) kept (need (TupleItem relation tid) X) last (lists told state is_in ∙ is),
+        insert_duplicate state t relation values (admitted.fits told state is_in.shows) (few_so state (admitted.few told state is_in.shows)) tid (its_free state told is_in) (bars_too state told is_in ∙ claims.free) (owned told state is_in),
+      )
+
       -- the identifier is one of those that the pages have for the tuple
       pub gets_place : length_of ≡ length (plain_body number values) → IsTold parts.session.store.pages.disk → (state : State) → IsIn parts state → (barred : List Tid) → AreBarred state t relation barred
           → MayStandAt parts.session.store.pages parts.session.store.catalog.listing relation values barred tid
@@ -193,17 +204,17 @@ module _ (parts : RssParts) {t : ℕ} {relation : Name} {values : List Value} {n
       }
 
       -- the record tells the change
-      module _ {bytes : List ℕ} (spelled : Spells (kinds entry.fields) bytes values) (short : IsShort bytes) (small : t < 2 ^ 32) (page : tid.page < 2 ^ 32) (slot : tid.slot < 2 ^ 32) where
+      module _ {bytes : List ℕ} (spelled : Spells (kinds entry.fields) bytes values) (short : IsShort bytes) (small : t < 2 ^ 32) (page : tid.page < 2 ^ 32) (slot : tid.slot < 2 ^ 32) (unowned : IsTold parts.session.store.pages.disk → (state : State) → IsIn parts state → if_duplicate state relation None values ≡ None) where
         is_told : IsToldBy parts.session.store.catalog.listing (InsertRecord number tid bytes) (insertion t relation tid values)
         is_told = tells_insert admitted.known admitted.at t small tid page spelled (place.named.low, short)
 
-        -- which the rules alone refuse
+        -- which the rules alone refuse, where no other tuple has a key
         last_of : IsTold parts.session.store.pages.disk → (state : State) → IsIn parts state → IsLast parts.session (granted t list parts.locks.locks) t (InsertRecord number tid bytes) (Insert t relation values) (Identifier tid) state
         last_of told state is_in =
             let fits = admitted.fits told state is_in.shows in
             let free = its_free state told is_in in
             let refuses : refusal state (Insert t relation values) ≡ if_no_room state (insertion t relation tid values) =
-            insert_there state t relation values fits (few_so state (admitted.few told state is_in.shows)) tid free (tables_plain is_in.shows.store.spells) (bars_too state told is_in ∙ claims.free) in
+            insert_there state t relation values fits (few_so state (admitted.few told state is_in.shows)) tid free (bars_too state told is_in ∙ claims.free) (unowned told state is_in) in
             record {
               change = insertion t relation tid values;
               by = refl;

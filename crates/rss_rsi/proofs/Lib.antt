@@ -1,6 +1,6 @@
 pub mod Ways
 pub mod Claims
-pub mod NoKeys
+pub mod NoLinks
 pub mod Defining
 pub mod TransactionSteps
 pub mod Looks
@@ -13,6 +13,7 @@ pub mod Held
 pub mod TwoLooks
 pub mod Beside
 pub mod Placed
+pub mod KeyLocks
 pub mod TupleTests
 pub mod Fetches
 pub mod Scans

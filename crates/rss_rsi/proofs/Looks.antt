@@ -49,7 +49,7 @@ use Rattle.rss_session.specs.Parts.{view as session_view}
 use Rattle.rss_session.specs.Sessions.{SessionView}
 use Rattle.rss_session.specs.declared.session.Session.{Session}
 use Rattle.rss_session.specs.Sessions.{IsReady as IsSessionReady}
-use Rattle.rss_session.proofs.Passing.{goes_opened}
+use Rattle.rss_session.proofs.Behind.{looks_itself}
 use Rattle.rss_rsi.specs.Changing.{IsAsked}
 use Rattle.rss_rsi.specs.Views.{RssParts, IsIn, SameHeld, IsReady, engine_view}
 use Rattle.rss_rsi.specs.Locking.{accessing, Lists, ClaimEnds}
@@ -61,42 +61,10 @@ use Rattle.rss_rsi.proofs.Ways.{GoOverRelations, ScanTable, asked, failed_within
 
 -- ---- what a look passes on
 
--- it gives something else
-pub looks_as : {T U : Type 0} {old new : SessionView} {found : T} (given : U) → LooksOn old new (Ok found) → LooksOn old new (Ok given)
-looks_as given looks = record {
-  ready = looks.ready;
-  shows = looks.shows;
-  catalog = looks.catalog;
-  log = looks.log;
-  opened = looks.opened;
-  sound = λ place is. absurd (cc (is));
-  moments = looks.moments;
-  goes = record {
-    told = looks.goes.told;
-    history = looks.goes.history;
-    later = looks.goes.later;
-    failed = λ is. absurd (cc (is));
-    memory = λ is. cc (is);
-    slots = looks.goes.slots;
-    log_pages = looks.goes.log_pages;
-    frames = looks.goes.frames;
-    saves = looks.goes.saves;
-  };
-}
-
 -- nothing was looked at
 pub looks_nothing : {T : Type 0} {session : SessionView} (found : T) → IsSessionReady session → LooksUp session session found
 looks_nothing {session = session} found ready = record {
-  looks = record {
-    ready = ready;
-    shows = λ told state shows. shows;
-    catalog = refl;
-    log = refl;
-    opened = refl;
-    sound = λ place is. absurd (cc (is));
-    moments = keeps_same session session refl;
-    goes = goes_opened {opened = session.opened} found (λ t. omega arith);
-  };
+  looks = looks_itself found ready;
   costs = record { asks_high = omega arith; writes_high = omega arith };
 }
 
@@ -182,10 +150,10 @@ reads_none old new looks costs n {up = up} {up_now = up_now} result place is dam
 -- ---- calls that look for a tuple
 
 -- what ends each call that looks, ends each that looks for this tuple
-pub each_looks : {parts : RssParts} {t : ℕ} {relation : Name} {tid : Tid} {access : Access} {old new : EngineView} {why : CallError} → EndsEach MayLook old new (Err why) → EndsEach (LooksFor parts t relation tid access) old new (Err why)
+pub each_looks : {parts : RssParts} {t : ℕ} {relation : Name} {tid : Tid} {access : Access} {given : List (List Value)} {old new : EngineView} {why : CallError} → EndsEach MayLook old new (Err why) → EndsEach (LooksFor parts t relation tid access given) old new (Err why)
 each_looks ends calls call counted first = ends calls call counted first.may
 
-module _ {old : RssParts} {t : ℕ} {relation : Name} {tid : Tid} {access : Access} {call : Call} (first : LooksFor old t relation tid access call) {list : List Need} (lists : Lists old (λ tables. accessing tables access relation tid) list) where
+module _ {old : RssParts} {t : ℕ} {relation : Name} {tid : Tid} {access : Access} {given : List (List Value)} {call : Call} (first : LooksFor old t relation tid access given call) {list : List Need} (lists : Lists old (λ tables. accessing tables access relation tid given) list) where
   -- these are the needs of the call
   pub its_needs : IsTold old.session.store.pages.disk → (state : State) → IsIn old state → needs (now state) call ≡ list
   its_needs told state is_in = first.needs_are state is_in ∙ lists told state is_in

@@ -32,7 +32,7 @@ use Rattle.rss_rsi.specs.Placing.{FailsToLook, IsRelationIn, IsPlaceFor, PlacesT
 use Rattle.rss_rsi.specs.Views.{RssParts, IsIn, SameHeld, engine_view}
 use Rattle.rss_rsi.proofs.Beside.{any_beside, listed_stands, stands_listed}
 use Rattle.rss_rsi.proofs.Looks.{costly_fails, goes_costly, lacks_costly, passed_on}
-use Rattle.rss_rsi.proofs.TwoLooks.{looks_then}
+use Rattle.rss_session.proofs.Behind.{looks_then}
 use Rattle.rss_rsi.proofs.Ways.{left_same, refused_behind}
 
 -- ---- what others hold

@@ -15,14 +15,12 @@ use Rattle.rss_base.specs.declared.value.FieldKind.{FieldKind}
 use Rattle.rss_base.specs.declared.value.Value.{Value}
 use Rattle.rss_base.specs.TupleTypes.{misfit}
 use Rattle.rss_model.specs.Defining.{refused_unless, refused_if}
-use Rattle.rss_model.specs.Fits.{ArePlain}
 use Rattle.rss_model.specs.Locks.{Bar, first_bar}
 use Rattle.rss_model.specs.Machine.{State, now}
 use Rattle.rss_model.specs.Needs.{needs}
-use Rattle.rss_model.specs.Refusals.{busy, if_busy_for}
+use Rattle.rss_model.specs.Refusals.{busy, if_busy_for, if_connected, if_duplicate}
 use Rattle.rss_model.specs.Steps.{first_of, tests, is_open, if_used_up, keeps_locks, misfit_of, unless_open, unless_defined, unless_live, admission, value_admission, if_full, refusal}
 use Rattle.rss_model.specs.Tables.{content, fields_of}
-use Rattle.rss_model.proofs.PlainStores.{none_duplicate, none_connected}
 use Rattle.rss_model.proofs.Testing.{all_none, holds}
 use Rattle.rss_model.proofs.Tests.{goes_on, refuses_at, passes_unless, refuses_unless}
 use Rattle.rss_session.proofs.First.{first_stops, first_passes}
@@ -166,10 +164,10 @@ module _ (state : State) (t : ℕ) (relation : Name) where
         delete_lacks none = delete_comes ∙ refuses_at (drop 4 (tests state (Delete t relation tid))) (absent none)
 
         -- what is left are the rules
-        pub delete_there : ArePlain state.base.definitions → IsThere → refusal state (Delete t relation tid) ≡ if_full state (Delete t relation tid)
-        delete_there plain there =
+        pub delete_there : if_connected state relation tid ≡ None → IsThere → refusal state (Delete t relation tid) ≡ if_full state (Delete t relation tid)
+        delete_there alone there =
             delete_comes ∙ goes_on (drop 4 (tests state (Delete t relation tid))) (live there)
-            ∙ goes_on (drop 5 (tests state (Delete t relation tid))) (none_connected state plain.no_links relation tid)
+            ∙ goes_on (drop 5 (tests state (Delete t relation tid))) alone
             ∙ last_test (if_full state (Delete t relation tid))
 
     -- ---- an update
@@ -188,8 +186,15 @@ module _ (state : State) (t : ℕ) (relation : Name) where
         pub update_lacks : IsAbsent → refusal state (Update t relation tid values) ≡ Some (NoTuple relation tid)
         update_lacks none = update_comes ∙ refuses_at (drop 5 (tests state (Update t relation tid values))) (absent none)
 
-        pub update_there : ArePlain state.base.definitions → IsThere → refusal state (Update t relation tid values) ≡ if_full state (Update t relation tid values)
-        update_there plain there =
-            update_comes ∙ goes_on (drop 5 (tests state (Update t relation tid values))) (live there)
-            ∙ goes_on (drop 6 (tests state (Update t relation tid values))) (none_duplicate state plain relation (Some tid) values)
-            ∙ last_test (if_full state (Update t relation tid values))
+        module _ (there : IsThere) where
+          update_live : refusal state (Update t relation tid values) ≡ first_of (drop 5 (tests state (Update t relation tid values)))
+          update_live = update_comes ∙ goes_on (drop 5 (tests state (Update t relation tid values))) (live there)
+
+          -- another tuple may have a key
+          pub update_duplicate : {why : Refusal} → if_duplicate state relation (Some tid) values ≡ Some why → refusal state (Update t relation tid values) ≡ Some why
+          update_duplicate is = update_live ∙ refuses_at (drop 6 (tests state (Update t relation tid values))) is
+
+          pub update_there : if_duplicate state relation (Some tid) values ≡ None → refusal state (Update t relation tid values) ≡ if_full state (Update t relation tid values)
+          update_there none =
+              update_live ∙ goes_on (drop 6 (tests state (Update t relation tid values))) none
+              ∙ last_test (if_full state (Update t relation tid values))

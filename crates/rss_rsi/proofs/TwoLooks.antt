@@ -1,14 +1,12 @@
 -- Two looks for an identifier, one behind the other: what the second finds, it would have found first.
 use Rattle.std.proofs.Common.{◌≡◌, ℕ, ◌+◌, ◌≤◌, List, sym, ◌∙◌, ap, subst, arith}
-use Rattle.std.specs.Prelude.{Result, Ok}
+use Rattle.std.specs.Prelude.{Ok}
 use Rattle.rss_base.specs.Listings.{relation_at}
 use Rattle.rss_base.specs.Paged.{Held, Mapped, page_key}
 use Rattle.rss_base.specs.Steps.{PagesView}
 use Rattle.rss_base.specs.declared.key.Space.TheVariants.{Home}
-use Rattle.rss_base.specs.declared.fault.PageFault.{PageFault}
 use Rattle.rss_base.specs.declared.relation.RelationEntry.{RelationEntry}
 use Rattle.rss_base.specs.declared.tid.Tid.{Tid}
-use Rattle.rss_base.proofs.Moments.{then}
 use Rattle.rss_catalog.specs.Catalogs.{CatalogView}
 use Rattle.rss_page.specs.Slotted.{bodies_room, body_bytes}
 use Rattle.rss_tuple.specs.Directory.{contents}
@@ -16,21 +14,6 @@ use Rattle.rss_tuple.specs.Placing.{Wanted, IsOpen, IsSpot, IsNew, IsChosen, IsN
 use Rattle.rss_tuple.specs.TupleSteps.{IsLeast}
 use Rattle.rss_session.specs.Looks.{LooksOn, KeepsPages, IsRelationIn, IsPlace, HasNoPlace}
 use Rattle.rss_session.specs.Sessions.{SessionView, IsReady}
-use Rattle.rss_session.proofs.Passing.{goes_then}
-
--- ---- what they pass on
-
-pub looks_then : {T U : Type 0} {old mid new : SessionView} {found : T} {result : Result U PageFault} → LooksOn old mid (Ok found) → LooksOn mid new result → LooksOn old new result
-looks_then one two = record {
-  ready = two.ready;
-  shows = λ told state shows. two.shows (one.goes.told.0 told) state (one.shows told state shows);
-  catalog = two.catalog ∙ one.catalog;
-  log = two.log ∙ one.log;
-  opened = two.opened ∙ one.opened;
-  sound = λ place is told. two.sound place is (one.goes.told.0 told);
-  moments = λ told state kept shows. then (one.moments told state kept shows) (two.moments (one.goes.told.0 told) state kept (one.shows told state shows)) (λ image holds. holds);
-  goes = goes_then one.goes two.goes;
-}
 
 -- ---- identifiers in pages that hold the same
 

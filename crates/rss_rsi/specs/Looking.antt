@@ -61,12 +61,12 @@ pub record MayLook (call : Call) : Type 0 where
 
 -- ---- looks
 
--- A call of a transaction that goes to this tuple: once it is admitted, it is refused where another holds what it needs, and else where there is no such tuple.
-pub record LooksFor (parts : RssParts) (t : ℕ) (relation : Name) (tid : Tid) (access : Access) (call : Call) : Type 0 where
+-- A call of a transaction that goes to this tuple, and gives it such values: once it is admitted, it is refused where another holds what it needs, and else where there is no such tuple.
+pub record LooksFor (parts : RssParts) (t : ℕ) (relation : Name) (tid : Tid) (access : Access) (new : List (List Value)) (call : Call) : Type 0 where
   pub may : MayLook call
   pub by : caller call ≡ Some t
   pub needs_are : (state : State) → IsIn parts state
-      → needs (now state) call ≡ accessing (now state) access relation tid
+      → needs (now state) call ≡ accessing (now state) access relation tid new
   pub busy_so : IsTold parts.session.store.pages.disk → (state : State) → IsIn parts state
       → (bar : Bar) → first_bar state.locks t (needs (now state) call) ≡ Some bar
       → refusal state call ≡ Some (busy bar)
@@ -111,8 +111,8 @@ FindsAny old number tid None =
     → FindsNone old relation tid
 
 -- A tuple with these values was found, and the locks of the call that goes to it are claimed.
-pub record FindsHeld (old new : RssParts) (t number : ℕ) (relation : Name) (tid : Tid) (access : Access) (values : List Value) (list : List Need) : Type 0 where
+pub record FindsHeld (old new : RssParts) (t number : ℕ) (relation : Name) (tid : Tid) (access : Access) (given : List (List Value)) (values : List Value) (list : List Need) : Type 0 where
   pub looked : LooksUp old.session new.session values
   pub finds : Finds old number relation tid values
-  pub lists : Lists old (λ tables. accessing tables access relation tid) list
+  pub lists : Lists old (λ tables. accessing tables access relation tid given) list
   pub claimed : IsClaimed old.locks new.locks t list

@@ -27,7 +27,7 @@ impl<S: Saving> Rss<S> {
     {
         self.ask()?;
         let number = self.session.admit(transaction, relation)?;
-        let found = self.find(transaction, number, relation, tid, Access::Change)?;
+        let found = self.find(transaction, number, relation, tid, Access::Change, None)?;
         let entry = self.session.store.catalog.relation(number);
         let change = Change::Delete {
             relation: number,

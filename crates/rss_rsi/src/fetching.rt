@@ -21,7 +21,7 @@ impl<S: Saving> Rss<S> {
     {
         self.ask()?;
         let number = self.session.admit(transaction, relation)?;
-        let found = self.find(transaction, number, relation, tid, Access::Read)?;
+        let found = self.find(transaction, number, relation, tid, Access::Read, None)?;
         self.hold(transaction, found.needs);
         Ok(Reply::Tuple(found.tuple))
     }

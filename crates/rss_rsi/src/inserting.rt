@@ -4,7 +4,6 @@ ghost use Rattle.rss_base.specs.declared.call.Call.TheVariants.{Insert};
 ghost use Rattle.rss_model.specs.Calls.{calls_most};
 
 use crate::Rss;
-use crate::locking::Access;
 use crate::values::values_of;
 use rss_base::{CallError, Change, Name, Reply, Tuple};
 use rss_buffer::Saving;
@@ -39,10 +38,17 @@ impl<S: Saving> Rss<S> {
         // The number of the relation stands before the values.
         let length = values.as_slice().len() as u16 + 1;
         let tid = self.place_for(transaction, number, length)?;
-        let Ok(needs) = self.tuple_needs(number, relation, tid, Access::Change) else {
+        let Ok(needs) = self.new_needs(number, relation, tid, tuple) else {
             return Err(CallError::NoMemory);
         };
-        let needs = self.claim(transaction, needs)?;
+        let mut needs = self.claim(transaction, needs)?;
+        let owned = self.find_duplicate(number, &values, None)?;
+        if let Some(why) = owned {
+            // No tuple comes, and its identifier isn't held.
+            let Some(_) = needs.pop() else { unreachable!() };
+            self.hold(transaction, needs);
+            return Err(CallError::Refused(why));
+        }
         let change = Change::Insert {
             relation: number,
             tid,

@@ -10,6 +10,7 @@ mod deleting;
 mod engine;
 mod fetching;
 mod inserting;
+mod keys;
 mod locking;
 mod looking;
 mod opening;

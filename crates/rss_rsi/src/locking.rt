@@ -1,8 +1,8 @@
 // The locks of calls.
-ghost use Rattle.std.specs.Prelude.{◌≡◌, ◌<◌, ◌≤◌, [], ◌∷◌, Err, None, false, true, vec_len, IfOk};
+ghost use Rattle.std.specs.Prelude.{◌≡◌, ◌<◌, ◌≤◌, [], ◌∷◌, ◌++◌, Err, None, false, true, option_copied, option_to_list, vec_len, IfOk, IfSome};
 ghost use Rattle.rss_base.specs.Listings.{IsNumberOf};
 ghost use Rattle.rss_base.specs.declared.call.Call.TheVariants.{Lock};
-ghost use Rattle.rss_base.specs.declared.item.Item.TheVariants.{Segment, Relation, Tuple};
+ghost use Rattle.rss_base.specs.declared.item.Item.TheVariants.{Segment, Relation, Tuple as TupleItem};
 ghost use Rattle.rss_base.specs.declared.refusal.Kind.TheVariants.{Relation as RelationKind};
 ghost use Rattle.rss_base.specs.declared.refusal.Refusal.TheVariants.{Busy};
 ghost use Rattle.rss_lock.specs.Table.{told};
@@ -14,10 +14,10 @@ ghost use Rattle.rss_model.specs.Needs.{need, lock_needs, relation_needs};
 ghost use Rattle.rss_model.specs.ReplyText.{IsShort};
 ghost use Rattle.rss_session.specs.Admissions.{IsGranuleOf};
 ghost use Rattle.rss_trans.specs.Transactions.{is_open};
-ghost use Rattle.rss_rsi.specs.Locking.{accessing, IsSayable, AreSayable, Lists, ClaimEnds};
+ghost use Rattle.rss_rsi.specs.Locking.{putting, IsSayable, AreSayable, Lists, ListsAccess, MayBeOf, ClaimEnds};
 
 use crate::Rss;
-use rss_base::{CallError, Item, Kind, Mode, Name, Need, Refusal, Reply, Tid};
+use rss_base::{CallError, Item, Kind, Mode, Name, Need, Refusal, Reply, Tid, Tuple};
 use rss_buffer::Saving;
 use std::alloc::AllocError;
 
@@ -120,27 +120,81 @@ impl<S: Saving> Rss<S> {
         Ok(needs)
     }
 
-    /// The locks with which a tuple of a relation, which has this number, is read or changed.
+    /// The locks with which a tuple of a relation, which has this number, is read, or changed to the
+    /// values of `to`, if it is given any; where it has these values, if it is there.
     pub(crate) fn tuple_needs(
         &self,
         number: u8,
         relation: &Name,
         tid: Tid,
         access: Access,
+        found: &Option<Tuple>,
+        to: Option<&Tuple>,
+    ) -> Result<Vec<Need>, AllocError>
+        requires known { IsNumberOf RelationKind (session_of self.now).store.catalog.listing
+            relation.now number }
+        requires found { IfSome found.now
+            (MayBeOf (session_of self.now).store.catalog.listing number) }
+        requires to { IfSome (option_copied to)
+            (MayBeOf (session_of self.now).store.catalog.listing number) }
+        ensures lists { IfOk result (λ needs. ListsAccess (parts_of self.now) access relation.now tid
+            found.now (option_to_list (option_copied to.entry)) needs.items) }
+        ensures few { IfOk result (λ needs. vec_len needs ≤ 300) }
+        ensures sayable { IfOk result (λ needs. AreSayable needs.items) }
+    {
+        match (access, found) {
+            (Access::Read, _) => self.plain_needs(number, relation, tid, Mode::IS, Mode::S),
+            (Access::Change, None) => self.plain_needs(number, relation, tid, Mode::IX, Mode::X),
+            (Access::Change, Some(was)) => {
+                let mut needs = self.plain_needs(number, relation, tid, Mode::IX, Mode::X)?;
+                self.push_keys(&mut needs, number, Some(was), to)?;
+                Ok(needs)
+            }
+        }
+    }
+
+    /// The locks of a tuple of a relation, which has this number, and of what it stands in.
+    fn plain_needs(
+        &self,
+        number: u8,
+        relation: &Name,
+        tid: Tid,
+        coarse: Mode,
+        mode: Mode,
     ) -> Result<Vec<Need>, AllocError>
         requires known { IsNumberOf RelationKind (session_of self.now).store.catalog.listing
             relation.now number }
         ensures lists { IfOk result (λ needs. Lists (parts_of self.now)
-            (λ tables. accessing tables access relation.now tid) needs.items) }
+            (λ tables. relation_needs tables relation.now coarse coarse
+            ++ need (TupleItem relation.now tid) mode ∷ []) needs.items) }
         ensures few { IfOk result (λ needs. vec_len needs ≤ 3) }
         ensures sayable { IfOk result (λ needs. AreSayable needs.items) }
     {
-        let (coarse, mode) = match access {
-            Access::Read => (Mode::IS, Mode::S),
-            Access::Change => (Mode::IX, Mode::X),
-        };
         let mut needs = self.relation_needs(number, relation, coarse, coarse)?;
         needs.push(tuple_need(relation, tid, mode))?;
+        Ok(needs)
+    }
+
+    /// The locks with which a tuple of these values is put, and that of the new tuple behind them.
+    pub(crate) fn new_needs(
+        &self,
+        number: u8,
+        relation: &Name,
+        tid: Tid,
+        tuple: &Tuple,
+    ) -> Result<Vec<Need>, AllocError>
+        requires known { IsNumberOf RelationKind (session_of self.now).store.catalog.listing
+            relation.now number }
+        requires tuple { MayBeOf (session_of self.now).store.catalog.listing number tuple.now }
+        ensures lists { IfOk result (λ needs. Lists (parts_of self.now)
+            (λ tables. putting tables relation.now tid tuple.now) needs.items) }
+        ensures some { IfOk result (λ needs. 1 ≤ vec_len needs) }
+        ensures few { IfOk result (λ needs. vec_len needs ≤ 300) }
+        ensures sayable { IfOk result (λ needs. AreSayable needs.items) }
+    {
+        let mut needs = self.relation_needs(number, relation, Mode::IX, Mode::IX)?;
+        self.push_keys(&mut needs, number, None, Some(tuple))?;
+        needs.push(tuple_need(relation, tid, Mode::X))?;
         Ok(needs)
     }
 
@@ -151,7 +205,7 @@ impl<S: Saving> Rss<S> {
         transaction: u32,
         mut needs: Vec<Need>,
     ) -> Result<Vec<Need>, CallError>
-        requires few { vec_len needs ≤ 3 }
+        requires few { vec_len needs ≤ 300 }
         requires sayable { AreSayable needs.items }
         ensures ends { ClaimEnds (told self.old.locks) (told self.new.locks) transaction needs.items
             result }
@@ -213,8 +267,8 @@ fn relation_need(relation: &Name, mode: Mode) -> Need
 }
 
 pub(crate) fn tuple_need(relation: &Name, tid: Tid, mode: Mode) -> Need
-    ensures is { result ≡ need (Tuple relation.now tid) mode }
-    ensures sayable { IsSayable (Tuple relation.now tid) }
+    ensures is { result ≡ need (TupleItem relation.now tid) mode }
+    ensures sayable { IsSayable (TupleItem relation.now tid) }
 {
     let Name { bytes } = *relation;
     Need {

@@ -1,5 +1,5 @@
 // What the calls on a tuple that is there begin with.
-ghost use Rattle.std.specs.Prelude.{◌≡◌, true, false, Some, None, Err, is_some, IfOk, IfErr, OnOk};
+ghost use Rattle.std.specs.Prelude.{◌≡◌, true, false, Some, None, Err, is_some, option_copied, option_to_list, IfOk, IfErr, IfSome, OnOk};
 ghost use Rattle.rss_base.specs.Listings.{IsNumberOf, relation_at};
 ghost use Rattle.rss_base.specs.declared.answer.CallError.TheVariants.{Refused, Damaged};
 ghost use Rattle.rss_base.specs.declared.place.Place.TheVariants.{Tuple as TuplePlace};
@@ -7,6 +7,7 @@ ghost use Rattle.rss_base.specs.declared.refusal.Kind.TheVariants.{Relation as R
 ghost use Rattle.rss_base.specs.declared.refusal.Refusal.TheVariants.{NoTuple};
 ghost use Rattle.rss_model.specs.ReplyText.{IsShort};
 ghost use Rattle.rss_trans.specs.Transactions.{is_open};
+ghost use Rattle.rss_rsi.specs.Locking.{MayBeOf};
 ghost use Rattle.rss_rsi.specs.Looking.{MayLook, LooksFor, LooksUp, FindsHeld, FindsAny, EndsEach};
 
 use crate::Rss;
@@ -26,7 +27,8 @@ impl<S: Saving> Rss<S> {
     ghost use Rattle.rss_rsi.specs.Parts.{parts_of, session_of, view};
 
     /// The tuple with this identifier of a relation, which has this number; with the locks that the
-    /// call needs, which are claimed. No tuple is changed. The call that looks for it is refused where
+    /// call needs, which are claimed. The call gives it the values of `to`, if it gives it any. No tuple
+    /// is changed. The call that looks for it is refused where
     /// another transaction holds what it needs, and then where there is no such tuple; that refusal
     /// keeps the locks.
     pub(crate) fn find(
@@ -36,22 +38,27 @@ impl<S: Saving> Rss<S> {
         relation: &Name,
         tid: Tid,
         access: Access,
+        to: Option<&Tuple>,
     ) -> Result<Found, CallError>
         requires up { self.old.down ≡ false }
         requires open { is_open (session_of self.old).opened transaction ≡ true }
         requires known { IsNumberOf RelationKind
             (session_of self.old).store.catalog.listing relation.now number }
+        requires to { IfSome (option_copied to)
+            (MayBeOf (session_of self.old).store.catalog.listing number) }
         ensures up { OnOk result (self.new.down ≡ false) }
         ensures calls { OnOk result (self.new.calls ≡ self.old.calls) }
         ensures finds { IfOk result (λ found. FindsHeld (parts_of self.old) (parts_of self.new)
-            transaction number relation.now tid access found.tuple found.needs.items) }
+            transaction number relation.now tid access (option_to_list (option_copied to.entry))
+            found.tuple found.needs.items) }
         ensures scans { OnOk result (self.new.scans ≡ self.old.scans) }
         ensures fails { IfErr result (λ why. EndsEach
-            (LooksFor (parts_of self.old) transaction relation.now tid access)
+            (LooksFor (parts_of self.old) transaction relation.now tid access
+            (option_to_list (option_copied to.entry)))
             (view self.old) (view self.new) (Err why)) }
     {
         let found = self.look_up(number, tid)?;
-        let Ok(needs) = self.tuple_needs(number, relation, tid, access) else {
+        let Ok(needs) = self.tuple_needs(number, relation, tid, access, &found, to) else {
             return Err(CallError::NoMemory);
         };
         let needs = self.claim(transaction, needs)?;

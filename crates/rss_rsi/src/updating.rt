@@ -28,19 +28,27 @@ impl<S: Saving> Rss<S> {
     {
         self.ask()?;
         let number = self.session.admit_tuple(transaction, relation, tuple)?;
-        let found = self.find(transaction, number, relation, tid, Access::Change)?;
-        let fields = self
-            .session
-            .store
-            .catalog
-            .relation(number)
-            .fields
-            .as_slice();
+        let entry = self.session.store.catalog.relation(number);
+        let to = values_of(entry.fields.as_slice(), tuple);
+        let found = self.find(
+            transaction,
+            number,
+            relation,
+            tid,
+            Access::Change,
+            Some(tuple),
+        )?;
+        let owned = self.find_duplicate(number, &to, Some(tid))?;
+        if let Some(why) = owned {
+            self.hold(transaction, found.needs);
+            return Err(CallError::Refused(why));
+        }
+        let entry = self.session.store.catalog.relation(number);
         let change = Change::Update {
             relation: number,
             tid,
-            from: values_of(fields, &found.tuple),
-            to: values_of(fields, tuple),
+            from: values_of(entry.fields.as_slice(), &found.tuple),
+            to,
         };
         self.change(transaction, change)?;
         self.hold(transaction, found.needs);

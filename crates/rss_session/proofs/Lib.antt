@@ -34,3 +34,6 @@ pub mod Backwards
 pub mod Restored
 pub mod Aborted
 pub mod Props
+pub mod Behind
+pub mod NextUniques
+pub mod Duplicates

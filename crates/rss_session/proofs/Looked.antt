@@ -21,6 +21,8 @@ use Rattle.rss_base.specs.declared.root.Root.{Root}
 use Rattle.rss_base.specs.declared.tid.Tid.{Tid}
 use Rattle.rss_base.proofs.Moments.{widened}
 use Rattle.rss_tuple.specs.Heaps.{AreHeaps}
+use Rattle.rss_model.specs.Fits.{Fits}
+use Rattle.rss_model.specs.Kept.{Kept}
 use Rattle.rss_model.specs.Machine.{StoreSize, State, now}
 use Rattle.rss_model.specs.Spares.{PageCounts, page_counts, change_counts, HasRoomFor, IsInSession}
 use Rattle.rss_model.specs.Store.{IsListed, SpellsTables}
@@ -75,6 +77,7 @@ module _ (old : SessionView) {pages : PagesView} {asks writes : ℕ} (passes : P
       only = λ key is. ready.store.only key (sym (ap (λ (m : Mapped). m key) mapped) ∙ is);
       pending_places = ready.store.pending_places;
       settled_now = passes.leaves.stays_settled ready.store.settled_now;
+      no_links = ready.store.no_links;
       plain = ready.store.plain;
       heaps = heaps;
       tables = has_tables_still passes.slots refl passes.leaves.told.1 (λ told key off. ap (λ (h : Held). h key) (held told)) ready.store.tables;
@@ -140,6 +143,10 @@ finds_tuple {view = view} {segment = segment} {number = number} {tid = tid} {the
 -- a state that is shown has as many slots
 slots_shown : {view : SessionView} {state : State} → IsReady view → Shows view state → view.store.pages.slots ≡ state.size.slots
 slots_shown ready shows = ready.store.size ∙ ap (λ (r : Root). r.slots) (sym shows.store.disk.root_is) ∙ ap (λ (s : StoreSize). s.slots) (sym shows.store.tied.size)
+
+-- whose tables fit
+pub fits_shown : {view : SessionView} {state : State} → IsReady view → Kept state → Shows view state → Fits view.store.pages.slots (now state)
+fits_shown {state = state} ready kept shows = subst (λ (n : ℕ). Fits n (now state)) (sym (slots_shown ready shows)) (kept_fit state kept).1
 
 -- the relations of a segment have its name
 module _ {view : SessionView} {state : State} (shows : Shows view state) {segment number : ℕ} {relation : RelationEntry} (in_it : IsRelationIn view segment number relation) where

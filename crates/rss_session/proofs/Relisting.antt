@@ -126,12 +126,15 @@ images_kept (relation name in_segment fields at number within fresh least) = ref
 images_kept (drop_segment name number at none) = refl
 images_kept (drop_relation number entry at live none) = refl
 
--- neither images nor links are listed
+-- and so are the links
+links_kept : {old new : Listing} {call : Call} → Relists old call new → new.links ≡ old.links
+links_kept (segment name number fresh least) = refl
+links_kept (relation name in_segment fields at number within fresh least) = refl
+links_kept (drop_segment name number at none) = refl
+links_kept (drop_relation number entry at live none) = refl
+
 plain_relisted : {old new : Listing} {call : Call} → Relists old call new → IsPlain old → IsPlain new
-plain_relisted (segment name number fresh least) plain = record { no_images = plain.no_images; no_links = plain.no_links }
-plain_relisted (relation name in_segment fields at number within fresh least) plain = record { no_images = plain.no_images; no_links = plain.no_links }
-plain_relisted (drop_segment name number at none) plain = record { no_images = plain.no_images; no_links = plain.no_links }
-plain_relisted (drop_relation number entry at live none) plain = record { no_images = plain.no_images; no_links = plain.no_links }
+plain_relisted relists plain = record { no_images = images_kept relists ∙ plain.no_images; no_links = links_kept relists ∙ plain.no_links }
 
 -- ---- the session
 
@@ -185,6 +188,7 @@ module _ {S : Type 0} (pages_view : S → PagesView) {call : Call} {old new : Se
       only = ready.store.only;
       pending_places = as_many ready.store.pending_places;
       settled_now = ready.store.settled_now;
+      no_links = links_kept redefines.relists ∙ ready.store.no_links;
       plain = plain_relisted redefines.relists ready.store.plain;
       heaps = ready.store.heaps;
       tables = λ told image. ∥∥₁_map (ready.store.tables told (had_image image)) (tables_relisted redefines.relists redefines.fits);

@@ -9,3 +9,5 @@ pub mod Parts
 pub mod Admissions
 pub mod FieldTests
 pub mod Definitions
+pub mod Imaging
+pub mod Uniques

@@ -9,10 +9,12 @@ mod counting;
 mod defining;
 mod ending;
 mod going_back;
+mod imaging;
 mod looking;
 mod opening;
 mod saving;
 mod session;
+mod uniques;
 mod weighing;
 
 pub use defining::{has_twice, test_fields};

@@ -133,6 +133,7 @@ module _ {T : Type 0} {change : told.Change} (old new : StoreView) {value : T} (
     only = only_made ready;
     pending_places = (keeps old new makes).places ∙ ready.pending_places;
     settled_now = makes.step.passes.leaves.stays_settled ready.settled_now;
+    no_links = (keeps old new makes).no_links ready.no_links;
     plain = plain_kept (keeps old new makes) ready.plain;
     heaps = makes.still.heaps;
     tables = makes.still.tables;

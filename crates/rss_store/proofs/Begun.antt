@@ -281,6 +281,7 @@ module _ {T : Type 0} {old : StoreView} {pages : PagesView} {catalog : CatalogVi
     only = mid_only;
     pending_places = passes.keeps.places ∙ ready.pending_places;
     settled_now = passes.step.passes.leaves.stays_settled ready.settled_now;
+    no_links = passes.keeps.no_links ready.no_links;
     plain = plain_kept passes.keeps ready.plain;
     heaps = still.heaps;
     tables = still.tables;

@@ -28,6 +28,7 @@ use Rattle.rss_store.proofs.Pieces.{slots_still, mapped_still}
 use Rattle.rss_catalog.specs.Catalogs.{CatalogView, pending_pages, StoresListing}
 use Rattle.rss_access.specs.Written.{heap_now}
 use Rattle.rss_access.specs.Changes.{CanAlter}
+use Rattle.rss_access.proofs.Within.{nodes_within}
 use Rattle.rss_access.proofs.Writing.{spells_same, held_off_system, notes_off_system, all_written}
 use Rattle.rss_model.specs.Changes.{Change}
 use Rattle.rss_model.specs.Records.{Checkpoint, Placed, Listed, changes_in, list_after}
@@ -41,7 +42,6 @@ use Rattle.rss_model.specs.Fits.{Fits}
 use Rattle.rss_model.proofs.LogAppending.{list_after-append}
 use Rattle.rss_model.proofs.LogPlaced.{bytes_append}
 use Rattle.rss_model.proofs.LogStored.{disk_has_log, disk_has_room}
-use Rattle.rss_model.proofs.PlainStores.{none_imaged, plain_nodes}
 use Rattle.rss_model.proofs.Sparing.{session_begins}
 use Rattle.rss_model.proofs.StorePages.{pages_split}
 use Rattle.rss_store.specs.Stores.{StoreView, IsReady, IsSaved, IsLogBehind}
@@ -51,7 +51,7 @@ use Rattle.rss_store.specs.Shown.{HoldsLogged, LeavesStore, Shows}
 use Rattle.rss_store.proofs.Growing.{Appends, behind_appended, logged_appended}
 use Rattle.rss_store.proofs.Places.{store_saving}
 use Rattle.rss_store.proofs.Nexts.{length-tail_of, behind_itself, ready_now}
-use Rattle.rss_store.proofs.Spelled.{alter_still, can_alter}
+use Rattle.rss_store.proofs.Spelled.{nodes_still, alter_still, can_alter}
 use Rattle.rss_store.specs.Changing.{access}
 
 -- ---- the head behind a checkpoint
@@ -277,7 +277,7 @@ module _ {view : StoreView} {marks : List (ℕ × ℕ)} {mid saved : PagesView} 
       only = λ key. holds key ∙ ap (λ (m : Mapped). m key) is.saveable.mapped;
       system = listed_now;
       spells = spelled_now;
-      nodes = plain_nodes (none_imaged spelled_now);
+      nodes = nodes_still (slots_next ∙ sym ready.size) (held_off_system is.step told) (nodes_within {at = access view} can.spells.images (ready.tables told));
       fit = subst (λ (n : ℕ). Fits n (tables_now next)) (sym slots_next) can.fit;
       log = λ pages holds_log. disk_has_log pages after_save elog_now next stored_now holds_log;
       room = disk_has_room after_save elog_now next stored_now can.metered heap_same;

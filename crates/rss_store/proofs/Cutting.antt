@@ -32,6 +32,7 @@ ready_with ready behind = record {
   only = ready.only;
   pending_places = ready.pending_places;
   settled_now = ready.settled_now;
+  no_links = ready.no_links;
   plain = ready.plain;
   heaps = ready.heaps;
   tables = ready.tables;

@@ -33,7 +33,7 @@ use Rattle.rss_model.specs.Store.{no_tables, SpellsTables, first_stored as store
 use Rattle.rss_catalog.proofs.Plain.{plain_paths, zeros_past}
 use Rattle.rss_model.proofs.FirstLog.{first_log}
 use Rattle.rss_model.proofs.Fitting.{no_tables_fit}
-use Rattle.rss_model.proofs.PlainStores.{spelled_contents, plain_images, plain_nodes, tables_plain, none_imaged}
+use Rattle.rss_model.proofs.PlainStores.{spelled_contents, no_image_pages, plain_images, plain_nodes, plain_defined}
 use Rattle.rss_model.proofs.Listed.{at_place}
 use Rattle.rss_store.specs.Formatted.{first_root, first_owners, IsFormatted}
 use Rattle.rss_store.proofs.FirstOwners.{owner_first, owner_is}
@@ -203,10 +203,10 @@ opens_empty slots log_pages pages made =
         root_there = made.root_there;
         log = first_log pages 1 (first_root slots log_pages) (first_owners slots) no_listing no_tables (record { head = refl; checkpoint = refl; end = refl; tail = refl }) (no_tables_fit slots);
         map = made.map;
-        room = room_least is (tables_plain spells) refl refl twice (pages_counted (first_root slots log_pages) (first_owners slots) pages made.map system spells);
+        room = room_least is (plain_defined no_listing_plain spells.defines) refl refl twice (pages_counted (first_root slots log_pages) (first_owners slots) pages made.map system spells);
         system = system;
         spells = spells;
-        nodes = plain_nodes (none_imaged spells);
+        nodes = plain_nodes (no_image_pages no_listing_plain spells.images);
         fit = no_tables_fit slots;
       };
       same_size = refl;

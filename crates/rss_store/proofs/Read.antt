@@ -166,6 +166,7 @@ module _ {root : Root} {number frames writes : ℕ} {owners : List (Option PageK
         only = λ key is. plain_key catalog key (finds.only key (sym (same_mapped key) ∙ is));
         pending_places = ap (λ (l : List Bool). length l) finds.loaded.written;
         settled_now = did.looks.step.passes.leaves.stays_settled fresh.settled;
+        no_links = finds.plain.no_links;
         plain = finds.plain;
         heaps = λ told. finds.heaps (did.looks.step.passes.leaves.told.1 told);
         tables = λ told image. absurd (no_image_at finds.plain image.number image.image image.at);

@@ -63,7 +63,7 @@ plain_kept keeps plain = still_plain keeps.images (keeps.no_links plain.no_links
 -- ---- tables that are spelled
 
 -- the nodes of images are those that were there
-nodes_still : {old new : Held} {slots slots_too : ℕ} → slots_too ≡ slots → SameOffSystem old new → AreNodesWithin slots old → AreNodesWithin slots_too new
+pub nodes_still : {old new : Held} {slots slots_too : ℕ} → slots_too ≡ slots → SameOffSystem old new → AreNodesWithin slots old → AreNodesWithin slots_too new
 nodes_still {slots_too = slots_too} slots same nodes of number node at =
     subst (λ (n : ℕ). All (λ (entry : NodeEntry). entry.tid.page < n) node.entries) (sym slots)
     (nodes of number node (record { bytes = at.bytes; there = sym (same (page_key of.segment Image number) (λ system. let not : Image ≡ System = system in absurd (cc))) ∙ at.there; is = at.is }))

@@ -3,7 +3,7 @@ use Rattle.std.specs.Prelude.{◌≡◌, ℕ, ◌+◌, ◌<◌, ◌≤◌, true,
 use Rattle.rss_base.specs.DiskRule.{IsTold}
 use Rattle.rss_base.specs.Sizes.{system_pages}
 use Rattle.rss_base.specs.Layout.{IsWellFormed}
-use Rattle.rss_base.specs.Listings.{IsPlain}
+use Rattle.rss_base.specs.Listings.{IsPlain, HasNoLinks}
 use Rattle.rss_base.specs.PageMap.{page_count}
 use Rattle.rss_base.specs.Paged.{mapped_pages}
 use Rattle.rss_base.specs.Steps.{PagesView}
@@ -52,6 +52,7 @@ pub record IsReady (view : StoreView) : Type 0 where
   pub only : (key : PageKey) → view.pages.mapped key ≡ true → IsSystemOrHeap key
   pub pending_places : length view.catalog.pending ≡ system_pages
   pub settled_now : view.pages.settled ≡ true
+  pub no_links : HasNoLinks view.catalog.listing
   pub plain : IsPlain view.catalog.listing
   pub heaps : IsTold view.pages.disk → AreHeaps view.pages
   pub tables : IsTold view.pages.disk → HasImage view.catalog.listing → ∥ HasTables (both view.pages view.catalog) ∥₁

@@ -12,4 +12,4 @@ pub returns-clause-applies : goal.returns-clause-applies
 returns-clause-applies g c = applies_by c.args.change.now c.alter.result c.requires.tuple (returns-clause-makes g c)
 
 pub returns-clause-sound : goal.returns-clause-sound
-returns-clause-sound g c = λ place is on room. none_applies c.requires.tuple ((returns-clause-makes g c).damaged place is on) room
+returns-clause-sound g c = λ place is on room. none_applies c.requires.may on c.requires.tuple ((returns-clause-makes g c).damaged place is on) room

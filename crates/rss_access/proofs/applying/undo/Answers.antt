@@ -11,4 +11,4 @@ pub returns-clause-undoes : goal.returns-clause-undoes
 returns-clause-undoes g c = undoes_by c.args.change.now c.alter.result c.requires.tuple (returns-clause-makes g c)
 
 pub returns-clause-sound : goal.returns-clause-sound
-returns-clause-sound g c = λ place is on room. none_undoes c.requires.tuple ((returns-clause-makes g c).damaged place is on) room
+returns-clause-sound g c = λ place is on room. none_undoes c.requires.may on c.requires.tuple ((returns-clause-makes g c).damaged place is on) room

@@ -15,7 +15,7 @@ pub returns-in-Ok-clause-did : goal.returns-in-Ok-clause-did
 returns-in-Ok-clause-did g c = walks_made tt c.in-Ok.ensures
 
 pub returns-in-Err-clause-sound : goal.returns-in-Err-clause-sound
-returns-in-Err-clause-sound g c = λ place is on. none_recorded (turn c.args.way c.args.position) c.in-Err.fault place c.in-Some.ensures.some c.in-Err.ensures (ap (λ (fault : PageFault). Err fault) (sym c.at_record.ensures) ∙ is) on
+returns-in-Err-clause-sound g c = λ place is on. none_recorded (turn c.args.way c.args.position) c.in-Err.fault place c.requires.may c.in-Some.ensures.some c.in-Err.ensures (ap (λ (fault : PageFault). Err fault) (sym c.at_record.ensures) ∙ is) on
 
 pub returns-in-Err-clause-did : goal.returns-in-Err-clause-did
 returns-in-Err-clause-did g c = subst (λ (fault : PageFault). Walks c.args.log.now 1 (both (g.P.Pages.view c.args.tuples.now.pages) c.args.catalog.now) (both (g.P.Pages.view c.direct.new.tuples.pages) c.direct.new.catalog) (Err fault)) (sym c.at_record.ensures) (walks_recorded c.args.position c.in-Err.fault c.requires.low c.requires.high c.in-Err.ensures)

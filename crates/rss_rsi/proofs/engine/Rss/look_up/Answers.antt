@@ -3,8 +3,9 @@ use Rattle.std.specs.Prelude.{Ok, Some, None}
 use Rattle.rss_base.specs.TupleTypes.{kinds, width, most_width}
 use Rattle.rss_base.specs.declared.field.FieldDef.{FieldDef}
 use Rattle.rss_model.proofs.Lengths.{tuple_line}
+use Rattle.rss_session.proofs.Behind.{looks_as}
 use Rattle.rss_rsi.specs.Parts.{parts_of}
-use Rattle.rss_rsi.proofs.Looks.{look_fails, lacks_looked, reads_none, none_past, none_there, some_there, none_spelled, looks_as, looks_nothing, ready_looked, body_as, body_fits}
+use Rattle.rss_rsi.proofs.Looks.{look_fails, lacks_looked, reads_none, none_past, none_there, some_there, none_spelled, looks_nothing, ready_looked, body_as, body_fits}
 use Rattle.rss_rsi.proofs.engine.Rss.look_up.Goals as goal
 
 pub returns-then-from-ge-PAGE_ENTRIES-clause-looks : goal.returns-then-from-ge-PAGE_ENTRIES-clause-looks

@@ -3,10 +3,10 @@ use Rattle.std.proofs.lemmas.Bool.{false_from_ne_true}
 use Rattle.rss_lock.specs.Table.{told}
 use Rattle.rss_scan.specs.Scans.{told as scans_told}
 use Rattle.rss_session.specs.Looks.{FindsPlace}
+use Rattle.rss_session.proofs.Behind.{looks_as, looks_then}
 use Rattle.rss_rsi.specs.Parts.{parts_of, session_of}
-use Rattle.rss_rsi.proofs.Looks.{looks_as}
 use Rattle.rss_rsi.proofs.Placed.{barred_same, exact_same, is_place_for, none_is_free, none_placed, lacks_placing, placing_fails, fails_then}
-use Rattle.rss_rsi.proofs.TwoLooks.{looks_then, place_before, no_place_before}
+use Rattle.rss_rsi.proofs.TwoLooks.{place_before, no_place_before}
 use Rattle.rss_rsi.proofs.engine.Rss.place_for.Goals as goal
 
 pub returns-in_err-first-clause-fails : goal.returns-in_err-first-clause-fails
