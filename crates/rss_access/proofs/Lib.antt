@@ -20,3 +20,9 @@ pub mod Rooted
 pub mod ImageMoves
 pub mod Looking
 mod NextTuples
+mod Walked
+mod AsMany
+mod Repeats
+mod NodesWithin
+pub mod NodesReached
+mod Checked

@@ -24,7 +24,7 @@ after_then None a b is below = tt
 after_then (Some after) a b is below = below_then after a b is below
 
 -- it is below, the same, or above
-cases_tid : (a b : Tid) → IsBelow a b ⊎ ((a ≡ b) ⊎ IsBelow b a)
+pub cases_tid : (a b : Tid) → IsBelow a b ⊎ ((a ≡ b) ⊎ IsBelow b a)
 cases_tid a b = elim (cases_eq a.page b.page) [
   | inl page ↦ elim (cases_eq a.slot b.slot) [
     | inl slot ↦ inr (inl (λ i. record { page = page i; slot = slot i }))

@@ -1,20 +1,18 @@
 -- A catalog in which images begin elsewhere: what it lists else, and which of its pages are spelled as they were.
-use Rattle.std.proofs.Common.{◌≡◌, ◌≢◌, ◌⊎◌, inl, inr, ℕ, zero, suc, ◌+◌, ◌-◌, ◌*◌, ◌/◌, ◌<◌, ◌≤◌, Bool, true, false, cond, ◌==◌, List, length, take, drop, get_or, refl, sym, ◌∙◌, ap, subst, arith}
+use Rattle.std.proofs.Common.{◌≡◌, ◌≢◌, ◌⊎◌, inl, inr, ℕ, ◌+◌, ◌-◌, ◌*◌, ◌/◌, ◌<◌, ◌≤◌, Bool, true, false, cond, ◌==◌, List, length, take, drop, get_or, refl, sym, ◌∙◌, ap, arith}
 use Rattle.std.specs.Prelude.{Option, Some, None, option_map, slice_set, flat_map, nat_le, map as list_map}
 use Rattle.std.proofs.lemmas.Bool.{cases_eq, cases_lt, leb-false, true≢false}
 use Rattle.std.proofs.lemmas.List.{length-set, get_or-set_same, get_or-set_other, take-set-le, drop-set-lt, drop-set-add, set-get_or, get_or_past}
-use Rattle.std.proofs.lemmas.Option.{none-some}
 use Rattle.std.proofs.Math.Seq.{map-set_same}
-use Rattle.rss_base.specs.Sizes.{system_pages}
-use Rattle.rss_base.specs.Listings.{Listing, ListingFits, image_at, with_image, with_root, catalog_page, segment_spelled, relation_spelled, relations_on, image_spelled, images_on, link_spelled, padded, relation_pages, image_pages}
+use Rattle.rss_base.specs.Listings.{Listing, ListingFits, image_at, with_image, with_root, catalog_page, relation_spelled, relations_on, image_spelled, images_on, link_spelled, padded}
 use Rattle.rss_base.specs.declared.image.ImageEntry.{ImageEntry}
 use Rattle.rss_base.specs.declared.refusal.Kind.TheVariants.{Image as ImageKind}
-use Rattle.rss_catalog.specs.Catalogs.{CatalogView, IsPending, Lists, page_of}
+use Rattle.rss_catalog.specs.Catalogs.{CatalogView, Lists, page_of}
 use Rattle.rss_catalog.proofs.Numbered.{numbered_at, numbered_within}
 use Rattle.rss_model.specs.Meanings.{rootless}
 use Rattle.rss_access.specs.Moved.{Reroots}
 use Rattle.rss_access.specs.Relisted.{KeepsSpelled, Rerooted}
-use Rattle.rss_access.proofs.Rerooting.{keeps_itself, keeps_then, rerooted_itself}
+use Rattle.rss_access.proofs.Rerooting.{keeps_then, rerooted_itself}
 
 -- ---- catalogs
 

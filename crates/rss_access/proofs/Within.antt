@@ -1,7 +1,7 @@
 -- The identifiers in the nodes of images: where no image is listed, there are no nodes.
 use Rattle.std.proofs.Common.{◌<◌, refl, ap}
 use Rattle.std.specs.Prelude.{is_some}
-use Rattle.std.specs.List.{AllByRecursion, AllByRecursion-prop}
+use Rattle.std.specs.List.{AllByRecursion-prop}
 use Rattle.std.proofs.Math.Logic.{∥∥₁_elim}
 use Rattle.std.proofs.Math.Bridge.{le_prop}
 use Rattle.std.proofs.lemmas.List.Elements.{recursion_from_All, All-from_recursion}

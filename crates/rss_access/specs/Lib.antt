@@ -6,3 +6,4 @@ pub mod Changes
 pub mod Edits
 pub mod Moved
 pub mod Imaging
+pub mod Checking

@@ -3,6 +3,7 @@
 
 mod applying;
 mod bodies;
+mod checking;
 mod edit;
 mod imaging;
 mod moving;
@@ -11,6 +12,7 @@ mod tuples;
 
 pub use applying::{apply, undo};
 pub use bodies::{body_of, tuple_of};
+pub use checking::check_image;
 pub use edit::TUPLES_MOST;
 pub use imaging::{find_owner, next_entry};
 pub use rooms::image_bound;

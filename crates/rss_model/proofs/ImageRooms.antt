@@ -65,7 +65,7 @@ module _ {listing : Listing} {definitions : Definitions} (defines : Defines list
       let listed : IsListedImage listing number image its.relation = record { at = at; within = its.listed } in
       record { relation = its.relation; at = listed; defined = defines.paths.images number image its.relation listed }
 
-  images_listed : IsListOf (names_of ImageKind listing) definitions.images
+  pub images_listed : IsListOf (names_of ImageKind listing) definitions.images
   images_listed = record {
     each = λ k name at.
         let has = named_image listing name (suc k, at_place (names_of ImageKind listing) k ∙ at) in

@@ -55,14 +55,14 @@ no_asks : {old new : Listing} {call : Call} (before now : ℕ) → now ≡ befor
 no_asks before now same (segment name number fresh least) = omega (arith, same)
 no_asks before now same (relation name in_segment fields at number within fresh least) = omega (arith, same)
 no_asks before now same (drop_segment name number at none) = omega (arith, same)
-no_asks before now same (drop_relation number entry at unused) = omega (arith, same)
+no_asks before now same (drop_relation number entry at unused none) = omega (arith, same)
 
 -- and of its writes no bound is claimed
 any_writes : {old new : Listing} {call : Call} (before now : ℕ) → Relists old call new → RisesAtMost (most_writes call) before now
 any_writes before now (segment name number fresh least) = tt
 any_writes before now (relation name in_segment fields at number within fresh least) = tt
 any_writes before now (drop_segment name number at none) = tt
-any_writes before now (drop_relation number entry at unused) = tt
+any_writes before now (drop_relation number entry at unused none) = tt
 
 -- what goes on doesn't hang on the catalog
 but_listed : {T : Type 0} {before new : SessionView} {result : Result T PageFault} (catalog : CatalogView) → SessionGoesOn (with_catalog catalog before) new result → SessionGoesOn before new result

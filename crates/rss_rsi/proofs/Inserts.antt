@@ -27,7 +27,7 @@ use Rattle.rss_tuple.specs.Placing.{IsChosen}
 use Rattle.rss_lock.specs.Locks.{LocksView}
 use Rattle.rss_model.specs.Calls.{GoesOn, IsCallOf, AreBarred}
 use Rattle.rss_model.specs.LogLaws.{IsToldBy}
-use Rattle.rss_model.specs.Locks.{Bar, Locks, first_bar, with_lock, granted}
+use Rattle.rss_model.specs.Locks.{Bar, Locks, first_bar, granted}
 use Rattle.rss_model.specs.Machine.{State, now}
 use Rattle.rss_model.specs.Needs.{need, needs}
 use Rattle.rss_model.specs.Refusals.{busy, if_duplicate}

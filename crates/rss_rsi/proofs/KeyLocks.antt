@@ -1,20 +1,18 @@
 -- The locks of keys are those that the machine lists, and a look for a duplicate tells what it says.
-use Rattle.std.proofs.Common.{◌≡◌, ℕ, ◌+◌, ◌-◌, ◌<◌, ◌≤◌, true, List, [], ◌∷◌, ◌++◌, length, take, get_or, refl, sym, ◌∙◌, ap, subst, arith, append_assoc, append-nil}
-use Rattle.std.specs.Prelude.{Option, Some, None, IfSome, All, Result, Ok, Err, map, flat_map, option_map, option_to_list, slice_get, if◌then◌else◌, Bool}
-use Rattle.std.specs.List.{cons_option}
+use Rattle.std.proofs.Common.{◌≡◌, ℕ, ◌+◌, ◌≤◌, true, List, [], ◌∷◌, ◌++◌, refl, sym, ◌∙◌, ap, subst, arith, append_assoc, append-nil}
+use Rattle.std.specs.Prelude.{Option, Some, None, IfSome, Result, Ok, Err, map, flat_map, option_map, option_to_list, if◌then◌else◌, Bool}
 use Rattle.std.proofs.lemmas.Grind.{flat_map-append}
 use Rattle.std.proofs.lemmas.List.{map-append}
-use Rattle.std.proofs.lemmas.Option.{same_Some}
 use Rattle.rss_base.specs.DiskRule.{IsTold}
-use Rattle.rss_base.specs.Listings.{Listing, IsNumberOf, field_numbers, image_at, relation_at}
-use Rattle.rss_base.specs.TupleTypes.{chosen, kinds, Spells}
+use Rattle.rss_base.specs.Listings.{Listing, IsNumberOf, image_at, relation_at}
+use Rattle.rss_base.specs.TupleTypes.{kinds, Spells}
 use Rattle.rss_base.specs.declared.answer.CallError.TheVariants.{Refused}
 use Rattle.rss_base.specs.declared.call.Call.{Call}
 use Rattle.rss_base.specs.declared.fault.PageFault.{PageFault}
 use Rattle.rss_base.specs.declared.image.ImageEntry.{ImageEntry}
 use Rattle.rss_base.specs.declared.item.Item.TheVariants.{Tuple as TupleItem, Key as KeyItem}
 use Rattle.rss_base.specs.declared.name.Name.{Name}
-use Rattle.rss_base.specs.declared.need.Mode.TheVariants.{IX, X}
+use Rattle.rss_base.specs.declared.need.Mode.TheVariants.{X}
 use Rattle.rss_base.specs.declared.need.Need.{Need}
 use Rattle.rss_base.specs.declared.refusal.Kind.TheVariants.{Relation as RelationKind}
 use Rattle.rss_base.specs.declared.refusal.Refusal.{Refusal}
@@ -31,8 +29,8 @@ use Rattle.rss_model.specs.Machine.{State, now}
 use Rattle.rss_model.specs.Needs.{need, needs, changing, key_needs, keys_of_each, keys_where_live, tuple_read, tuple_changed}
 use Rattle.rss_model.specs.Refusals.{if_duplicate}
 use Rattle.rss_model.specs.ReplyText.{IsShort}
-use Rattle.rss_model.specs.Steps.{keeps_locks, left_by, locked, refusal}
-use Rattle.rss_model.specs.Store.{IsListedImage, image_definition}
+use Rattle.rss_model.specs.Steps.{keeps_locks, locked, refusal}
+use Rattle.rss_model.specs.Store.{IsListedImage}
 use Rattle.rss_model.specs.Tables.{ImageDef, Tables, content}
 use Rattle.rss_model.proofs.StepKeeping.{kept_fit}
 use Rattle.rss_access.specs.Moved.{IsImageOf}
@@ -42,7 +40,7 @@ use Rattle.rss_session.specs.Sessions.{SessionView}
 use Rattle.rss_session.specs.Uniques.{IsNextUnique, FindsDuplicate, defined_image}
 use Rattle.rss_session.proofs.NextUniques.{ArePassed, none_passed, one_more, all_passed, many_passed, few_unique, key_listed, narrow_key, of_relation}
 use Rattle.rss_rsi.specs.Locking.{accessing, given, key_lock, putting, HasKey, MayBeOf, Lists, ListsAccess, ListsKeys}
-use Rattle.rss_rsi.specs.Looking.{FindsAny, FindsNone}
+use Rattle.rss_rsi.specs.Looking.{FindsAny}
 use Rattle.rss_rsi.specs.Placing.{MayCost}
 use Rattle.rss_rsi.specs.Views.{RssParts, IsIn, SameHeld, engine_view}
 use Rattle.rss_rsi.specs.declared.locking.Access.{Access}

@@ -1,5 +1,5 @@
 -- There are no links as yet, and no tuple is connected.
-use Rattle.std.proofs.Common.{◌≡◌, ℕ, zero, suc, true, replicate, get_or, refl, sym, ◌∙◌, ap, List}
+use Rattle.std.proofs.Common.{◌≡◌, ℕ, zero, suc, replicate, get_or, refl, sym, ◌∙◌, ap, List}
 use Rattle.std.specs.Prelude.{Option, Some, None, is_some, option_map, find, map as list_map}
 use Rattle.std.specs.FinMap as map
 use Rattle.std.specs.FinMap.{get-empty, same_map}

@@ -34,7 +34,7 @@ use Rattle.rss_model.proofs.SeenAlike.{all_below, got_in, not_below}
 use Rattle.rss_model.proofs.Testing.{unique_in}
 use Rattle.rss_catalog.specs.Catalogs.{IsSafeImage}
 use Rattle.rss_access.specs.Moved.{IsImageOf}
-use Rattle.rss_entries.proofs.Fields.{numbers_back, chosen_kinds}
+use Rattle.rss_model.proofs.ImageFields.{numbers_back, chosen_kinds}
 use Rattle.rss_session.specs.Uniques.{IsBehind, IsUniqueBehind, AreInOrder, IsBefore, FindsLeast, last_name, defined_image, AreLed, IsNextUnique}
 
 -- ---- images whose names rise

@@ -34,7 +34,7 @@ use Rattle.rss_model.specs.Tables.{RelationDef, Contents, Tables, content, field
 use Rattle.rss_model.specs.Fits.{HasContent, IsTupleOf, IsLive, Fits, tuple_limit}
 use Rattle.rss_model.proofs.Plain.{plain_keys, plain_links}
 use Rattle.rss_model.specs.Store.{IsStorePage, IsTupleItem, AreCounts, Defines, SpellsTables, plain_body as body_of}
-use Rattle.rss_model.proofs.PlainStores.{spelled_contents, plain_images, contents_spelled, PlainBody as IsTupleBody}
+use Rattle.rss_model.proofs.PlainStores.{plain_defined, spelled_contents, plain_images, contents_spelled, PlainBody as IsTupleBody}
 use Rattle.rss_store.specs.Looks.{IsPlainPage}
 use Rattle.rss_model.proofs.Codes.{item_total, item_apart, name_total, name_apart}
 use Rattle.rss_model.proofs.Contents.{not_tied}
@@ -123,7 +123,7 @@ module _ (held : Held) (slots : ℕ) (listing : Listing) (fits : ListingFits lis
   found_tables = record { definitions = definitions_of listing; contents = contents_of listing (spots_of held slots) }
 
   defines : Defines listing (definitions_of listing)
-  defines = listing_defines fits plain
+  defines = listing_defines fits
 
   -- the fields of a listed relation
   fields_found : (number : ℕ) (relation : RelationEntry) → relation_at listing number ≡ Some relation → fields_of found_tables relation.name ≡ Some (kinds relation.fields)
@@ -276,12 +276,12 @@ module _ (held : Held) (slots : ℕ) (listing : Listing) (fits : ListingFits lis
 
   found_fit : Fits slots found_tables
   found_fit = record {
-    definitions = listing_fits fits defines plain;
+    definitions = listing_fits fits defines;
     tuples = tuple_found;
     tids = λ name tid lives. let of = (live_found name tid lives).1 in (named_in held slots allowed of.relation.segment tid (of.number ∷ of.bytes) of.stands).named;
     alone = alone_found;
     few = few_found;
-    keys = plain_keys found_tables (record { no_images = refl; no_links = refl });
+    keys = plain_keys found_tables (plain_defined plain defines);
     links = plain_links found_tables (λ link parent. no_chain link parent (content found_tables.contents (ChainItem link parent)) refl);
     only = λ item there. let of = item_found item there in subst HasContent (sym of.is) (tt {0});
   }

@@ -1,6 +1,7 @@
 -- The definitions that a listing has, as maps from names, and that they fit.
-use Rattle.std.proofs.Common.{◌≡◌, inl, inr, ℕ, zero, suc, ◌≤◌, true, List, [], ◌∷◌, length, get_or, refl, sym, ◌∙◌, ap, subst, arith}
-use Rattle.std.specs.Prelude.{Option, Some, None, is_some, option_map}
+use Rattle.std.proofs.Common.{◌≡◌, inl, inr, ℕ, zero, suc, ◌+◌, ◌-◌, ◌<◌, ◌≤◌, true, List, [], ◌∷◌, length, get_or, refl, sym, ◌∙◌, ap, subst, arith, length-take}
+use Rattle.std.specs.Prelude.{Option, Some, None, is_some, option_map, filter_map, slice_get}
+use Rattle.std.specs.List.{cons_option}
 use Rattle.std.specs.FinMap as map
 use Rattle.std.specs.FinMap.{FinMap, get-empty}
 use Rattle.std.proofs.lemmas.Bool.{true≢false}
@@ -8,22 +9,28 @@ use Rattle.std.proofs.lemmas.List.{length-map}
 use Rattle.std.proofs.lemmas.List.Sums.{count_by-le-length}
 use Rattle.std.proofs.lemmas.Option.{none-some, same_Some}
 use Rattle.rss_base.specs.Names.{IsName}
-use Rattle.rss_base.specs.Sizes.{segments, relations_most}
-use Rattle.rss_base.specs.Listings.{Listing, ListingFits, IsPlain, numbered, names_of, segment_at}
+use Rattle.rss_base.specs.Sizes.{segments, relations_most, images_most}
+use Rattle.rss_base.specs.Listings.{Listing, ListingFits, ImageFits as ImageEntryFits, numbered, names_of, field_numbers, segment_at, relation_at, image_at}
+use Rattle.rss_base.specs.TupleTypes.{field_names, chosen, most_key_width}
 use Rattle.rss_base.specs.declared.name.Name.{Name}
+use Rattle.rss_base.specs.declared.field.FieldDef.{FieldDef}
 use Rattle.rss_base.specs.declared.relation.RelationEntry.{RelationEntry}
-use Rattle.rss_base.specs.declared.refusal.Kind.TheVariants.{Relation as RelationKind}
+use Rattle.rss_base.specs.declared.image.ImageEntry.{ImageEntry}
+use Rattle.rss_base.specs.declared.refusal.Kind.TheVariants.{Relation as RelationKind, Image as ImageKind}
 use Rattle.rss_model.specs.Items.{name_cmp}
-use Rattle.rss_model.specs.Tables.{RelationDef, Definitions}
-use Rattle.rss_model.specs.Fits.{DefinitionsFit, RelationFits}
-use Rattle.rss_model.specs.Store.{Defines, definition_of}
-use Rattle.rss_model.proofs.Plain.{plain_paths}
-use Rattle.rss_model.proofs.PlainStores.{plain_defines, plain_defined}
+use Rattle.rss_model.specs.Tables.{RelationDef, ImageDef, Definitions}
+use Rattle.rss_model.specs.Images.{field_number, numbers_of}
+use Rattle.rss_model.specs.Fits.{DefinitionsFit, PathsFit, RelationFits, ImageFits, is_field_of}
+use Rattle.rss_model.specs.Store.{Defines, DefinesPaths, IsListedImage, definition_of, image_definition}
+use Rattle.rss_model.proofs.Plain.{plain_paths, none_found, none_some}
+use Rattle.rss_model.proofs.PlainStores.{no_link_at, no_links_defined}
 use Rattle.rss_model.proofs.ByNumber.{len_listed, relations_listed}
+use Rattle.rss_model.proofs.ImageFields.{fields_are, numbers_are, width_is}
+use Rattle.rss_model.proofs.ImageRooms.{images_listed}
 use Rattle.rss_model.proofs.Listed.{IsListOf, at_place, segments_listed, listed}
 use Rattle.rss_model.proofs.Named.{made, made_here, made_other}
 use Rattle.rss_model.proofs.Relisted.{number_of}
-use Rattle.rss_model.proofs.Spelled.{named_relation}
+use Rattle.rss_model.proofs.Spelled.{name_numbered, named_relation, named_image}
 
 -- ---- a map of a list's items by their names
 
@@ -64,6 +71,38 @@ module _ {A X : Type 0} (name_of : A → Name) (value : A → X) where
     | inr was ↦ let rest = made_only items name (ap is_some (sym was) ∙ there) in (suc rest.0, rest.1, rest.2, rest.3)
   ]
 
+-- ---- what a list's items give, where they give something
+
+module _ {A B : Type 0} where
+  filter_long : (f : A → Option B) (xs : List A) → length (filter_map f xs) ≤ length xs
+  filter_long f [] = omega arith
+  filter_long f (x ∷ xs) = omega (arith, first_long (f x) (filter_map f xs), filter_long f xs)
+    where
+      first_long : (o : Option B) (rest : List B) → length (cons_option o rest) ≤ 1 + length rest
+      first_long None rest = omega arith
+      first_long (Some b) rest = omega arith
+
+  -- where as many are given as there are items, each item gives one
+  filter_total : (f : A → Option B) (xs : List A) → length (filter_map f xs) ≡ length xs → (k : ℕ) (d : A) (e : B) → k < length xs → f (get_or xs k d) ≡ Some (get_or (filter_map f xs) k e)
+  filter_total f [] total k d e low = absurd (omega (arith, low))
+  filter_total f (x ∷ xs) total k d e low = by (f x) refl (λ whole j below. filter_total f xs whole j d e below)
+    where
+      few : length (filter_map f xs) ≤ length xs
+      few = filter_long f xs
+
+      Rest : Type 0
+      Rest = length (filter_map f xs) ≡ length xs → (j : ℕ) → j < length xs → f (get_or xs j d) ≡ Some (get_or (filter_map f xs) j e)
+
+      place : (b : B) (k : ℕ) → length (filter_map f xs) ≡ length xs → f x ≡ Some b → k < length (x ∷ xs) → Rest → f (get_or (x ∷ xs) k d) ≡ Some (get_or (b ∷ filter_map f xs) k e)
+      place b zero whole is low rest = is
+      place b (suc j) whole is low rest = rest whole j (omega (arith, low))
+
+      by : (o : Option B) → f x ≡ o → Rest → f (get_or (x ∷ xs) k d) ≡ Some (get_or (filter_map f (x ∷ xs)) k e)
+      by None is rest = absurd (omega (arith, few, total, ap (λ (o : Option B). length (cons_option o (filter_map f xs))) is))
+      by (Some b) is rest =
+          let first : filter_map f (x ∷ xs) ≡ b ∷ filter_map f xs = ap (λ (o : Option B). cons_option o (filter_map f xs)) is in
+          place b k (omega (arith, total, ap length first)) is low rest ∙ ap (λ (l : List B). Some (get_or l k e)) (sym first)
+
 -- ---- the definitions of a listing
 
 -- the name of a number's segment
@@ -77,11 +116,22 @@ relation_name relation = relation.name
 abbrev pub relation_def : Listing → RelationEntry → RelationDef
 relation_def listing relation = definition_of (segment_name (segment_at listing relation.segment)) relation
 
+abbrev image_name : ImageEntry → Name
+image_name image = image.name
+
+-- an image, where its relation is listed
+abbrev image_of : ImageEntry → Option RelationEntry → ImageDef
+image_of image None = record { relation = record { bytes = [] }; is_unique = image.is_unique; fields = [] }
+image_of image (Some relation) = image_definition image relation
+
+abbrev image_def : Listing → ImageEntry → ImageDef
+image_def listing image = image_of image (relation_at listing image.relation)
+
 abbrev pub definitions_of : Listing → Definitions
 definitions_of listing = record {
   segments = made_of (λ (name : Name). name) (λ name. tt) listing.segments;
   relations = made_of relation_name (relation_def listing) listing.relations;
-  images = map.empty;
+  images = made_of image_name (image_def listing) listing.images;
   links = map.empty;
 }
 
@@ -95,13 +145,30 @@ module _ {listing : Listing} (fits : ListingFits listing) where
       (fits.relations_once (suc j) (suc k) a.name (number_of listing (suc j) a (at_place listing.relations j ∙ one))
       (number_of listing (suc k) b (at_place listing.relations k ∙ other) ∙ ap Some (sym same)))
 
+  images_apart : AreOnce image_name (image_def listing) listing.images
+  images_apart j k a b one other same = less_one image_name (image_def listing) j k
+      (fits.paths.images_once (suc j) (suc k) a.name (name_numbered image_name listing.images (suc j) a (at_place listing.images j ∙ one))
+      (name_numbered image_name listing.images (suc k) b (at_place listing.images k ∙ other) ∙ ap Some (sym same)))
+
   -- what has this number, by its place
   place_of_number : {A : Type 0} (items : List (Option A)) (number : ℕ) (item : A) → numbered items number ≡ Some item → (k : ℕ) × (number ≡ suc k) × (get_or items k None ≡ Some item)
   place_of_number items zero item at = absurd (none-some item at)
   place_of_number items (suc k) item at = (k, refl, sym (at_place items k) ∙ at)
 
-  pub listing_defines : IsPlain listing → Defines listing (definitions_of listing)
-  listing_defines plain = record {
+  paths_defined : DefinesPaths listing (definitions_of listing)
+  paths_defined = record {
+    images = λ number image relation is.
+        let place = place_of_number listing.images number image is.at in
+        made_some image_name (image_def listing) listing.images images_apart place.0 image place.2 ∙ ap (λ (found : Option RelationEntry). Some (image_of image found)) is.within;
+    only_images = λ name there.
+        let at = made_only image_name (image_def listing) listing.images name there in
+        (suc at.0, name_numbered image_name listing.images (suc at.0) at.1 (at_place listing.images at.0 ∙ at.2) ∙ ap Some at.3);
+    links = λ number link child is. absurd (no_link_at listing fits.no_links number link is.at);
+    only_links = λ name there. absurd (none_some (definitions_of listing).links name refl there);
+  }
+
+  pub listing_defines : Defines listing (definitions_of listing)
+  listing_defines = record {
     segments = λ name. (
       (λ there. let at = made_only (λ (n : Name). n) (λ n. tt {0}) listing.segments name there in (suc at.0, at_place listing.segments at.0 ∙ at.2 ∙ ap Some at.3)),
       (λ has. let place = place_of_number listing.segments has.0 name has.1 in ap is_some (made_some (λ (n : Name). n) (λ n. tt {0}) listing.segments segments_apart place.0 name place.2)),
@@ -113,7 +180,7 @@ module _ {listing : Listing} (fits : ListingFits listing) where
     only_relations = λ name there.
         let at = made_only relation_name (relation_def listing) listing.relations name there in
         (suc at.0, number_of listing (suc at.0) at.1 (at_place listing.relations at.0 ∙ at.2) ∙ ap Some at.3);
-    paths = plain_defines plain (record { no_images = refl; no_links = refl });
+    paths = paths_defined;
   }
 
   -- ---- they fit
@@ -132,8 +199,69 @@ module _ {listing : Listing} (fits : ListingFits listing) where
           fields = (fits.relations has.number has.relation has.at).fields;
         })
 
-    pub listing_fits : IsPlain listing → DefinitionsFit definitions
-    listing_fits plain = record {
+    module _ (number : ℕ) (image : ImageEntry) (at : image_at listing number ≡ Some image) where
+      its : ImageEntryFits listing image
+      its = fits.paths.images number image at
+
+      listed_image : IsListedImage listing number image its.relation
+      listed_image = record { at = at; within = its.listed }
+
+      abbrev names : List Name
+      names = field_names (chosen (field_numbers image) its.relation.fields)
+
+      -- the fields are as many as their numbers, and have these by their names
+      as_many : length (numbers_of its.relation.fields names) ≡ length names
+      as_many = omega (
+        arith,
+        length-map (chosen (field_numbers image) its.relation.fields) (λ (field : FieldDef). field.name),
+        filter_long (λ (place : ℕ). slice_get its.relation.fields (place - 1)) (field_numbers image),
+        filter_long (field_number its.relation.fields) names,
+        ap length (numbers_are fits defines listed_image),
+      )
+
+      field_found : (k : ℕ) (d : Name) → k < length names → field_number its.relation.fields (get_or names k d) ≡ Some (get_or (field_numbers image) k 0)
+      field_found k d low = filter_total (field_number its.relation.fields) names as_many k d 0 low ∙ ap (λ (numbers : List ℕ). Some (get_or numbers k 0)) (numbers_are fits defines listed_image)
+
+      image_fits : ImageFits definitions (image_definition image its.relation)
+      image_fits =
+          let so = listed fits defines image.relation its.relation its.listed in
+          let long : length names ≡ length (field_numbers image) = sym as_many ∙ ap length (numbers_are fits defines listed_image) in
+          record {
+            relation = ap is_some (defines.relations image.relation its.relation so.0 so.1);
+            some = omega (arith, its.some, its.few, its.long, length-take image.count image.fields, long);
+            fields = λ k d low. subst (λ (fields : List FieldDef). is_field_of fields (get_or names k d) ≡ true) (sym (fields_are fits defines listed_image)) (ap is_some (field_found k d low));
+            apart = λ j k d low high same. its.different j k (omega (arith, low, long)) (omega (arith, high, long))
+                (same_Some _ _ (sym (field_found j d low) ∙ ap (field_number its.relation.fields) same ∙ field_found k d high));
+            narrow = subst (λ (n : ℕ). n ≤ most_key_width) (sym (width_is fits defines listed_image)) its.narrow;
+          }
+
+    image_found : (name : Name) (definition : ImageDef) → map.get definitions.images name ≡ Some definition → ImageFits definitions definition
+    image_found name definition is =
+        let has = named_image listing name (defines.paths.only_images name (ap is_some is)) in
+        let fit = image_fits has.number has.image has.at in
+        let same : image_definition has.image (its has.number has.image has.at).relation ≡ definition =
+        same_Some _ _ (sym (defines.paths.images has.number has.image _ (listed_image has.number has.image has.at)) ∙ ap (map.get definitions.images) has.named ∙ is) in
+        subst (ImageFits definitions) same fit
+
+    paths_fit : PathsFit definitions
+    paths_fit =
+        let none = no_links_defined fits.no_links defines in
+        let links_alone = plain_paths (record definitions { images = map.empty }) (record { no_images = refl; no_links = none }) in
+        record {
+          image_names = λ name there.
+              let has = named_image listing name (defines.paths.only_images name there) in
+              subst IsName has.named (fits.paths.images has.number has.image has.at).name;
+          few_images = few_names (names_of ImageKind listing) definitions.images images_most (images_listed defines fits)
+              (length-map listing.images (option_map image_name) ∙ fits.paths.image_places);
+          images = image_found;
+          link_names = links_alone.link_names;
+          few_links = links_alone.few_links;
+          links = λ name link is. absurd (none_found definitions.links name link none is);
+          few_parts = links_alone.few_parts;
+        }
+
+    pub listing_fits : DefinitionsFit definitions
+    listing_fits = record {
       segment_names = λ name there. let has = (defines.segments name).0 there in fits.segment_names has.0 name has.1;
       few_segments = few_names listing.segments definitions.segments segments (segments_listed fits defines) fits.segment_places;
       relation_names = λ name there.
@@ -142,5 +270,5 @@ module _ {listing : Listing} (fits : ListingFits listing) where
       few_relations = few_names (names_of RelationKind listing) definitions.relations relations_most (relations_listed fits defines)
           (length-map listing.relations (option_map relation_name) ∙ fits.relation_places);
       relations = relation_fits;
-      paths = plain_paths definitions (plain_defined plain defines);
+      paths = paths_fit;
     }

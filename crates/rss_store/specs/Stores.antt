@@ -39,7 +39,7 @@ pub record IsLogBehind (root : Root) (log : LogView) : Type 0 where
   pub later : root.end ≤ log.end
   pub bytes : bytes_from log (piece_start root.end) ≡ root.tail ++ appended_since root log
 
--- A call may be made. As yet there are neither images nor links.
+-- A call may be made. Where an image is listed, the pages spell some tables. As yet there are neither images nor links.
 pub record IsReady (view : StoreView) : Type 0 where
   pub number_low : 0 < view.number
   pub number_high : view.number < 3

@@ -1,5 +1,5 @@
 -- An image of another relation shows the tables after the change as well.
-use Rattle.std.proofs.Common.{◌≡◌, ap, sym, ◌∙◌}
+use Rattle.std.proofs.Common.{sym, ◌∙◌}
 use Rattle.std.proofs.lemmas.Bool.{false≢true}
 use Rattle.rss_access.proofs.ImageMoves.{shows_another}
 use Rattle.rss_access.proofs.moving.move_at.Goals as goal

@@ -1,5 +1,5 @@
 -- Each image comes to show the tables after the change, and behind the last one there are none.
-use Rattle.std.proofs.Common.{◌≡◌, ◌+◌, ◌*◌, ℕ, ap, subst, arith}
+use Rattle.std.proofs.Common.{ℕ, ap, subst, arith}
 use Rattle.std.specs.Prelude.{List, Option}
 use Rattle.std.proofs.Math.Logic.{∥∥₁_map}
 use Rattle.rss_base.specs.Listings.{numbered, relation_at}

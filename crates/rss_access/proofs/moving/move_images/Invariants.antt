@@ -1,5 +1,5 @@
 -- The images up to the last one looked at show the tables after the change.
-use Rattle.std.proofs.Common.{◌≡◌, ◌+◌, ◌*◌}
+use Rattle.std.proofs.Common.{◌+◌, ◌*◌}
 use Rattle.rss_base.specs.DiskRule.{IsTold}
 use Rattle.rss_base.specs.Steps.{PagesStep}
 use Rattle.rss_base.specs.Listings.{relation_at}

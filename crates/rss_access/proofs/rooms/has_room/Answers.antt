@@ -1,5 +1,5 @@
 -- Where there is room for all that images may need and two pages more, two pages can be taken.
-use Rattle.std.proofs.Common.{◌≡◌, ◌<◌, ◌≤◌, sym, ◌∙◌, ap, arith}
+use Rattle.std.proofs.Common.{sym, arith}
 use Rattle.std.proofs.lemmas.Bool.{leb-false}
 use Rattle.rss_access.proofs.ImageMoves.{held_low}
 use Rattle.rss_entries.proofs.Places.{two_spare}

@@ -1,5 +1,5 @@
 use Rattle.std.proofs.Common.{List, Option, sym, subst}
-use Rattle.std.specs.Prelude.{None, Some, IfOk, option_copied, option_to_list}
+use Rattle.std.specs.Prelude.{IfOk, option_copied, option_to_list}
 use Rattle.std.proofs.lemmas.Result.{IfOk-weaker}
 use Rattle.rss_base.specs.declared.value.Value.{Value}
 use Rattle.rss_rsi.specs.Locking.{ListsAccess}

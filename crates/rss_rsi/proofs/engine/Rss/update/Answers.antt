@@ -2,7 +2,7 @@ use Rattle.std.proofs.Common.{◌≡◌, List, ℕ, true, refl, sym, ◌∙◌, 
 use Rattle.std.specs.Prelude.{is_some, Option, Some, None, IfSome, Ok, Err}
 use Rattle.std.proofs.lemmas.Option.{same_Some}
 use Rattle.rss_base.specs.Listings.{relation_at}
-use Rattle.rss_base.specs.TupleTypes.{kinds, Spells}
+use Rattle.rss_base.specs.TupleTypes.{kinds, misfit, Spells}
 use Rattle.rss_base.specs.declared.call.Call.TheVariants.{Update}
 use Rattle.rss_base.specs.declared.field.FieldDef.{FieldDef}
 use Rattle.rss_base.specs.declared.refusal.Refusal.{Refusal}
@@ -178,3 +178,10 @@ returns-clause-did g c =
     (held.locks ∙ ap (λ (t : LockTable). granted c.args.transaction c.in_ok-found.found.needs.items (told t).locks) (c.change.ensures.locks ∙ owned.locks) ∙ ap (granted c.args.transaction c.in_ok-found.found.needs.items) found.finds.claimed.same)
     (ap scans_told (held.scans ∙ c.change.ensures.scans ∙ owned.scans ∙ found.scans))
     counted.was_up (omega (arith, counted.counted, found.calls, owned.calls, c.change.ensures.calls, held.calls)) (λ told state is_in. tt) (still_made g.S.Pages.view held.session held.down c.in_ok-change.ensures.did))
+
+-- the tuple as it was fits the relation's fields
+pub values_of-requires-clause-fit : goal.values_of-requires-clause-fit
+values_of-requires-clause-fit g c =
+    subst (λ (fields : List FieldDef). misfit (kinds fields) c.in_ok-found.found.tuple ≡ None) (sym c.as_slice-2.ensures)
+    (c.in_ok-found.ensures.finds.finds.fit c.relation-entry-2.result.now
+    (ap (λ (catalog : CatalogView). relation_at catalog.listing c.in_ok-number.number) (sym c.in_ok-found.ensures.finds.looked.looks.catalog ∙ sym c.in_ok-owned.ensures.looks.catalog) ∙ c.relation-entry-2.ensures.is))

@@ -1,0 +1,35 @@
+-- Each tuple of the segment is looked at once.
+use Rattle.std.proofs.Common.{◌+◌, arith}
+use Rattle.rss_entries.specs.Keyed.{kinds_of}
+use Rattle.rss_base.proofs.Steps.{then, then_call, done, fails}
+use Rattle.rss_tuple.proofs.Seen.{heaps_after}
+use Rattle.rss_access.proofs.Walked.{tuple_then, looked_more}
+use Rattle.rss_access.proofs.checking.has_entries.Goals as goal
+
+pub next_live-requires-clause-heaps : goal.next_live-requires-clause-heaps
+next_live-requires-clause-heaps g c = heaps_after c.loop-tid.invariant.step c.requires.heaps
+
+pub returns-in_err-tid-clause-did : goal.returns-in_err-tid-clause-did
+returns-in_err-tid-clause-did g c = (c.loop-tid.invariant.most + (g.P.Pages.view c.loop-tid.tuples.pages).slots, fails _ c.from_residual.ensures.1 (λ key there. there) (omega arith) (omega arith) (then_call c.loop-tid.invariant.step c.in_err-tid.ensures.did.below))
+
+pub returns-in_err-has_entry-clause-did : goal.returns-in_err-has_entry-clause-did
+returns-in_err-has_entry-clause-did g c = (c.loop-tid.invariant.most + (g.P.Pages.view c.loop-tid.tuples.pages).slots + c.in_err-has_entry.ensures.did.0, fails _ c.from_residual-in_err-has_entry.ensures.1 (λ key there. there) (omega arith) (omega arith) (then_call (then c.loop-tid.invariant.step c.in_ok-tid.ensures.did.below.step) c.in_err-has_entry.ensures.did.1))
+
+pub returns-then-not-branch-clause-none : goal.returns-then-not-branch-clause-none
+returns-then-not-branch-clause-none g c = λ is told all.
+    let before = then c.loop-tid.invariant.step c.in_ok-tid.ensures.did.below.step in
+    c.in_ok-has_entry.ensures.lacks c.if-not-branch.true (before.passes.leaves.told.0 told) (tuple_then before told (kinds_of c.args.key) c.args.number c.in-Some.tid c.args.image.now (all c.in-Some.tid))
+
+pub returns-then-not-branch-clause-did : goal.returns-then-not-branch-clause-did
+returns-then-not-branch-clause-did g c = (_, done _ (then (then c.loop-tid.invariant.step c.in_ok-tid.ensures.did.below.step) c.in_ok-has_entry.ensures.did.1.step))
+
+pub loop-tid-preserved : goal.loop-tid-preserved
+loop-tid-preserved g c =
+    let so = c.loop-tid.invariant in
+    let on = c.in_ok-tid.ensures.did.below.step in
+    looked_more so _ _ on (then on c.in_ok-has_entry.ensures.did.1.step) c.in-Some.tid (record { page = omega arith; slot = omega arith })
+    (λ told. (rw c.in-Some.is at c.in_ok-tid.ensures.next) (so.step.passes.leaves.told.0 told))
+    (λ told. c.in_ok-has_entry.ensures.has c.if-not-branch.false ((then so.step on).passes.leaves.told.0 told))
+
+pub returns-clause-did : goal.returns-clause-did
+returns-clause-did g c = (_, done _ (then c.loop-tid.invariant.step c.in_ok-tid.ensures.did.below.step))

@@ -1,0 +1,31 @@
+-- The bytes behind the relation's number are those of the tuple's values.
+use Rattle.std.proofs.Common.{◌≡◌, ◌+◌, ℕ, List, ◌∷◌, Some, refl, sym, ◌∙◌, ap, subst, arith}
+use Rattle.std.proofs.lemmas.Result.{IfOk-weaker}
+use Rattle.rss_base.proofs.Steps.{then_call, widens}
+use Rattle.rss_entries.specs.Keyed.{kinds_of}
+use Rattle.rss_access.specs.Checking.{HasEntry}
+use Rattle.rss_access.proofs.Walked.{entry_then, entry_back, rest_is}
+use Rattle.rss_access.proofs.checking.has_entry.Goals as goal
+
+rest_same : {a b : ℕ} {x y : List ℕ} → a ∷ x ≡ b ∷ y → x ≡ y
+rest_same same = cc
+
+pub returns-in-Some-clause-has : goal.returns-in-Some-clause-has
+returns-in-Some-clause-has g c = IfOk-weaker c.has_pair.result _ _ (λ has found is told bytes there.
+    let finds = (rw c.if-not-branch.false at c.in_ok-find.ensures.finds) told in
+    let step = c.in_ok-find.ensures.did.step in
+    let same : c.in-Some.bytes.now ≡ bytes = rest_same (sym c.in-Some.ensures.cases.0 ∙ c.as_slice.ensures.bytes ∙ rest_is finds bytes there) in
+    entry_back step told (kinds_of c.args.key) c.args.tid bytes c.args.image.now
+    (subst (λ (b : List ℕ). HasEntry (kinds_of c.args.key) c.args.tid b c.args.image.now (g.P.Pages.view c.find.new.tuples.pages)) same (found is (step.passes.leaves.told.0 told)))) c.has_pair.ensures.has
+
+pub returns-in-Some-clause-lacks : goal.returns-in-Some-clause-lacks
+returns-in-Some-clause-lacks g c = IfOk-weaker c.has_pair.result _ _ (λ has found is told entry.
+    let finds = (rw c.if-not-branch.false at c.in_ok-find.ensures.finds) told in
+    let step = c.in_ok-find.ensures.did.step in
+    let stands = finds.some refl in
+    let same : c.in-Some.bytes.now ≡ finds.rest = rest_same (sym c.in-Some.ensures.cases.0 ∙ c.as_slice.ensures.bytes ∙ stands.0) in
+    found is (step.passes.leaves.told.0 told) (subst (λ (b : List ℕ). HasEntry (kinds_of c.args.key) c.args.tid b c.args.image.now (g.P.Pages.view c.find.new.tuples.pages)) (sym same)
+    (entry_then step told (kinds_of c.args.key) c.args.tid finds.rest c.args.image.now (entry finds.rest (stands.1 ∙ ap Some stands.0))))) c.has_pair.ensures.lacks
+
+pub returns-in-Some-clause-did : goal.returns-in-Some-clause-did
+returns-in-Some-clause-did g c = (2 + (c.args.image.now.levels + 1), widens (λ key there. there) (omega arith) (omega arith) (then_call c.in_ok-find.ensures.did.step c.has_pair.ensures.did))
