@@ -1,6 +1,6 @@
 -- What a scan of an image finds next.
-use Rattle.std.proofs.Common.{◌≡◌, ◌≢◌, ℕ, ◌+◌, ◌*◌, ◌<◌, ◌≤◌, Bool, true, false, List, [], length, refl, sym, ◌∙◌, ap, subst, arith, inl, inr}
-use Rattle.std.specs.Prelude.{Option, Some, None, is_some, option_map, unwrap_or, All, IfSome, Ok}
+use Rattle.std.proofs.Common.{◌≡◌, ℕ, ◌+◌, ◌*◌, ◌≤◌, Bool, true, false, List, [], length, refl, sym, ◌∙◌, ap, subst, arith, inl, inr}
+use Rattle.std.specs.Prelude.{Option, Some, None, is_some, option_map, unwrap_or, IfSome, Ok}
 use Rattle.std.specs.FinMap as map
 use Rattle.std.proofs.lemmas.Bool.{cases_lt}
 use Rattle.std.proofs.lemmas.List.{length-replicate}
@@ -23,7 +23,6 @@ use Rattle.rss_base.specs.declared.value.Value.{Value}
 use Rattle.rss_base.specs.declared.item.Item.TheVariants.{Tuple as TupleItem}
 use Rattle.rss_model.specs.Images.{Entry, entry, image_list, next_entry}
 use Rattle.rss_model.specs.Items.{Values}
-use Rattle.rss_model.specs.Kept.{Kept}
 use Rattle.rss_model.specs.Machine.{State, now}
 use Rattle.rss_model.specs.Needs.{image_scan_needs, relation_needs}
 use Rattle.rss_model.specs.ReplyText.{IsShort}
@@ -224,7 +223,7 @@ module _ {parts : RssParts} {t number : ℕ} {cursor : Cursor} (has : cursor_of 
   pub none_listed : IsUnlisted ImageKind parts.session.store.catalog.listing image → FindsNext parts t number None
   none_listed unlisted state scan in_it =
       let none : map.get state.base.definitions.images image ≡ None = none_of (map.get state.base.definitions.images image) (λ there.
-          let listed = in_it.is_in.shows.store.spells.defines.paths.only_images image there in unlisted listed.0 listed.1) in
+      let listed = in_it.is_in.shows.store.spells.defines.paths.only_images image there in unlisted listed.0 listed.1) in
       next_is in_it
       ∙ ap (λ (o : Option ImageDef). next_entry (its_way in_it).from scan.last (unwrap_or (option_map (image_list (now state)) o) [])) none
       ∙ none_in (its_way in_it).from scan.last

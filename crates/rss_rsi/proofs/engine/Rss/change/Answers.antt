@@ -1,7 +1,13 @@
-use Rattle.std.proofs.Common.{ap, refl}
+use Rattle.rss_base.specs.Sizes.{largest_checkpoint}
+use Rattle.rss_base.specs.LogRecords.{longest_record}
+use Rattle.rss_store.proofs.Definitions.{same_then}
+use Rattle.rss_store.specs.Stores.{StoreView}
+use Rattle.rss_session.proofs.StaysOpen.{same_listed}
+use Rattle.rss_rsi.proofs.Ways.{ready_stay}
+use Rattle.std.proofs.Common.{ap, refl, arith, ◌+◌}
 use Rattle.std.proofs.lemmas.Bool.{true≢false}
 use Rattle.rss_store.specs.Parts.{view as store_view}
-use Rattle.rss_rsi.proofs.Changes.{change_refused, change_made, change_failed}
+use Rattle.rss_rsi.proofs.Changes.{change_refused, change_made, change_failed, change_lacks}
 use Rattle.rss_rsi.proofs.engine.Rss.change.Goals as goal
 
 pub returns-in_err-saves_first-clause-did : goal.returns-in_err-saves_first-clause-did
@@ -17,3 +23,27 @@ pub returns-clause-did : goal.returns-clause-did
 returns-clause-did g c =
     change_made (ap (store_view g.S.Pages.view) c.reserve.ensures.store) c.reserve.ensures.shows c.reserve.ensures.saves c.make.ensures.goes
     _ refl c.in_ok-saves_first.ensures.rules c.in_ok-make.ensures.makes c.make.ensures.moments
+
+pub returns-in_default-clause-did : goal.returns-in_default-clause-did
+returns-in_default-clause-did g c =
+    change_lacks (ap (store_view g.S.Pages.view) c.reserve.ensures.store) c.reserve.ensures.shows c.reserve.ensures.saves c.requires.up
+
+pub invariant_of-self : goal.invariant_of-self
+invariant_of-self g c = record {
+  ready = λ up.
+      let asked = c.requires.asked in
+      let taken = c.reserve.ensures in
+      let same = ap (store_view g.S.Pages.view) taken.store in
+      ready_stay {appended = 0} asked.ready asked.counted (omega arith) taken.ready (omega (arith, ap (λ (s : StoreView). s.log.end) same)) (λ t. omega (arith, taken.saves t)) taken.stay (same_listed (ap (λ (s : StoreView). s.catalog.listing) same)) (record { locks = refl; scans = refl });
+}
+
+pub invariant_of-self-2 : goal.invariant_of-self-2
+invariant_of-self-2 g c = record {
+  ready = λ up.
+      let asked = c.requires.asked in
+      let taken = c.reserve.ensures in
+      let made = c.in_ok-make.ensures in
+      let same = ap (store_view g.S.Pages.view) taken.store in
+      ready_stay {appended = longest_record + largest_checkpoint} asked.ready asked.counted (omega arith) made.ready (omega (arith, made.appends, ap (λ (s : StoreView). s.log.end) same)) (λ t. omega (arith, made.goes.saves t, taken.saves t))
+      (λ u is. made.stay u (taken.stay u is)) (same_then (same_listed (ap (λ (s : StoreView). s.catalog.listing) same)) made.listed) (record { locks = refl; scans = refl });
+}

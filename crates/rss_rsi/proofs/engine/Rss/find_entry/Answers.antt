@@ -1,5 +1,5 @@
-use Rattle.std.proofs.Common.{◌≡◌, ◌≤◌, ◌∙◌, ℕ, List, arith, refl, sym, ap, subst}
-use Rattle.std.specs.Prelude.{Some, None, Ok, is_some, option_copied}
+use Rattle.std.proofs.Common.{◌≤◌, ◌∙◌, List, arith, refl, sym, ap, subst}
+use Rattle.std.specs.Prelude.{Some, Ok, is_some, option_copied}
 use Rattle.rss_base.specs.Listings.{image_at, relation_at}
 use Rattle.rss_base.specs.TupleTypes.{kinds, width, most_width}
 use Rattle.rss_base.specs.declared.field.FieldDef.{FieldDef}

@@ -50,7 +50,7 @@ invariant_of-self g c = record {
       let same = ap scans_told found.scans in
       let has = has_cursor (scans_told c.find_next.new.self.scans) c.args.transaction c.args.scan some.0 (ap (λ (scans : ScanTable). cursor_of (scans_told scans) c.args.transaction c.args.scan) found.scans ∙ some.1) in
       let long = subst (λ (cursor : Cursor). AreLong c.find_next.new.self.session.store.catalog.listing cursor.path (Some (c.in-Some.key, c.in-Some.tid))) (sym has.at)
-          (subst (λ (catalog : CatalogView). AreLong catalog.listing some.0.path (Some (c.in-Some.key, c.in-Some.tid))) (sym found.looks.catalog) (row.long some.0 some.1)) in
+      (subst (λ (catalog : CatalogView). AreLong catalog.listing some.0.path (Some (c.in-Some.key, c.in-Some.tid))) (sym found.looks.catalog) (row.long some.0 some.1)) in
       ready_scans _ (subst (AllMayGoOn c.find_next.new.self.session.store.catalog.listing (session_view g.S.Pages.view c.find_next.new.self.session).opened) (sym (c.gave.ensures has.scan has.there))
       (given_may (scans_told c.find_next.new.self.scans) (c.find_next.new.self.ready up).scans c.args.scan c.in-Some.key c.in-Some.tid has.scan has.there long)) (c.find_next.new.self.ready up);
 }
