@@ -109,6 +109,7 @@ static WORDS: [&[u8]; 73] = [
     b"open 0 relation r",
     b"open 1 Relation r",
     b"open 1 segment s",
+    b"open 1 image",
     b"next 1",
     b"next 1 00",
     b"next 1 -1",
@@ -117,7 +118,6 @@ static WORDS: [&[u8]; 73] = [
     b"close 1",
     b"close 1 0.0",
     // Calls that aren't built.
-    b"open 1 image r",
     b"open 1 link r",
 ];
 

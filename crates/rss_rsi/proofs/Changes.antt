@@ -50,7 +50,7 @@ use Rattle.rss_rsi.specs.Changing.{RulesSay, StillShows, ChangeEnds, IsChangeOf}
 use Rattle.rss_rsi.specs.Placing.{MayCost}
 use Rattle.rss_rsi.specs.Views.{RssParts, IsIn, SameHeld, engine_view}
 use Rattle.rss_rsi.proofs.Spelled.{still_scans}
-use Rattle.rss_rsi.proofs.Ways.{shows_locked, in_held, in_left, left_same, goes, LeadsAll, answers}
+use Rattle.rss_rsi.proofs.Ways.{shows_locked, in_held, in_left, left_same, goes, LeadsAll, answers, keeps_same}
 
 -- ---- what was weighed
 
@@ -91,6 +91,14 @@ change_refused {session = session} {up = up} {t = t} {told_change = told_change}
       moments = λ told state kept shows. started _ _;
       goes = goes_nothing session;
     })
+
+-- there was no memory for it
+pub change_lacks : {old mid : SessionView} {U : Type 0} {up : Type 0} {t : ℕ} {told_change : told.Change} → mid.store ≡ old.store → StillShows old mid → NoMoreSaves old mid → up → IsChangeOf {T = U} old mid up t told_change (Err NoMemory)
+change_lacks {old = old} {mid = mid} same still saves is_up = record {
+  ends = (is_up, still);
+  moments = keeps_same old mid same;
+  goes = goes_still tt (goes_nothing old) (ap (λ (s : StoreView). s.pages) same) (ap (λ (s : StoreView). s.root) same) saves;
+}
 
 -- behind memory that was taken, by which nothing of the store has changed
 module _ {old mid new : SessionView} (same : mid.store ≡ old.store) (still : StillShows old mid) (saves : NoMoreSaves old mid) {T : Type 0} {made : Result T PageFault} (on : SessionGoesOn mid new made) where

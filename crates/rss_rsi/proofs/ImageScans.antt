@@ -1,6 +1,6 @@
 -- What a scan of an image finds next.
-use Rattle.std.proofs.Common.{◌≡◌, ◌≢◌, ℕ, ◌+◌, ◌*◌, ◌<◌, ◌≤◌, Bool, true, false, List, [], length, refl, sym, ◌∙◌, ap, subst, arith, inl, inr}
-use Rattle.std.specs.Prelude.{Option, Some, None, is_some, option_map, unwrap_or, All, IfSome, Ok}
+use Rattle.std.proofs.Common.{◌≡◌, ℕ, ◌+◌, ◌*◌, ◌≤◌, Bool, true, false, List, [], length, refl, sym, ◌∙◌, ap, subst, arith, inl, inr}
+use Rattle.std.specs.Prelude.{Option, Some, None, is_some, option_map, unwrap_or, IfSome, Ok}
 use Rattle.std.specs.FinMap as map
 use Rattle.std.proofs.lemmas.Bool.{cases_lt}
 use Rattle.std.proofs.lemmas.List.{length-replicate}
@@ -8,6 +8,7 @@ use Rattle.std.proofs.lemmas.Option.{none-some, same_Some}
 use Rattle.rss_base.specs.DiskRule.{IsTold}
 use Rattle.rss_base.specs.Listings.{Listing, IsNumberOf, IsUnlisted, image_at, relation_at}
 use Rattle.rss_base.specs.Runs.{run_pages}
+use Rattle.rss_base.specs.Steps.{PagesView}
 use Rattle.rss_base.specs.TupleTypes.{kinds, key_bytes}
 use Rattle.rss_base.specs.declared.answer.Reply.TheVariants.{Row}
 use Rattle.rss_base.specs.declared.image.ImageEntry.{ImageEntry}
@@ -22,7 +23,6 @@ use Rattle.rss_base.specs.declared.value.Value.{Value}
 use Rattle.rss_base.specs.declared.item.Item.TheVariants.{Tuple as TupleItem}
 use Rattle.rss_model.specs.Images.{Entry, entry, image_list, next_entry}
 use Rattle.rss_model.specs.Items.{Values}
-use Rattle.rss_model.specs.Kept.{Kept}
 use Rattle.rss_model.specs.Machine.{State, now}
 use Rattle.rss_model.specs.Needs.{image_scan_needs, relation_needs}
 use Rattle.rss_model.specs.ReplyText.{IsShort}
@@ -41,14 +41,17 @@ use Rattle.rss_entries.proofs.Lists.{kinds_listed}
 use Rattle.rss_entries.proofs.Nexts.{next_fits}
 use Rattle.rss_entries.proofs.Shown.{tuple_of}
 use Rattle.rss_entries.proofs.Shown.{Shows as ShowsImage}
-use Rattle.rss_scan.specs.Scans.{begun, cursor_of}
+use Rattle.rss_scan.specs.Scans.{OpenScans, begun, cursor_of, given}
 use Rattle.rss_scan.specs.declared.cursor.Cursor.{Cursor}
 use Rattle.rss_scan.specs.declared.cursor.Path.{Path}
+use Rattle.rss_scan.specs.declared.cursor.Scan.{Scan}
 use Rattle.rss_scan.specs.declared.cursor.Path.TheVariants.{Relation, Image, Link}
 use Rattle.rss_session.specs.Imaging.{FindsNextEntry, IsKeyLong, StartsAt}
 use Rattle.rss_session.specs.Looks.{FindsTuple, HasTuple, LooksOn}
 use Rattle.rss_session.specs.Looks.{IsRelationIn as IsListedIn}
 use Rattle.rss_session.specs.Sessions.{SessionView, IsReady}
+use Rattle.rss_lock.specs.declared.locks.Locks.{Locks as LockTable}
+use Rattle.rss_session.specs.declared.session.Session.{Session}
 use Rattle.rss_session.specs.Shown.{Shows}
 use Rattle.rss_session.proofs.ImagesShown.{image_shown}
 use Rattle.rss_session.proofs.Starts.{image_entry}
@@ -56,6 +59,7 @@ use Rattle.rss_rsi.specs.Locking.{Lists}
 use Rattle.rss_rsi.specs.Scanning.{CostsLevels, FindsNext, FindsNextRow, GivesSpelled, GoesAlongImage, IsScanIn}
 use Rattle.rss_rsi.specs.Views.{RssParts, HasKeys, IsKey, IsPair, IsIn, IsLongFor, AreLong, kinds_by, kinds_of, start_spelled, pair_spelled, spelling}
 use Rattle.rss_rsi.proofs.Scans.{keys_in, spelled_in}
+use Rattle.rss_rsi.proofs.Ways.{ScanTable, rss_parts}
 
 -- ---- how long keys are
 
@@ -219,7 +223,7 @@ module _ {parts : RssParts} {t number : ℕ} {cursor : Cursor} (has : cursor_of 
   pub none_listed : IsUnlisted ImageKind parts.session.store.catalog.listing image → FindsNext parts t number None
   none_listed unlisted state scan in_it =
       let none : map.get state.base.definitions.images image ≡ None = none_of (map.get state.base.definitions.images image) (λ there.
-          let listed = in_it.is_in.shows.store.spells.defines.paths.only_images image there in unlisted listed.0 listed.1) in
+      let listed = in_it.is_in.shows.store.spells.defines.paths.only_images image there in unlisted listed.0 listed.1) in
       next_is in_it
       ∙ ap (λ (o : Option ImageDef). next_entry (its_way in_it).from scan.last (unwrap_or (option_map (image_list (now state)) o) [])) none
       ∙ none_in (its_way in_it).from scan.last
@@ -293,10 +297,6 @@ module _ {parts : RssParts} {t number : ℕ} {cursor : Cursor} (has : cursor_of 
               has = there;
             }
 
-    -- no pair comes next
-    pub none_found : FindsNextEntry parts.session place start cursor.last None → FindsNext parts t number None
-    none_found finds state scan in_it = got_none (kept_pair listed relation) (next_of_scan (now state) scan) (found_next in_it finds)
-
     -- ---- a pair comes next, and pages were looked at for its tuple
 
     module _ {key : List ℕ} {tid : Tid} (finds : FindsNextEntry parts.session place start cursor.last (Some (key, tid))) {mid : SessionView} {T : Type 0} {first : T} (looks : LooksOn parts.session mid (Ok first))
@@ -327,3 +327,44 @@ module _ {parts : RssParts} {t number : ℕ} {cursor : Cursor} (has : cursor_of 
               (starts, long_first parts.session.store.catalog.listing image place key named_so first long);
           short = short;
         }
+
+-- no pair comes next
+pub none_found : {parts : RssParts} {t number : ℕ} {cursor : Cursor} (has : cursor_of parts.scans t number ≡ Some cursor) (image : Name) (start : List ℕ) (at : cursor.path ≡ Image image start) (place : ℕ) → IsNumberOf ImageKind parts.session.store.catalog.listing image place → IsReady parts.session
+    → FindsNextEntry parts.session place start cursor.last None → FindsNext parts t number None
+none_found {parts = parts} has image start at place named_so ready finds state scan in_it =
+    let here = image_entry parts.session.store.catalog.listing image place named_so in
+    let fits = in_it.is_in.shows.store.spells.listed.paths.images place here.entry here.at in
+    got_none (kept_pair here.entry fits.relation) (next_of_scan (now state) scan)
+    (found_next has image start at place (record { at = here.at; within = fits.listed }) here.named ready in_it finds)
+
+-- ---- how the scan of a cursor goes
+
+-- it goes along the first image of its name
+pub goes_at : {parts : RssParts} {t scan number : ℕ} {cursor : Cursor} → GoesAlongImage parts t scan number → cursor_of parts.scans t scan ≡ Some cursor → (image : Name) (start : List ℕ) → cursor.path ≡ Image image start
+    → IsNumberOf ImageKind parts.session.store.catalog.listing image number × HasNoLesser ImageKind parts.session.store.catalog.listing image number
+goes_at {parts = parts} {number = number} goes has image start at =
+    let one : Image goes.image goes.start ≡ Image image start = sym goes.along ∙ ap (λ (c : Cursor). c.path) (same_Some _ _ (sym goes.there ∙ has)) ∙ at in
+    let same : goes.image ≡ image = cc (one) in (
+      subst (λ (n : Name). IsNumberOf ImageKind parts.session.store.catalog.listing n number) same goes.named,
+      subst (λ (n : Name). HasNoLesser ImageKind parts.session.store.catalog.listing n number) same goes.first,
+    )
+
+-- the image of this number has this name
+pub named_as : (listing : Listing) (number : ℕ) {one other : ImageEntry} {image : Name} → image_at listing number ≡ Some one → image_at listing number ≡ Some other → other.name ≡ image → one.name ≡ image
+named_as listing number at there named = ap (λ (e : ImageEntry). e.name) (same_Some _ _ (sym at ∙ there)) ∙ named
+
+-- and its keys are as long as the image's
+pub long_last : (listing : Listing) (image : Name) (number : ℕ) → IsNumberOf ImageKind listing image number → HasNoLesser ImageKind listing image number → (last : Option (List ℕ × Tid)) → IfSome last (λ given. IsLongFor listing image given.0) → IfSome last (λ given. IsKeyLong listing number given.0)
+long_last listing image number named first None long = tt
+long_last listing image number named first (Some given) long = long number named first
+
+-- what it costs once the call was counted
+pub costs_asked : {S : Type 0} (pages_view : S → PagesView) {old mid : Session S} {locks now : LockTable} {scans scans_now : ScanTable} → mid ≡ old → now ≡ locks → scans_now ≡ scans → (new : RssParts) (t scan : ℕ)
+    → CostsLevels (rss_parts pages_view mid now scans_now) new t scan → CostsLevels (rss_parts pages_view old locks scans) new t scan
+costs_asked pages_view same same_locks same_scans new t scan = subst (λ (parts : RssParts). CostsLevels parts new t scan) (λ i. rss_parts pages_view (same i) (same_locks i) (same_scans i))
+
+-- what it gave behind a look, which changed no scan
+pub gave_next : {scans mid later : OpenScans} (number : ℕ) (key : List ℕ) (tid : Tid) → mid ≡ scans → ((was : Scan) → map.get mid number ≡ Some was → later ≡ map.insert mid number (given key tid was))
+    → (was : Scan) → map.get scans number ≡ Some was → later ≡ map.insert scans number (given key tid was)
+gave_next number key tid same gave was there =
+    gave was (ap (λ (s : OpenScans). map.get s number) same ∙ there) ∙ ap (λ (s : OpenScans). map.insert s number (given key tid was)) same

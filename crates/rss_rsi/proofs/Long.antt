@@ -8,7 +8,6 @@ use Rattle.rss_base.specs.Listings.{Listing, IsNumberOf, numbered, relation_at}
 use Rattle.rss_base.specs.declared.name.Name.{Name}
 use Rattle.rss_base.specs.declared.tid.Tid.{Tid}
 use Rattle.rss_base.specs.declared.image.ImageEntry.{ImageEntry}
-use Rattle.rss_base.specs.declared.relation.RelationEntry.{RelationEntry}
 use Rattle.rss_base.specs.declared.refusal.Kind.TheVariants.{Image as ImageKind}
 use Rattle.rss_model.specs.Meanings.{SameDefinitions, rootless}
 use Rattle.rss_scan.specs.Scans.{OpenScans, closed_for, is_of}

@@ -150,7 +150,7 @@ image_opening t image from = record {
   unfit = λ state why bad. (
     three_stop (unless_open state t) (unless_image state) (unless_key_fits state (image_of state image) from) (drop 3 (tests state (OpenImage t image from))) bad,
     three_keep (unless_open state t) (unless_image state) (unless_key_fits state (image_of state image) from)
-    (λ other is. unless_keeps (is_open state t) NoTransaction refl is) (λ other is. unless_keeps (is_some (image_of state image)) (NoSuch ImageKind) refl is) (key_keeps state (image_of state image) from) why bad,
+        (λ other is. unless_keeps (is_open state t) NoTransaction refl is) (λ other is. unless_keeps (is_some (image_of state image)) (NoSuch ImageKind) refl is) (key_keeps state (image_of state image) from) why bad,
   );
   used_up = λ state why admitted full.
       three_pass (unless_open state t) (unless_image state) (unless_key_fits state (image_of state image) from) (drop 3 (tests state (OpenImage t image from))) admitted

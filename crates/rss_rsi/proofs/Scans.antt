@@ -235,6 +235,12 @@ has_cursor scans t number cursor is = by (map.get scans number) refl is
     by None there is = absurd (none-some _ is)
     by (Some scan) there is = owned scan there (scan.owner == t) refl is
 
+-- whose keys are long
+pub cursor_long : (listing : Listing) (opened : OpenView) (scans : OpenScans) (t number : ℕ) {cursor : Cursor} → AllMayGoOn listing opened scans → cursor_of scans t number ≡ Some cursor → AreLong listing cursor.path cursor.last
+cursor_long listing opened scans t number {cursor = cursor} may is =
+    let has = has_cursor scans t number cursor is in
+    subst (λ (c : Cursor). AreLong listing c.path c.last) has.at (may number has.scan has.there).long
+
 -- what is lent of none, and of one
 pub lent_none : (lent : Option (Bor Cursor)) {found : Option Cursor} → option_copied lent ≡ found → is_some lent ≡ false → found ≡ None
 lent_none None is none = sym is

@@ -18,7 +18,7 @@ use Rattle.rss_model.specs.Tables.{Definitions}
 use Rattle.rss_scan.specs.Scans.{OpenScans, begun, closed_for, given}
 use Rattle.rss_scan.specs.Ties.{spelled}
 use Rattle.rss_scan.specs.declared.cursor.Path.{Path}
-use Rattle.rss_scan.proofs.Spelled.{added_spelled, closed_spelled, given_spelled, none_spelled, removed_spelled}
+use Rattle.rss_scan.proofs.Spelled.{added_spelled, closed_spelled, given_spelled, removed_spelled}
 use Rattle.rss_rsi.specs.Views.{AreScans, HasKeys, spelling}
 
 -- what is in a map without one number, or with another scan there

@@ -1,7 +1,7 @@
 -- The ways in which a call of an engine over a session ends.
 use Rattle.std.proofs.Common.{◌≡◌, inl, List, [], ℕ, ◌+◌, ◌^◌, ◌≤◌, length, Option, Some, None, arith, refl, sym, ◌∙◌, ap, subst}
-use Rattle.std.specs.Prelude.{Bool, true, false, not, option_map, if◌then◌else◌, Result, Err, is_some, IsErrAnd, IsErrOf, IfSome}
-use Rattle.std.specs.FinMap.{FinMap, get, get-retain_keys, nat_cmp-IsAntisymmetric}
+use Rattle.std.specs.Prelude.{Bool, true, false, if◌then◌else◌, Result, Err, is_some, IsErrAnd, IsErrOf, IfSome}
+use Rattle.std.specs.FinMap.{FinMap, get}
 use Rattle.std.specs.Ordering.{nat_cmp}
 use Rattle.std.proofs.lemmas.Bool.{cond-false}
 use Rattle.std.proofs.lemmas.Result.{err_from_is_err_and}
@@ -39,9 +39,8 @@ use Rattle.rss_model.proofs.Committing.{left_base}
 use Rattle.rss_model.proofs.Locking.{released_was}
 use Rattle.rss_model.proofs.OpenKeeping.{keeps_refused}
 use Rattle.rss_model.proofs.StepKeeping.{steps_keep}
-use Rattle.rss_scan.specs.Scans.{OpenScans, is_of, closed_for}
+use Rattle.rss_scan.specs.Scans.{OpenScans, closed_for}
 use Rattle.rss_scan.specs.Scans.{told as scans_told}
-use Rattle.rss_scan.specs.Ties.{spelled, AreSpelled}
 use Rattle.rss_scan.specs.declared.cursor.Scan.{Scan}
 use Rattle.rss_trans.specs.Transactions.{Transaction, is_open, transaction_in}
 use Rattle.rss_session.specs.Parts.{view as session_view}
@@ -283,6 +282,12 @@ ready_then ready counted few session appends saves holders scans = record {
   scans = scans;
   holders = holders;
 }
+
+-- who was open still is, and all that is held is as it was
+pub ready_stay : {old new : RssParts} {calls more appended : ℕ} → IsReady old calls → more ≡ calls + 1 → appended ≤ 2 ^ 13 → IsSessionReady new.session → Appends appended old.session new.session
+    → ((t : ℕ) → length (transaction_in new.session.opened t).saves ≤ length (transaction_in old.session.opened t).saves + 1) → StayOpen old.session new.session → StaysListed old.session new.session → SameHeld old new → IsReady new more
+ready_stay {old = old} {new = new} ready counted few session appends saves stay listed held =
+    ready_then ready counted few session appends saves (holders_stay old new ready.holders stay held.locks) (scans_stay old new ready.scans stay listed held.scans)
 
 -- a transaction is gone
 pub ready_gone : {old new : RssParts} {calls more appended : ℕ} (t : ℕ) → IsReady old calls → more ≡ calls + 1 → appended ≤ 2 ^ 13 → IsSessionReady new.session → Appends appended old.session new.session → NoMoreSaves old.session new.session

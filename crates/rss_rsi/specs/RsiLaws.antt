@@ -1,5 +1,5 @@
 -- What every store that is up meets.
-use Rattle.std.proofs.Common.{ℕ, List, Option, Some, None, refl, sym, ◌∙◌}
+use Rattle.std.proofs.Common.{ℕ, List, Option, Some, None, sym, ◌∙◌}
 use Rattle.std.proofs.Props.{props}
 use Rattle.rss_base.specs.DiskRule.{Pages, Leaves}
 use Rattle.rss_base.specs.Paged.{HasFixed, mapped_of}

@@ -7,6 +7,7 @@ ghost use Rattle.rss_base.specs.declared.call.Call.TheVariants.{OpenRelation, Op
 ghost use Rattle.rss_base.specs.declared.refusal.Kind.TheVariants.{Scan as ScanKind};
 ghost use Rattle.rss_base.specs.declared.refusal.Refusal.TheVariants.{NoSuch};
 ghost use Rattle.rss_model.specs.Calls.{calls_most};
+ghost use Rattle.rss_node.specs.Pairs.{IsSpelledTid};
 ghost use Rattle.rss_rsi.specs.Looking.{EndsEach};
 ghost use Rattle.rss_rsi.specs.Placing.{MayCost};
 ghost use Rattle.rss_rsi.specs.Scanning.{FindsBehind, LooksBehind, FindsNext, GoesAlongImage, CostsLevels};
@@ -195,6 +196,7 @@ impl<S: Saving> Rss<S> {
             self.down = false;
             return Ok(None);
         };
+        is_sized(tid);
         let relation = self.session.store.catalog.image(number).relation;
         let segment = self.session.store.catalog.relation(relation).segment;
         let mut body = Body::new();
@@ -250,6 +252,11 @@ impl<S: Saving> Rss<S> {
         Ok(Some((tid, tuple)))
     }
 }
+
+/// The numbers of an identifier have four bytes and two.
+fn is_sized(tid: Tid)
+    ensures { IsSpelledTid tid }
+{}
 
 /// The identifier that a scan gave last, if it gave any.
 fn last_of(cursor: &Cursor) -> Option<Tid>

@@ -1,15 +1,15 @@
-use Rattle.std.proofs.Common.{◌≤◌, ◌+◌, refl, sym, ◌∙◌, ap, arith}
+use Rattle.std.proofs.Common.{ap, refl, sym, ◌∙◌, arith, ◌+◌}
 use Rattle.std.proofs.lemmas.Bool.{true≢false}
 use Rattle.rss_base.specs.LogRecords.{record_size, longest_record}
 use Rattle.rss_base.specs.Sizes.{largest_checkpoint}
 use Rattle.rss_base.specs.declared.log_record.LogRecord.TheVariants as records
 use Rattle.rss_store.specs.Parts.{view as store_view}
+use Rattle.rss_store.specs.Stores.{StoreView}
+use Rattle.rss_store.proofs.Definitions.{same_then}
 use Rattle.rss_session.specs.Changes.{relation_told}
-use Rattle.rss_session.specs.Parts.{view as session_view}
-use Rattle.rss_rsi.specs.Parts.{parts_of}
-use Rattle.rss_rsi.specs.Views.{RssParts}
-use Rattle.rss_rsi.proofs.Ways.{ready_then, holders_stay}
-use Rattle.rss_rsi.proofs.Changes.{change_refused, change_made, change_failed}
+use Rattle.rss_session.proofs.StaysOpen.{same_listed}
+use Rattle.rss_rsi.proofs.Ways.{ready_stay}
+use Rattle.rss_rsi.proofs.Changes.{change_refused, change_made, change_failed, change_lacks}
 use Rattle.rss_rsi.proofs.engine.Rss.change.Goals as goal
 
 pub returns-in_err-saves_first-clause-did : goal.returns-in_err-saves_first-clause-did
@@ -29,15 +29,26 @@ returns-clause-did g c =
 pub make-requires-clause-weighed : goal.make-requires-clause-weighed
 make-requires-clause-weighed g c = c.reserve.ensures.weighs (relation_told c.args.change) (record_size (records.Change c.args.transaction c.args.change)) ∙ sym c.in_ok-saves_first.ensures.weighed
 
+pub returns-in_default-clause-did : goal.returns-in_default-clause-did
+returns-in_default-clause-did g c =
+    change_lacks (ap (store_view g.S.Pages.view) c.reserve.ensures.store) c.reserve.ensures.shows c.reserve.ensures.saves c.requires.up
+
+pub invariant_of-self : goal.invariant_of-self
+invariant_of-self g c = record {
+  ready = λ up.
+      let asked = c.requires.asked in
+      let taken = c.reserve.ensures in
+      let same = ap (store_view g.S.Pages.view) taken.store in
+      ready_stay {appended = 0} asked.ready asked.counted (omega arith) taken.ready (omega (arith, ap (λ (s : StoreView). s.log.end) same)) (λ t. omega (arith, taken.saves t)) taken.stay (same_listed (ap (λ (s : StoreView). s.catalog.listing) same)) (record { locks = refl; scans = refl });
+}
+
 pub invariant_of-self-2 : goal.invariant_of-self-2
-invariant_of-self-2 g c =
-    let old = parts_of c.args.self.now in
-    let new : RssParts = record { session = session_view g.S.Pages.view c.make.new.self; locks = old.locks; scans = old.scans } in
-    let made = c.in_ok-make.ensures in
-    record {
-      ready = λ up. ready_then {new = new} {appended = longest_record + largest_checkpoint} c.requires.asked.ready c.requires.asked.counted (omega arith) made.ready
-          (omega (arith, made.appends, ap (λ s. (store_view g.S.Pages.view s).log.end) c.reserve.ensures.store))
-          (λ t. omega (arith, made.goes.saves t, c.reserve.ensures.saves t))
-          (holders_stay old new c.requires.asked.ready.holders (λ t is. made.stay t (c.reserve.ensures.stay t is)) refl)
-          c.requires.asked.ready.relations;
-    }
+invariant_of-self-2 g c = record {
+  ready = λ up.
+      let asked = c.requires.asked in
+      let taken = c.reserve.ensures in
+      let made = c.in_ok-make.ensures in
+      let same = ap (store_view g.S.Pages.view) taken.store in
+      ready_stay {appended = longest_record + largest_checkpoint} asked.ready asked.counted (omega arith) made.ready (omega (arith, made.appends, ap (λ (s : StoreView). s.log.end) same)) (λ t. omega (arith, made.goes.saves t, taken.saves t))
+      (λ u is. made.stay u (taken.stay u is)) (same_then (same_listed (ap (λ (s : StoreView). s.catalog.listing) same)) made.listed) (record { locks = refl; scans = refl });
+}

@@ -1,3 +1,4 @@
+use Rattle.rss_session.proofs.StaysOpen.{same_listed}
 use Rattle.std.proofs.Common.{refl, arith}
 use Rattle.rss_model.proofs.Endings.{comes_to}
 use Rattle.rss_model.proofs.Tests.{refuses_at}
@@ -5,7 +6,7 @@ use Rattle.rss_lock.specs.Table.{told}
 use Rattle.rss_scan.specs.Scans.{told as scans_told}
 use Rattle.rss_session.specs.Parts.{view as session_view}
 use Rattle.rss_rsi.proofs.TransactionSteps.{checkpoint_stops, checkpoint_leads}
-use Rattle.rss_rsi.proofs.Ways.{asked, answers, goes, refused_test, failed_within}
+use Rattle.rss_rsi.proofs.Ways.{asked, answers, goes, refused_test, failed_within, opened_stay, ready_stay}
 use Rattle.rss_rsi.proofs.engine.Rss.checkpoint.Goals as goal
 
 pub returns-in_err-test_checkpoint-clause-did : goal.returns-in_err-test_checkpoint-clause-did
@@ -31,3 +32,11 @@ returns-clause-did g c =
     asked g.S.Pages.view asked_so.session asked_so.locks asked_so.scans
     (comes_to asked_so.was_up (goes _ saved.goes (omega (arith, asked_so.counted)) tt tt)
     (answers refl (omega arith) (λ told state is_in. tt) (checkpoint_leads _ _ c.in_ok-test_checkpoint.ensures.tests saved.moments (record { locks = refl; scans = refl }) saved.shows)))
+
+pub invariant_of-self-2 : goal.invariant_of-self-2
+invariant_of-self-2 g c = record {
+  ready = λ up.
+      let counted = c.in_ok-ask.ensures in
+      let saved = c.in_ok-checkpoint.ensures in
+      ready_stay counted.ready counted.counted (omega arith) saved.ready saved.appends (λ t. omega (arith, saved.goes.saves t)) (opened_stay (session_view g.S.Pages.view c.ask.new.self.session) (session_view g.S.Pages.view c.checkpoint.new.self) saved.anew.transactions) (same_listed saved.anew.listing) (record { locks = refl; scans = refl });
+}

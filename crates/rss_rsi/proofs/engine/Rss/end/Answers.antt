@@ -1,4 +1,4 @@
-use Rattle.std.proofs.Common.{refl, arith}
+use Rattle.std.proofs.Common.{refl, arith, ap}
 use Rattle.rss_model.proofs.Endings.{comes_to}
 use Rattle.rss_model.proofs.Tests.{refuses_at}
 use Rattle.rss_lock.specs.Table.{told}

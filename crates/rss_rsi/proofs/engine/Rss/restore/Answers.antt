@@ -5,7 +5,7 @@ use Rattle.rss_lock.specs.Table.{told}
 use Rattle.rss_scan.specs.Scans.{told as scans_told}
 use Rattle.rss_session.specs.Parts.{view as session_view}
 use Rattle.rss_rsi.proofs.TransactionSteps.{restore_stops, restore_leads}
-use Rattle.rss_rsi.proofs.Ways.{asked, answers, goes, refused_test, failed_within}
+use Rattle.rss_rsi.proofs.Ways.{asked, answers, goes, refused_test, failed_within, ready_stay}
 use Rattle.rss_rsi.proofs.engine.Rss.restore.Goals as goal
 
 pub returns-in_err-test_open-clause-did : goal.returns-in_err-test_open-clause-did
@@ -39,3 +39,11 @@ returns-clause-did g c =
     asked g.S.Pages.view asked_so.session asked_so.locks asked_so.scans
     (comes_to asked_so.was_up (goes _ back.goes (omega (arith, asked_so.counted)) tt tt)
     (answers refl (omega arith) (λ told state is_in. tt) (restore_leads _ _ c.args.transaction c.args.save c.in_ok-test_open.ensures.open c.in_ok-test_open.ensures.tests c.in_ok-test_save.ensures.tests back.moments (record { locks = refl; scans = refl }) back.shows)))
+
+pub invariant_of-self-2 : goal.invariant_of-self-2
+invariant_of-self-2 g c = record {
+  ready = λ up.
+      let counted = c.in_ok-ask.ensures in
+      let back = c.in_ok-restore.ensures in
+      ready_stay counted.ready counted.counted (omega arith) back.ready back.appends (λ t. omega (arith, back.goes.saves t)) back.stay back.listed (record { locks = refl; scans = refl });
+}

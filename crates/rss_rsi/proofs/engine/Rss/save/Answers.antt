@@ -1,9 +1,11 @@
+use Rattle.rss_store.specs.Stores.{StoreView}
+use Rattle.rss_session.proofs.StaysOpen.{same_listed}
 use Rattle.std.proofs.Common.{refl, ap, arith}
 use Rattle.rss_model.proofs.Endings.{comes_to}
 use Rattle.rss_model.proofs.Tests.{refuses_at}
 use Rattle.rss_store.specs.Parts.{view as store_view}
 use Rattle.rss_rsi.proofs.TransactionSteps.{number_line, save_leads}
-use Rattle.rss_rsi.proofs.Ways.{asked, answers, goes_nowhere, lacks_memory, refused_test}
+use Rattle.rss_rsi.proofs.Ways.{asked, answers, goes_nowhere, lacks_memory, refused_test, ready_stay}
 use Rattle.rss_rsi.proofs.engine.Rss.save.Goals as goal
 
 pub returns-in_err-test_open-clause-did : goal.returns-in_err-test_open-clause-did
@@ -28,3 +30,12 @@ returns-in_default-clause-did g c =
     let lacks = c.in_default.ensures in
     asked g.S.Pages.view asked_so.session asked_so.locks asked_so.scans
     (lacks_memory _ refl asked_so.was_up asked_so.up (ap (store_view g.S.Pages.view) lacks.store) (omega (arith, asked_so.counted)) lacks.same (record { locks = refl; scans = refl }))
+
+pub invariant_of-self : goal.invariant_of-self
+invariant_of-self g c = record {
+  ready = λ up.
+      let counted = c.in_ok-ask.ensures in
+      let saved = c.save.ensures in
+      let same = ap (store_view g.S.Pages.view) saved.store in
+      ready_stay {appended = 0} counted.ready counted.counted (omega arith) saved.ready (omega (arith, ap (λ (s : StoreView). s.log.end) same)) saved.more saved.stay (same_listed (ap (λ (s : StoreView). s.catalog.listing) same)) (record { locks = refl; scans = refl });
+}

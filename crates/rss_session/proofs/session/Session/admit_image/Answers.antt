@@ -6,7 +6,7 @@ use Rattle.rss_model.specs.Machine.{State}
 use Rattle.rss_session.specs.Admissions.{image_admission}
 use Rattle.rss_session.specs.Parts.{view}
 use Rattle.rss_session.proofs.First.{fails_first}
-use Rattle.rss_session.proofs.Starts.{image_entry, image_undefined, starts_badly, starts_first, starts_from}
+use Rattle.rss_session.proofs.Starts.{image_entry, starts_badly, starts_first, starts_from}
 use Rattle.rss_session.proofs.session.Session.admit_image.Goals as goal
 
 pub returns-in_err-test_open-clause-tests : goal.returns-in_err-test_open-clause-tests

@@ -1,5 +1,5 @@
 use Rattle.std.proofs.Common.{◌≡◌, ℕ, List, take, replicate, sym, ◌∙◌, ap, subst, arith}
-use Rattle.std.specs.Prelude.{Option, Some, None, IfSome}
+use Rattle.std.specs.Prelude.{Option, Some, None}
 use Rattle.rss_base.specs.Listings.{Listing, field_numbers, image_at, relation_at}
 use Rattle.rss_base.specs.TupleTypes.{kinds, chosen, key_width}
 use Rattle.rss_base.specs.declared.field.FieldDef.{FieldDef}
