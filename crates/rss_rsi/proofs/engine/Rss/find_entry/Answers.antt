@@ -7,13 +7,13 @@ use Rattle.rss_catalog.specs.Catalogs.{CatalogView}
 use Rattle.rss_model.proofs.Lengths.{row_line}
 use Rattle.rss_scan.specs.Scans.{told as scans_told}
 use Rattle.rss_scan.specs.declared.cursor.Path.{Path}
+use Rattle.rss_session.proofs.Behind.{looks_as, looks_then}
 use Rattle.rss_session.proofs.Starts.{image_entry}
 use Rattle.rss_rsi.specs.Parts.{parts_of, session_of}
 use Rattle.rss_rsi.specs.Views.{AreLong}
 use Rattle.rss_rsi.proofs.ImageScans.{costs_levels, goes_at, long_last, named_as, never_lost, never_unread, none_found, row_found}
-use Rattle.rss_rsi.proofs.Looks.{body_as, costly_damaged, costly_fails, lacks_costly, looks_as, passed_on, ready_looked}
+use Rattle.rss_rsi.proofs.Looks.{body_as, costly_damaged, costly_fails, lacks_costly, passed_on, ready_looked}
 use Rattle.rss_rsi.proofs.Scans.{cursor_long, has_scan}
-use Rattle.rss_rsi.proofs.TwoLooks.{looks_then}
 use Rattle.rss_rsi.proofs.Ways.{rss_parts}
 use Rattle.rss_rsi.proofs.engine.Rss.find_entry.Goals as goal
 
