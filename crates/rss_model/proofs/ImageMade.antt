@@ -10,7 +10,7 @@ use Rattle.std.proofs.lemmas.Option.{none-some, same_Some}
 use Rattle.rss_base.specs.Paged.{Held, page_key}
 use Rattle.rss_base.specs.Sizes.{images_most}
 use Rattle.rss_base.specs.TupleTypes.{field_names, chosen}
-use Rattle.rss_base.specs.Listings.{Listing, ListingFits, IsPlain, IsNumberOf, segment_at, relation_at, image_at, field_numbers, with_image}
+use Rattle.rss_base.specs.Listings.{Listing, ListingFits, IsNumberOf, segment_at, relation_at, image_at, field_numbers, with_image}
 use Rattle.rss_base.specs.declared.call.Call.TheVariants.{MakeImage}
 use Rattle.rss_base.specs.declared.field.FieldDef.{FieldDef}
 use Rattle.rss_base.specs.declared.key.PageKey.{PageKey}
@@ -115,15 +115,14 @@ module _ {old new : Held} {listing : Listing} {tables : Tables} (spells : Spells
   }
 
   -- the pages spell the tables with these images, where each page of an image is one of a relation's segment
-  spelled_beside : (images : map.FinMap name_cmp ImageDef) → IsPlain listed_now → DefinesPaths listed_now (record tables.definitions { images = images })
+  spelled_beside : (images : map.FinMap name_cmp ImageDef) → DefinesPaths listed_now (record tables.definitions { images = images })
       → SpellsImages new listed_now (with_definitions (record tables.definitions { images = images }) tables)
       → SpellsTables new listed_now (with_definitions (record tables.definitions { images = images }) tables)
-  spelled_beside images plain paths shown = record {
+  spelled_beside images paths shown = record {
     only = λ key there. stays key there (page_kind key key.space refl);
     formed = formed_kept kept spells.formed;
     linked = λ segment. linked_kept kept segment (spells.linked segment);
     listed = fits;
-    plain = plain;
     defines = defines_beside images paths;
     counts = spells.counts;
     contents = contents_kept;
@@ -242,8 +241,8 @@ module _ {old new : Held} {listing : Listing} {tables : Tables} (spells : Spells
           (subst (λ (e : ImageEntry). SpellsImage held tables k e relation pages) one (subst (λ (n : ℕ). SpellsImage held tables n image relation pages) same is))
 
   -- The pages spell the tables with the image.
-  pub image_made_spells : IsPlain listed_more → SpellsTables new listed_more (with_definitions (with_image_def tables.definitions image.name (image_definition image relation)) tables)
-  image_made_spells plain = spelled_beside spells number (Some image) holds.kept fits images_more plain paths_made images_made
+  pub image_made_spells : SpellsTables new listed_more (with_definitions (with_image_def tables.definitions image.name (image_definition image relation)) tables)
+  image_made_spells = spelled_beside spells number (Some image) holds.kept fits images_more paths_made images_made
 
 -- ---- an image is dropped
 
@@ -329,5 +328,5 @@ module _ {old new : Held} {listing : Listing} {tables : Tables} (spells : Spells
           (subst (λ (n : ℕ). SpellsImage old tables n of.image of.relation of.pages) same of.spells) key space of.segment of.among) ∙ some.1)
 
   -- The pages spell the tables without the image.
-  pub image_gone_spells : IsPlain listed_less → SpellsTables new listed_less (with_definitions (record tables.definitions { images = map.remove tables.definitions.images image.name }) tables)
-  image_gone_spells plain = spelled_beside spells number None loses.kept fits images_less plain paths_gone images_gone
+  pub image_gone_spells : SpellsTables new listed_less (with_definitions (record tables.definitions { images = map.remove tables.definitions.images image.name }) tables)
+  image_gone_spells = spelled_beside spells number None loses.kept fits images_less paths_gone images_gone

@@ -8,7 +8,7 @@ use Rattle.std.proofs.lemmas.Bool.{cond-false, ne_eqb}
 use Rattle.std.proofs.lemmas.List.{length-map}
 use Rattle.std.proofs.lemmas.Option.{none-some}
 use Rattle.rss_base.specs.Sizes.{images_most, links_most, system_pages}
-use Rattle.rss_base.specs.Paged.{Held, page_key}
+use Rattle.rss_base.specs.Paged.{Held}
 use Rattle.rss_base.specs.TupleTypes.{tuple_bytes, IsStorable}
 use Rattle.rss_base.specs.Listings.{Listing, IsPlain, HasNoLinks, numbered, relation_at, image_at, link_at, IsNumberOf}
 use Rattle.rss_base.specs.declared.key.PageKey.{PageKey}
@@ -194,18 +194,8 @@ plain_images plain none = record {
 
 -- of a store
 module _ {held : Held} {listing : Listing} {tables : Tables} (spells : SpellsTables held listing tables) where
-  -- where other definitions are listed
-  pub still_plain : {relisted : Listing} → relisted.images ≡ listing.images → relisted.links ≡ listing.links → IsPlain relisted
-  still_plain images links = record { no_images = images ∙ spells.plain.no_images; no_links = links ∙ spells.plain.no_links }
-
   pub contents_spelled : PlainContents listing (bodies_of held) tables.contents
   contents_spelled = plain_contents spells.listed.no_links spells.contents
 
-  pub tables_plain : ArePlain tables.definitions
-  tables_plain = plain_defined spells.plain spells.defines
-
-  pub none_imaged : NoImages held
-  none_imaged = no_image_pages spells.plain spells.images
-
-pub plain_nodes : {held : Held} {slots : ℕ} → NoImages held → AreNodesWithin slots held
-plain_nodes none of number node at = absurd (none (page_key of.segment ImageSpace number) refl (ap is_some at.there))
+pub plain_nodes : {held : Held} {listing : Listing} {slots : ℕ} → IsPlain listing → AreNodesWithin slots held listing
+plain_nodes plain number image relation l = absurd (no_image_at plain number image l.at)

@@ -32,7 +32,7 @@ use Rattle.rss_model.proofs.Counts.{none_counted, count_of_none}
 use Rattle.rss_model.proofs.Heap.{empty_entry}
 use Rattle.rss_model.proofs.Listed.{at_place, listed}
 use Rattle.rss_model.proofs.Named.{made, made_here, made_other, made_still, gone, gone_other}
-use Rattle.rss_model.proofs.PlainStores.{still_plain, PlainContents, no_link_at, no_link_named, spelled_contents, contents_spelled}
+use Rattle.rss_model.proofs.PlainStores.{PlainContents, no_link_at, no_link_named, spelled_contents, contents_spelled}
 use Rattle.rss_model.proofs.LogLists.{some_of}
 use Rattle.rss_model.proofs.Redefining.{same_fields}
 use Rattle.rss_model.proofs.Spelled.{name_numbered, named_relation}
@@ -187,7 +187,6 @@ module _ {held : Held} {listing : Listing} {tables : Tables} (spells : SpellsTab
     formed = spells.formed;
     linked = spells.linked;
     listed = fits;
-    plain = still_plain spells refl refl;
     defines = segment_made_defines;
     counts = spells.counts;
     contents = spelled_contents fits.no_links (contents_relisted listing listed_now (bodies_of held) tables.contents (λ k relation tid at there. at) (λ k relation tid at there. at) (contents_spelled spells));
@@ -295,7 +294,6 @@ module _ {held : Held} {listing : Listing} {tables : Tables} (spells : SpellsTab
     formed = spells.formed;
     linked = spells.linked;
     listed = fits;
-    plain = still_plain spells refl refl;
     defines = segment_gone_defines;
     counts = spells.counts;
     contents = spelled_contents fits.no_links (contents_relisted listing listed_less (bodies_of held) tables.contents (λ k relation tid at there. at) (λ k relation tid at there. at) (contents_spelled spells));
@@ -373,7 +371,6 @@ module _ {held : Held} {listing : Listing} {tables : Tables} (spells : SpellsTab
     formed = spells.formed;
     linked = spells.linked;
     listed = fits;
-    plain = still_plain spells refl refl;
     defines = relation_made_defines;
     counts = λ k relation at. elim (now_or_old k relation at) [
       | inl same ↦ ap (λ (r : RelationEntry). tuple_count tables.contents r.name) (sym same) ∙ count_of_none tables.contents new.name (λ tid. none_from _ (no_tuple tid)) ∙ sym empty ∙ ap (λ (r : RelationEntry). r.live) same
@@ -440,7 +437,6 @@ module _ {held : Held} {listing : Listing} {tables : Tables} (spells : SpellsTab
     formed = spells.formed;
     linked = spells.linked;
     listed = fits;
-    plain = still_plain spells refl refl;
     defines = relation_gone_defines;
     counts = λ k relation is. spells.counts k relation (had_it k relation is).1;
     contents = spelled_contents fits.no_links (contents_relisted listing listed_fewer (bodies_of held) tables.contents (λ k relation tid is there.

@@ -10,7 +10,7 @@ use Rattle.std.proofs.lemmas.List.Sums.{sum_by-cons, sum_by-le-sum_by}
 use Rattle.std.proofs.lemmas.Option.{none-some}
 use Rattle.rss_base.specs.DiskRule.{Pages, page}
 use Rattle.rss_base.specs.Layout.{map_at, slots_at, log_free}
-use Rattle.rss_base.specs.Listings.{Listing, HoldsListing, segment_at}
+use Rattle.rss_base.specs.Listings.{Listing, HoldsListing, IsPlain, segment_at}
 use Rattle.rss_base.specs.PageMap.{IsKey, IsMap, owner_of, page_count}
 use Rattle.rss_base.specs.Paged.{Mapped, Held, page_key, mapped_in, mapped_of, mapped_pages}
 use Rattle.rss_base.specs.Sizes.{system_pages}
@@ -36,7 +36,7 @@ use Rattle.rss_model.specs.Store.{IsStorePage, SpellsTables, Stored, first_recor
 use Rattle.rss_model.proofs.Heap.{no_entries}
 use Rattle.rss_model.proofs.Listed.{heap_is}
 use Rattle.rss_model.proofs.ImageRooms.{images_allowed}
-use Rattle.rss_model.proofs.PlainStores.{none_imaged}
+use Rattle.rss_model.proofs.PlainStores.{no_image_pages}
 use Rattle.rss_model.proofs.Relisted.{page_kind}
 use Rattle.rss_model.proofs.Restarted.{recovered_pages, recovered_count}
 use Rattle.rss_model.proofs.Saving.{more_pages}
@@ -86,12 +86,12 @@ held_mapped first pages owners key = is_some_mapped (λ slot. page pages (first 
 -- ---- the pages of a store
 
 -- a page of a store without images
-pub plain_page : {held : Held} {listing : Listing} {tables : Tables} → SpellsTables held listing tables → (key : PageKey) → is_some (held key) ≡ true → (key.space ≡ System) ⊎ ((is_some (segment_at listing key.segment) ≡ true) × IsHeapKey key)
-plain_page {held = held} {listing = listing} spells key there = by (page_kind key key.space refl) (spells.only key there)
+pub plain_page : {held : Held} {listing : Listing} {tables : Tables} → IsPlain listing → SpellsTables held listing tables → (key : PageKey) → is_some (held key) ≡ true → (key.space ≡ System) ⊎ ((is_some (segment_at listing key.segment) ≡ true) × IsHeapKey key)
+plain_page {held = held} {listing = listing} plain spells key there = by (page_kind key key.space refl) (spells.only key there)
   where
     by : (key.space ≡ System) ⊎ ((key.space ≡ Image) ⊎ IsHeapKey key) → IsStorePage listing key → (key.space ≡ System) ⊎ ((is_some (segment_at listing key.segment) ≡ true) × IsHeapKey key)
     by (inl system) on = inl system
-    by (inr (inl image)) on = absurd (none_imaged spells key image there)
+    by (inr (inl image)) on = absurd (no_image_pages plain spells.images key image there)
     by (inr (inr heap)) (inl system) = inl system
     by (inr (inr heap)) (inr segment) = inr (segment, heap)
 
@@ -117,10 +117,10 @@ owners_split root owners pages map listing listed =
     first = slots_at root.slots root.log_pages
 
 -- without images they are the home and overflow pages, and those of the system space
-pub pages_counted : (root : Root) (owners : List (Option PageKey)) (pages : Pages) → IsMap root.slots pages (map_at root.slots root.area) owners → {listing : Listing} {tables : Tables} → HoldsListing (held_at (slots_at root.slots root.log_pages) pages owners) listing → SpellsTables (held_at (slots_at root.slots root.log_pages) pages owners) listing tables
+pub pages_counted : (root : Root) (owners : List (Option PageKey)) (pages : Pages) → IsMap root.slots pages (map_at root.slots root.area) owners → {listing : Listing} {tables : Tables} → IsPlain listing → HoldsListing (held_at (slots_at root.slots root.log_pages) pages owners) listing → SpellsTables (held_at (slots_at root.slots root.log_pages) pages owners) listing tables
     → page_count owners ≡ mapped_of (mapped_by owners) Home root.slots + mapped_of (mapped_by owners) Overflow root.slots + system_pages
-pages_counted root owners pages map {listing = listing} {tables = tables} listed spells =
-    omega (arith, owners_split root owners pages map listing listed, no_images (mapped_by owners) (λ key is. plain_kind listing key (plain_page spells key (held_mapped first pages owners key ∙ is))) root.slots)
+pages_counted root owners pages map {listing = listing} {tables = tables} plain listed spells =
+    omega (arith, owners_split root owners pages map listing listed, no_images (mapped_by owners) (λ key is. plain_kind listing key (plain_page plain spells key (held_mapped first pages owners key ∙ is))) root.slots)
   where
     first : ℕ
     first = slots_at root.slots root.log_pages

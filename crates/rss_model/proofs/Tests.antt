@@ -20,9 +20,7 @@ use Rattle.rss_model.specs.Meter.{relations_in}
 use Rattle.rss_model.specs.Machine.{State}
 use Rattle.rss_model.specs.Defining.{refused_unless, refused_if, least_open, if_any_open, is_segment, is_relation, has_twice, has_image, has_link}
 use Rattle.rss_model.specs.Steps.{first_of, tests, refusal}
-use Rattle.rss_model.specs.Fits.{ArePlain}
 use Rattle.rss_model.proofs.Heap.{nothing}
-use Rattle.rss_model.proofs.PlainStores.{no_image_of, no_link_of}
 
 -- ---- one test
 
@@ -95,9 +93,6 @@ module _ (state : State) (closed : least_open state ≡ None) where
 
   pub drop_relation_full : (name : Name) → is_relation state name ≡ true → nat_le 1 (tuple_count state.base.contents name) ≡ true → refusal state (DropRelation name) ≡ Some NotEmpty
   drop_relation_full name there full = goes_on _ none_is_open ∙ goes_on _ (passes_unless (NoSuch RelationKind) there) ∙ refuses_at _ (refuses_if NotEmpty (first_on (has_image state name) (has_link state name) full))
-
-  pub drop_relation_passes : (name : Name) → ArePlain state.base.definitions → is_relation state name ≡ true → nat_le 1 (tuple_count state.base.contents name) ≡ false → refusal state (DropRelation name) ≡ None
-  drop_relation_passes name plain there none = goes_on _ none_is_open ∙ goes_on _ (passes_unless (NoSuch RelationKind) there) ∙ goes_on _ (passes_if NotEmpty (none_on none (no_image_of plain name) (no_link_of state.base.definitions plain.no_links name)))
 
   pub make_relation_lacks : (name segment : Name) (fields : List FieldDef) → is_segment state segment ≡ false → refusal state (MakeRelation name segment fields) ≡ Some (NoSuch SegmentKind)
   make_relation_lacks name segment fields absent = goes_on _ none_is_open ∙ refuses_at _ (refuses_unless (NoSuch SegmentKind) absent)

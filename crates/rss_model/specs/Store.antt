@@ -24,7 +24,7 @@ use Rattle.rss_base.specs.LogPages.{log_bytes}
 use Rattle.rss_base.specs.PageMap.{IsMap, IsMapFault, page_count}
 use Rattle.rss_base.specs.Paged.{Held, mapped_of}
 use Rattle.rss_base.specs.StoredPages.{mapped_by, held_at}
-use Rattle.rss_base.specs.Listings.{Listing, ListingFits, IsPlain, HoldsListing, IsNumberOf, AreDifferent, field_numbers, segment_at, relation_at, image_at, link_at}
+use Rattle.rss_base.specs.Listings.{Listing, ListingFits, HoldsListing, IsNumberOf, AreDifferent, field_numbers, segment_at, relation_at, image_at, link_at}
 use Rattle.rss_base.specs.Nodes.{Node, NodesOf}
 use Rattle.rss_base.specs.Trees.{Pair, IsNodeAt, IsImage}
 use Rattle.rss_base.specs.Prefixes.{ChildPlace, Part, Outside, Member, Child, Parent, part_in, neighbours_in, ends_of, first_of, last_of, member_block, child_block, parent_block}
@@ -263,14 +263,13 @@ AreCounts listing contents =
 abbrev pub IsStorePage : Listing → PageKey → Type 0
 IsStorePage listing key = (key.space ≡ System) ⊎ (is_some (segment_at listing key.segment) ≡ true)
 
--- The pages beside those of the system space spell these tables, whose definitions are listed so: they are those of a tuple store with these tuples. As yet there are no images.
+-- The pages beside those of the system space spell these tables, whose definitions are listed so: they are those of a tuple store with these tuples.
 pub record SpellsTables (held : Held) (listing : Listing) (tables : Tables) : Type 0 where
   pub only : (key : PageKey) → is_some (held key) ≡ true → IsStorePage listing key
   pub formed : (key : PageKey) (bytes : List ℕ) → IsHeapKey key → held key ≡ Some bytes
       → IsHeap key bytes None
   pub linked : (segment : ℕ) → AreLinked (homes held segment) (overflows held segment)
   pub listed : ListingFits listing
-  pub plain : IsPlain listing
   pub defines : Defines listing tables.definitions
   pub counts : AreCounts listing tables.contents
   pub contents : SpellsContents listing (bodies_of held) tables.contents
@@ -375,9 +374,11 @@ meter_of stored = record {
 -- ---- all of it
 
 -- the identifiers in the nodes of images have pages below the number of slots
-abbrev pub AreNodesWithin : ℕ → Held → Type 0
-AreNodesWithin slots held =
-    (of : NodesOf) (number : ℕ) (node : Node) → IsNodeAt held of number node
+abbrev pub AreNodesWithin : ℕ → Held → Listing → Type 0
+AreNodesWithin slots held listing =
+    (number : ℕ) (image : ImageEntry) (relation : RelationEntry)
+    → IsListedImage listing number image relation
+    → (page : ℕ) (node : Node) → IsNodeAt held (nodes_of number image relation) page node
     → All (λ entry. entry.tid.page < slots) node.entries
 
 pub record IsStore (pages : Pages) (stored : Stored) : Type 0 where
@@ -385,7 +386,7 @@ pub record IsStore (pages : Pages) (stored : Stored) : Type 0 where
   pub map : IsMap stored.root.slots pages (map_at stored.root.slots stored.root.area) stored.owners
   pub system : HoldsListing (held_in pages stored) stored.listing
   pub spells : SpellsTables (held_in pages stored) stored.listing stored.saved
-  pub nodes : AreNodesWithin stored.root.slots (held_in pages stored)
+  pub nodes : AreNodesWithin stored.root.slots (held_in pages stored) stored.listing
   pub fit : Fits stored.root.slots stored.saved
   pub log : HasLog pages stored
   pub room : room_number stored.saved.definitions (meter_of stored) ≤ stored.root.slots
