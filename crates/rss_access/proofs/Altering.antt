@@ -38,7 +38,7 @@ use Rattle.rss_access.specs.Written.{content_of}
 use Rattle.rss_access.proofs.Counting.{overflows_one}
 use Rattle.rss_access.proofs.Numbered.{names_apart, counted_or_old}
 use Rattle.rss_access.proofs.Recounting.{Recounts, recounts_itself, contents_changed}
-use Rattle.rss_access.proofs.Rerooting.{recounts_by, plain_still, defines_still}
+use Rattle.rss_access.proofs.Rerooting.{recounts_by, defines_still}
 use Rattle.rss_access.proofs.Telling.{some_body, no_body, count_of_some, count_of_none, Reads, reads, shows_move, can_turned, none_applies, reversed_tuple, same_number, can_become}
 use Rattle.rss_access.proofs.TupleChanges.{range-le}
 use Rattle.rss_access.proofs.Weighing.{values_size, bytes_less}
@@ -147,7 +147,6 @@ module _ {cost : ℕ} {old new : AccessView} {told_change : told.Change} (step :
           record { formed = formed.formed; some = formed.some; short = formed.short; noted = tt };
       linked = sets.heaps.linked;
       listed = alters.counts.fits spells.listed;
-      plain = plain_still alters.counts alters.listed spells.plain;
       defines = defines_still alters.counts alters.listed spells.defines;
       counts = counts_are;
       contents = spelled_contents (alters.counts.fits spells.listed).no_links (contents_by recounts);

@@ -1,12 +1,11 @@
 -- Catalogs that list the same but for where images begin and how many tuples one relation has.
-use Rattle.std.proofs.Common.{◌≡◌, inl, inr, ℕ, zero, suc, ◌-◌, Bool, true, false, List, [], ◌∷◌, length, replicate, get_or, refl, sym, ◌∙◌, ap, subst, arith}
+use Rattle.std.proofs.Common.{◌≡◌, inl, inr, ℕ, zero, suc, ◌-◌, Bool, true, false, List, [], ◌∷◌, length, get_or, refl, sym, ◌∙◌, ap, subst, arith}
 use Rattle.std.specs.Prelude.{Option, Some, None, option_map, slice_set, map as list_map}
 use Rattle.std.specs.FinMap as map
 use Rattle.std.proofs.lemmas.Bool.{cases_eq, cases_lt, true≢false}
 use Rattle.std.proofs.lemmas.List.{length-set, get_or_past, set-get_or, get_or-set_same, get_or-set_other}
 use Rattle.std.proofs.lemmas.Option.{none-some, same_Some}
-use Rattle.rss_base.specs.Sizes.{images_most}
-use Rattle.rss_base.specs.Listings.{Listing, ListingFits, IsPlain, numbered, relation_at, with_relation, with_count}
+use Rattle.rss_base.specs.Listings.{Listing, ListingFits, numbered, relation_at, with_relation, with_count}
 use Rattle.rss_base.specs.declared.name.Name.{Name}
 use Rattle.rss_base.specs.declared.image.ImageEntry.{ImageEntry}
 use Rattle.rss_base.specs.declared.relation.RelationEntry.{RelationEntry}
@@ -81,19 +80,6 @@ recounts_rerooted number live relation rerooted is keeps fits = record {
 abbrev pub unrooted : List (Option ImageEntry) → List (Option ImageEntry)
 unrooted images = list_map (option_map rootless) images
 
-no_image_still : (count : ℕ) (images : List (Option ImageEntry)) → unrooted images ≡ replicate count None → images ≡ replicate count None
-no_image_still zero [] is = refl
-no_image_still zero (image ∷ images) is = absurd (cc)
-no_image_still (suc count) [] is = absurd (cc)
-no_image_still (suc count) (None ∷ images) is =
-    let rest : unrooted images ≡ replicate count None = cc in
-    ap (λ (l : List (Option ImageEntry)). None ∷ l) (no_image_still count images rest)
-no_image_still (suc count) (Some image ∷ images) is = absurd (cc)
-
-unrooted_none : (count : ℕ) → unrooted (replicate count None) ≡ replicate count None
-unrooted_none zero = refl
-unrooted_none (suc count) = ap (λ (l : List (Option ImageEntry)). None ∷ l) (unrooted_none count)
-
 -- the names of images, with or without their roots
 abbrev image_names : List (Option ImageEntry) → List (Option Name)
 image_names images = list_map (option_map (λ (image : ImageEntry). image.name)) images
@@ -138,13 +124,6 @@ same_images {old = old} {new = new} same has =
     let had = had_image old.images new.images same has.number has.image has.at in
     record { number = has.number; image = had.was; at = had.at }
 
--- a listing without images has none afterwards
-pub still_plain : {old new : Listing} → unrooted new.images ≡ unrooted old.images → new.links ≡ old.links → IsPlain old → IsPlain new
-still_plain {new = new} images links plain = record {
-  no_images = no_image_still images_most new.images (images ∙ ap unrooted plain.no_images ∙ unrooted_none images_most);
-  no_links = links ∙ plain.no_links;
-}
-
 -- the same is defined
 rerooted_defines : {listing : Listing} {definitions : Definitions} (images : List (Option ImageEntry)) → unrooted images ≡ unrooted listing.images → Defines listing definitions → Defines (record listing { images = images }) definitions
 rerooted_defines {listing = listing} {definitions = definitions} images same defines = record {
@@ -174,9 +153,6 @@ module _ {number live : ℕ} {relation : RelationEntry} {old new : CatalogView} 
     here = ap (λ (l : List (Option RelationEntry)). numbered l number) counted.relations ∙ counted_here old.listing number live relation at;
     others = λ k other. ap (λ (l : List (Option RelationEntry)). numbered l k) counted.relations ∙ counted_else old.listing number live relation at k other;
   }
-
-  pub plain_still : IsPlain old.listing → IsPlain new.listing
-  plain_still plain = still_plain counted.images counted.links plain
 
   pub defines_still : {definitions : Definitions} → Defines old.listing definitions → Defines new.listing definitions
   defines_still {definitions = definitions} defines = subst (λ (l : Listing). Defines l definitions) listed (rerooted_defines new.listing.images counted.images (counted_defines old.listing number live relation at defines))

@@ -268,7 +268,7 @@ has_tables {tables = tables} may told spells fit = record {
   tuples = fit.tuples;
   tids = fit.tids;
   few = fit.few;
-  nodes = nodes_within spells.images (may.tables told);
+  nodes = nodes_within (may.tables told);
 }
 
 -- where it doesn't go with what is there, and there is room, there are no tables from which it can be applied

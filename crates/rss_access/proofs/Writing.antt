@@ -41,7 +41,6 @@ module _ {old new : Held} (same : SameOffSystem old new) where
     formed = λ key bytes heap is. spells.formed key bytes heap (sym (same key (off_system key heap)) ∙ is);
     linked = λ segment. linked_alike (same_heaps same) segment (spells.linked segment);
     listed = spells.listed;
-    plain = spells.plain;
     defines = spells.defines;
     counts = spells.counts;
     contents = subst (λ (b : Bodies). SpellsContents listing b tables.contents) (sym (bodies_alike (same_heaps same))) spells.contents;

@@ -133,7 +133,7 @@ pub record HasTables (at : AccessView) : Type 0 where
   pub tuples : AreTuples tables
   pub tids : (relation : Name) (tid : Tid) → IsLive tables relation tid → IsIdentifier at.pages.slots tid
   pub few : (relation : Name) → tuple_count tables.contents relation ≤ tuple_limit
-  pub nodes : AreNodesWithin at.pages.slots at.pages.held
+  pub nodes : AreNodesWithin at.pages.slots at.pages.held at.catalog.listing
 
 -- On a device that tells its contents, the pages are those of a tuple store, and where an image is listed, they spell tables.
 pub record CanAlter (at : AccessView) : Type 0 where
