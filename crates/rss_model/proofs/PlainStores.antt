@@ -197,5 +197,5 @@ module _ {held : Held} {listing : Listing} {tables : Tables} (spells : SpellsTab
   pub contents_spelled : PlainContents listing (bodies_of held) tables.contents
   contents_spelled = plain_contents spells.listed.no_links spells.contents
 
-pub plain_nodes : {held : Held} {listing : Listing} {slots : ℕ} → IsPlain listing → AreNodesWithin slots held listing
-plain_nodes plain number image relation l = absurd (no_image_at plain number image l.at)
+pub plain_nodes : {held : Held} {listing : Listing} (slots : ℕ) → IsPlain listing → AreNodesWithin slots held listing
+plain_nodes slots plain number image relation l = absurd (no_image_at plain number image l.at)
