@@ -1,5 +1,5 @@
 -- What the entry of a tuple says of its key's pair, before a move and after it.
-use Rattle.std.proofs.Common.{◌≡◌, ◌≢◌, ◌+◌, ◌-◌, ◌/◌, ◌<◌, ◌≤◌, ℕ, List, [], ◌∷◌, length, Option, Some, None, refl, sym, ◌∙◌, ap, subst, arith}
+use Rattle.std.proofs.Common.{◌≡◌, ◌≢◌, ◌+◌, ◌-◌, ◌/◌, ◌<◌, ◌≤◌, ℕ, Bool, true, List, [], ◌∷◌, length, Option, Some, None, refl, sym, ◌∙◌, ap, subst, arith}
 use Rattle.std.specs.Prelude.{IfSome, option_map}
 use Rattle.std.proofs.Math.Nat.{div-mul-le_self}
 use Rattle.std.proofs.lemmas.Nat.{le-div}
@@ -15,13 +15,13 @@ use Rattle.rss_levels.specs.Entries.{Pairwise, IsLess, least}
 use Rattle.rss_value.proofs.Fitting.{AllFit, fitting}
 use Rattle.rss_value.proofs.KeyOrders.{length-key_part}
 use Rattle.rss_node.specs.Pairs.{pair_bytes}
-use Rattle.rss_image.specs.Images.{nodes_of, ImageTree, pages_of, pairs_most, page_bound, HasSpare, Becomes, Shrinks}
+use Rattle.rss_image.specs.Images.{nodes_of, ImageTree, pages_of, pairs_most, page_bound, HasSpare, Becomes, Shrinks, CutsMade}
 use Rattle.rss_image.specs.declared.image.Image.{Image}
 use Rattle.rss_image.proofs.Halves.{many}
 use Rattle.rss_image.proofs.Others.{pairs_rise}
 use Rattle.rss_image.proofs.Putting.{spell_one}
-use Rattle.rss_entries.specs.Moving.{KeyKinds, AreSpelled, HoldsEntry, MayMove, MovesEntry, moved_pairs, pair_with}
-use Rattle.rss_entries.specs.Keyed.{key_with, HasKey, LacksKey, MayCutKey, MayPutKey, without_key, with_key, CutsKey, PutsKey}
+use Rattle.rss_entries.specs.Moving.{KeyKinds, AreSpelled, HoldsEntry, MayMove, MovesEntry, MakesEntry, moved_pairs, pair_with}
+use Rattle.rss_entries.specs.Keyed.{key_with, HasKey, LacksKey, MayCutKey, MayPutKey, without_key, with_key, CutsKey, PutsKey, MakesKey}
 use Rattle.rss_entries.proofs.Composed.{becomes_itself, becomes_then}
 use Rattle.rss_entries.proofs.Swaps.{stands_in, swap, less_each, less_long}
 
@@ -114,6 +114,14 @@ module _ (key : KeyKinds) (tid : Tid) (was next : Option (List Value)) (old_key 
       ∙ ap (λ (k : Option (List ℕ)). with_key (keyed key next) tid (without_key k tid pairs)) old_is
       ∙ keyed_moved key tid was next pairs
 
+  -- the new key's pair is that of the new values
+  fine_key : (good : List ℕ → Bool) → IfSome next (λ values. good (pair_with key tid values) ≡ true) → IfSome new_key (λ bytes. good (pair_bytes bytes tid) ≡ true)
+  fine_key good fine = subst (λ (k : Option (List ℕ)). IfSome k (λ bytes. good (pair_bytes bytes tid) ≡ true)) (sym new_is) (by next fine)
+    where
+      by : (values : Option (List Value)) → IfSome values (λ values. good (pair_with key tid values) ≡ true) → IfSome (keyed key values) (λ bytes. good (pair_bytes bytes tid) ≡ true)
+      by None fine = tt
+      by (Some values) fine = fine
+
   -- where the key stays
   pub moves_none : (image : Image) (view : PagesView) → old_key ≡ new_key → MovesEntry key tid was next image image view view
   moves_none image view same pairs tree holds =
@@ -150,3 +158,9 @@ module _ (key : KeyKinds) (tid : Tid) (was next : Option (List Value)) (old_key 
         let shrinks = cuts pairs tree (has_key pairs holds) in
         let becomes = puts (without_key old_key tid pairs) shrinks.tree (lacks_key pairs holds other) in
         subst (Becomes before after old new (pages_of tree)) (moved pairs) (becomes_then before mid after same old between new (pages_of tree) (without_key old_key tid pairs) (with_key new_key tid (without_key old_key tid pairs)) shrinks becomes)
+
+    -- what the old pairs and the new one pass, all pass still
+    pub makes_both : (after : Image) (new : PagesView) → CutsMade before mid old between → MakesKey new_key tid mid after between new → MakesEntry key tid was next before after old new
+    makes_both after new less puts good fine pairs tree holds made =
+        let shrunk = (cuts pairs tree (has_key pairs holds)).tree in
+        puts good (fine_key good fine) (without_key old_key tid pairs) shrunk (less good pairs tree made (without_key old_key tid pairs) shrunk)

@@ -1,5 +1,5 @@
 -- The pair of a key in one image, where there is a key.
-use Rattle.std.specs.Prelude.{◌≢◌, ℕ, List, Contains, Option, Some, None, IfSome}
+use Rattle.std.specs.Prelude.{◌≡◌, ◌≢◌, ℕ, Bool, true, List, Contains, Option, Some, None, IfSome}
 use Rattle.rss_base.specs.Steps.{PagesView}
 use Rattle.rss_base.specs.TupleTypes.{kinds, chosen, key_bytes}
 use Rattle.rss_base.specs.declared.tid.Tid.{Tid}
@@ -8,7 +8,7 @@ use Rattle.rss_levels.specs.Entries.{Each}
 use Rattle.rss_levels.specs.Spots.{with_pair}
 use Rattle.rss_levels.specs.Removes.{without_pair}
 use Rattle.rss_node.specs.Pairs.{pair_bytes}
-use Rattle.rss_image.specs.Images.{ImageTree, Becomes, Shrinks, MayCut, MayPut, pages_of}
+use Rattle.rss_image.specs.Images.{ImageTree, Becomes, Shrinks, KeepsMade, MayCut, MayPut, pages_of}
 use Rattle.rss_image.specs.declared.image.Image.{Image}
 use Rattle.rss_entries.specs.Moving.{KeyKinds}
 use Rattle.rss_entries.specs.declared.moving.KeyFields.{KeyFields}
@@ -52,3 +52,9 @@ abbrev pub PutsKey : Option (List ℕ) → Tid → Image → Image → PagesView
 PutsKey key tid before after old new =
     (pairs : List (List ℕ)) (tree : ImageTree before old.held pairs) → LacksKey key tid pairs
     → Becomes before after old new (pages_of tree) (with_key key tid pairs)
+
+-- what the bounds and the pairs of the image pass, and the key's pair too, all pass then
+abbrev pub MakesKey : Option (List ℕ) → Tid → Image → Image → PagesView → PagesView → Type 0
+MakesKey key tid before after old new =
+    (good : List ℕ → Bool) → IfSome key (λ bytes. good (pair_bytes bytes tid) ≡ true)
+    → KeepsMade good before after old new

@@ -1,15 +1,15 @@
 -- The entry of a tuple in one image, as it is moved where the tuple's values change.
-use Rattle.std.specs.Prelude.{◌≡◌, ℕ, ◌≤◌, List, length, Contains, Option, Some, None, IfSome}
+use Rattle.std.specs.Prelude.{◌≡◌, ℕ, ◌≤◌, Bool, true, List, [], ◌∷◌, length, Contains, Option, Some, None, IfSome}
 use Rattle.rss_base.specs.Steps.{PagesView}
 use Rattle.rss_base.specs.TupleTypes.{chosen, key_bytes, Spells}
 use Rattle.rss_base.specs.declared.tid.Tid.{Tid}
 use Rattle.rss_base.specs.declared.value.Value.{Value}
 use Rattle.rss_base.specs.declared.value.FieldKind.{FieldKind}
 use Rattle.rss_levels.specs.Entries.{Each}
-use Rattle.rss_levels.specs.Spots.{with_pair}
+use Rattle.rss_levels.specs.Spots.{AreMade, with_pair}
 use Rattle.rss_levels.specs.Removes.{without_pair}
 use Rattle.rss_node.specs.Pairs.{pair_bytes}
-use Rattle.rss_image.specs.Images.{ImageTree, Becomes, pages_of, pairs_most, HasSpare}
+use Rattle.rss_image.specs.Images.{ImageTree, AreAllMade, Becomes, pages_of, pairs_most, HasSpare}
 use Rattle.rss_image.specs.declared.image.Image.{Image}
 
 -- fields: the kinds of a relation's fields.
@@ -63,3 +63,10 @@ abbrev pub MovesEntry : KeyKinds → Tid → (was next : Option (List Value)) �
 MovesEntry key tid was next before after old new =
     (pairs : List (List ℕ)) (tree : ImageTree before old.held pairs) → HoldsEntry key tid was pairs
     → Becomes before after old new (pages_of tree) (moved_pairs key tid was next pairs)
+
+-- what the bounds and the pairs of such an image pass, and the new pair too, all pass then
+abbrev pub MakesEntry : KeyKinds → Tid → (was next : Option (List Value)) → (before after : Image) → (old new : PagesView) → Type 0
+MakesEntry key tid was next before after old new =
+    (good : List ℕ → Bool) → IfSome next (λ values. good (pair_with key tid values) ≡ true)
+    → (pairs : List (List ℕ)) (tree : ImageTree before old.held pairs) → HoldsEntry key tid was pairs
+    → AreMade good ((tree.top ∷ []) ∷ tree.lower) → AreAllMade good after new.held

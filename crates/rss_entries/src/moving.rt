@@ -8,9 +8,9 @@ ghost use Rattle.rss_base.specs.declared.key.Space.TheVariants.{Image as ImageSp
 ghost use Rattle.rss_base.specs.declared.value.Value.{Value as FieldValue};
 ghost use Rattle.rss_value.specs.Numbers.{IsNumberOf};
 ghost use Rattle.rss_node.specs.Nodes.{AreNodes};
-ghost use Rattle.rss_image.specs.Images.{nodes_of, HasSpare};
-ghost use Rattle.rss_entries.specs.Keyed.{kinds_of, key_with, MayCutKey, MayPutKey, CutsKey, PutsKey};
-ghost use Rattle.rss_entries.specs.Moving.{AreSpelled, MayMove, MovesEntry};
+ghost use Rattle.rss_image.specs.Images.{nodes_of, CutsMade, HasSpare};
+ghost use Rattle.rss_entries.specs.Keyed.{kinds_of, key_with, MayCutKey, MayPutKey, CutsKey, PutsKey, MakesKey};
+ghost use Rattle.rss_entries.specs.Moving.{AreSpelled, MayMove, MovesEntry, MakesEntry};
 
 use rss_base::{FieldDef, Key, PageFault, Pages, Tid};
 use rss_image::Image;
@@ -53,6 +53,12 @@ pub fn move_entry<P: Pages>(
         → AreSpelled (kinds key.entry.fields.now) (option_copied was.entry) was_values
         → AreSpelled (kinds key.entry.fields.now) (option_copied next.entry) next_values
         → MovesEntry (kinds_of key.entry) tid was_values next_values image.old image.new
+        (P.view pages.old) (P.view pages.new)) }
+    ensures made { OnOk result (IsTold (P.view pages.old).disk
+        → (was_values next_values : Option (List FieldValue))
+        → AreSpelled (kinds key.entry.fields.now) (option_copied was.entry) was_values
+        → AreSpelled (kinds key.entry.fields.now) (option_copied next.entry) next_values
+        → MakesEntry (kinds_of key.entry) tid was_values next_values image.old image.new
         (P.view pages.old) (P.view pages.new)) }
     ensures did { PagesCall (pages_in image.old.segment ImageSpace) (10 * 255 + 2) (10 * 255 + 2)
         (P.view pages.old) (P.view pages.new) result }
@@ -114,6 +120,8 @@ fn cut<P: Pages>(
     ensures low { 1 ≤ image.new.levels }
     ensures cuts { OnOk result (IsTold (P.view pages.old).disk
         → CutsKey key.now tid image.old image.new (P.view pages.old) (P.view pages.new)) }
+    ensures made { OnOk result (IsTold (P.view pages.old).disk
+        → CutsMade image.old image.new (P.view pages.old) (P.view pages.new)) }
     ensures did { PagesCall (pages_in image.old.segment ImageSpace) (3 * 255) (6 * 255)
         (P.view pages.old) (P.view pages.new) result }
 {
@@ -143,6 +151,8 @@ fn put<P: Pages>(
     ensures low { 1 ≤ image.new.levels }
     ensures puts { OnOk result (IsTold (P.view pages.old).disk
         → PutsKey key.now tid image.old image.new (P.view pages.old) (P.view pages.new)) }
+    ensures made { OnOk result (IsTold (P.view pages.old).disk
+        → MakesKey key.now tid image.old image.new (P.view pages.old) (P.view pages.new)) }
     ensures did { PagesCall (pages_in image.old.segment ImageSpace) 255 (4 * 255 + 2)
         (P.view pages.old) (P.view pages.new) result }
 {

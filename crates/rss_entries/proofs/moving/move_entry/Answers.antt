@@ -9,13 +9,17 @@ use Rattle.rss_base.specs.declared.key.Space.TheVariants.{Image as ImageSpace}
 use Rattle.rss_base.proofs.Steps.{then_call, widens}
 use Rattle.rss_node.specs.declared.pair.Nodes.{Nodes}
 use Rattle.rss_entries.specs.Keyed.{kinds_of}
-use Rattle.rss_entries.proofs.Entries.{has_values, moves_none, may_cut, may_put, still_spare, moves_both}
+use Rattle.rss_image.proofs.Kept.{one_made}
+use Rattle.rss_entries.proofs.Entries.{has_values, moves_none, may_cut, may_put, still_spare, moves_both, makes_both}
 use Rattle.rss_entries.proofs.moving.move_entry.Goals as goal
 
 pub returns-then-are_same-clause-moves : goal.returns-then-are_same-clause-moves
 returns-then-are_same-clause-moves g c = λ told was next was_is next_is.
     moves_none (kinds_of c.args.key) c.args.tid was next c.key_of-old_key.result c.key_of-new_key.result (c.key_of-old_key.ensures.key was was_is) (c.key_of-new_key.ensures.key next next_is)
     c.args.image.now (g.P.Pages.view c.args.pages.now) (c.are_same.ensures.0 c.if-are_same.true)
+
+pub returns-then-are_same-clause-made : goal.returns-then-are_same-clause-made
+returns-then-are_same-clause-made g c = λ told was next was_is next_is good fine pairs tree holds made. one_made c.args.image.now (g.P.Pages.view c.args.pages.now).held good pairs tree made
 
 pub cut-requires-clause-may : goal.cut-requires-clause-may
 cut-requires-clause-may g c = λ told.
@@ -51,6 +55,13 @@ returns-clause-moves g c = on_ok_weaker c.put.result (λ puts told was next was_
     moves_both (kinds_of c.args.key) c.args.tid was next c.key_of-old_key.result c.key_of-new_key.result (c.key_of-old_key.ensures.key was was_is) (c.key_of-new_key.ensures.key next next_is)
     c.args.image.now c.cut.new.image (g.P.Pages.view c.args.pages.now) (g.P.Pages.view c.cut.new.pages) (c.in_ok-cut.ensures.cuts told)
     c.put.new.image (g.P.Pages.view c.put.new.pages) c.in_ok-cut.ensures.of (λ same. let never : false ≡ true = sym c.if-are_same.false ∙ c.are_same.ensures.1 same in absurd (cc)) (puts told_then)) c.put.ensures.puts
+
+pub returns-clause-made : goal.returns-clause-made
+returns-clause-made g c = on_ok_weaker c.put.result (λ makes told was next was_is next_is.
+    let told_then = c.in_ok-cut.ensures.did.step.passes.leaves.told.0 told in
+    makes_both (kinds_of c.args.key) c.args.tid was next c.key_of-old_key.result c.key_of-new_key.result (c.key_of-old_key.ensures.key was was_is) (c.key_of-new_key.ensures.key next next_is)
+    c.args.image.now c.cut.new.image (g.P.Pages.view c.args.pages.now) (g.P.Pages.view c.cut.new.pages) (c.in_ok-cut.ensures.cuts told)
+    c.put.new.image (g.P.Pages.view c.put.new.pages) (c.in_ok-cut.ensures.made told) (makes told_then)) c.put.ensures.made
 
 pub returns-clause-did : goal.returns-clause-did
 returns-clause-did g c =
