@@ -1,15 +1,16 @@
 -- Images show the tables after a change, one after another: from each to the next.
-use Rattle.std.proofs.Common.{◌≡◌, ◌<◌, ◌≤◌, ◌+◌, ◌-◌, ℕ, zero, suc, true, false, List, length, get_or, map as list_map, refl, sym, ◌∙◌, ap, subst, arith, inl, inr, ⊎_elim}
-use Rattle.std.specs.Prelude.{Option, Some, None, is_some, option_map, slice_set}
+use Rattle.std.proofs.Common.{◌≡◌, ◌<◌, ◌≤◌, ◌+◌, ◌-◌, ℕ, zero, suc, Bool, true, false, List, length, get_or, map as list_map, refl, sym, ◌∙◌, ap, subst, arith, inl, inr, ⊎_elim}
+use Rattle.std.specs.Prelude.{Option, Some, None, IfSome, is_some, option_map, slice_set}
 use Rattle.std.specs.FinMap as map
-use Rattle.std.proofs.lemmas.Bool.{true≢false}
+use Rattle.std.proofs.lemmas.Bool.{cases_lt, true≢false}
 use Rattle.std.proofs.lemmas.List.{set-get_or}
 use Rattle.std.proofs.lemmas.Option.{none-some, same_Some}
 use Rattle.std.proofs.Math.Seq.{map-set_same}
 use Rattle.rss_base.specs.DiskRule.{IsTold}
-use Rattle.rss_base.specs.Nodes.{IsNodePage}
+use Rattle.rss_base.specs.Nodes.{Node, IsNodePage}
 use Rattle.rss_base.specs.Paged.{Held, page_key}
 use Rattle.rss_base.specs.Steps.{PagesView, PagesStep, pages_in}
+use Rattle.rss_base.specs.Trees.{IsNodeAt}
 use Rattle.rss_base.specs.Listings.{Listing, ListingFits, numbered, names_of, relation_at, image_at, with_image, with_root}
 use Rattle.rss_base.specs.declared.name.Name.{Name}
 use Rattle.rss_base.specs.declared.key.PageKey.{PageKey}
@@ -22,7 +23,7 @@ use Rattle.rss_levels.specs.Rows.{IsTree}
 use Rattle.rss_levels.specs.Spots.{IsOwn}
 use Rattle.rss_levels.proofs.Pages.{in_or_not}
 use Rattle.rss_image.specs.Trees.{cells_of, spells}
-use Rattle.rss_image.specs.Images.{nodes_of, ImageTree, pages_of, Becomes}
+use Rattle.rss_image.specs.Images.{nodes_of, ImageTree, AreAllMade, pages_of, Becomes}
 use Rattle.rss_image.specs.declared.image.Image.{Image}
 use Rattle.rss_image.proofs.Putting.{spell_one}
 use Rattle.rss_model.specs.Tables.{Tables}
@@ -30,7 +31,7 @@ use Rattle.rss_model.specs.Store.{Defines, IsListedImage, SpellsImage, SpellsIma
 use Rattle.rss_model.proofs.LogLists.{by_same, by_test}
 use Rattle.rss_model.proofs.Listed.{at_place}
 use Rattle.rss_model.proofs.Relisted.{number_within_list, number_set, number_kept}
-use Rattle.rss_entries.specs.Moving.{MovesEntry, moved_pairs}
+use Rattle.rss_entries.specs.Moving.{MovesEntry, MakesEntry, moved_pairs, pair_with}
 use Rattle.rss_entries.specs.Images.{TupleMove, CanMove, after_move, image_of, key_of, ShowBelow, IsReachedBelow}
 use Rattle.rss_entries.proofs.Lists.{byte_list, moved_list, holds_entry, kept_list}
 use Rattle.rss_entries.proofs.Kept.{KeepsNodes, HoldsNode, image_kept, image_node, one_image}
@@ -211,6 +212,12 @@ module _ {listing : Listing} {tables : Tables} {move : TupleMove} (can : CanMove
 
 -- ---- an image that is moved
 
+-- the page is one of the image's
+pub record IsPageOf (image : Image) (held : Held) (page : ℕ) : Type 0 where
+  pub pairs : List (List ℕ)
+  pub tree : ImageTree image held pairs
+  pub among : IsIn (pages_of tree) page
+
 module _ {listing : Listing} {tables : Tables} (move : TupleMove) (can : CanMove listing move tables) (k : ℕ) (image : ImageEntry) (at : IsListedImage listing k image move.relation) (its : image.relation ≡ move.number)
     {old new : PagesView} (told : IsTold old.disk) (old_low : AreLow old.held) (new_low : AreLow new.held) (show : ShowBelow k old.held listing move tables)
     (after : Image) (nodes : nodes_of after ≡ nodes_of (image_of k image move.relation)) (moves : MovesEntry (key_of image move.relation) move.tid move.was move.next (image_of k image move.relation) after old new) {asks outs : ℕ} (step : PagesStep (pages_in move.relation.segment ImageSpace) asks outs old new) where
@@ -368,3 +375,57 @@ module _ {listing : Listing} {tables : Tables} (move : TupleMove) (can : CanMove
   -- once the image is moved
   pub shows_moved : (listing_now : Listing) → listing_now ≡ with_image listing k (Some (with_root after.root after.levels image)) → ShowBelow (k + 1) new.held listing_now move tables
   shows_moved listing_now is = subst (λ (l : Listing). ShowBelow (k + 1) new.held l move tables) (sym is) moved_shows
+
+  -- ---- nodes
+
+  -- what the bounds and the pairs of the image passed, they pass still, where the new pair does
+  pub all_made : MakesEntry (key_of image move.relation) move.tid move.was move.next (image_of k image move.relation) after old new → (good : List ℕ → Bool) → IfSome move.next (λ values. good (pair_with (key_of image move.relation) move.tid values) ≡ true)
+      → AreAllMade good (image_of k image move.relation) old.held → AreAllMade good after new.held
+  all_made makes good fine made = makes good fine (byte_list tables image move.relation) old_rows.tree (holds_entry move can k image at its) (made (byte_list tables image move.relation) old_rows.tree)
+
+  -- a page of an image that wasn't one of the moved one's pages and isn't one now is as it was
+  was_there : (page : ℕ) → (IsIn fresh page → ⊥) → (bytes : List ℕ) → new.held (page_key move.relation.segment ImageSpace page) ≡ Some bytes → old.held (page_key move.relation.segment ImageSpace page) ≡ Some bytes
+  was_there page off bytes there = by (old.held (page_key move.relation.segment ImageSpace page)) refl
+    where
+      by : (was : Option (List ℕ)) → old.held (page_key move.relation.segment ImageSpace page) ≡ was → old.held (page_key move.relation.segment ImageSpace page) ≡ Some bytes
+      by None is = absurd (lost page (inr is) off (ap is_some there))
+      by (Some before_bytes) is = is ∙ sym (became.keeps.same page before_bytes (λ own_page. lost page (inl own_page) off (ap is_some there)) is) ∙ there
+
+  -- each page held a node of the image whose it was
+  reached_node : (key : PageKey) (one : IsReachedBelow k old.held listing move tables key) → HoldsNode old.held (base_nodes one.number one.image one.relation) key.number
+  reached_node key one = elim (cases_lt one.number k) [
+    | inl low ↦ image_node (one.moved low).tree key.number (contained one.pages key.number one.among)
+    | inr high ↦ image_node (one.rest high).tree key.number (contained one.pages key.number one.among)
+  ]
+
+  -- a node of the image stands in one of its pages
+  pub own_node : (page : ℕ) (node : Node) → IsNodeAt new.held (base_nodes k image move.relation) page node → IsPageOf after new.held page
+  own_node page node is = ⊎_elim (λ (there : IsIn fresh page). record { pairs = _; tree = became.tree; among = there }) (λ (off : IsIn fresh page → ⊥). absurd (stray off)) (in_or_not fresh page)
+    where
+      stray : (IsIn fresh page → ⊥) → ⊥
+      stray off =
+          let bytes = was_there page off is.bytes is.there in
+          let one = show.reached (page_key move.relation.segment ImageSpace page) refl (ap is_some bytes) in
+          by_same one.number k
+              (λ here. lost page (inl (had_own (page_key move.relation.segment ImageSpace page) one here)) off (ap is_some is.there))
+              (λ apart.
+              let held = reached_node (page_key move.relation.segment ImageSpace page) one in
+              let same : held.at.bytes ≡ is.bytes = same_Some _ _ (sym held.at.there ∙ ap (λ (s : ℕ). old.held (page_key s ImageSpace page)) (sym one.segment) ∙ bytes) in
+              apart (one_image (subst (λ (b : List ℕ). IsNodePage (base_nodes one.number one.image one.relation) page b held.node) same held.at.is) is.is))
+
+  -- its pages hold its nodes alone
+  of_fresh : (number : ℕ) (other : ImageEntry) (relation : RelationEntry) → relation.segment ≡ move.relation.segment → (page : ℕ) (node : Node) → IsNodeAt new.held (base_nodes number other relation) page node → IsIn fresh page → number ≡ k
+  of_fresh number other relation same page node is mine =
+      let held : HoldsNode new.held (base_nodes k now move.relation) page = image_node stands.spells.tree page (stands.same.back page mine) in
+      let bytes : is.bytes ≡ held.at.bytes = same_Some _ _ (sym is.there ∙ ap (λ (s : ℕ). new.held (page_key s ImageSpace page)) same ∙ held.at.there) in
+      one_image (subst (λ (b : List ℕ). IsNodePage (base_nodes number other relation) page b node) bytes is.is) held.at.is
+
+  -- and a node of another image stands where it stood
+  pub other_node : (number : ℕ) (other : ImageEntry) (relation : RelationEntry) → (number ≡ k → ⊥) → (page : ℕ) (node : Node) → IsNodeAt new.held (base_nodes number other relation) page node → IsNodeAt old.held (base_nodes number other relation) page node
+  other_node number other relation apart page node is = record { bytes = is.bytes; there = there; is = is.is }
+    where
+      there : old.held (page_key relation.segment ImageSpace page) ≡ Some is.bytes
+      there = by_same relation.segment move.relation.segment
+          (λ same. ap (λ (s : ℕ). old.held (page_key s ImageSpace page)) same
+          ∙ was_there page (λ mine. apart (of_fresh number other relation same page node is mine)) is.bytes (ap (λ (s : ℕ). new.held (page_key s ImageSpace page)) (sym same) ∙ is.there))
+          (λ off. sym (step.held_off told (page_key relation.segment ImageSpace page) (λ touched. off (ap (λ (key : PageKey). key.segment) touched))) ∙ is.there)
