@@ -421,7 +421,7 @@ module _ {listing : Listing} {tables : Tables} (move : TupleMove) (can : CanMove
       one_image (subst (λ (b : List ℕ). IsNodePage (base_nodes number other relation) page b node) bytes is.is) held.at.is
 
   -- and a node of another image stands where it stood
-  pub other_node : (number : ℕ) (other : ImageEntry) (relation : RelationEntry) → (number ≡ k → ⊥) → (page : ℕ) (node : Node) → IsNodeAt new.held (base_nodes number other relation) page node → IsNodeAt old.held (base_nodes number other relation) page node
+  other_node : (number : ℕ) (other : ImageEntry) (relation : RelationEntry) → (number ≡ k → ⊥) → (page : ℕ) (node : Node) → IsNodeAt new.held (base_nodes number other relation) page node → IsNodeAt old.held (base_nodes number other relation) page node
   other_node number other relation apart page node is = record { bytes = is.bytes; there = there; is = is.is }
     where
       there : old.held (page_key relation.segment ImageSpace page) ≡ Some is.bytes
@@ -429,3 +429,14 @@ module _ {listing : Listing} {tables : Tables} (move : TupleMove) (can : CanMove
           (λ same. ap (λ (s : ℕ). old.held (page_key s ImageSpace page)) same
           ∙ was_there page (λ mine. apart (of_fresh number other relation same page node is mine)) is.bytes (ap (λ (s : ℕ). new.held (page_key s ImageSpace page)) (sym same) ∙ is.there))
           (λ off. sym (step.held_off told (page_key relation.segment ImageSpace page) (λ touched. off (ap (λ (key : PageKey). key.segment) touched))) ∙ is.there)
+
+  -- what holds of the image's nodes now, and held of the nodes of all images, holds of them all
+  pub nodes_moved : (P : Node → Type 0) → ((page : ℕ) (node : Node) → IsNodeAt new.held (base_nodes k image move.relation) page node → P node)
+      → ((number : ℕ) (other : ImageEntry) (relation : RelationEntry) → IsListedImage listing number other relation → (page : ℕ) (node : Node) → IsNodeAt old.held (base_nodes number other relation) page node → P node)
+      → (listing_now : Listing) → listing_now ≡ with_image listing k (Some (with_root after.root after.levels image))
+      → (number : ℕ) (other : ImageEntry) (relation : RelationEntry) → IsListedImage listing_now number other relation → (page : ℕ) (node : Node) → IsNodeAt new.held (base_nodes number other relation) page node → P node
+  nodes_moved P own_now held_of listing_now is number other relation listed page node node_at =
+      let listed_so : IsListedImage relisted number other relation = subst (λ (l : Listing). IsListedImage l number other relation) is listed in
+      by_same number k
+      (λ here. own_now page node (at_same (λ n e r. IsNodeAt new.held (base_nodes n e r) page node) here (same_entry listed_so at_now here) node_at))
+      (λ apart. held_of number other relation (listed_back apart listed_so) page node (other_node number other relation apart page node node_at))
