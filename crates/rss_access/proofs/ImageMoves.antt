@@ -29,15 +29,16 @@ use Rattle.rss_model.specs.Tables.{Tables, content}
 use Rattle.rss_model.specs.Store.{IsListedImage, SpellsImages, plain_body}
 use Rattle.rss_model.specs.Meanings.{rootless}
 use Rattle.rss_model.proofs.Spelled.{tuple_bytes_same}
-use Rattle.rss_entries.specs.Moving.{KeyKinds, AreSpelled, MayMove, MovesEntry}
+use Rattle.rss_entries.specs.Moving.{KeyKinds, AreSpelled, MayMove, MovesEntry, MakesEntry}
 use Rattle.rss_entries.specs.Images.{TupleMove, CanMove, after_move, image_of, key_of}
 use Rattle.rss_access.specs.declared.edit.Edit.{Edit}
 use Rattle.rss_access.specs.declared.edit.Edit.TheVariants.{Insert, Delete, Update}
 use Rattle.rss_access.specs.declared.edit.TupleChange.{TupleChange}
-use Rattle.rss_access.specs.Changes.{AccessView, ShowsMove, both, number_told, tid_told, body_before, body_after, image_pages_of, AreValuesOf}
+use Rattle.rss_access.specs.Changes.{AccessView, NodesStay, ShowsMove, both, number_told, tid_told, body_before, body_after, image_pages_of, AreValuesOf}
 use Rattle.rss_access.specs.Edits.{told_of, told_by, body_lent}
 use Rattle.rss_access.specs.Moved.{IsImageOf, ShowsMoveBelow, Reroots}
 use Rattle.rss_access.specs.Relisted.{Rerooted}
+use Rattle.rss_access.proofs.NodesMoved.{nodes_stay}
 use Rattle.rss_access.proofs.Numbered.{fields_listed}
 use Rattle.rss_entries.proofs.Standing.{AreLow}
 use Rattle.rss_entries.proofs.Showing.{shows_first, shows_next, shows_moved, shows_all, can_still}
@@ -218,18 +219,24 @@ module _ {k number : ℕ} {catalog : CatalogView} {image : ImageEntry} {relation
       (subst (λ (i : Image). MayMove (key_of image move.relation) move.tid move.was i old) (sym image_same)
       (may_move move shows.can k image old low holds shows.images listed its shows.room))))
 
+  -- what holds for all values that the bytes spell holds for those of the tuple
+  given_so : (P : KeyKinds → Tid → (was next : Option (List Value)) → Image → Type 0)
+      → ((values others : Option (List Value)) → AreSpelled key.fields (option_copied was) values → AreSpelled key.fields (option_copied next) others → P key tid values others passed)
+      → P (key_of image move.relation) move.tid move.was move.next (image_of k image move.relation)
+  given_so P all =
+      subst (P (key_of image move.relation) move.tid move.was move.next) image_same
+      (subst (λ (t : Tid). P (key_of image move.relation) t move.was move.next passed) tid_same
+      (subst (λ (k : KeyKinds). P k tid move.was move.next passed) key_same
+      (all move.was move.next
+      (subst (λ (f : List FieldKind). AreSpelled f (option_copied was) move.was) (sym kinds_same) (are_spelled (kinds move.relation.fields) move.number number was move.was was_told (old_fit shows.can)))
+      (subst (λ (f : List FieldKind). AreSpelled f (option_copied next) move.next) (sym kinds_same) (are_spelled (kinds move.relation.fields) move.number number next move.next next_told (new_fit shows.can))))))
+
   module _ (disk : IsTold old.disk) {new : PagesView} (new_low : AreLow new.held) (counted : AreCounted old) (new_counted : AreCounted new) {asks outs : ℕ} (step : PagesStep (pages_in passed.segment ImageSpace) asks outs old new)
       (after : Image) (nodes : nodes_of after ≡ nodes_of passed)
       (moves : (values others : Option (List Value)) → AreSpelled key.fields (option_copied was) values → AreSpelled key.fields (option_copied next) others → MovesEntry key tid values others passed after old new)
       {now : CatalogView} (reroots : Reroots k after.root after.levels image catalog now) where
     moved : MovesEntry (key_of image move.relation) move.tid move.was move.next (image_of k image move.relation) after old new
-    moved =
-        subst (λ (i : Image). MovesEntry (key_of image move.relation) move.tid move.was move.next i after old new) image_same
-        (subst (λ (t : Tid). MovesEntry (key_of image move.relation) t move.was move.next passed after old new) tid_same
-        (subst (λ (k : KeyKinds). MovesEntry k tid move.was move.next passed after old new) key_same
-        (moves move.was move.next
-        (subst (λ (f : List FieldKind). AreSpelled f (option_copied was) move.was) (sym kinds_same) (are_spelled (kinds move.relation.fields) move.number number was move.was was_told (old_fit shows.can)))
-        (subst (λ (f : List FieldKind). AreSpelled f (option_copied next) move.next) (sym kinds_same) (are_spelled (kinds move.relation.fields) move.number number next move.next next_told (new_fit shows.can))))))
+    moved = given_so (λ key tid was next before. MovesEntry key tid was next before after old new) moves
 
     its_step : PagesStep (pages_in move.relation.segment ImageSpace) asks outs old new
     its_step = subst (λ (i : Image). PagesStep (pages_in i.segment ImageSpace) asks outs old new) image_same step
@@ -245,6 +252,14 @@ module _ {k number : ℕ} {catalog : CatalogView} {image : ImageEntry} {relation
       images = shows_moved move shows.can k image listed its disk low new_low shows.images after its_nodes moved its_step now.listing reroots.is;
       room = omega (arith, shows.room, rooms_same catalog.listing move.number k image at after.root after.levels now.listing reroots.is, places_same move.relation.segment old new counted new_counted its_step);
     }
+
+    -- the identifiers in nodes have pages below the number of slots still
+    pub nodes_one_more : ((values others : Option (List Value)) → AreSpelled key.fields (option_copied was) values → AreSpelled key.fields (option_copied next) others → MakesEntry key tid values others passed after old new)
+        → NodesStay (tid_told change) (both old catalog) (both new now)
+    nodes_one_more makes slots named within =
+        let low_tid : move.tid.page < slots = subst (λ (t : Tid). t.page < slots) shows.tells.tid named in
+        nodes_stay move shows.can k image listed slots low_tid its disk low new_low shows.images after its_nodes moved
+        (given_so (λ key tid was next before. MakesEntry key tid was next before after old new) makes) its_step within now.listing reroots.is
 
 -- ---- an image of another relation
 

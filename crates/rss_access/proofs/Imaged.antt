@@ -1,6 +1,6 @@
 -- The images that pages show, where other pages change, a count does, or a tuple of another relation.
-use Rattle.std.proofs.Common.{◌≡◌, ◌≢◌, inl, inr, ℕ, List, refl, sym, ◌∙◌, ap, subst}
-use Rattle.std.specs.Prelude.{Option, Some, is_some, option_map, map as list_map}
+use Rattle.std.proofs.Common.{◌≡◌, ◌≢◌, inl, inr, ℕ, ◌<◌, List, refl, sym, ◌∙◌, ap, subst}
+use Rattle.std.specs.Prelude.{All, Option, Some, is_some, option_map, map as list_map}
 use Rattle.std.proofs.lemmas.Bool.{cases_eq}
 use Rattle.std.proofs.lemmas.Option.{same_Some}
 use Rattle.rss_base.specs.Paged.{Held, page_key}
@@ -19,7 +19,7 @@ use Rattle.rss_entries.specs.Images.{with_tuple}
 use Rattle.rss_model.specs.Items.{Values}
 use Rattle.rss_model.specs.Images.{image_list}
 use Rattle.rss_model.specs.Tables.{Tables}
-use Rattle.rss_model.specs.Store.{IsListedImage, SpellsImage, SpellsImages, IsReached, nodes_of, image_definition, pair_spelled}
+use Rattle.rss_model.specs.Store.{AreNodesWithin, IsListedImage, SpellsImage, SpellsImages, IsReached, nodes_of, image_definition, pair_spelled}
 use Rattle.rss_model.proofs.Contents.{content_elsewhere}
 use Rattle.rss_model.proofs.Putting.{same_parts}
 use Rattle.rss_model.proofs.SeenAlike.{entries_same}
@@ -59,6 +59,10 @@ module _ {old new : Held} (same : SameImages old new) where
         let of = images.reached key is (ap is_some (sym (same key is)) ∙ there) in
         record { number = of.number; image = of.image; relation = of.relation; pages = of.pages; at = of.at; spells = one_kept of.spells; segment = of.segment; among = of.among };
   }
+
+  -- and their nodes have the same identifiers
+  pub nodes_kept : {listing : Listing} {slots : ℕ} → AreNodesWithin slots old listing → AreNodesWithin slots new listing
+  nodes_kept within number image relation l page node at = within number image relation l page node (node_kept (λ key image_page. sym (same key image_page)) (nodes_of number image relation) at)
 
 -- ---- a relation has another count
 
@@ -106,6 +110,13 @@ module _ (listing : Listing) (number live : ℕ) (relation : RelationEntry) (at 
           among = of.among;
         }
       ]
+
+  pub nodes_counted : {held : Held} {slots : ℕ} → AreNodesWithin slots held listing → AreNodesWithin slots held counted
+  nodes_counted {held = held} {slots = slots} within k image entry l = elim (counted_or_old listing number live relation at image.relation entry l.within) [
+    | inl here ↦ subst (λ (r : RelationEntry). (page : ℕ) (node : Node) → IsNodeAt held (nodes_of k image r) page node → All (λ e. e.tid.page < slots) node.entries) here.1
+        (within k image relation (record { at = l.at; within = ap (relation_at listing) here.0 ∙ at }))
+    | inr was ↦ within k image entry (record { at = l.at; within = was.1 })
+  ]
 
 -- ---- a tuple of a relation without images changes
 

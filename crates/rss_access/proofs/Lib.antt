@@ -25,4 +25,5 @@ mod AsMany
 mod Repeats
 mod NodesWithin
 pub mod NodesReached
+mod NodesMoved
 mod Checked

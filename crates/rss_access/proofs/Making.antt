@@ -34,27 +34,26 @@ use Rattle.rss_entries.specs.Rooms.{images_room, image_places, images_cost}
 use Rattle.rss_entries.specs.Images.{TupleMove, CanMove, after_move}
 use Rattle.rss_model.specs.Items.{Values, name_cmp}
 use Rattle.rss_model.specs.Tables.{Tables, tuple_count}
-use Rattle.rss_model.specs.Store.{SpellsTables, SpellsImages}
+use Rattle.rss_model.specs.Store.{SpellsTables, SpellsImages, AreNodesWithin}
 use Rattle.rss_model.proofs.Codes.{name_apart}
 use Rattle.rss_model.specs.Fits.{IsLive, IsIdentifier}
 use Rattle.rss_model.proofs.Contents.{content_elsewhere}
 use Rattle.rss_model.proofs.Counts.{counts_same}
 use Rattle.rss_model.proofs.LogLists.{some_of}
 use Rattle.rss_model.proofs.Putting.{same_parts}
-use Rattle.rss_model.proofs.PlainStores.{plain_nodes, none_imaged}
 use Rattle.rss_model.proofs.Relisted.{number_of}
 use Rattle.rss_access.specs.declared.edit.Edit.{Edit}
 use Rattle.rss_access.specs.declared.edit.Edit.TheVariants.{Insert, Delete, Update}
 use Rattle.rss_access.specs.declared.edit.TupleChange.{TupleChange}
 use Rattle.rss_access.specs.Edits.{told_of, told_by}
-use Rattle.rss_access.specs.Changes.{number_told, tid_told, body_before, body_after, count_after, AreValuesOf, CanAlter, HasTables, HasRoom, MayBecome, MayCount, AccessView, both, image_pages_of, own_image_pages, ShowsMove, MayMoveAll, MovesAll, Alters, Makes, Misfits, pages_told, alter_cost}
+use Rattle.rss_access.specs.Changes.{number_told, tid_told, body_before, body_after, count_after, AreValuesOf, CanAlter, HasTables, HasRoom, MayBecome, MayCount, AccessView, both, image_pages_of, own_image_pages, ShowsMove, MayMoveAll, MovesAll, AllNodesStay, Alters, Makes, Misfits, pages_told, alter_cost}
 use Rattle.rss_access.specs.Changes.Misfits.{tuple as tuple_misfits, room as room_misfits, count as count_misfits, unlisted}
 use Rattle.rss_access.specs.Relisted.{KeepsSpelled, Rerooted, Recounted}
 use Rattle.rss_access.specs.Tuples.{body_at, CanPut, IsShortBody, ChangesTuple}
 use Rattle.rss_access.proofs.Numbered.{entry_at}
 use Rattle.rss_access.proofs.Altering.{pages_are_told, altered_spells, count_is}
 use Rattle.rss_access.proofs.Between.{changes_looked, changes_imaged, heap_two, images_same, places_left}
-use Rattle.rss_access.proofs.Imaged.{images_kept, images_counted, images_beside}
+use Rattle.rss_access.proofs.Imaged.{images_kept, images_counted, images_beside, nodes_kept, nodes_counted}
 use Rattle.rss_access.proofs.Recounting.{same_or_other}
 use Rattle.rss_entries.proofs.Places.{places_same}
 use Rattle.rss_access.proofs.Rerooting.{rerooted_itself, recounts_rerooted, same_images}
@@ -245,24 +244,25 @@ module _ (change : TupleChange) {first mid put : PagesView} {before : CatalogVie
     room = subst (λ (n : ℕ). images_room before.listing n ≤ image_places put) (sym (number_by change) ∙ shows.tells.number) room_put;
   }
 
+  -- those that the pages spell
+  shows_spelled : (told : IsTold first.disk) (has : HasTables (both first before)) → ShowsMove (both put before) (told_by change) (move (told_by change) relation listed (found_told told) may small has) has.tables
+  shows_spelled told has =
+      let values = told_move (told_by change) relation listed (found_told told) may small has in
+      shows_put told (record {
+        tells = record { number = refl; tid = refl; before = values.before; after = values.after };
+        can = can_move (told_by change) relation listed (found_told told) may small has;
+        images = has.spells.images;
+        room = subst (λ (n : ℕ). images_room before.listing n ≤ image_places first) (sym (number_by change)) (omega (arith, room));
+      })
+
   -- so the entries of the tuple can be moved
   pub may_move : IsTold put.disk → HasImageOf before.listing change.number → ∥ MayMoveAll (both put before) (told_by change) ∥₁
   may_move told_put image =
       let told = put_step.passes.leaves.told.1 told_put in
-      ∥∥₁_map (can.tables told (record { number = image.number; image = image.image; at = image.at })) (λ has.
-      let values = told_move (told_by change) relation listed (found_told told) may small has in
-      record {
-        move = move (told_by change) relation listed (found_told told) may small has;
-        tables = has.tables;
-        shows = shows_put told (record {
-          tells = record { number = refl; tid = refl; before = values.before; after = values.after };
-          can = can_move (told_by change) relation listed (found_told told) may small has;
-          images = has.spells.images;
-          room = subst (λ (n : ℕ). images_room before.listing n ≤ image_places first) (sym (number_by change)) (omega (arith, room));
-        });
-      })
+      ∥∥₁_map (can.tables told (record { number = image.number; image = image.image; at = image.at }))
+      (λ has. record { move = move (told_by change) relation listed (found_told told) may small has; tables = has.tables; shows = shows_spelled told has })
 
-  module _ {moved : PagesView} {between after : CatalogView} (counted_moved : AreCounted moved) (moves : IsTold put.disk → MovesAll (both put before) (both moved between) (told_by change)) (rerooted : Rerooted before between) (step : PagesStep (own_image_pages before.listing change.number) images_cost images_cost put moved) (count : ℕ) (count_is_so : count ≡ count_after (told_by change) relation.live) (may_count : MayCount (told_by change) relation.live)
+  module _ {moved : PagesView} {between after : CatalogView} (counted_moved : AreCounted moved) (moves : IsTold put.disk → MovesAll (both put before) (both moved between) (told_by change)) (stay : IsTold put.disk → AllNodesStay (both put before) (both moved between) (told_by change)) (rerooted : Rerooted before between) (step : PagesStep (own_image_pages before.listing change.number) images_cost images_cost put moved) (count : ℕ) (count_is_so : count ≡ count_after (told_by change) relation.live) (may_count : MayCount (told_by change) relation.live)
       (lists : (entry : RelationEntry) → relation_at between.listing change.number ≡ Some entry → after.listing ≡ with_relation between.listing change.number (Some (with_count count entry))) (keeps : KeepsSpelled between after) (fits : ListingFits between.listing → ListingFits after.listing) where
     at_between : relation_at between.listing change.number ≡ Some relation
     at_between = ap (λ (l : List (Option RelationEntry)). numbered l change.number) rerooted.relations ∙ at
@@ -301,7 +301,7 @@ module _ (change : TupleChange) {first mid put : PagesView} {before : CatalogVie
       tuples = tuples_after (told_by change) relation listed (found_told told) may small has;
       tids = tids;
       few = few;
-      nodes = plain_nodes (none_imaged spells);
+      nodes = nodes;
     }
       where
         values : HasMove relation.fields (told_by change)
@@ -327,6 +327,14 @@ module _ (change : TupleChange) {first mid put : PagesView} {before : CatalogVie
           | inl same ↦ subst (IsIdentifier first.slots) (sym (same_parts name relation.name t (tid_told (told_by change)) same).1) may.named
           | inr other ↦ has.tids name t (sym (ap is_some (content_elsewhere has.tables.contents (TupleItem relation.name (tid_told (told_by change))) (option_map Values values.next) (TupleItem name t) other)) ∙ live)
         ])
+
+        -- the identifiers in nodes are those that were there, and the tuple's own
+        nodes : AreNodesWithin moved.slots moved.held after.listing
+        nodes =
+            let at_put = nodes_kept (images_same put_step told) has.nodes in
+            let at_moved = stay (put_step.passes.leaves.told.0 told) moving has.tables (shows_spelled told has) first.slots may.named.page at_put in
+            subst (λ (n : ℕ). AreNodesWithin n moved.held after.listing) (sym all_steps.passes.slots)
+            (subst (λ (l : Listing). AreNodesWithin first.slots moved.held l) (sym (lists relation at_between)) (nodes_counted between.listing change.number count relation at_between at_moved))
 
         few : (name : Name) → tuple_count (after_move moving has.tables).contents name ≤ 2 ^ 20
         few name = elim (cases_Bool (eq_by_cmp name_cmp name relation.name)) [

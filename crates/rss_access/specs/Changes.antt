@@ -228,6 +228,17 @@ abbrev pub MovesAll : AccessView → AccessView → told.Change → Type 0
 MovesAll old new change = (move : TupleMove) (tables : Tables) → ShowsMove old change move tables
     → SpellsImages new.pages.held new.catalog.listing (after_move move tables)
 
+-- where the identifiers in the nodes of images have pages below a number of slots, and so has this one, they have still
+abbrev pub NodesStay : Tid → AccessView → AccessView → Type 0
+NodesStay tid old new =
+    (slots : ℕ) → tid.page < slots → AreNodesWithin slots old.pages.held old.catalog.listing
+    → AreNodesWithin slots new.pages.held new.catalog.listing
+
+-- from all such tables they stay so, where the change's tuple has such an identifier
+abbrev pub AllNodesStay : AccessView → AccessView → told.Change → Type 0
+AllNodesStay old new change = (move : TupleMove) (tables : Tables) → ShowsMove old change move tables
+    → NodesStay (tid_told change) old new
+
 -- ---- what is done to the pages and the catalog
 
 -- There was room; the tuple was as the change finds it, and is as the change leaves it; so is the count of its relation, with its images.

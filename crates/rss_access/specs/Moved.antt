@@ -7,7 +7,7 @@ use Rattle.rss_catalog.specs.Catalogs.{CatalogView}
 use Rattle.rss_model.specs.Tables.{Tables}
 use Rattle.rss_entries.specs.Rooms.{images_room, image_places}
 use Rattle.rss_entries.specs.Images.{TupleMove, CanMove, ShowBelow}
-use Rattle.rss_access.specs.Changes.{AccessView, TellsMove}
+use Rattle.rss_access.specs.Changes.{AccessView, NodesStay, TellsMove, tid_told}
 use Rattle.rss_access.specs.Relisted.{Rerooted}
 
 -- how many pages are asked for at most where an entry is moved in one image, and how many may leave memory
@@ -37,6 +37,11 @@ pub record MayMoveAt (k : ℕ) (at : AccessView) (change : told.Change) : Type 0
 abbrev pub MovesAt : ℕ → AccessView → AccessView → told.Change → Type 0
 MovesAt k old new change = (move : TupleMove) (tables : Tables) → ShowsMoveBelow k old change move tables
     → ShowsMoveBelow (k + 1) new change move tables
+
+-- and the identifiers in the nodes of images stay below a number of slots
+abbrev pub NodesStayAt : ℕ → AccessView → AccessView → told.Change → Type 0
+NodesStayAt k old new change = (move : TupleMove) (tables : Tables) → ShowsMoveBelow k old change move tables
+    → NodesStay (tid_told change) old new
 
 -- The image of this number begins here now, and all else is listed as it was.
 pub record Reroots (number root levels : ℕ) (image : ImageEntry) (old new : CatalogView) : Type 0 where

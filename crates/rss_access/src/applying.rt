@@ -15,7 +15,7 @@ ghost use Rattle.rss_entries.specs.Rooms.{images_cost};
 ghost use Rattle.rss_model.specs.Fits.{IsIdentifier};
 ghost use Rattle.rss_access.specs.Changes.{IsTupleRecord, CanAlter, HasRoom, number_told, body_before, body_after, reversed};
 ghost use Rattle.rss_access.specs.Changes.{both, Applies, Undoes, NoneApplies, NoneUndoes, Makes};
-ghost use Rattle.rss_access.specs.Changes.{AreValuesOf, MayMoveAll, MovesAll, own_image_pages};
+ghost use Rattle.rss_access.specs.Changes.{AreValuesOf, MayMoveAll, MovesAll, AllNodesStay, own_image_pages};
 ghost use Rattle.rss_access.specs.Edits.{told_by};
 ghost use Rattle.rss_access.specs.Relisted.{KeepsSpelled, Rerooted};
 ghost use Rattle.rss_access.specs.Tuples.{body_at, CanPut, IsShortBody, ChangesTuple};
@@ -181,6 +181,9 @@ fn move_entries<P: Pages>(
         → ∥ MayMoveAll (both (P.view pages.old) catalog.old) (told_by change) ∥₁ }
     ensures moves { OnOk result (IsTold (P.view pages.old).disk
         → MovesAll (both (P.view pages.old) catalog.old) (both (P.view pages.new) catalog.new)
+        (told_by change.entry)) }
+    ensures nodes { OnOk result (IsTold (P.view pages.old).disk
+        → AllNodesStay (both (P.view pages.old) catalog.old) (both (P.view pages.new) catalog.new)
         (told_by change.entry)) }
     ensures rerooted { Rerooted catalog.old catalog.new }
     ensures did { PagesCall (own_image_pages catalog.old.listing change.entry.number)

@@ -7,9 +7,9 @@ ghost use Rattle.rss_base.specs.Listings.{relation_at, image_at};
 ghost use Rattle.rss_base.specs.declared.image.ImageEntry.{ImageEntry as AnImage};
 ghost use Rattle.rss_base.specs.declared.relation.RelationEntry.{RelationEntry as Entry};
 ghost use Rattle.rss_entries.specs.Rooms.{images_cost};
-ghost use Rattle.rss_access.specs.Changes.{both, AreValuesOf, image_pages_of, MayMoveAll, MovesAll};
+ghost use Rattle.rss_access.specs.Changes.{both, AreValuesOf, image_pages_of, MayMoveAll, MovesAll, AllNodesStay};
 ghost use Rattle.rss_access.specs.Edits.{told_by};
-ghost use Rattle.rss_access.specs.Moved.{image_cost, IsImageOf, MayMoveAt, MovesAt, Reroots};
+ghost use Rattle.rss_access.specs.Moved.{image_cost, IsImageOf, MayMoveAt, MovesAt, NodesStayAt, Reroots};
 ghost use Rattle.rss_access.specs.Relisted.{Rerooted};
 
 use crate::edit::TupleChange;
@@ -33,6 +33,9 @@ pub(crate) fn move_images<P: Pages>(
         → ∥ MayMoveAll (both (P.view pages.old) catalog.old) (told_by change) ∥₁ }
     ensures moves { OnOk result (IsTold (P.view pages.old).disk
         → MovesAll (both (P.view pages.old) catalog.old) (both (P.view pages.new) catalog.new)
+        (told_by change.entry)) }
+    ensures nodes { OnOk result (IsTold (P.view pages.old).disk
+        → AllNodesStay (both (P.view pages.old) catalog.old) (both (P.view pages.new) catalog.new)
         (told_by change.entry)) }
     ensures rerooted { Rerooted catalog.old catalog.new }
     ensures did { PagesCall (image_pages_of (relation_at catalog.old.listing change.entry.number))
@@ -61,6 +64,9 @@ fn move_at<P: Pages>(
     ensures moves { OnOk result (IsTold (P.view pages.old).disk
         → MovesAt number (both (P.view pages.old) catalog.old) (both (P.view pages.new) catalog.new)
         (told_by change.entry)) }
+    ensures nodes { OnOk result (IsTold (P.view pages.old).disk
+        → NodesStayAt number (both (P.view pages.old) catalog.old)
+        (both (P.view pages.new) catalog.new) (told_by change.entry)) }
     ensures rerooted { Rerooted catalog.old catalog.new }
     ensures did { PagesCall (image_pages_of (relation_at catalog.old.listing change.entry.number))
         image_cost image_cost (P.view pages.old) (P.view pages.new) result }
@@ -97,6 +103,9 @@ fn move_image<P: Pages>(
     ensures moves { OnOk result (IsTold (P.view pages.old).disk
         → MovesAt number (both (P.view pages.old) catalog.old) (both (P.view pages.new) catalog.new)
         (told_by change.entry)) }
+    ensures nodes { OnOk result (IsTold (P.view pages.old).disk
+        → NodesStayAt number (both (P.view pages.old) catalog.old)
+        (both (P.view pages.new) catalog.new) (told_by change.entry)) }
     ensures rerooted { Rerooted catalog.old catalog.new }
     ensures did { PagesCall (image_pages_of (relation_at catalog.old.listing change.entry.number))
         image_cost image_cost (P.view pages.old) (P.view pages.new) result }

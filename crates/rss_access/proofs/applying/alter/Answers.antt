@@ -65,4 +65,4 @@ returns-in_err-move_entries g c =
 pub returns : goal.returns
 returns g c = made c.args.change c.relation-relation.ensures.is (g.met.P.Pages.are_counted c.args.tuples.now.pages) (g.met.P.Pages.are_counted c.put.new.tuples.pages) c.in_ok-is_found.ensures.did.step (c.in_ok-is_found.ensures.found c.if-not-branch.false) (c.has_room.ensures.room c.if-not-has_room.false)
     (may_become_as c.slots.ensures c.as_slice.ensures (c.may_become.ensures.yes c.if-not-may_become.false)) (omega (arith, c.slots.ensures)) c.requires c.in_ok-put.ensures.did.step c.in_ok-put.ensures.changes
-    (g.met.P.Pages.are_counted c.move_entries.new.pages) c.in_ok-move_entries.ensures.moves c.in_ok-move_entries.ensures.rerooted c.in_ok-move_entries.ensures.did.step c.in-Some.count c.in-Some.ensures.some c.in-Some.ensures.may c.recount.ensures.lists c.recount.ensures.keeps c.recount.ensures.fits
+    (g.met.P.Pages.are_counted c.move_entries.new.pages) c.in_ok-move_entries.ensures.moves c.in_ok-move_entries.ensures.nodes c.in_ok-move_entries.ensures.rerooted c.in_ok-move_entries.ensures.did.step c.in-Some.count c.in-Some.ensures.some c.in-Some.ensures.may c.recount.ensures.lists c.recount.ensures.keeps c.recount.ensures.fits

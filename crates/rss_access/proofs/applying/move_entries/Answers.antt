@@ -19,3 +19,6 @@ returns-in_ok-move_images-clause-did g c =
 
 pub returns-else-has_image_of-clause-moves : goal.returns-else-has_image_of-clause-moves
 returns-else-has_image_of-clause-moves g c = λ told. none_moves (g.P.Pages.view c.args.pages.now) c.args.catalog.now c.args.change (λ has. true≢false (sym (c.has_image_of.ensures.1 has) ∙ c.if-has_image_of.false))
+
+pub returns-else-has_image_of-clause-nodes : goal.returns-else-has_image_of-clause-nodes
+returns-else-has_image_of-clause-nodes g c = λ told move tables shows slots named within. within

@@ -10,7 +10,7 @@ use Rattle.rss_access.specs.declared.edit.TupleChange.{TupleChange}
 use Rattle.rss_access.specs.Changes.{number_told}
 use Rattle.rss_access.specs.Edits.{told_by}
 use Rattle.rss_access.specs.Moved.{IsImageOf}
-use Rattle.rss_access.proofs.ImageMoves.{number_lent, tid_lent, held_low, was_given, next_given, own_relation, its_pages, may_be_moved, shows_one_more}
+use Rattle.rss_access.proofs.ImageMoves.{number_lent, tid_lent, held_low, was_given, next_given, own_relation, its_pages, may_be_moved, shows_one_more, nodes_one_more}
 use Rattle.rss_access.proofs.Looking.{key_width_passed}
 use Rattle.rss_access.proofs.moving.move_image.Goals as goal
 
@@ -52,6 +52,18 @@ returns-clause-moves g c = λ disk move tables shows.
     (record { of = its_relation c.args.change listed.at.at c.requires.of; key_is = c.key_fields-key.ensures.is listed.image listed.relation listed.at; image_is = c.image_of-image.ensures.is listed.image listed.relation listed.at; tid_is = tid_lent c.args.change })
     low move tables shows disk new_low (g.met.P.Pages.are_counted c.args.pages.now) (g.met.P.Pages.are_counted c.move_entry.new.pages) step
     c.move_entry.new.image c.in_ok-move_entry.ensures.of (c.in_ok-move_entry.ensures.moves disk) (c.reroot.ensures listed.image listed.at.at)
+
+pub returns-clause-nodes : goal.returns-clause-nodes
+returns-clause-nodes g c = λ disk move tables shows.
+    let listed = c.image_of-image.ensures.listed in
+    let step = c.in_ok-move_entry.ensures.did.step in
+    let low = held_low (g.P.Pages.view c.args.pages.now) c.slots-slots.result (omega arith) (sym c.slots-slots.ensures) (g.met.P.Pages.holds c.args.pages.now disk) (g.met.P.Pages.allowed c.args.pages.now) in
+    let new_low = held_low (g.P.Pages.view c.move_entry.new.pages) c.slots-slots.result (omega arith) (step.passes.slots ∙ sym c.slots-slots.ensures) (g.met.P.Pages.holds c.move_entry.new.pages (step.passes.leaves.told.0 disk)) (g.met.P.Pages.allowed c.move_entry.new.pages) in
+    nodes_one_more listed.at.at listed.at.within
+    (record { before = c.was.ensures; after = c.next.ensures })
+    (record { of = its_relation c.args.change listed.at.at c.requires.of; key_is = c.key_fields-key.ensures.is listed.image listed.relation listed.at; image_is = c.image_of-image.ensures.is listed.image listed.relation listed.at; tid_is = tid_lent c.args.change })
+    low move tables shows disk new_low (g.met.P.Pages.are_counted c.args.pages.now) (g.met.P.Pages.are_counted c.move_entry.new.pages) step
+    c.move_entry.new.image c.in_ok-move_entry.ensures.of (c.in_ok-move_entry.ensures.moves disk) (c.reroot.ensures listed.image listed.at.at) (c.in_ok-move_entry.ensures.made disk)
 
 pub returns-clause-rerooted : goal.returns-clause-rerooted
 returns-clause-rerooted g c = let listed = c.image_of-image.ensures.listed in (c.reroot.ensures listed.image listed.at.at).rerooted

@@ -24,6 +24,7 @@ loop-place-init g c = record {
   rerooted = rerooted_itself c.args.catalog.now;
   step = rests (g.P.Pages.view c.args.pages.now);
   shows = λ disk move tables shows. shows_none_yet shows;
+  nodes = λ disk move tables shows slots named within. within;
 }
 
 pub move_at-requires-clause-may : goal.move_at-requires-clause-may
@@ -41,6 +42,8 @@ loop-place-preserved g c = record {
   rerooted = rerooted_then c.loop-place.invariant.rerooted c.in_ok-move_at.ensures.rerooted;
   step = within (λ key touched. touched) (omega arith) (omega arith) (then c.loop-place.invariant.step (among (same_pages c.loop-place.invariant.rerooted c.args.change.number) c.in_ok-move_at.ensures.did.step));
   shows = λ disk move tables shows. c.in_ok-move_at.ensures.moves (c.loop-place.invariant.step.passes.leaves.told.0 disk) move tables (c.loop-place.invariant.shows disk move tables shows);
+  nodes = λ disk move tables shows slots named within.
+      c.in_ok-move_at.ensures.nodes (c.loop-place.invariant.step.passes.leaves.told.0 disk) move tables (c.loop-place.invariant.shows disk move tables shows) slots named (c.loop-place.invariant.nodes disk move tables shows slots named within);
 }
 
 pub returns-clause-moves : goal.returns-clause-moves
