@@ -1,5 +1,5 @@
 -- The identifiers in the nodes of images have pages below a number of slots still, once the entry of a tuple that has such an identifier is moved in one of them.
-use Rattle.std.proofs.Common.{◌≡◌, ◌∙◌, ◌<◌, ℕ, Bool, true, refl, sym, ap, subst, arith}
+use Rattle.std.proofs.Common.{◌≡◌, ◌∙◌, ◌<◌, ℕ, Bool, true, sym, ap, subst, arith}
 use Rattle.std.specs.Prelude.{List, ◌∷◌, [], All, IfSome, Option, Some, None}
 use Rattle.rss_base.specs.DiskRule.{IsTold}
 use Rattle.rss_base.specs.Nodes.{Node}
@@ -29,7 +29,7 @@ use Rattle.rss_entries.specs.Images.{TupleMove, CanMove, ShowBelow, image_of, ke
 use Rattle.rss_entries.proofs.Entries.{length-key}
 use Rattle.rss_entries.proofs.Fitting.{nodes_fit}
 use Rattle.rss_entries.proofs.Showing.{IsPageOf, all_made, nodes_moved, own_node}
-use Rattle.rss_entries.proofs.Shown.{IsSpelledTuple, entry_with, key_fits, pair_is, spelled_entry}
+use Rattle.rss_entries.proofs.Shown.{IsSpelledTuple, key_fits, pair_is}
 use Rattle.rss_entries.proofs.Standing.{AreLow, low_cells}
 use Rattle.rss_access.proofs.NodesWithin.{made_below, nodes_below}
 

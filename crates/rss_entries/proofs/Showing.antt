@@ -407,11 +407,11 @@ module _ {listing : Listing} {tables : Tables} (move : TupleMove) (can : CanMove
           let bytes = was_there page off is.bytes is.there in
           let one = show.reached (page_key move.relation.segment ImageSpace page) refl (ap is_some bytes) in
           by_same one.number k
-              (λ here. lost page (inl (had_own (page_key move.relation.segment ImageSpace page) one here)) off (ap is_some is.there))
-              (λ apart.
-              let held = reached_node (page_key move.relation.segment ImageSpace page) one in
-              let same : held.at.bytes ≡ is.bytes = same_Some _ _ (sym held.at.there ∙ ap (λ (s : ℕ). old.held (page_key s ImageSpace page)) (sym one.segment) ∙ bytes) in
-              apart (one_image (subst (λ (b : List ℕ). IsNodePage (base_nodes one.number one.image one.relation) page b held.node) same held.at.is) is.is))
+          (λ here. lost page (inl (had_own (page_key move.relation.segment ImageSpace page) one here)) off (ap is_some is.there))
+          (λ apart.
+          let held = reached_node (page_key move.relation.segment ImageSpace page) one in
+          let same : held.at.bytes ≡ is.bytes = same_Some _ _ (sym held.at.there ∙ ap (λ (s : ℕ). old.held (page_key s ImageSpace page)) (sym one.segment) ∙ bytes) in
+          apart (one_image (subst (λ (b : List ℕ). IsNodePage (base_nodes one.number one.image one.relation) page b held.node) same held.at.is) is.is))
 
   -- its pages hold its nodes alone
   of_fresh : (number : ℕ) (other : ImageEntry) (relation : RelationEntry) → relation.segment ≡ move.relation.segment → (page : ℕ) (node : Node) → IsNodeAt new.held (base_nodes number other relation) page node → IsIn fresh page → number ≡ k

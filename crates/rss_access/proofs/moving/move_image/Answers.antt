@@ -5,12 +5,16 @@ use Rattle.std.proofs.Math.Logic.{∥∥₁_map}
 use Rattle.std.proofs.lemmas.Option.{same_Some}
 use Rattle.rss_base.specs.Listings.{Listing, image_at}
 use Rattle.rss_base.specs.declared.image.ImageEntry.{ImageEntry}
+use Rattle.rss_base.specs.declared.relation.RelationEntry.{RelationEntry}
 use Rattle.rss_base.proofs.Steps.{among, done, fails}
+use Rattle.rss_image.specs.declared.image.Image.{Image}
+use Rattle.rss_entries.specs.Images.{image_of, key_of}
+use Rattle.rss_entries.specs.Moving.{KeyKinds}
 use Rattle.rss_access.specs.declared.edit.TupleChange.{TupleChange}
 use Rattle.rss_access.specs.Changes.{number_told}
 use Rattle.rss_access.specs.Edits.{told_by}
 use Rattle.rss_access.specs.Moved.{IsImageOf}
-use Rattle.rss_access.proofs.ImageMoves.{number_lent, tid_lent, held_low, was_given, next_given, own_relation, its_pages, may_be_moved, shows_one_more, nodes_one_more}
+use Rattle.rss_access.proofs.ImageMoves.{Passes, number_lent, tid_lent, held_low, was_given, next_given, own_relation, its_pages, may_be_moved, shows_one_more, nodes_one_more}
 use Rattle.rss_access.proofs.Looking.{key_width_passed}
 use Rattle.rss_access.proofs.moving.move_image.Goals as goal
 
@@ -31,13 +35,18 @@ move_entry-requires-clause-next g c =
 its_relation : {listing : Listing} {number : ℕ} {image : ImageEntry} (change : TupleChange) → image_at listing number ≡ Some image → IsImageOf listing number change.number → image.relation ≡ number_told (told_by change)
 its_relation change at of = ap (λ (e : ImageEntry). e.relation) (same_Some _ _ (sym at ∙ of.at)) ∙ of.of ∙ sym (number_lent change)
 
+-- what the move is given for it
+its_passes : {listing : Listing} {number : ℕ} {image : ImageEntry} {relation : RelationEntry} {key : KeyKinds} {passed : Image} (change : TupleChange) → image_at listing number ≡ Some image → IsImageOf listing number change.number
+    → key ≡ key_of image relation → passed ≡ image_of number image relation → Passes (told_by change) number image relation key passed change.tid
+its_passes change at of key_is image_is = record { of = its_relation change at of; key_is = key_is; image_is = image_is; tid_is = tid_lent change }
+
 pub move_entry-requires-clause-may : goal.move_entry-requires-clause-may
 move_entry-requires-clause-may g c = λ disk values others spelled _.
     let listed = c.image_of-image.ensures.listed in
     let holds = g.met.P.Pages.holds c.args.pages.now disk in
     ∥∥₁_map (c.requires.may disk) (λ may. may_be_moved listed.at.at listed.at.within
     (record { before = c.was.ensures; after = c.next.ensures })
-    (record { of = its_relation c.args.change listed.at.at c.requires.of; key_is = c.key_fields-key.ensures.is listed.image listed.relation listed.at; image_is = c.image_of-image.ensures.is listed.image listed.relation listed.at; tid_is = tid_lent c.args.change })
+    (its_passes c.args.change listed.at.at c.requires.of (c.key_fields-key.ensures.is listed.image listed.relation listed.at) (c.image_of-image.ensures.is listed.image listed.relation listed.at))
     (held_low (g.P.Pages.view c.args.pages.now) c.slots-slots.result (omega arith) (sym c.slots-slots.ensures) holds (g.met.P.Pages.allowed c.args.pages.now))
     may.move may.tables may.shows holds values spelled)
 
@@ -49,7 +58,7 @@ returns-clause-moves g c = λ disk move tables shows.
     let new_low = held_low (g.P.Pages.view c.move_entry.new.pages) c.slots-slots.result (omega arith) (step.passes.slots ∙ sym c.slots-slots.ensures) (g.met.P.Pages.holds c.move_entry.new.pages (step.passes.leaves.told.0 disk)) (g.met.P.Pages.allowed c.move_entry.new.pages) in
     shows_one_more listed.at.at listed.at.within
     (record { before = c.was.ensures; after = c.next.ensures })
-    (record { of = its_relation c.args.change listed.at.at c.requires.of; key_is = c.key_fields-key.ensures.is listed.image listed.relation listed.at; image_is = c.image_of-image.ensures.is listed.image listed.relation listed.at; tid_is = tid_lent c.args.change })
+    (its_passes c.args.change listed.at.at c.requires.of (c.key_fields-key.ensures.is listed.image listed.relation listed.at) (c.image_of-image.ensures.is listed.image listed.relation listed.at))
     low move tables shows disk new_low (g.met.P.Pages.are_counted c.args.pages.now) (g.met.P.Pages.are_counted c.move_entry.new.pages) step
     c.move_entry.new.image c.in_ok-move_entry.ensures.of (c.in_ok-move_entry.ensures.moves disk) (c.reroot.ensures listed.image listed.at.at)
 
@@ -61,7 +70,7 @@ returns-clause-nodes g c = λ disk move tables shows.
     let new_low = held_low (g.P.Pages.view c.move_entry.new.pages) c.slots-slots.result (omega arith) (step.passes.slots ∙ sym c.slots-slots.ensures) (g.met.P.Pages.holds c.move_entry.new.pages (step.passes.leaves.told.0 disk)) (g.met.P.Pages.allowed c.move_entry.new.pages) in
     nodes_one_more listed.at.at listed.at.within
     (record { before = c.was.ensures; after = c.next.ensures })
-    (record { of = its_relation c.args.change listed.at.at c.requires.of; key_is = c.key_fields-key.ensures.is listed.image listed.relation listed.at; image_is = c.image_of-image.ensures.is listed.image listed.relation listed.at; tid_is = tid_lent c.args.change })
+    (its_passes c.args.change listed.at.at c.requires.of (c.key_fields-key.ensures.is listed.image listed.relation listed.at) (c.image_of-image.ensures.is listed.image listed.relation listed.at))
     low move tables shows disk new_low (g.met.P.Pages.are_counted c.args.pages.now) (g.met.P.Pages.are_counted c.move_entry.new.pages) step
     c.move_entry.new.image c.in_ok-move_entry.ensures.of (c.in_ok-move_entry.ensures.moves disk) (c.reroot.ensures listed.image listed.at.at) (c.in_ok-move_entry.ensures.made disk)
 
