@@ -14,3 +14,4 @@ pub mod Places
 pub mod Telling
 pub mod Owners
 pub mod Nexts
+pub mod Built

@@ -3,3 +3,4 @@ pub mod Moving
 pub mod Images
 pub mod Keyed
 pub mod Seeking
+pub mod Building
