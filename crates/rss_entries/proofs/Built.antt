@@ -1,5 +1,5 @@
 -- An image that gets pairs which rise, one after another.
-use Rattle.std.proofs.Common.{◌≡◌, ◌≢◌, ◌<◌, ◌≤◌, ◌+◌, inl, inr, ⊎_elim, ℕ, zero, suc, Bool, true, false, List, [], ◌∷◌, ◌++◌, length, take, map, get_or, max, None, Some, sym, ◌∙◌, ap, subst, arith}
+use Rattle.std.proofs.Common.{◌≡◌, ◌≢◌, ◌<◌, ◌≤◌, ◌+◌, ⊎_elim, ℕ, zero, suc, true, false, List, [], ◌∷◌, ◌++◌, length, take, map, get_or, max, None, Some, sym, ◌∙◌, ap, subst, arith}
 use Rattle.std.specs.Ordering.{nat_cmp, is_lt, ordering_reverse}
 use Rattle.std.specs.Cmp.Lexicographic.{slice_cmp}
 use Rattle.std.proofs.lemmas.List.{length-map, length-take-le, map_more}
@@ -14,7 +14,7 @@ use Rattle.rss_levels.proofs.Pages.{own_back}
 use Rattle.rss_node.specs.Pairs.{pair_bytes}
 use Rattle.rss_node.specs.declared.pair.Nodes.{Nodes}
 use Rattle.rss_image.specs.Trees.{cells_of, KeepsPages, LosesNoPage}
-use Rattle.rss_image.specs.Images.{nodes_of, pages_of, pairs_most, page_bound, ImageTree, Becomes, MayPut, HasSpare, PutsPair, PutsMade, StartsMade}
+use Rattle.rss_image.specs.Images.{nodes_of, pages_of, pairs_most, page_bound, Becomes, MayPut, HasSpare, PutsPair, PutsMade, StartsMade}
 use Rattle.rss_image.specs.declared.image.Image.{Image}
 use Rattle.rss_image.proofs.Putting.{spell_one}
 use Rattle.rss_model.proofs.Saving.{more_bound}

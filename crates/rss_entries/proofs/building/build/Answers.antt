@@ -3,7 +3,7 @@ use Rattle.std.proofs.lemmas.List.{take_all}
 use Rattle.rss_base.specs.declared.key.PageKey.{PageKey}
 use Rattle.rss_base.specs.declared.key.Space.TheVariants.{Image as ImageSpace}
 use Rattle.rss_base.specs.Steps.{pages_in}
-use Rattle.rss_base.proofs.Steps.{then, then_call, among, within, fails, widens}
+use Rattle.rss_base.proofs.Steps.{then, then_call, within, fails, widens}
 use Rattle.rss_node.specs.declared.pair.Nodes.{Nodes}
 use Rattle.rss_image.specs.Images.{nodes_of, Becomes}
 use Rattle.rss_image.specs.declared.image.Image.{Image}
