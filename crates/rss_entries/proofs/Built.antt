@@ -1,5 +1,5 @@
 -- An image that gets pairs which rise, one after another.
-use Rattle.std.proofs.Common.{◌≡◌, ◌≢◌, ◌<◌, ◌≤◌, ◌+◌, ⊎_elim, ℕ, zero, suc, true, false, List, [], ◌∷◌, ◌++◌, length, take, map, get_or, max, None, Some, sym, ◌∙◌, ap, subst, arith}
+use Rattle.std.proofs.Common.{◌≡◌, ◌≢◌, ◌<◌, ◌≤◌, ◌+◌, ⊎_elim, ℕ, zero, suc, true, false, List, [], ◌∷◌, ◌++◌, length, take, map, get_or, None, Some, sym, ◌∙◌, ap, subst, arith}
 use Rattle.std.specs.Ordering.{nat_cmp, is_lt, ordering_reverse}
 use Rattle.std.specs.Cmp.Lexicographic.{slice_cmp}
 use Rattle.std.proofs.lemmas.List.{length-map, length-take-le, map_more}
@@ -103,11 +103,9 @@ module _ (image : Image) {old between : PagesView} {own : List ℕ} {few : List 
 
 -- ---- what was built
 
--- a new image is, and has a level
-pub starts_built : (image : Image) {old new : PagesView} (levels : ℕ) → levels ≡ max image.levels 1 → Becomes image image old new [] [] → StartsMade image new → Built (record image { levels = levels }) old new []
-starts_built image {old = old} {new = new} levels is becomes starts =
-    let same : levels ≡ image.levels = omega (arith, is, becomes.tree.tree.high) in
-    subst (λ (n : ℕ). Built (record image { levels = n }) old new []) (sym same) (record { becomes = becomes; made = λ good zeros none. starts good zeros })
+-- a new image without pairs
+pub starts_built : {image : Image} {old new : PagesView} → Becomes image image old new [] [] → StartsMade image new → Built image old new []
+starts_built becomes starts = record { becomes = becomes; made = λ good zeros none. starts good zeros }
 
 module _ {image : Image} {old between : PagesView} {pairs : List (List ℕ)} (built : Built image old between pairs) where
   pub spare_next : (width count : ℕ) → image.width ≡ width → length pairs + 1 ≤ count → page_bound width count ≤ old.spare → HasSpare image between

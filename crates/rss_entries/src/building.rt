@@ -6,7 +6,7 @@ ghost use Rattle.rss_base.specs.Steps.{PagesCall, pages_in};
 ghost use Rattle.rss_base.specs.declared.key.Space.TheVariants.{Image as ImageSpace};
 ghost use Rattle.rss_node.specs.Nodes.{AreNodes};
 ghost use Rattle.rss_image.specs.Images.{nodes_of, page_bound, pairs_most, Becomes};
-ghost use Rattle.rss_entries.specs.Building.{pair_list, AreRising, BuildsMade, Built};
+ghost use Rattle.rss_entries.specs.Building.{pair_list, AreRising, BuildsMade};
 
 use rss_base::{Key, PageFault, Pages, Tid};
 use rss_image::Image;
@@ -36,31 +36,12 @@ pub fn build<P: Pages>(
     ensures did { PagesCall (pages_in segment ImageSpace) (255 * length pairs.now)
         (1022 * length pairs.now + 2) (P.view pages.old) (P.view pages.new) result }
 {
-    let mut image = start(pages, segment, number, width)?;
+    let mut image = Image::create(pages, segment, number, width)?;
     for (key, tid) in pairs {
         is_byte_high(image);
         image.insert(pages, key, *tid)?;
     }
     Ok(image)
-}
-
-/// An image without pairs. That it has a level is not said by what creates it, and is seen to here.
-fn start<P: Pages>(pages: &mut P, segment: u8, number: u8, width: u8) -> Result<Image, PageFault>
-    requires of { AreNodes (record { segment = segment; image = number; width = width }) }
-    requires room { 0 < (P.view pages.old).spare }
-    ensures is { IfOk result (λ image. nodes_of image
-        ≡ record { segment = segment; image = number; width = width }) }
-    ensures low { IfOk result (λ image. 1 ≤ image.levels) }
-    ensures built { IfOk result (λ image. IsTold (P.view pages.old).disk
-        → Built image (P.view pages.old) (P.view pages.new) []) }
-    ensures did { PagesCall (pages_in segment ImageSpace) 0 2
-        (P.view pages.old) (P.view pages.new) result }
-{
-    let image = Image::create(pages, segment, number, width)?;
-    Ok(Image {
-        levels: image.levels.max(1),
-        ..image
-    })
 }
 
 /// A byte has an image's levels, which bounds how many pages are asked for.

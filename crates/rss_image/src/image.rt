@@ -58,6 +58,7 @@ impl Image {
         requires room { 0 < (P.view pages.old).spare }
         ensures is { IfOk result (λ image. nodes_of image
             ≡ record { segment = segment; image = number; width = width }) }
+        ensures low { IfOk result (λ image. 1 ≤ image.levels) }
         ensures created { IfOk result (λ image. IsTold (P.view pages.old).disk
             → Becomes image image (P.view pages.old) (P.view pages.new) [] []) }
         ensures made { IfOk result (λ image. IsTold (P.view pages.old).disk

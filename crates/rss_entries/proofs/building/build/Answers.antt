@@ -8,7 +8,7 @@ use Rattle.rss_node.specs.declared.pair.Nodes.{Nodes}
 use Rattle.rss_image.specs.Images.{nodes_of, Becomes}
 use Rattle.rss_image.specs.declared.image.Image.{Image}
 use Rattle.rss_entries.specs.Building.{pair_list, BuildsMade, Built}
-use Rattle.rss_entries.proofs.Built.{may_put_next, spare_next, built_next, below_next, list_more, list_long}
+use Rattle.rss_entries.proofs.Built.{starts_built, may_put_next, spare_next, built_next, below_next, list_more, list_long}
 use Rattle.rss_entries.proofs.building.build.Goals as goal
 
 -- the pages of an image are those of its segment
@@ -20,7 +20,7 @@ loop-key-init g c = record {
   of = c.in_ok-image.ensures.is;
   low = c.in_ok-image.ensures.low;
   step = c.in_ok-image.ensures.did.step;
-  built = c.in_ok-image.ensures.built;
+  built = λ told. starts_built (c.in_ok-image.ensures.created told) (c.in_ok-image.ensures.made told);
 }
 
 pub insert-requires-clause-may : goal.insert-requires-clause-may
