@@ -15,3 +15,5 @@ pub mod Telling
 pub mod Owners
 pub mod Nexts
 pub mod Built
+pub mod NewImage
+pub mod LostImage
