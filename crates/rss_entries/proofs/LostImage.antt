@@ -1,11 +1,11 @@
 -- Where an image was destroyed, the pages hold one image less.
-use Rattle.std.proofs.Common.{◌≡◌, ◌≢◌, inl, inr, ⊎_elim, ℕ, true, List, [], refl, sym, ◌∙◌, ap, subst}
+use Rattle.std.proofs.Common.{◌≡◌, ◌≢◌, ◌+◌, length, arith, inl, inr, ⊎_elim, ℕ, true, List, refl, sym, ◌∙◌, ap, subst}
 use Rattle.std.specs.Prelude.{None, Contains, is_some}
 use Rattle.std.proofs.lemmas.Bool.{true≢false}
 use Rattle.std.proofs.lemmas.Option.{same_Some}
 use Rattle.rss_base.specs.Nodes.{IsNodePage}
-use Rattle.rss_base.specs.Paged.{page_key}
-use Rattle.rss_base.specs.Steps.{PagesView}
+use Rattle.rss_base.specs.Paged.{mapped_of, page_key}
+use Rattle.rss_base.specs.Steps.{PagesView, PagesStep, AreCounted, pages_in}
 use Rattle.rss_base.specs.Listings.{Listing, ListingFits}
 use Rattle.rss_base.specs.declared.key.PageKey.{PageKey}
 use Rattle.rss_base.specs.declared.key.Space.TheVariants.{Image as ImageSpace}
@@ -14,7 +14,8 @@ use Rattle.rss_base.specs.declared.relation.RelationEntry.{RelationEntry}
 use Rattle.rss_levels.specs.Entries.{IsIn}
 use Rattle.rss_levels.proofs.Pages.{in_or_not}
 use Rattle.rss_image.specs.Emptied.{Gives}
-use Rattle.rss_image.specs.Images.{DestroysImage, nodes_of as image_nodes, pages_of}
+use Rattle.rss_image.specs.Images.{DestroysImage, ImageTree, nodes_of as image_nodes, pages_of}
+use Rattle.rss_image.specs.declared.image.Image.{Image}
 use Rattle.rss_tuple.proofs.Sets.{none_held}
 use Rattle.rss_model.specs.Tables.{Tables}
 use Rattle.rss_model.specs.Store.{IsListedImage, SpellsImage, SpellsImages, nodes_of}
@@ -24,6 +25,7 @@ use Rattle.rss_entries.specs.Images.{image_of}
 use Rattle.rss_entries.proofs.Fitting.{fitting_nodes}
 use Rattle.rss_entries.proofs.Kept.{KeepsNodes, HoldsNode, image_node, one_image}
 use Rattle.rss_entries.proofs.NewImage.{TouchesImages, heap_kept, image_key, segment_kept, shows_still}
+use Rattle.rss_entries.proofs.Places.{places_same}
 use Rattle.rss_entries.proofs.Shown.{byte_list}
 use Rattle.rss_entries.proofs.Showing.{same_entry, at_same}
 use Rattle.rss_entries.proofs.Standing.{IsRowed, rowed, contained}
@@ -93,3 +95,8 @@ module _ {old new : PagesView} {listing : Listing} {tables : Tables} (number : �
         let same = same_entry listed at refl in
         gone pages (at_same (λ n e r. SpellsImage old.held tables n e r pages) refl same spells) key space (segment ∙ ap (λ (r : RelationEntry). r.segment) same.relation) among;
   }
+
+-- so many image pages fewer as the image has
+pub lost_image_counted : {segment asks outs : ℕ} (old new : PagesView) (step : PagesStep (pages_in segment ImageSpace) asks outs old new) {image : Image} {pairs : List (List ℕ)} → AreCounted old → AreCounted new → DestroysImage image old new
+    → (tree : ImageTree image old.held pairs) → mapped_of new.mapped ImageSpace new.slots + length (pages_of tree) ≡ mapped_of old.mapped ImageSpace old.slots
+lost_image_counted {segment = segment} old new step {pairs = pairs} one two destroys tree = omega (arith, places_same segment old new one two step, (destroys pairs tree).spare)

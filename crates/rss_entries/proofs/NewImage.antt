@@ -1,15 +1,16 @@
 -- Where an image was built in pages that weren't mapped, the pages hold one image more.
-use Rattle.std.proofs.Common.{◌≡◌, inl, inr, ⊎_elim, ◌⊎◌, ℕ, true, List, [], refl, sym, ◌∙◌, ap, subst}
+use Rattle.std.proofs.Common.{◌≡◌, ◌≢◌, ◌+◌, length, arith, inl, inr, ⊎_elim, ◌⊎◌, ℕ, true, List, [], refl, sym, ◌∙◌, ap}
 use Rattle.std.specs.Prelude.{None, Contains, is_some}
 use Rattle.std.proofs.lemmas.Bool.{true≢false}
 use Rattle.rss_base.specs.DiskRule.{IsTold}
-use Rattle.rss_base.specs.Paged.{Held, page_key}
-use Rattle.rss_base.specs.Steps.{PagesView, PagesStep, pages_in}
+use Rattle.rss_base.specs.Paged.{Held, mapped_of, page_key}
+use Rattle.rss_base.specs.Steps.{PagesView, PagesStep, AreCounted, pages_in}
 use Rattle.rss_base.specs.Listings.{Listing}
 use Rattle.rss_base.specs.declared.name.Name.{Name}
 use Rattle.rss_base.specs.declared.tid.Tid.{Tid}
 use Rattle.rss_base.specs.declared.item.Item.TheVariants.{Tuple as TupleItem}
 use Rattle.rss_base.specs.declared.key.PageKey.{PageKey}
+use Rattle.rss_base.specs.declared.key.Space.{Space}
 use Rattle.rss_base.specs.declared.key.Space.TheVariants.{Home, Overflow, Image as ImageSpace}
 use Rattle.rss_base.specs.declared.image.ImageEntry.{ImageEntry}
 use Rattle.rss_base.specs.declared.relation.RelationEntry.{RelationEntry}
@@ -17,14 +18,17 @@ use Rattle.rss_page.specs.Slotted.{IsHeapKey}
 use Rattle.rss_levels.specs.Entries.{IsIn}
 use Rattle.rss_node.specs.Pairs.{IsSpelledTid}
 use Rattle.rss_image.specs.Images.{Becomes, pages_of}
+use Rattle.rss_image.specs.declared.image.Image.{Image}
 use Rattle.rss_tuple.proofs.Sets.{none_held}
 use Rattle.rss_model.specs.Tables.{Tables, content}
-use Rattle.rss_model.specs.Store.{IsListedImage, IsReached, SpellsImage, SpellsImages, nodes_of}
+use Rattle.rss_model.specs.Store.{IsReached, SpellsImage, SpellsImages, nodes_of}
 use Rattle.rss_model.proofs.ImageMade.{KeepsHeap, HoldsNewImage}
 use Rattle.rss_model.proofs.LogLists.{by_same, by_test}
+use Rattle.rss_model.proofs.MappedKeys.{same_mapped_of}
 use Rattle.rss_model.proofs.RelationLists.{entry_there}
 use Rattle.rss_entries.specs.Images.{image_of}
 use Rattle.rss_entries.proofs.Kept.{KeepsNodes, image_kept}
+use Rattle.rss_entries.proofs.Places.{places_same}
 use Rattle.rss_entries.proofs.Shown.{byte_list}
 use Rattle.rss_entries.proofs.Standing.{AreLow, AreSpelledIn, StandsIn, stands_in, containing}
 
@@ -122,3 +126,17 @@ module _ {old new : PagesView} {listing : Listing} {tables : Tables} (number : �
     others = λ k other its at. let shown = images.each k other its at in (shown.0, still k other its shown.0 shown.1);
     reached = reached;
   }
+
+-- ---- how many pages there are
+
+module _ {segment asks outs : ℕ} (old new : PagesView) (step : PagesStep (pages_in segment ImageSpace) asks outs old new) where
+  -- as many pages of each other space as before
+  pub others_counted : (space : Space) → space ≢ ImageSpace → mapped_of new.mapped space new.slots ≡ mapped_of old.mapped space old.slots
+  others_counted space other =
+      ap (mapped_of new.mapped space) step.passes.slots
+      ∙ same_mapped_of old.mapped new.mapped space old.slots (λ s n. step.mapped_off (page_key s space n) (λ touched. other (ap (λ (k : PageKey). k.space) touched)))
+
+  -- and so many image pages more as a new image has
+  pub new_image_counted : {image : Image} {pairs : List (List ℕ)} → AreCounted old → AreCounted new → (becomes : Becomes image image old new [] pairs)
+      → mapped_of new.mapped ImageSpace new.slots ≡ mapped_of old.mapped ImageSpace old.slots + length (pages_of becomes.tree)
+  new_image_counted one two becomes = omega (arith, places_same segment old new one two step, becomes.spare)
