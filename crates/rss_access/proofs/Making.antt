@@ -56,7 +56,7 @@ use Rattle.rss_access.proofs.Between.{changes_looked, changes_imaged, heap_two, 
 use Rattle.rss_access.proofs.Imaged.{images_kept, images_counted, images_beside, nodes_kept, nodes_counted}
 use Rattle.rss_access.proofs.Recounting.{same_or_other}
 use Rattle.rss_entries.proofs.Places.{places_same}
-use Rattle.rss_access.proofs.Rerooting.{rerooted_itself, recounts_rerooted, same_images}
+use Rattle.rss_access.proofs.Rerooting.{rerooted_itself, recounts_rerooted}
 use Rattle.rss_access.proofs.Showing.{HasMove, told_move, move, can_move, tuples_after, few_after}
 
 -- ---- the change that is lent
@@ -256,10 +256,10 @@ module _ (change : TupleChange) {first mid put : PagesView} {before : CatalogVie
       })
 
   -- so the entries of the tuple can be moved
-  pub may_move : IsTold put.disk → HasImageOf before.listing change.number → ∥ MayMoveAll (both put before) (told_by change) ∥₁
-  may_move told_put image =
+  pub may_move : IsTold put.disk → ∥ MayMoveAll (both put before) (told_by change) ∥₁
+  may_move told_put =
       let told = put_step.passes.leaves.told.1 told_put in
-      ∥∥₁_map (can.tables told (record { number = image.number; image = image.image; at = image.at }))
+      ∥∥₁_map (can.tables told)
       (λ has. record { move = move (told_by change) relation listed (found_told told) may small has; tables = has.tables; shows = shows_spelled told has })
 
   module _ {moved : PagesView} {between after : CatalogView} (counted_moved : AreCounted moved) (moves : IsTold put.disk → MovesAll (both put before) (both moved between) (told_by change)) (stay : IsTold put.disk → AllNodesStay (both put before) (both moved between) (told_by change)) (rerooted : Rerooted before between) (step : PagesStep (own_image_pages before.listing change.number) images_cost images_cost put moved) (count : ℕ) (count_is_so : count ≡ count_after (told_by change) relation.live) (may_count : MayCount (told_by change) relation.live)
@@ -351,5 +351,5 @@ module _ (change : TupleChange) {first mid put : PagesView} {before : CatalogVie
     pub made : Makes {T = Unit {0}} (told_by change) (both first before) (both moved after) (Ok tt)
     made = done_makes tt places all_steps alters (record {
       heaps = λ told. (alters.changes.sets (all_steps.passes.leaves.told.1 told)).heaps;
-      tables = λ told image. let told_first = all_steps.passes.leaves.told.1 told in ∥∥₁_map (can.tables told_first (same_images counts.images image)) (has_still told_first);
+      tables = λ told. let told_first = all_steps.passes.leaves.told.1 told in ∥∥₁_map (can.tables told_first) (has_still told_first);
     })

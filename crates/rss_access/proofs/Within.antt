@@ -7,11 +7,10 @@ use Rattle.std.proofs.lemmas.List.Elements.{recursion_from_All, All-from_recursi
 use Rattle.rss_base.specs.Nodes.{NodeEntry}
 use Rattle.rss_model.specs.Store.{AreNodesWithin}
 use Rattle.rss_access.specs.Changes.{AccessView, HasTables}
-use Rattle.rss_access.specs.Written.{HasImage}
 
--- pages with an image have its identifiers in the store
-pub nodes_within : {at : AccessView} → (HasImage at.catalog.listing → ∥ HasTables at ∥₁) → AreNodesWithin at.pages.slots at.pages.held at.catalog.listing
+-- so it is where pages spell tables
+pub nodes_within : {at : AccessView} → ∥ HasTables at ∥₁ → AreNodesWithin at.pages.slots at.pages.held at.catalog.listing
 nodes_within {at = at} has number image relation listed page node is =
     All-from_recursion (λ (entry : NodeEntry). entry.tid.page < at.pages.slots) node.entries
-    (∥∥₁_elim (has (record { number = number; image = image; at = listed.at })) (AllByRecursion-prop (λ (entry : NodeEntry). entry.tid.page < at.pages.slots) (λ entry. le_prop) node.entries)
+    (∥∥₁_elim has (AllByRecursion-prop (λ (entry : NodeEntry). entry.tid.page < at.pages.slots) (λ entry. le_prop) node.entries)
     (λ tables. recursion_from_All (λ (entry : NodeEntry). entry.tid.page < at.pages.slots) node.entries (tables.nodes number image relation listed page node is)))

@@ -27,7 +27,7 @@ use Rattle.rss_model.specs.Store.{SpellsTables, SpellsImages, AreNodesWithin, pl
 use Rattle.rss_entries.specs.Rooms.{images_room, image_places, images_cost}
 use Rattle.rss_entries.specs.Images.{AreTuples, TupleMove, CanMove, after_move}
 use Rattle.rss_access.specs.Tuples.{body_at, ChangesTuple}
-use Rattle.rss_access.specs.Written.{heap_now, HasImage, content_of}
+use Rattle.rss_access.specs.Written.{heap_now, content_of}
 use Rattle.rss_access.specs.Relisted.{Rerooted, Recounted}
 
 -- ---- a change, as it is told
@@ -135,10 +135,10 @@ pub record HasTables (at : AccessView) : Type 0 where
   pub few : (relation : Name) → tuple_count tables.contents relation ≤ tuple_limit
   pub nodes : AreNodesWithin at.pages.slots at.pages.held at.catalog.listing
 
--- On a device that tells its contents, the pages are those of a tuple store, and where an image is listed, they spell tables.
+-- On a device that tells its contents, the pages are those of a tuple store, and spell tables.
 pub record CanAlter (at : AccessView) : Type 0 where
   pub heaps : IsTold at.pages.disk → AreHeaps at.pages
-  pub tables : IsTold at.pages.disk → HasImage at.catalog.listing → ∥ HasTables at ∥₁
+  pub tables : IsTold at.pages.disk → ∥ HasTables at ∥₁
 
 -- There is room for two pages more, and for a pair more in each image of the relation.
 abbrev pub HasRoom : AccessView → ℕ → Type 0

@@ -10,7 +10,6 @@ ghost use Rattle.rss_base.specs.declared.relation.RelationEntry.{RelationEntry a
 ghost use Rattle.rss_tuple.specs.Calls.{IsSegment};
 ghost use Rattle.rss_tuple.specs.Checked.{pages_of};
 ghost use Rattle.rss_tuple.specs.Heaps.{AreHeaps};
-ghost use Rattle.rss_catalog.specs.Catalogs.{HasImageOf};
 ghost use Rattle.rss_entries.specs.Rooms.{images_cost};
 ghost use Rattle.rss_model.specs.Fits.{IsIdentifier};
 ghost use Rattle.rss_access.specs.Changes.{IsTupleRecord, CanAlter, HasRoom, number_told, body_before, body_after, reversed};
@@ -177,7 +176,6 @@ fn move_entries<P: Pages>(
         → relation_at catalog.old.listing change.number ≡ Some relation
         → AreValuesOf relation.fields (told_by change) }
     requires may { IsTold (P.view pages.old).disk
-        → HasImageOf catalog.old.listing change.number
         → ∥ MayMoveAll (both (P.view pages.old) catalog.old) (told_by change) ∥₁ }
     ensures moves { OnOk result (IsTold (P.view pages.old).disk
         → MovesAll (both (P.view pages.old) catalog.old) (both (P.view pages.new) catalog.new)

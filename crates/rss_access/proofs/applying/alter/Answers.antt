@@ -16,8 +16,8 @@ pub put-requires-clause-short : goal.put-requires-clause-short
 put-requires-clause-short g c = short_body c.relation-relation.result.now c.relation-relation.ensures.safe (told_by c.args.change) (may_become_as refl c.as_slice.ensures (c.may_become.ensures.yes c.if-not-may_become.false)).values
 
 pub move_entries-requires-clause-may : goal.move_entries-requires-clause-may
-move_entries-requires-clause-may g c = λ told image. may_move c.args.change c.relation-relation.ensures.is (g.met.P.Pages.are_counted c.args.tuples.now.pages) (g.met.P.Pages.are_counted c.put.new.tuples.pages) c.in_ok-is_found.ensures.did.step (c.in_ok-is_found.ensures.found c.if-not-branch.false) (c.has_room.ensures.room c.if-not-has_room.false)
-    (may_become_as c.slots.ensures c.as_slice.ensures (c.may_become.ensures.yes c.if-not-may_become.false)) (omega (arith, c.slots.ensures)) c.requires c.in_ok-put.ensures.did.step c.in_ok-put.ensures.changes told image
+move_entries-requires-clause-may g c = λ told. may_move c.args.change c.relation-relation.ensures.is (g.met.P.Pages.are_counted c.args.tuples.now.pages) (g.met.P.Pages.are_counted c.put.new.tuples.pages) c.in_ok-is_found.ensures.did.step (c.in_ok-is_found.ensures.found c.if-not-branch.false) (c.has_room.ensures.room c.if-not-has_room.false)
+    (may_become_as c.slots.ensures c.as_slice.ensures (c.may_become.ensures.yes c.if-not-may_become.false)) (omega (arith, c.slots.ensures)) c.requires c.in_ok-put.ensures.did.step c.in_ok-put.ensures.changes told
 
 -- ---- where it is refused
 

@@ -5,7 +5,7 @@ use Rattle.rss_access.proofs.Making.{none_moves}
 use Rattle.rss_access.proofs.applying.move_entries.Goals as goal
 
 pub move_images-requires-clause-may : goal.move_images-requires-clause-may
-move_images-requires-clause-may g c = λ told. c.requires.may told (c.has_image_of.ensures.0 c.if-has_image_of.true)
+move_images-requires-clause-may g c = c.requires.may
 
 pub returns-in_err-move_images-clause-did : goal.returns-in_err-move_images-clause-did
 returns-in_err-move_images-clause-did g c =
