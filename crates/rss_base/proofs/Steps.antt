@@ -2,17 +2,19 @@
 use Rattle.std.proofs.Common.{◌≡◌, ◌⊎◌, inl, inr, ⊎_elim, List, Option, Some, None, ℕ, ◌+◌, ◌≤◌, Bool, true, false, refl, sym, ◌∙◌, ap, subst, arith}
 use Rattle.std.specs.Prelude.{Result, Ok, Err, IsErrAnd}
 use Rattle.std.proofs.lemmas.Result.{err_from_is_err_and}
-use Rattle.std.proofs.lemmas.Bool.{cond-true, cond-false}
+use Rattle.std.proofs.lemmas.Bool.{cases_Bool, cond-true, cond-false, true≢false}
 use Rattle.rss_base.specs.DiskRule.{IsTold}
 use Rattle.rss_base.specs.Paged.{AreAmong, Mapped, Held, HasPageCause, is_same, with_mapped, with_page, page_key}
 use Rattle.rss_base.specs.Notes.{Noted, with_note}
-use Rattle.rss_base.specs.Steps.{PagesView, Keys, no_page, only, pages_in, WritesPage, TakesPage, GivesPage, NotesPage, PassesOn, PagesStep, PagesCall}
+use Rattle.rss_base.specs.Devices.{OnlyReads}
+use Rattle.rss_base.specs.Steps.{PagesView, Keys, NoneChanged, no_page, only, pages_in, WritesPage, TakesPage, GivesPage, NotesPage, PassesOn, PagesStep, PagesCall, device_below}
 use Rattle.rss_base.specs.declared.fault.PageFault.{PageFault}
 use Rattle.rss_base.specs.declared.fault.PageFault.TheVariants.{Device as DeviceFailed, Damaged, NoMemory}
 use Rattle.rss_base.specs.declared.key.PageKey.{PageKey}
 use Rattle.rss_base.specs.declared.key.Space.{Space}
 use Rattle.rss_base.proofs.Calls.{leaves_then, leaves_rests}
 use Rattle.rss_base.proofs.Keys.{is_same-itself, is_same-other}
+use Rattle.rss_base.proofs.Moments.{reads_none, reads_then}
 
 -- ---- what is passed on
 
@@ -54,10 +56,18 @@ passes_within few_asks few_outs passes = record {
 
 -- ---- steps
 
+-- where no page was touched, none has changed
+still_none : {touched : Keys} (old new : PagesView) → ((key : PageKey) → new.changed key ≡ true → (old.changed key ≡ true) ⊎ touched key) → ((key : PageKey) → touched key → ⊥) → NoneChanged old → NoneChanged new
+still_none old new changed off none key = elim (cases_Bool (new.changed key)) [
+  | inl is ↦ ⊎_elim (λ was. absurd (true≢false (sym was ∙ none key))) (λ there. absurd (off key there)) (changed key is)
+  | inr not ↦ not
+]
+
 -- nothing is done
 pub rests : {touched : Keys} {asks outs : ℕ} (view : PagesView) → PagesStep touched asks outs view view
 rests view = record {
   passes = passes_nothing view;
+  unwritten = λ off none. reads_none (device_below view);
   changed_off = λ key is. inl is;
   mapped_off = λ key off. refl;
   held_off = λ told key off. refl;
@@ -66,8 +76,9 @@ rests view = record {
 
 -- one step after another
 pub then : {touched : Keys} {asks asks_then outs outs_then : ℕ} {old mid new : PagesView} → PagesStep touched asks outs old mid → PagesStep touched asks_then outs_then mid new → PagesStep touched (asks + asks_then) (outs + outs_then) old new
-then one two = record {
+then {old = old} {mid = mid} one two = record {
   passes = passes_then one.passes two.passes;
+  unwritten = λ off none. reads_then (one.unwritten off none) (two.unwritten off (still_none old mid one.changed_off off none));
   changed_off = λ key is. ⊎_elim (one.changed_off key) (λ there. inr there) (two.changed_off key is);
   mapped_off = λ key off. two.mapped_off key off ∙ one.mapped_off key off;
   held_off = λ told key off. two.held_off (one.passes.leaves.told.0 told) key off ∙ one.held_off told key off;
@@ -78,6 +89,7 @@ then one two = record {
 pub within : {touched more : Keys} {asks outs asks_now outs_now : ℕ} {old new : PagesView} → ((key : PageKey) → touched key → more key) → asks ≤ asks_now → outs ≤ outs_now → PagesStep touched asks outs old new → PagesStep more asks_now outs_now old new
 within is few_asks few_outs step = record {
   passes = passes_within few_asks few_outs step.passes;
+  unwritten = λ off none. step.unwritten (λ key there. off key (is key there)) none;
   changed_off = λ key there. ⊎_elim (λ before. inl before) (λ touched. inr (is key touched)) (step.changed_off key there);
   mapped_off = λ key off. step.mapped_off key (λ there. off (is key there));
   held_off = λ told key off. step.held_off told key (λ there. off (is key there));
@@ -135,6 +147,7 @@ module _ (key : PageKey) (old new : PagesView) where
 pub wrote : {T : Type 0} {key : PageKey} {bytes : List ℕ} {asks outs : ℕ} {old new : PagesView} (value : T) → PassesOn asks outs old new → ((other : PageKey) → new.changed other ≡ true → (old.changed other ≡ true) ⊎ (other ≡ key)) → WritesPage key bytes old new → PagesCall (only key) asks outs old new (Ok value)
 wrote {key = key} {bytes = bytes} {old = old} {new = new} value passes changed does = done value (record {
   passes = passes;
+  unwritten = λ off none. absurd (off key refl);
   changed_off = changed;
   mapped_off = λ other off. ap (λ (m : Mapped). m other) does.mapped;
   held_off = λ told. held_off-with key old new (Some bytes) (does.held told);
@@ -144,6 +157,7 @@ wrote {key = key} {bytes = bytes} {old = old} {new = new} value passes changed d
 pub took : {T : Type 0} {key : PageKey} {asks outs : ℕ} {old new : PagesView} (value : T) → PassesOn asks outs old new → ((other : PageKey) → new.changed other ≡ true → (old.changed other ≡ true) ⊎ (other ≡ key)) → TakesPage key old new → PagesCall (only key) asks outs old new (Ok value)
 took {key = key} {old = old} {new = new} value passes changed does = done value (record {
   passes = passes;
+  unwritten = λ off none. absurd (off key refl);
   changed_off = changed;
   mapped_off = mapped_off-with key old new true does.mapped;
   held_off = λ told. held_off-with key old new _ (does.held told);
@@ -153,6 +167,7 @@ took {key = key} {old = old} {new = new} value passes changed does = done value 
 pub gave : {T : Type 0} {key : PageKey} {asks outs : ℕ} {old new : PagesView} (value : T) → PassesOn asks outs old new → ((other : PageKey) → new.changed other ≡ true → (old.changed other ≡ true) ⊎ (other ≡ key)) → GivesPage key old new → PagesCall (only key) asks outs old new (Ok value)
 gave {key = key} {old = old} {new = new} value passes changed does = done value (record {
   passes = passes;
+  unwritten = λ off none. absurd (off key refl);
   changed_off = changed;
   mapped_off = mapped_off-with key old new false does.mapped;
   held_off = λ told. held_off-with key old new _ (does.held told);
@@ -163,6 +178,7 @@ gave {key = key} {old = old} {new = new} value passes changed does = done value 
 pub noted : {key : PageKey} {number asks outs : ℕ} {old new : PagesView} → PassesOn asks outs old new → NotesPage key number old new → PagesStep (only key) asks outs old new
 noted {key = key} {number = number} {old = old} {new = new} passes does = record {
   passes = passes;
+  unwritten = λ off none. absurd (off key refl);
   changed_off = λ other is. inl (sym (ap (λ (m : Mapped). m other) does.changed) ∙ is);
   mapped_off = λ other off. ap (λ (m : Mapped). m other) does.mapped;
   held_off = λ told other off. ap (λ (h : Held). h other) does.held;
@@ -170,9 +186,10 @@ noted {key = key} {number = number} {old = old} {new = new} passes does = record
 }
 
 -- no page was changed
-pub kept_all : {touched : Keys} {asks outs : ℕ} {old new : PagesView} → PassesOn asks outs old new → new.changed ≡ old.changed → new.mapped ≡ old.mapped → (IsTold old.disk → new.held ≡ old.held) → new.notes ≡ old.notes → PagesStep touched asks outs old new
-kept_all passes changed mapped held notes = record {
+pub kept_all : {touched : Keys} {asks outs : ℕ} {old new : PagesView} → PassesOn asks outs old new → new.changed ≡ old.changed → new.mapped ≡ old.mapped → (IsTold old.disk → new.held ≡ old.held) → new.notes ≡ old.notes → (NoneChanged old → OnlyReads (device_below old) (device_below new)) → PagesStep touched asks outs old new
+kept_all passes changed mapped held notes unwritten = record {
   passes = passes;
+  unwritten = λ off none. unwritten none;
   changed_off = λ key is. inl (sym (ap (λ (m : Mapped). m key) changed) ∙ is);
   mapped_off = λ key off. ap (λ (m : Mapped). m key) mapped;
   held_off = λ told key off. ap (λ (h : Held). h key) (held told);

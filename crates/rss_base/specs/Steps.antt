@@ -1,7 +1,7 @@
 -- What there is to see of pages, and what a call on them passes on, whatever it does.
 use Rattle.std.specs.Prelude.{◌≡◌, ◌⊎◌, ℕ, ◌+◌, ◌*◌, ◌≤◌, Bool, true, false, List, ◌++◌, length, take, drop, slice_range, Some, None, Result, Ok, Err, IsErrOf}
 use Rattle.rss_base.specs.DiskRule.{Disk, IsTold}
-use Rattle.rss_base.specs.Devices.{DeviceView}
+use Rattle.rss_base.specs.Devices.{DeviceView, OnlyReads}
 use Rattle.rss_base.specs.Sizes.{zero_page}
 use Rattle.rss_base.specs.Faults.{Rises}
 use Rattle.rss_base.specs.Runs.{run_pages}
@@ -129,9 +129,11 @@ pub record PassesOn (asks outs : ℕ) (old new : PagesView) : Type 0 where
   pub writes_low : old.writes ≤ new.writes
   pub writes_high : new.writes ≤ old.writes + run_pages * outs
 
--- And no pages were touched but these.
+-- And no pages were touched but these. Where none was, nor changed before, the device was only read.
 pub record PagesStep (touched : Keys) (asks outs : ℕ) (old new : PagesView) : Type 0 where
   pub passes : PassesOn asks outs old new
+  pub unwritten : ((key : PageKey) → touched key → ⊥) → NoneChanged old
+      → OnlyReads (device_below old) (device_below new)
   pub changed_off : (key : PageKey) → new.changed key ≡ true → (old.changed key ≡ true) ⊎ touched key
   pub mapped_off : (key : PageKey) → (touched key → ⊥) → new.mapped key ≡ old.mapped key
   pub held_off : IsTold old.disk → (key : PageKey) → (touched key → ⊥) → new.held key ≡ old.held key

@@ -355,13 +355,19 @@ keeps_on keeps few = record {
   writes_high = few;
 }
 
+-- where no page was changed the device was only read
+pub looks : {old new : BufferView} {asks : ℕ} → IsBuffer old → KeepsPages (record old { asks = asks }) new → NoneChanged (pages_view old) → OnlyReads (device_below (pages_view old)) (device_below (pages_view new))
+looks {old = old} buffer keeps none =
+    let reads = keeps.unwritten (none-among old.frames (saveable_by buffer).waiting none) in
+    record { contents = reads.contents; moments = reads.moments; same_writes = reads.same_writes; later = reads.later }
+
 -- no page was touched
-pub keeps_step : {old new : BufferView} {touched : Keys} {asks outs : ℕ} → KeepsPages old new → new.device.writes ≤ old.device.writes + run_pages * outs → PagesStep touched asks outs (pages_view old) (pages_view new)
-keeps_step keeps few = kept_all (keeps_on keeps few) (ap (λ (m : Maps). changed_by m) keeps.maps) (ap (λ (m : Maps). mapped_by m.current) keeps.maps) keeps.held (ap (λ (n : NotesView). n.notes) keeps.notes)
+pub keeps_step : {old new : BufferView} {touched : Keys} {asks outs : ℕ} → IsBuffer old → KeepsPages old new → new.device.writes ≤ old.device.writes + run_pages * outs → PagesStep touched asks outs (pages_view old) (pages_view new)
+keeps_step {old = old} buffer keeps few = kept_all (keeps_on keeps few) (ap (λ (m : Maps). changed_by m) keeps.maps) (ap (λ (m : Maps). mapped_by m.current) keeps.maps) keeps.held (ap (λ (n : NotesView). n.notes) keeps.notes) (looks {asks = old.asks} buffer keeps)
 
 -- the same of a page that was asked for
-pub asked_step : {old new : BufferView} {asks outs : ℕ} → KeepsPages (record old { asks = asks }) new → old.asks ≤ asks → asks ≤ old.asks + 1 → new.device.writes ≤ old.device.writes + run_pages * outs → PagesStep no_page 1 outs (pages_view old) (pages_view new)
-asked_step keeps low high few =
+pub asked_step : {old new : BufferView} {asks outs : ℕ} → IsBuffer old → KeepsPages (record old { asks = asks }) new → old.asks ≤ asks → asks ≤ old.asks + 1 → new.device.writes ≤ old.device.writes + run_pages * outs → PagesStep no_page 1 outs (pages_view old) (pages_view new)
+asked_step buffer keeps low high few =
     let on = keeps_on {asks = 0} keeps few in
     kept_all (record {
       slots = on.slots;
@@ -372,13 +378,7 @@ asked_step keeps low high few =
       asks_high = omega (arith, high, keeps.asks);
       writes_low = on.writes_low;
       writes_high = on.writes_high;
-    }) (ap (λ (m : Maps). changed_by m) keeps.maps) (ap (λ (m : Maps). mapped_by m.current) keeps.maps) keeps.held (ap (λ (n : NotesView). n.notes) keeps.notes)
+    }) (ap (λ (m : Maps). changed_by m) keeps.maps) (ap (λ (m : Maps). mapped_by m.current) keeps.maps) keeps.held (ap (λ (n : NotesView). n.notes) keeps.notes) (looks buffer keeps)
 
-pub asked : {T : Type 0} {old new : BufferView} {asks : ℕ} {result : Result T PageFault} → MovesPages (record old { asks = asks }) new result → old.asks ≤ asks → asks ≤ old.asks + 1 → PagesCall no_page 1 1 (pages_view old) (pages_view new) result
-asked call low high = record { step = asked_step call.keeps low high call.few; failed = call.cause.failed; sound = call.cause.sound; memory = call.cause.memory }
-
--- where no page was changed the device was only read
-pub looks : {old new : BufferView} {asks : ℕ} → IsBuffer old → KeepsPages (record old { asks = asks }) new → NoneChanged (pages_view old) → OnlyReads (device_below (pages_view old)) (device_below (pages_view new))
-looks {old = old} buffer keeps none =
-    let reads = keeps.unwritten (none-among old.frames (saveable_by buffer).waiting none) in
-    record { contents = reads.contents; moments = reads.moments; same_writes = reads.same_writes; later = reads.later }
+pub asked : {T : Type 0} {old new : BufferView} {asks : ℕ} {result : Result T PageFault} → IsBuffer old → MovesPages (record old { asks = asks }) new result → old.asks ≤ asks → asks ≤ old.asks + 1 → PagesCall no_page 1 1 (pages_view old) (pages_view new) result
+asked buffer call low high = record { step = asked_step buffer call.keeps low high call.few; failed = call.cause.failed; sound = call.cause.sound; memory = call.cause.memory }

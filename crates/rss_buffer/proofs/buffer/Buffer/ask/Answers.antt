@@ -7,4 +7,4 @@ pub invariant_of-self : goal.invariant_of-self
 invariant_of-self g c = record { saved_area = c.args.self.now.saved_area; holds = IsBuffer-beside c.args.self.now.holds c.args.self.now.holds.noted }
 
 pub returns-clause-did : goal.returns-clause-did
-returns-clause-did g c = asked c.bring.ensures.did (search rules) (search rules)
+returns-clause-did g c = asked c.args.self.now.holds c.bring.ensures.did (search rules) (search rules)
