@@ -27,3 +27,4 @@ mod NodesWithin
 pub mod NodesReached
 mod NodesMoved
 mod Checked
+mod KeyRepeats

@@ -7,3 +7,4 @@ pub mod Edits
 pub mod Moved
 pub mod Imaging
 pub mod Checking
+pub mod Filling

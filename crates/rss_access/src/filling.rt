@@ -1,0 +1,159 @@
+// The entries of all tuples of a relation, for an image that is made over them.
+ghost use Rattle.std.specs.Prelude.{◌≡◌, ◌≤◌, length, All, Err, IfErr, IfOk, IfSome, OnOk};
+ghost use Rattle.rss_base.specs.DiskRule.{IsTold};
+ghost use Rattle.rss_base.specs.TupleTypes.{kinds, chosen, key_width, most_key_width};
+ghost use Rattle.rss_base.specs.declared.fault.PageFault.TheVariants.{Damaged as PageDamaged};
+ghost use Rattle.rss_base.specs.declared.place.Place.{Place as AnyPlace};
+ghost use Rattle.rss_value.specs.Numbers.{IsNumberOf};
+ghost use Rattle.rss_catalog.specs.Catalogs.{CatalogView};
+ghost use Rattle.rss_image.specs.Images.{pairs_most};
+ghost use Rattle.rss_tuple.specs.Calls.{IsSegment};
+ghost use Rattle.rss_tuple.specs.Heaps.{AreHeaps};
+ghost use Rattle.rss_access.specs.Changes.{both};
+ghost use Rattle.rss_access.specs.Filling.{keys_by, IsEntryLong, AreEntries, HasNoTables, SearchesPages, AreGathered, FindsKey, IsMisspelled, entry_order, repeated_key};
+
+use crate::edit::TUPLES_MOST;
+use crate::tuples::find;
+use rss_base::{Body, Key, PageFault, Pages, Place, RelationEntry, Tid};
+use rss_tuple::{Store, Tuples};
+use rss_value::{compare_keys, key as write_key, spells};
+use std::alloc::Global;
+use std::cmp::Ordering;
+
+/// The entries of all tuples of the relation of this number in an image with these of its fields,
+/// in the image's order. Where a tuple's bytes aren't those of its fields, or there are more tuples
+/// than the relation counts or may have, the fault is `Damaged`. Nothing is changed.
+pub fn entries_of<P: Pages>(
+    alloc: Global,
+    tuples: &mut Store<P>,
+    relation: &RelationEntry,
+    number: u8,
+    which: &[u8],
+) -> Result<Vec<(Key, Tid)>, PageFault>
+    requires segment { IsSegment relation.now.segment }
+    requires numbers { All (IsNumberOf relation.now.fields) which.now }
+    requires narrow { key_width (chosen which.now (kinds relation.now.fields)) ≤ most_key_width }
+    requires heaps { IsTold (P.view tuples.old.pages).disk → AreHeaps (P.view tuples.old.pages) }
+    ensures long { IfOk result (λ entries.
+        All (IsEntryLong (keys_by relation.now which.now)) entries.items) }
+    ensures few { IfOk result (λ entries. length entries.items ≤ pairs_most) }
+    ensures are { IfOk result (λ entries. IsTold (P.view tuples.old.pages).disk
+        → (catalog : CatalogView) → AreEntries (both (P.view tuples.old.pages) catalog)
+        number relation.now which.now entries.items) }
+    ensures fault { (place : AnyPlace) → result ≡ Err (PageDamaged place)
+        → IsTold (P.view tuples.old.pages).disk → (catalog : CatalogView)
+        → HasNoTables (both (P.view tuples.old.pages) catalog) number relation.now }
+    ensures heaps { OnOk result (IsTold (P.view tuples.old.pages).disk
+        → AreHeaps (P.view tuples.new.pages)) }
+    ensures did { SearchesPages (P.view tuples.old.pages) (P.view tuples.new.pages) result }
+{
+    // A number of four bytes, which bounds those of pages.
+    let _slots = tuples.pages.slots();
+    let mut entries = gather(alloc, tuples, relation, number, which)?;
+    entries.sort_unstable_by(|a, b| compare_entries(a, b));
+    Ok(entries)
+}
+
+/// The entries in the order of their identifiers.
+fn gather<P: Pages>(
+    alloc: Global,
+    tuples: &mut Store<P>,
+    relation: &RelationEntry,
+    number: u8,
+    which: &[u8],
+) -> Result<Vec<(Key, Tid)>, PageFault>
+    requires segment { IsSegment relation.now.segment }
+    requires numbers { All (IsNumberOf relation.now.fields) which.now }
+    requires narrow { key_width (chosen which.now (kinds relation.now.fields)) ≤ most_key_width }
+    requires heaps { IsTold (P.view tuples.old.pages).disk → AreHeaps (P.view tuples.old.pages) }
+    ensures long { IfOk result (λ entries.
+        All (IsEntryLong (keys_by relation.now which.now)) entries.items) }
+    ensures few { IfOk result (λ entries. length entries.items ≤ pairs_most) }
+    ensures are { IfOk result (λ entries. IsTold (P.view tuples.old.pages).disk
+        → AreGathered (P.view tuples.old.pages) number relation.now which.now entries.items) }
+    ensures fault { (place : AnyPlace) → result ≡ Err (PageDamaged place)
+        → IsTold (P.view tuples.old.pages).disk → (catalog : CatalogView)
+        → HasNoTables (both (P.view tuples.old.pages) catalog) number relation.now }
+    ensures did { SearchesPages (P.view tuples.old.pages) (P.view tuples.new.pages) result }
+{
+    let damaged = PageFault::Damaged(Place::Count(number));
+    if relation.live > TUPLES_MOST {
+        return Err(damaged);
+    }
+    let most = relation.live as usize;
+    let Ok(mut entries) = Vec::with_capacity(alloc, most) else {
+        return Err(PageFault::NoMemory);
+    };
+    let mut last = None;
+    while let Some(tid) = tuples.next_live(relation.segment, last)? {
+        if let Some(key) = key_at(tuples, relation, number, which, tid)? {
+            if entries.len() == most {
+                return Err(damaged);
+            }
+            if entries.push((key, tid)).is_err() {
+                return Err(PageFault::NoMemory);
+            }
+        }
+        last = Some(tid);
+    }
+    Ok(entries)
+}
+
+/// The key of the tuple with this identifier, where it is one of the relation of this number.
+fn key_at<P: Pages>(
+    tuples: &mut Store<P>,
+    relation: &RelationEntry,
+    number: u8,
+    which: &[u8],
+    tid: Tid,
+) -> Result<Option<Key>, PageFault>
+    requires numbers { All (IsNumberOf relation.now.fields) which.now }
+    requires narrow { key_width (chosen which.now (kinds relation.now.fields)) ≤ most_key_width }
+    requires heaps { IsTold (P.view tuples.old.pages).disk → AreHeaps (P.view tuples.old.pages) }
+    ensures long { IfOk result (λ found. IfSome found (λ key.
+        length key ≡ key_width (chosen which.now (kinds relation.now.fields)))) }
+    ensures finds { IfOk result (λ found. IsTold (P.view tuples.old.pages).disk
+        → FindsKey (P.view tuples.old.pages) number relation.now which.now tid found) }
+    ensures fault { (place : AnyPlace) → result ≡ Err (PageDamaged place)
+        → IsTold (P.view tuples.old.pages).disk
+        → IsMisspelled (P.view tuples.old.pages) number relation.now tid }
+    ensures did { SearchesPages (P.view tuples.old.pages) (P.view tuples.new.pages) result }
+{
+    let mut body = Body::new();
+    if !find(tuples, relation.segment, number, tid, &mut body)? {
+        return Ok(None);
+    }
+    let Some((_, bytes)) = body.as_slice().split_first() else {
+        return Ok(None);
+    };
+    let fields = relation.fields.as_slice();
+    if !spells(fields, bytes) {
+        return Err(PageFault::Damaged(Place::Tuple(relation.segment, tid)));
+    }
+    let mut key = Key::new();
+    write_key(fields, which, bytes, &mut key);
+    Ok(Some(key))
+}
+
+/// The order of entries in an image.
+fn compare_entries(a: &(Key, Tid), b: &(Key, Tid)) -> Ordering
+    ensures { result ≡ entry_order a.now b.now }
+{
+    compare_keys(&a.0, &b.0).then(a.1.cmp(&b.1))
+}
+
+/// The identifier of the first entry that has the key of the one before it.
+pub fn repeated(entries: &[(Key, Tid)]) -> Option<Tid>
+    ensures { result ≡ repeated_key entries.now }
+{
+    let mut before: Option<&Key> = None;
+    for (key, tid) in entries {
+        if let Some(other) = before {
+            if compare_keys(other, key).is_eq() {
+                return Some(*tid);
+            }
+        }
+        before = Some(key);
+    }
+    None
+}
