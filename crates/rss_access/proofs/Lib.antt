@@ -28,3 +28,4 @@ pub mod NodesReached
 mod NodesMoved
 mod Checked
 mod KeyRepeats
+mod Gathering
