@@ -9,10 +9,10 @@ use Rattle.rss_levels.proofs.Pages.{in_append, in_left, in_right}
 use Rattle.rss_model.proofs.Mixing.{In}
 use Rattle.rss_entries.proofs.Orders.{Rise, each_in}
 
-pub contains_in : (pairs : List (List ℕ)) (p : List ℕ) → Contains pairs p → In p pairs
-contains_in pairs p has = at pairs has.0 has.1 has.2
+pub contains_in : {X : Type 0} (xs : List X) (a : X) → Contains xs a → In a xs
+contains_in {X} xs a has = at xs has.0 has.1 has.2
   where
-    at : (ps : List (List ℕ)) (k : ℕ) → k < length ps → slice_index_or ps k p ≡ p → In p ps
+    at : (ys : List X) (k : ℕ) → k < length ys → slice_index_or ys k a ≡ a → In a ys
     at [] k low is = absurd (omega (arith, low))
     at (x ∷ xs) zero low is = inl is
     at (x ∷ xs) (suc k) low is = inr (at xs k (omega (arith, low)) is)

@@ -66,13 +66,13 @@ module _ {at : AccessView} (small : at.pages.slots < 2 ^ 32) {tables : Tables} (
   plain = plain_contents shows.listed.no_links shows.contents
 
   -- the tuple that a body is of
-  record IsTupleWith (number : ℕ) (relation : RelationEntry) (tid : Tid) (bytes : List ℕ) : Type 0 where
-    values : List Value
-    same : bytes ≡ tuple_bytes values
-    storable : All IsStorable values
-    holds : content tables.contents (TupleItem relation.name tid) ≡ Some (Values values)
+  pub record IsTupleWith (number : ℕ) (relation : RelationEntry) (tid : Tid) (bytes : List ℕ) : Type 0 where
+    pub values : List Value
+    pub same : bytes ≡ tuple_bytes values
+    pub storable : All IsStorable values
+    pub holds : content tables.contents (TupleItem relation.name tid) ≡ Some (Values values)
 
-  tuple_of : (number : ℕ) (relation : RelationEntry) → relation_at listing number ≡ Some relation → (tid : Tid) (bytes : List ℕ) → body_at at.pages relation.segment tid ≡ Some (number ∷ bytes) → IsTupleWith number relation tid bytes
+  pub tuple_of : (number : ℕ) (relation : RelationEntry) → relation_at listing number ≡ Some relation → (tid : Tid) (bytes : List ℕ) → body_at at.pages relation.segment tid ≡ Some (number ∷ bytes) → IsTupleWith number relation tid bytes
   tuple_of number relation its tid bytes stands =
       let of = plain.bodies_are relation.segment tid (number ∷ bytes) stands in
       let parts = parts_of of.is in
@@ -82,7 +82,7 @@ module _ {at : AccessView} (small : at.pages.slots < 2 ^ 32) {tables : Tables} (
       parts_of : {k j : ℕ} {x y : List ℕ} → k ∷ x ≡ j ∷ y → (k ≡ j) × (x ≡ y)
       parts_of same = (cc, cc)
 
-  all_stored : (name : Name) (tid : Tid) (values : List Value) → content tables.contents (TupleItem name tid) ≡ Some (Values values) → All IsStorable values
+  pub all_stored : (name : Name) (tid : Tid) (values : List Value) → content tables.contents (TupleItem name tid) ≡ Some (Values values) → All IsStorable values
   all_stored name tid values holds =
       let on = plain.only (TupleItem name tid) (ap is_some holds) in
       let mine : content tables.contents (TupleItem on.relation.name on.tid) ≡ Some (Values values) = ap (content tables.contents) (sym on.is) ∙ holds in
@@ -92,7 +92,7 @@ module _ {at : AccessView} (small : at.pages.slots < 2 ^ 32) {tables : Tables} (
       values_same : {a b : List Value} → ◌≡◌ {A = Option Content} (Some (Values a)) (Some (Values b)) → a ≡ b
       values_same same = cc
 
-  all_spelled : (name : Name) (tid : Tid) → is_some (content tables.contents (TupleItem name tid)) ≡ true → IsSpelledTid tid
+  pub all_spelled : (name : Name) (tid : Tid) → is_some (content tables.contents (TupleItem name tid)) ≡ true → IsSpelledTid tid
   all_spelled name tid there = let id = shows.tids name tid there in record { page = omega (arith, id.page, small); slot = omega (arith, id.slot) }
 
   module _ (low : AreLow at.pages.held) {number : ℕ} {image : ImageEntry} {relation : RelationEntry} (its : IsListedImage listing number image relation) (fit : AreNodes (image_nodes (image_of number image relation))) where

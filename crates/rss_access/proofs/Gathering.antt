@@ -1,8 +1,22 @@
 -- The entries of a relation's tuples, gathered along the tuples of its segment.
-use Rattle.std.proofs.Common.{◌≡◌, ℕ, true, List, ◌∷◌, Some, refl, sym, ◌∙◌, ap}
-use Rattle.rss_base.specs.Steps.{PagesView}
+use Rattle.std.proofs.Common.{◌≡◌, ◌≢◌, ◌⊎◌, inl, inr, ⊎_elim, ℕ, ◌+◌, ◌≤◌, true, List, [], ◌∷◌, ◌++◌, length, refl, sym, ◌∙◌, ap, subst, arith}
+use Rattle.std.specs.Prelude.{Option, Some, None, All, IfSome, is_some, map as list_map}
+use Rattle.std.proofs.lemmas.List.Elements.{All-push}
+use Rattle.rss_base.specs.DiskRule.{IsTold}
+use Rattle.rss_base.specs.Steps.{PagesView, PagesStep, no_page}
 use Rattle.rss_base.specs.declared.tid.Tid.{Tid}
+use Rattle.rss_base.specs.declared.relation.RelationEntry.{RelationEntry}
+use Rattle.rss_base.proofs.Steps.{rests, then}
+use Rattle.rss_levels.specs.Entries.{Each, Pairwise}
+use Rattle.rss_levels.proofs.Lists.{each_append, each_weaker, pairwise_append}
+use Rattle.rss_model.proofs.Mixing.{In, in_left, in_right}
+use Rattle.rss_tuple.specs.Finding.{IsAfter, IsNext}
+use Rattle.rss_tuple.specs.TupleSteps.{IsBelow, IsLeast, NoneIs, tuples_in}
+use Rattle.rss_entries.proofs.Orders.{in_contains}
+use Rattle.rss_access.specs.Filling.{HasBytes, IsKeyAt, FindsKey, IsMisspelled, IsEntryLong, AreGathered, keys_by}
 use Rattle.rss_access.specs.Tuples.{body_at, FindsBody}
+use Rattle.rss_access.proofs.NextTuples.{IsTid, cases_tid, after_then, below_never}
+use Rattle.rss_access.proofs.Walked.{body_still}
 
 -- the bytes behind the number of a tuple that was found
 pub bytes_found : {pages : PagesView} {segment number : ℕ} {tid : Tid} {body : List ℕ} → FindsBody segment number tid pages true body → (first : ℕ) (bytes : List ℕ) → first ∷ bytes ≡ body → body_at pages segment tid ≡ Some (number ∷ bytes)
@@ -12,3 +26,124 @@ bytes_found {number = number} finds first bytes same =
   where
     rest_same : {a b : ℕ} {x y : List ℕ} → a ∷ x ≡ b ∷ y → x ≡ y
     rest_same same = cc
+
+module _ (number : ℕ) (relation : RelationEntry) (which : List ℕ) where
+  -- ---- where nothing was touched, there are the same tuples
+
+  module _ {start now : PagesView} {asks outs : ℕ} (step : PagesStep no_page asks outs start now) (told : IsTold start.disk) where
+    bytes_then : (tid : Tid) → HasBytes start number relation tid → HasBytes now number relation tid
+    bytes_then tid has = record { bytes = has.bytes; there = body_still step told relation.segment tid ∙ has.there }
+
+    pub key_back : (tid : Tid) (key : List ℕ) → IsKeyAt now number relation which tid key → IsKeyAt start number relation which tid key
+    key_back tid key is = record { has = record { bytes = is.has.bytes; there = sym (body_still step told relation.segment tid) ∙ is.has.there }; spelled = is.spelled; is = is.is }
+
+    pub misspelled_back : (tid : Tid) → IsMisspelled now number relation tid → IsMisspelled start number relation tid
+    misspelled_back tid is = record { has = record { bytes = is.has.bytes; there = sym (body_still step told relation.segment tid) ∙ is.has.there }; not = is.not }
+
+  -- ---- the entries so far
+
+  -- They are those of the tuples that don't stand behind `last`.
+  pub record AreGatheredTo (pages : PagesView) (last : Option Tid) (entries : List (List ℕ × Tid)) : Type 0 where
+    pub each : Each (λ pair. IsKeyAt pages number relation which pair.1 pair.0) entries
+    pub passed : Each (λ pair. IsAfter last pair.1 → ⊥) entries
+    pub apart : Pairwise (λ a b. a.1 ≢ b.1) entries
+    pub all : (tid : Tid) → HasBytes pages number relation tid → IsAfter last tid ⊎ In tid (list_map (λ (pair : List ℕ × Tid). pair.1) entries)
+
+  abbrev tids_in : List (List ℕ × Tid) → List Tid
+  tids_in entries = list_map (λ (pair : List ℕ × Tid). pair.1) entries
+
+  module _ {pages : PagesView} {last : Option Tid} {entries : List (List ℕ × Tid)} (so : AreGatheredTo pages last entries) (tid : Tid) (behind : IsAfter last tid) (least : (other : Tid) → HasBytes pages number relation other → IsAfter last other → IsBelow other tid → ⊥) where
+    passed_then : Each (λ pair. IsAfter (Some tid) pair.1 → ⊥) entries
+    passed_then = each_weaker (λ pair. IsAfter last pair.1 → ⊥) (λ pair. IsAfter (Some tid) pair.1 → ⊥) entries (λ pair not after. not (after_then last tid pair.1 behind after)) so.passed
+
+    -- where each tuple stands, once the one with this identifier was looked at
+    all_then : (others : List (List ℕ × Tid)) → (HasBytes pages number relation tid → In tid (tids_in others)) → ((other : Tid) → In other (tids_in entries) → In other (tids_in others))
+        → (other : Tid) → HasBytes pages number relation other → IsAfter (Some tid) other ⊎ In other (tids_in others)
+    all_then others here more other has = ⊎_elim
+        (λ after. elim (cases_tid other tid) [
+          | inl before ↦ absurd (least other has after before)
+          | inr (inl same) ↦ inr (subst (λ (t : Tid). In t (tids_in others)) (sym same) (here (subst (HasBytes pages number relation) same has)))
+          | inr (inr beyond) ↦ inl beyond
+        ])
+        (λ is. inr (more other is)) (so.all other has)
+
+    -- it is another relation's
+    pub gathered_past : (HasBytes pages number relation tid → ⊥) → AreGatheredTo pages (Some tid) entries
+    gathered_past none = record { each = so.each; passed = passed_then; apart = so.apart; all = all_then entries (λ has. absurd (none has)) (λ other is. is) }
+
+    -- or it has this key
+    pub gathered_more : (key : List ℕ) → IsKeyAt pages number relation which tid key → AreGatheredTo pages (Some tid) (entries ++ (key, tid) ∷ [])
+    gathered_more key is = record {
+      each = each_append (λ pair. IsKeyAt pages number relation which pair.1 pair.0) entries ((key, tid) ∷ []) so.each (is, tt);
+      passed = each_append (λ pair. IsAfter (Some tid) pair.1 → ⊥) entries ((key, tid) ∷ []) passed_then (below_never tid, tt);
+      apart = pairwise_append (λ a b. a.1 ≢ b.1) entries ((key, tid) ∷ []) so.apart (tt, tt)
+          (each_weaker (λ pair. IsAfter last pair.1 → ⊥) (λ pair. Each (λ (b : List ℕ × Tid). pair.1 ≢ b.1) ((key, tid) ∷ [])) entries (λ pair not. (λ same. not (subst (IsAfter last) (sym same) behind), tt)) so.passed);
+      all = all_then (entries ++ (key, tid) ∷ []) (λ has. at_end entries) (λ other is. in_front entries other is);
+    }
+      where
+        at_end : (front : List (List ℕ × Tid)) → In tid (tids_in (front ++ (key, tid) ∷ []))
+        at_end [] = inl refl
+        at_end (p ∷ front) = inr (at_end front)
+
+        in_front : (front : List (List ℕ × Tid)) (other : Tid) → In other (tids_in front) → In other (tids_in (front ++ (key, tid) ∷ []))
+        in_front [] other is = absurd is
+        in_front (p ∷ front) other (inl same) = inl same
+        in_front (p ∷ front) other (inr is) = inr (in_front front other is)
+
+  -- behind the last tuple there is none
+  pub gathered_all : {pages : PagesView} {last : Option Tid} {entries : List (List ℕ × Tid)} → AreGatheredTo pages last entries → ((tid : Tid) → HasBytes pages number relation tid → IsAfter last tid → ⊥) → AreGathered pages number relation which entries
+  gathered_all {entries = entries} so none = record {
+    each = so.each;
+    apart = so.apart;
+    all = λ tid has. in_contains (tids_in entries) tid (⊎_elim (λ after. absurd (none tid has after)) (λ is. is) (so.all tid has));
+  }
+
+  -- ---- the walk
+
+  -- The pages were looked at, and these are the entries of the tuples that don't stand behind `last`.
+  pub record Gathered (start now : PagesView) (last : Option Tid) (entries : List (List ℕ × Tid)) : Type 0 where
+    pub most : ℕ
+    pub step : PagesStep no_page most most start now
+    pub are : IsTold start.disk → AreGatheredTo start last entries
+    pub long : All (IsEntryLong (keys_by relation which)) entries
+    pub within : IfSome last IsTid
+
+  pub gathered_none : (start : PagesView) → Gathered start start None []
+  gathered_none start = record {
+    most = 0;
+    step = rests start;
+    are = λ told. record { each = tt; passed = tt; apart = tt; all = λ tid has. inl tt };
+    long = λ k d low. absurd (omega (arith, low));
+    within = tt;
+  }
+
+  module _ {start now : PagesView} {last : Option Tid} {entries : List (List ℕ × Tid)} (so : Gathered start now last entries) where
+    -- a tuple of the relation is one of the segment's
+    next_of : IsTold start.disk → (tid : Tid) → HasBytes start number relation tid → IsAfter last tid → IsNext (tuples_in now) relation.segment last tid
+    next_of told tid has behind = record { behind = behind; live = subst (λ (o : Option (List ℕ)). is_some o ≡ true) (sym (body_still so.step told relation.segment tid ∙ has.there)) refl }
+
+    pub gathered_end : IsTold start.disk → NoneIs (IsNext (tuples_in now) relation.segment last) → AreGathered start number relation which entries
+    gathered_end told none = gathered_all (so.are told) (λ tid has after. none tid (next_of told tid has after))
+
+    module _ (mid : PagesView) {asks outs : ℕ} (on : PagesStep no_page asks outs now mid) (tid : Tid) (least : IsTold start.disk → IsLeast (IsNext (tuples_in now) relation.segment last) tid) where
+      -- the tuple that was found has this key
+      pub gathered_key : (key : List ℕ) → IsTold start.disk → IsKeyAt mid number relation which tid key → AreGatheredTo start (Some tid) (entries ++ (key, tid) ∷ [])
+      gathered_key key told is = gathered_more (so.are told) tid (least told).has.behind (λ other has after before. (least told).least other before (next_of told other has after)) key (key_back (then so.step on) told tid key is)
+
+      pub walked_past : (new : PagesView) {most : ℕ} → PagesStep no_page most most now new → IsTid tid → (IsTold start.disk → HasBytes mid number relation tid → ⊥) → Gathered start new (Some tid) entries
+      walked_past new {most = most} step is none = record {
+        most = so.most + most;
+        step = then so.step step;
+        are = λ told. gathered_past (so.are told) tid (least told).has.behind (λ other has after before. (least told).least other before (next_of told other has after)) (λ has. none told (bytes_then (then so.step on) told tid has));
+        long = so.long;
+        within = is;
+      }
+
+      pub walked_key : (new : PagesView) {most : ℕ} → PagesStep no_page most most now new → IsTid tid → (key : List ℕ) → IsEntryLong (keys_by relation which) (key, tid) → (IsTold start.disk → IsKeyAt mid number relation which tid key) → Gathered start new (Some tid) (entries ++ (key, tid) ∷ [])
+      walked_key new {most = most} step is key long found = record {
+        most = so.most + most;
+        step = then so.step step;
+        are = λ told. gathered_key key told (found told);
+        long = All-push (IsEntryLong (keys_by relation which)) entries (key, tid) so.long long;
+        within = is;
+      }

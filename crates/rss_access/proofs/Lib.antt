@@ -28,4 +28,8 @@ pub mod NodesReached
 mod NodesMoved
 mod Checked
 mod KeyRepeats
+mod SortedAlike
+pub mod RelationEntries
+mod Searching
 mod Gathering
+mod GatheredAll

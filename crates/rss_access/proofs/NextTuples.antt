@@ -19,7 +19,11 @@ below_then a b c (inl one) (inr two) = inl (omega (arith, one, two.0))
 below_then a b c (inr one) (inl two) = inl (omega (arith, one.0, two))
 below_then a b c (inr one) (inr two) = inr (one.0 ∙ two.0, omega (arith, one.1, two.1))
 
-after_then : (after : Option Tid) (a b : Tid) → IsAfter after a → IsBelow a b → IsAfter after b
+pub below_never : (a : Tid) → IsBelow a a → ⊥
+below_never a (inl less) = omega (arith, less)
+below_never a (inr less) = omega (arith, less.1)
+
+pub after_then : (after : Option Tid) (a b : Tid) → IsAfter after a → IsBelow a b → IsAfter after b
 after_then None a b is below = tt
 after_then (Some after) a b is below = below_then after a b is below
 

@@ -90,10 +90,10 @@ abbrev pub FindsKey : PagesView → ℕ → RelationEntry → List ℕ → Tid �
 FindsKey pages number relation which tid found =
     MatchOption found (HasBytes pages number relation tid → ⊥) (IsKeyAt pages number relation which tid)
 
--- The tuple is one of the relation, and its bytes aren't those of values of its fields.
+-- The tuple is one of the relation, and its bytes aren't those of values of its fields, or no page has its entry.
 pub record IsMisspelled (pages : PagesView) (number : ℕ) (relation : RelationEntry) (tid : Tid) : Type 0 where
   pub has : HasBytes pages number relation tid
-  pub not : SpellsSome (kinds relation.fields) has.bytes → ⊥
+  pub not : SpellsSome (kinds relation.fields) has.bytes → tid.slot < page_entries → ⊥
 
 -- These are the entries of all tuples of the relation, none of them twice.
 pub record AreGathered (pages : PagesView) (number : ℕ) (relation : RelationEntry) (which : List ℕ) (entries : List (List ℕ × Tid)) : Type 0 where

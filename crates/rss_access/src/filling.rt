@@ -14,7 +14,7 @@ ghost use Rattle.rss_access.specs.Filling.{keys_by, IsEntryLong, AreEntries, Has
 
 use crate::edit::TUPLES_MOST;
 use crate::tuples::find;
-use rss_base::{Body, Key, PageFault, Pages, Place, RelationEntry, Tid};
+use rss_base::{Body, Key, PAGE_ENTRIES, PageFault, Pages, Place, RelationEntry, Tid};
 use rss_tuple::{Store, Tuples};
 use rss_value::{compare_keys, key as write_key, spells};
 use std::alloc::Global;
@@ -76,6 +76,8 @@ fn gather<P: Pages>(
         → HasNoTables (both (P.view tuples.old.pages) catalog) number relation.now }
     ensures did { SearchesPages (P.view tuples.old.pages) (P.view tuples.new.pages) result }
 {
+    // A number of four bytes, which bounds those of pages.
+    let _slots = tuples.pages.slots();
     let damaged = PageFault::Damaged(Place::Count(number));
     if relation.live > TUPLES_MOST {
         return Err(damaged);
@@ -110,8 +112,8 @@ fn key_at<P: Pages>(
     requires numbers { All (IsNumberOf relation.now.fields) which.now }
     requires narrow { key_width (chosen which.now (kinds relation.now.fields)) ≤ most_key_width }
     requires heaps { IsTold (P.view tuples.old.pages).disk → AreHeaps (P.view tuples.old.pages) }
-    ensures long { IfOk result (λ found. IfSome found (λ key.
-        length key ≡ key_width (chosen which.now (kinds relation.now.fields)))) }
+    ensures long { IfOk result (λ found. IfSome found
+        (λ key. IsEntryLong (keys_by relation.now which.now) (key, tid))) }
     ensures finds { IfOk result (λ found. IsTold (P.view tuples.old.pages).disk
         → FindsKey (P.view tuples.old.pages) number relation.now which.now tid found) }
     ensures fault { (place : AnyPlace) → result ≡ Err (PageDamaged place)
@@ -126,9 +128,13 @@ fn key_at<P: Pages>(
     let Some((_, bytes)) = body.as_slice().split_first() else {
         return Ok(None);
     };
+    let damaged = PageFault::Damaged(Place::Tuple(relation.segment, tid));
+    if usize::from(tid.slot) >= PAGE_ENTRIES {
+        return Err(damaged);
+    }
     let fields = relation.fields.as_slice();
     if !spells(fields, bytes) {
-        return Err(PageFault::Damaged(Place::Tuple(relation.segment, tid)));
+        return Err(damaged);
     }
     let mut key = Key::new();
     write_key(fields, which, bytes, &mut key);

@@ -1,0 +1,93 @@
+-- What was gathered of a relation's tuples are the entries of its images: no more than it has tuples, and sorted, the list of an image.
+use Rattle.std.proofs.Common.{◌≡◌, ◌≢◌, Bool, true, false, ℕ, ◌<◌, ◌≤◌, ◌^◌, List, ◌∷◌, length, get_or, refl, sym, ◌∙◌, ap, subst, arith}
+use Rattle.std.specs.Prelude.{Option, Some, All, is_some, map as list_map}
+use Rattle.std.specs.Ordering.{nat_cmp, is_lt}
+use Rattle.std.specs.Cmp.{IsTotalOrder, nat_cmp_total, on_total, then_total}
+use Rattle.std.specs.declared.cmp.Ordering.TheVariants.{Less, Equal}
+use Rattle.std.specs.List.Sorted.{IsPermutation, IsSortedBy}
+use Rattle.std.proofs.lemmas.Cmp.{nat_list_cmp_total, tied_itself}
+use Rattle.std.proofs.lemmas.List.{length-map}
+use Rattle.std.proofs.lemmas.List.Sorted.{Contains-permutation, length_permutation, ranks_by, sorted_far}
+use Rattle.rss_base.specs.TupleTypes.{kinds, tuple_bytes, Spells}
+use Rattle.rss_base.specs.Listings.{relation_at, field_numbers}
+use Rattle.rss_base.specs.declared.tid.Tid.{Tid}
+use Rattle.rss_base.specs.declared.image.ImageEntry.{ImageEntry}
+use Rattle.rss_base.specs.declared.relation.RelationEntry.{RelationEntry}
+use Rattle.rss_value.specs.Numbers.{IsNumberOf}
+use Rattle.rss_levels.specs.Entries.{Each, Pairwise}
+use Rattle.rss_model.specs.Tables.{Tables}
+use Rattle.rss_model.proofs.Mixing.{In}
+use Rattle.rss_model.proofs.PlainStores.{plain_contents}
+use Rattle.rss_entries.proofs.Orders.{each_in, in_contains, of_map, map_rises}
+use Rattle.rss_access.specs.Changes.{AccessView}
+use Rattle.rss_access.specs.Checking.{ShowsTuples}
+use Rattle.rss_access.specs.Filling.{HasBytes, IsKeyAt, IsMisspelled, AreGathered, entry_order}
+use Rattle.rss_access.specs.Tuples.{body_at}
+use Rattle.rss_access.proofs.AsMany.{contains_in}
+use Rattle.rss_access.proofs.Gathering.{AreGatheredTo}
+use Rattle.rss_access.proofs.RelationEntries.{body_tuple, kept, kept_long, kept_rises, kept_tuple, shown, tid_shown, tids_long, tids_shown}
+use Rattle.rss_access.proofs.SortedAlike.{few_apart, pairwise_at, same_sorted}
+
+-- ---- the order of entries
+
+pub order_total : IsTotalOrder entry_order
+order_total = then_total (on_total (λ (p : List ℕ × Tid). p.0) nat_list_cmp_total)
+    (on_total (λ (p : List ℕ × Tid). p.1) (then_total (on_total (λ (t : Tid). t.page) nat_cmp_total) (on_total (λ (t : Tid). t.slot) nat_cmp_total)))
+
+abbrev pub is_before : List ℕ × Tid → List ℕ × Tid → Bool
+is_before a b = is_lt (entry_order a b)
+
+-- in a sorted list none is before one that stands before it
+sorted_pairs : (pairs : List (List ℕ × Tid)) → IsSortedBy is_before pairs → Pairwise (λ a b. entry_order b a ≡ Less → ⊥) pairs
+sorted_pairs pairs sorted = pairwise_at (λ a b. entry_order b a ≡ Less → ⊥) pairs (λ i j d less low before.
+    let never : true ≡ false = sym (ap is_lt before) ∙ sorted_far is_before (ranks_by order_total (λ (p : List ℕ × Tid). p)) pairs sorted i j d (omega (arith, less)) low in
+    absurd (cc))
+
+-- ---- as many as there are tuples
+
+module _ {at : AccessView} (small : at.pages.slots < 2 ^ 32) {tables : Tables} (shows : ShowsTuples at tables) (number : ℕ) {relation : RelationEntry} (its : relation_at at.catalog.listing number ≡ Some relation) where
+  -- each tuple's bytes are those of values
+  pub none_misspelled : (tid : Tid) → IsMisspelled at.pages number relation tid → ⊥
+  none_misspelled tid is = let of = body_tuple small shows number its tid is.has.bytes is.has.there in is.not (of.values, of.spells) (shows.tids relation.name tid (ap is_some of.there)).slot
+
+  few_of : (which : List ℕ) (entries : List (List ℕ × Tid)) → Each (λ pair. IsKeyAt at.pages number relation which pair.1 pair.0) entries → Pairwise (λ a b. a.1 ≢ b.1) entries → length entries ≤ relation.live
+  few_of which entries each apart =
+      let few = few_apart (list_map (λ (pair : List ℕ × Tid). pair.1) entries) (tids_shown small shows number its)
+      (map_rises (λ (pair : List ℕ × Tid). pair.1) (λ a b. a.1 ≢ b.1) (λ a b. a ≢ b) entries (λ a b one other off. off) apart) among in
+      omega (arith, few, length-map entries (λ (pair : List ℕ × Tid). pair.1), tids_long small shows number its)
+    where
+      among : (tid : Tid) → In tid (list_map (λ (pair : List ℕ × Tid). pair.1) entries) → In tid (tids_shown small shows number its)
+      among tid is =
+          let found = of_map (λ (pair : List ℕ × Tid). pair.1) entries tid is in
+          let key = each_in (λ (pair : List ℕ × Tid). IsKeyAt at.pages number relation which pair.1 pair.0) entries each found.0 found.1 in
+          let of = body_tuple small shows number its found.0.1 key.has.bytes key.has.there in
+          subst (λ (t : Tid). In t (tids_shown small shows number its)) found.2 (tid_shown small shows number its found.0.1 of.values of.there)
+
+  pub few_so_far : {which : List ℕ} {last : Option Tid} {entries : List (List ℕ × Tid)} → AreGatheredTo number relation which at.pages last entries → length entries ≤ relation.live
+  few_so_far {which = which} {entries = entries} so = few_of which entries so.each so.apart
+
+  -- ---- the list of an image
+
+  module _ (image : ImageEntry) (within : All (IsNumberOf relation.fields) (field_numbers image)) (entries : List (List ℕ × Tid)) (so : AreGathered at.pages number relation (field_numbers image) entries) where
+    pub in_gathered : (pair : List ℕ × Tid) → In pair (kept small shows number its image within) → In pair entries
+    in_gathered pair is =
+        let of = kept_tuple small shows number its image within pair is in
+        let stands : body_at at.pages relation.segment pair.1 ≡ Some (number ∷ tuple_bytes of.0) = (plain_contents shows.listed.no_links shows.contents).stands number relation pair.1 of.0 its of.1 in
+        let found = of_map (λ (p : List ℕ × Tid). p.1) entries pair.1 (contains_in (list_map (λ (p : List ℕ × Tid). p.1) entries) pair.1 (so.all pair.1 (record { bytes = tuple_bytes of.0; there = stands }))) in
+        let key = each_in (λ (p : List ℕ × Tid). IsKeyAt at.pages number relation (field_numbers image) p.1 p.0) entries so.each found.0 found.1 in
+        let fits = (shown small shows number its image within).tuples pair.1 of.0 of.1 in
+        let bytes : key.has.bytes ≡ tuple_bytes of.0 = bytes_same (sym key.has.there ∙ ap (body_at at.pages relation.segment) found.2 ∙ stands) in
+        let keys = key.is of.0 (record { fit = fits.fit; storable = fits.storable; same = bytes }) in
+        subst (λ (p : List ℕ × Tid). In p entries) ((λ i. (keys i, found.2 i)) ∙ of.2) found.1
+      where
+        bytes_same : {a b : List ℕ} → Some (number ∷ a) ≡ Some (number ∷ b) → a ≡ b
+        bytes_same same = cc
+
+    pub sorted_list : (sorted : List (List ℕ × Tid)) → IsPermutation entries sorted → IsSortedBy is_before sorted → sorted ≡ kept small shows number its image within
+    sorted_list sorted moved is =
+        sym (same_sorted (λ a b. entry_order a b ≡ Less) never (kept small shows number its image within) sorted (kept_rises small shows number its image within) (sorted_pairs sorted is)
+        (λ pair there. contains_in sorted pair (Contains-permutation entries sorted pair moved (in_contains entries pair (in_gathered pair there))))
+        (omega (arith, few_of (field_numbers image) entries so.each so.apart, length_permutation entries sorted moved, kept_long small shows number its image within)))
+      where
+        never : (a : List ℕ × Tid) → entry_order a a ≡ Less → ⊥
+        never a is = let never : Less ≡ Equal = sym is ∙ tied_itself order_total a in absurd (cc)

@@ -1,0 +1,76 @@
+-- A list that is sorted, and has no more members than one that rises, and all of its members, is that list.
+use Rattle.std.proofs.Common.{◌≡◌, ◌≢◌, ◌⊎◌, inl, inr, ⊎_elim, ℕ, zero, suc, ◌<◌, ◌≤◌, List, [], ◌∷◌, ◌++◌, length, get_or, refl, sym, ◌∙◌, ap, subst, arith, length-append}
+use Rattle.rss_levels.specs.Entries.{Each, Pairwise}
+use Rattle.rss_levels.proofs.Lists.{each_weaker}
+use Rattle.rss_model.proofs.Mixing.{In, in_left, in_right, in_parts}
+use Rattle.rss_entries.proofs.Orders.{each_in, each_of_in, in_contains}
+
+-- ---- members that are apart
+
+record IsSplitAt {X : Type 0} (xs : List X) (a : X) : Type 0 where
+  front : List X
+  back : List X
+  is : xs ≡ front ++ a ∷ back
+
+module _ {X : Type 0} where
+  split_in : (xs : List X) (a : X) → In a xs → IsSplitAt xs a
+  split_in [] a is = absurd is
+  split_in (x ∷ xs) a (inl here) = record { front = []; back = xs; is = ap (λ (y : X). y ∷ xs) here }
+  split_in (x ∷ xs) a (inr more) = let rest = split_in xs a more in record { front = x ∷ rest.front; back = rest.back; is = ap (λ (l : List X). x ∷ l) rest.is }
+
+  -- of lists whose members are apart none is longer than a list that has them all
+  pub few_apart : (xs ys : List X) → Pairwise (λ a b. a ≢ b) xs → ((a : X) → In a xs → In a ys) → length xs ≤ length ys
+  few_apart [] ys apart into = omega arith
+  few_apart (x ∷ xs) ys apart into =
+      let cut = split_in ys x (into x (inl refl)) in
+      let rest = few_apart xs (cut.front ++ cut.back) apart.1 (λ a is. still a is cut (in_parts cut.front (x ∷ cut.back) a (subst (In a) cut.is (into a (inr is))))) in
+      omega (arith, rest, ap (λ (l : List X). length l) cut.is, length-append cut.front (x ∷ cut.back), length-append cut.front cut.back)
+    where
+      still : (a : X) → In a xs → (cut : IsSplitAt ys x) → In a cut.front ⊎ In a (x ∷ cut.back) → In a (cut.front ++ cut.back)
+      still a is cut (inl front) = in_left cut.front cut.back a front
+      still a is cut (inr (inl here)) = absurd (each_in (λ b. x ≢ b) xs apart.0 a is here)
+      still a is cut (inr (inr back)) = in_right cut.front cut.back a back
+
+  -- ---- a list that rises, and one that is sorted
+
+  module _ (R : X → X → Type 0) (never : (a : X) → R a a → ⊥) where
+    apart_of : (a b : X) → R a b → a ≢ b
+    apart_of a b before same = never b (subst (λ (c : X). R c b) same before)
+
+    few_rising : (xs ys : List X) → Pairwise R xs → ((a : X) → In a xs → In a ys) → length xs ≤ length ys
+    few_rising xs ys rises into = few_apart xs ys (all_apart xs rises) into
+      where
+        all_apart : (xs : List X) → Pairwise R xs → Pairwise (λ a b. a ≢ b) xs
+        all_apart [] rises = tt
+        all_apart (x ∷ xs) rises = (each_weaker (R x) (λ b. x ≢ b) xs (apart_of x) rises.0, all_apart xs rises.1)
+
+    pub same_sorted : (xs ys : List X) → Pairwise R xs → Pairwise (λ a b. R b a → ⊥) ys → ((a : X) → In a xs → In a ys) → length ys ≤ length xs → xs ≡ ys
+    same_sorted [] [] rises sorted into few = refl
+    same_sorted [] (y ∷ ys) rises sorted into few = absurd (omega (arith, few))
+    same_sorted (x ∷ xs) [] rises sorted into few = absurd (into x (inl refl))
+    same_sorted (x ∷ xs) (y ∷ ys) rises sorted into few = ⊎_elim
+        (λ (here : y ≡ x). let rest = same_sorted xs ys rises.1 sorted.1 (λ a is. behind here a is (into a (inr is))) (omega (arith, few)) in λ i. sym here i ∷ rest i)
+        (λ (more : In x ys). absurd (too_few (few_rising (x ∷ xs) ys rises (λ a is. ahead more a is (into a is)))))
+        (into x (inl refl))
+      where
+        behind : y ≡ x → (a : X) → In a xs → In a (y ∷ ys) → In a ys
+        behind here a is (inl same) = absurd (apart_of x a (each_in (R x) xs rises.0 a is) (sym here ∙ same))
+        behind here a is (inr more) = more
+
+        ahead : In x ys → (a : X) → In a (x ∷ xs) → In a (y ∷ ys) → In a ys
+        ahead more a is (inr there) = there
+        ahead more a (inl same) (inl here) = subst (λ (b : X). In b ys) same more
+        ahead more a (inr is) (inl here) = absurd (each_in (λ b. R b y → ⊥) ys sorted.0 x more (subst (R x) (sym here) (each_in (R x) xs rises.0 a is)))
+
+        too_few : suc (length xs) ≤ length ys → ⊥
+        too_few many = omega (arith, many, few)
+
+  -- ---- by places
+
+  -- a relation between each two places of a list, by its elements
+  pub pairwise_at : (R : X → X → Type 0) (xs : List X) → ((i j : ℕ) (d : X) → i < j → j < length xs → R (get_or xs i d) (get_or xs j d)) → Pairwise R xs
+  pairwise_at R [] at = tt
+  pairwise_at R (x ∷ xs) at = (
+    each_of_in (R x) xs (λ a is. let place = in_contains xs a is in subst (R x) place.2 (at zero (suc place.0) a (omega arith) (omega (arith, place.1)))),
+    pairwise_at R xs (λ i j d less low. at (suc i) (suc j) d (omega (arith, less)) (omega (arith, low))),
+  )
