@@ -21,7 +21,7 @@ use Rattle.rss_model.proofs.PlainStores.{plain_contents}
 use Rattle.rss_entries.proofs.Orders.{each_in, in_contains, of_map, map_rises}
 use Rattle.rss_access.specs.Changes.{AccessView}
 use Rattle.rss_access.specs.Checking.{ShowsTuples}
-use Rattle.rss_access.specs.Filling.{HasBytes, IsKeyAt, IsMisspelled, AreGathered, entry_order}
+use Rattle.rss_access.specs.Filling.{HasBytes, IsKeyAt, IsMisspelled, AreEntries, AreGathered, entry_order}
 use Rattle.rss_access.specs.Tuples.{body_at}
 use Rattle.rss_access.proofs.AsMany.{contains_in}
 use Rattle.rss_access.proofs.Gathering.{AreGatheredTo}
@@ -91,3 +91,10 @@ module _ {at : AccessView} (small : at.pages.slots < 2 ^ 32) {tables : Tables} (
       where
         never : (a : List ℕ × Tid) → entry_order a a ≡ Less → ⊥
         never a is = let never : Less ≡ Equal = sym is ∙ tied_itself order_total a in absurd (cc)
+
+-- they are so for each catalog that lists the relation
+pub entries_are : {at : AccessView} → at.pages.slots < 2 ^ 32 → (number : ℕ) (relation : RelationEntry) (which : List ℕ) → All (IsNumberOf relation.fields) which
+    → (entries sorted : List (List ℕ × Tid)) → AreGathered at.pages number relation which entries → IsPermutation entries sorted → IsSortedBy is_before sorted → AreEntries at number relation which sorted
+entries_are {at = at} small number relation which within entries sorted so moved is tables image shows its same =
+    sorted_list small shows number its image (subst (All (IsNumberOf relation.fields)) (sym same) within) entries
+    (subst (λ (w : List ℕ). AreGathered at.pages number relation w entries) (sym same) so) sorted moved is
