@@ -76,12 +76,12 @@ module _ {at : AccessView} (small : at.pages.slots < 2 ^ 32) {tables : Tables} (
         let found = of_map (λ (p : List ℕ × Tid). p.1) entries pair.1 (contains_in (list_map (λ (p : List ℕ × Tid). p.1) entries) pair.1 (so.all pair.1 (record { bytes = tuple_bytes of.0; there = stands }))) in
         let key = each_in (λ (p : List ℕ × Tid). IsKeyAt at.pages number relation (field_numbers image) p.1 p.0) entries so.each found.0 found.1 in
         let fits = (shown small shows number its image within).tuples pair.1 of.0 of.1 in
-        let bytes : key.has.bytes ≡ tuple_bytes of.0 = bytes_same (sym key.has.there ∙ ap (body_at at.pages relation.segment) found.2 ∙ stands) in
+        let bytes : key.has.bytes ≡ tuple_bytes of.0 = bytes_same {a = key.has.bytes} key.has.there (ap (body_at at.pages relation.segment) found.2 ∙ stands) in
         let keys = key.is of.0 (record { fit = fits.fit; storable = fits.storable; same = bytes }) in
         subst (λ (p : List ℕ × Tid). In p entries) ((λ i. (keys i, found.2 i)) ∙ of.2) found.1
       where
-        bytes_same : {a b : List ℕ} → Some (number ∷ a) ≡ Some (number ∷ b) → a ≡ b
-        bytes_same same = cc
+        bytes_same : {body : Option (List ℕ)} {a b : List ℕ} → body ≡ Some (number ∷ a) → body ≡ Some (number ∷ b) → a ≡ b
+        bytes_same one other = cc
 
     pub sorted_list : (sorted : List (List ℕ × Tid)) → IsPermutation entries sorted → IsSortedBy is_before sorted → sorted ≡ kept small shows number its image within
     sorted_list sorted moved is =

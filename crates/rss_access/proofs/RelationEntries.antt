@@ -7,7 +7,7 @@ use Rattle.std.specs.declared.cmp.Ordering.{Ordering}
 use Rattle.std.specs.declared.cmp.Ordering.TheVariants.{Less}
 use Rattle.std.proofs.lemmas.List.{length-map}
 use Rattle.std.proofs.lemmas.Option.{same_Some}
-use Rattle.rss_base.specs.Trees.{tid_cmp}
+use Rattle.rss_base.specs.Trees.{Pair, tid_cmp}
 use Rattle.rss_base.specs.TupleTypes.{kinds, chosen, misfit, field_names, key_bytes, values_cmp, Spells, IsKeyOf}
 use Rattle.rss_base.specs.Listings.{Listing, IsFieldNumber, relation_at, field_numbers}
 use Rattle.rss_base.specs.declared.name.Name.{Name}
@@ -19,10 +19,11 @@ use Rattle.rss_base.specs.declared.image.ImageEntry.{ImageEntry}
 use Rattle.rss_base.specs.declared.relation.RelationEntry.{RelationEntry}
 use Rattle.rss_value.specs.Numbers.{IsNumberOf}
 use Rattle.rss_levels.specs.Entries.{Pairwise}
+use Rattle.rss_node.specs.Pairs.{pair_bytes}
 use Rattle.rss_model.specs.Items.{Content, Values}
 use Rattle.rss_model.specs.Tables.{RelationDef, Tables, content, fields_of, fields_in}
 use Rattle.rss_model.specs.Images.{Entry, entry, entry_cmp, entries_by, image_list, repeated, repeated_behind as repeated_entry}
-use Rattle.rss_model.specs.Store.{image_definition}
+use Rattle.rss_model.specs.Store.{image_definition, pair_spelled}
 use Rattle.rss_model.proofs.ImageCounts.{entries_counted}
 use Rattle.rss_model.proofs.ImageFields.{numbers_back, chosen_kinds}
 use Rattle.rss_model.proofs.ImageLists.{listed as entry_listed}
@@ -33,7 +34,7 @@ use Rattle.rss_value.proofs.KeyOrders.{keys_order}
 use Rattle.rss_entries.specs.Keyed.{key_with}
 use Rattle.rss_entries.specs.Seeking.{kinds_in, kept_pair}
 use Rattle.rss_entries.proofs.Orders.{in_map, of_map, map_rises}
-use Rattle.rss_entries.proofs.Shown.{Shows, IsSpelledTuple, IsTupleEntry, Precedes, entries_rise, entry_with, key_fits, key_is, tuple_of as entry_tuple}
+use Rattle.rss_entries.proofs.Shown.{Shows, byte_list, IsSpelledTuple, IsTupleEntry, Precedes, entries_rise, entry_with, key_fits, key_is, tuple_of as entry_tuple}
 use Rattle.rss_access.specs.Changes.{AccessView}
 use Rattle.rss_access.specs.Checking.{ShowsTuples}
 use Rattle.rss_access.specs.Filling.{keys_by, entry_order, repeated_key, repeated_behind}
@@ -150,6 +151,14 @@ module _ {at : AccessView} (small : at.pages.slots < 2 ^ 32) {tables : Tables} (
     kept_rises = map_rises (kept_pair image relation) Precedes (λ a b. entry_order a b ≡ Less) entries
         (λ a b one other before. ap (λ (o : Ordering). ordering_then o (tid_cmp a.tid b.tid)) (keys_cmp a b one other) ∙ before)
         (entries_rise tables relation.name names)
+
+    -- as bytes, which a tree of the image has
+    pub kept_bytes : list_map (λ (pair : List ℕ × Tid). pair_bytes pair.0 pair.1) kept ≡ byte_list tables image relation
+    kept_bytes = each entries
+      where
+        each : (es : List Entry) → list_map (λ (pair : List ℕ × Tid). pair_bytes pair.0 pair.1) (list_map (kept_pair image relation) es) ≡ list_map (λ (pair : Pair). pair_bytes pair.key pair.tid) (list_map (pair_spelled image relation) es)
+        each [] = refl
+        each (e ∷ es) = ap (λ (l : List (List ℕ)). pair_bytes (kept_pair image relation e).0 e.tid ∷ l) (each es)
 
     -- ---- repeated keys
 

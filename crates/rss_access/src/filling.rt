@@ -36,7 +36,8 @@ pub fn entries_of<P: Pages>(
     requires heaps { IsTold (P.view tuples.old.pages).disk → AreHeaps (P.view tuples.old.pages) }
     ensures long { IfOk result (λ entries.
         All (IsEntryLong (keys_by relation.now which.now)) entries.items) }
-    ensures few { IfOk result (λ entries. length entries.items ≤ pairs_most) }
+    ensures few { IfOk result (λ entries. (length entries.items ≤ relation.now.live)
+        × (length entries.items ≤ pairs_most)) }
     ensures are { IfOk result (λ entries. IsTold (P.view tuples.old.pages).disk
         → (catalog : CatalogView) → AreEntries (both (P.view tuples.old.pages) catalog)
         number relation.now which.now entries.items) }
@@ -68,7 +69,8 @@ fn gather<P: Pages>(
     requires heaps { IsTold (P.view tuples.old.pages).disk → AreHeaps (P.view tuples.old.pages) }
     ensures long { IfOk result (λ entries.
         All (IsEntryLong (keys_by relation.now which.now)) entries.items) }
-    ensures few { IfOk result (λ entries. length entries.items ≤ pairs_most) }
+    ensures few { IfOk result (λ entries. (length entries.items ≤ relation.now.live)
+        × (length entries.items ≤ pairs_most)) }
     ensures are { IfOk result (λ entries. IsTold (P.view tuples.old.pages).disk
         → AreGathered (P.view tuples.old.pages) number relation.now which.now entries.items) }
     ensures fault { (place : AnyPlace) → result ≡ Err (PageDamaged place)
