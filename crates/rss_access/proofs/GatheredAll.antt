@@ -21,10 +21,10 @@ use Rattle.rss_model.proofs.PlainStores.{plain_contents}
 use Rattle.rss_entries.proofs.Orders.{each_in, in_contains, of_map, map_rises}
 use Rattle.rss_access.specs.Changes.{AccessView}
 use Rattle.rss_access.specs.Checking.{ShowsTuples}
-use Rattle.rss_access.specs.Filling.{HasBytes, IsKeyAt, IsMisspelled, AreEntries, AreGathered, entry_order}
+use Rattle.rss_access.specs.Filling.{HasBytes, IsKeyAt, IsMisspelled, AreEntries, entry_order}
 use Rattle.rss_access.specs.Tuples.{body_at}
 use Rattle.rss_access.proofs.AsMany.{contains_in}
-use Rattle.rss_access.proofs.Gathering.{AreGatheredTo}
+use Rattle.rss_access.proofs.Gathering.{AreGathered, AreGatheredTo}
 use Rattle.rss_access.proofs.RelationEntries.{body_tuple, kept, kept_long, kept_rises, kept_tuple, shown, tid_shown, tids_long, tids_shown}
 use Rattle.rss_access.proofs.SortedAlike.{few_apart, pairwise_at, same_sorted}
 
@@ -68,12 +68,12 @@ module _ {at : AccessView} (small : at.pages.slots < 2 ^ 32) {tables : Tables} (
 
   -- ---- the list of an image
 
-  module _ (image : ImageEntry) (within : All (IsNumberOf relation.fields) (field_numbers image)) (entries : List (List ℕ × Tid)) (so : AreGathered at.pages number relation (field_numbers image) entries) where
+  module _ (image : ImageEntry) (within : All (IsNumberOf relation.fields) (field_numbers image)) (entries : List (List ℕ × Tid)) (so : AreGathered number relation (field_numbers image) at.pages entries) where
     pub in_gathered : (pair : List ℕ × Tid) → In pair (kept small shows number its image within) → In pair entries
     in_gathered pair is =
         let of = kept_tuple small shows number its image within pair is in
         let stands : body_at at.pages relation.segment pair.1 ≡ Some (number ∷ tuple_bytes of.0) = (plain_contents shows.listed.no_links shows.contents).stands number relation pair.1 of.0 its of.1 in
-        let found = of_map (λ (p : List ℕ × Tid). p.1) entries pair.1 (contains_in (list_map (λ (p : List ℕ × Tid). p.1) entries) pair.1 (so.all pair.1 (record { bytes = tuple_bytes of.0; there = stands }))) in
+        let found = of_map (λ (p : List ℕ × Tid). p.1) entries pair.1 (so.all pair.1 (record { bytes = tuple_bytes of.0; there = stands })) in
         let key = each_in (λ (p : List ℕ × Tid). IsKeyAt at.pages number relation (field_numbers image) p.1 p.0) entries so.each found.0 found.1 in
         let fits = (shown small shows number its image within).tuples pair.1 of.0 of.1 in
         let bytes : key.has.bytes ≡ tuple_bytes of.0 = bytes_same {a = key.has.bytes} key.has.there (ap (body_at at.pages relation.segment) found.2 ∙ stands) in
@@ -94,7 +94,7 @@ module _ {at : AccessView} (small : at.pages.slots < 2 ^ 32) {tables : Tables} (
 
 -- they are so for each catalog that lists the relation
 pub entries_are : {at : AccessView} → at.pages.slots < 2 ^ 32 → (number : ℕ) (relation : RelationEntry) (which : List ℕ) → All (IsNumberOf relation.fields) which
-    → (entries sorted : List (List ℕ × Tid)) → AreGathered at.pages number relation which entries → IsPermutation entries sorted → IsSortedBy is_before sorted → AreEntries at number relation which sorted
+    → (entries sorted : List (List ℕ × Tid)) → AreGathered number relation which at.pages entries → IsPermutation entries sorted → IsSortedBy is_before sorted → AreEntries at number relation which sorted
 entries_are {at = at} small number relation which within entries sorted so moved is tables image shows its same =
     sorted_list small shows number its image (subst (All (IsNumberOf relation.fields)) (sym same) within) entries
-    (subst (λ (w : List ℕ). AreGathered at.pages number relation w entries) (sym same) so) sorted moved is
+    (subst (λ (w : List ℕ). AreGathered number relation w at.pages entries) (sym same) so) sorted moved is

@@ -13,7 +13,7 @@ use Rattle.rss_model.proofs.Mixing.{In, in_left, in_right}
 use Rattle.rss_tuple.specs.Finding.{IsAfter, IsNext}
 use Rattle.rss_tuple.specs.TupleSteps.{IsBelow, IsLeast, NoneIs, tuples_in}
 use Rattle.rss_entries.proofs.Orders.{in_contains}
-use Rattle.rss_access.specs.Filling.{HasBytes, IsKeyAt, FindsKey, IsMisspelled, IsEntryLong, AreGathered, keys_by}
+use Rattle.rss_access.specs.Filling.{HasBytes, IsKeyAt, FindsKey, IsMisspelled, IsEntryLong, keys_by}
 use Rattle.rss_access.specs.Tuples.{body_at, FindsBody}
 use Rattle.rss_access.proofs.NextTuples.{IsTid, cases_tid, after_then, below_never}
 use Rattle.rss_access.proofs.Walked.{body_still}
@@ -90,12 +90,18 @@ module _ (number : ℕ) (relation : RelationEntry) (which : List ℕ) where
         in_front (p ∷ front) other (inl same) = inl same
         in_front (p ∷ front) other (inr is) = inr (in_front front other is)
 
+  -- They are those of all tuples, none of them twice.
+  pub record AreGathered (pages : PagesView) (entries : List (List ℕ × Tid)) : Type 0 where
+    pub each : Each (λ pair. IsKeyAt pages number relation which pair.1 pair.0) entries
+    pub apart : Pairwise (λ a b. a.1 ≢ b.1) entries
+    pub all : (tid : Tid) → HasBytes pages number relation tid → In tid (tids_in entries)
+
   -- behind the last tuple there is none
-  pub gathered_all : {pages : PagesView} {last : Option Tid} {entries : List (List ℕ × Tid)} → AreGatheredTo pages last entries → ((tid : Tid) → HasBytes pages number relation tid → IsAfter last tid → ⊥) → AreGathered pages number relation which entries
+  gathered_all : {pages : PagesView} {last : Option Tid} {entries : List (List ℕ × Tid)} → AreGatheredTo pages last entries → ((tid : Tid) → HasBytes pages number relation tid → IsAfter last tid → ⊥) → AreGathered pages entries
   gathered_all {entries = entries} so none = record {
     each = so.each;
     apart = so.apart;
-    all = λ tid has. in_contains (tids_in entries) tid (⊎_elim (λ after. absurd (none tid has after)) (λ is. is) (so.all tid has));
+    all = λ tid has. ⊎_elim (λ after. absurd (none tid has after)) (λ is. is) (so.all tid has);
   }
 
   -- ---- the walk
@@ -122,7 +128,7 @@ module _ (number : ℕ) (relation : RelationEntry) (which : List ℕ) where
     next_of : IsTold start.disk → (tid : Tid) → HasBytes start number relation tid → IsAfter last tid → IsNext (tuples_in now) relation.segment last tid
     next_of told tid has behind = record { behind = behind; live = subst (λ (o : Option (List ℕ)). is_some o ≡ true) (sym (body_still so.step told relation.segment tid ∙ has.there)) refl }
 
-    pub gathered_end : IsTold start.disk → NoneIs (IsNext (tuples_in now) relation.segment last) → AreGathered start number relation which entries
+    pub gathered_end : IsTold start.disk → NoneIs (IsNext (tuples_in now) relation.segment last) → AreGathered start entries
     gathered_end told none = gathered_all (so.are told) (λ tid has after. none tid (next_of told tid has after))
 
     module _ (mid : PagesView) {asks outs : ℕ} (on : PagesStep no_page asks outs now mid) (tid : Tid) (least : IsTold start.disk → IsLeast (IsNext (tuples_in now) relation.segment last) tid) where

@@ -1,5 +1,5 @@
 -- The entries of all tuples of a relation, for an image that is made over them.
-use Rattle.std.specs.Prelude.{◌≡◌, ◌≢◌, ℕ, ◌<◌, ◌≤◌, if◌then◌else◌, List, [], ◌∷◌, length, map as list_map, Contains, Option, Some, None, MatchOption, Result, IsErrOf}
+use Rattle.std.specs.Prelude.{◌≡◌, ℕ, ◌<◌, ◌≤◌, if◌then◌else◌, List, [], ◌∷◌, length, map as list_map, Option, Some, None, MatchOption, Result, IsErrOf}
 use Rattle.std.specs.Ordering.{nat_cmp, is_eq, ordering_then}
 use Rattle.std.specs.Cmp.Lexicographic.{slice_cmp}
 use Rattle.std.specs.declared.cmp.Ordering.{Ordering}
@@ -15,7 +15,6 @@ use Rattle.rss_base.specs.declared.tid.Tid.{Tid}
 use Rattle.rss_base.specs.declared.value.Value.{Value}
 use Rattle.rss_base.specs.declared.image.ImageEntry.{ImageEntry}
 use Rattle.rss_base.specs.declared.relation.RelationEntry.{RelationEntry}
-use Rattle.rss_levels.specs.Entries.{Each, Pairwise}
 use Rattle.rss_image.specs.Images.{pairs_most}
 use Rattle.rss_model.specs.Tables.{Tables}
 use Rattle.rss_model.specs.Images.{image_list}
@@ -94,9 +93,3 @@ FindsKey pages number relation which tid found =
 pub record IsMisspelled (pages : PagesView) (number : ℕ) (relation : RelationEntry) (tid : Tid) : Type 0 where
   pub has : HasBytes pages number relation tid
   pub not : SpellsSome (kinds relation.fields) has.bytes → tid.slot < page_entries → ⊥
-
--- These are the entries of all tuples of the relation, none of them twice.
-pub record AreGathered (pages : PagesView) (number : ℕ) (relation : RelationEntry) (which : List ℕ) (entries : List (List ℕ × Tid)) : Type 0 where
-  pub each : Each (λ pair. IsKeyAt pages number relation which pair.1 pair.0) entries
-  pub apart : Pairwise (λ a b. a.1 ≢ b.1) entries
-  pub all : (tid : Tid) → HasBytes pages number relation tid → Contains (list_map (λ (pair : List ℕ × Tid). pair.1) entries) tid

@@ -10,7 +10,7 @@ ghost use Rattle.rss_image.specs.Images.{pairs_most};
 ghost use Rattle.rss_tuple.specs.Calls.{IsSegment};
 ghost use Rattle.rss_tuple.specs.Heaps.{AreHeaps};
 ghost use Rattle.rss_access.specs.Changes.{both};
-ghost use Rattle.rss_access.specs.Filling.{keys_by, IsEntryLong, AreEntries, HasNoTables, SearchesPages, AreGathered, FindsKey, IsMisspelled, entry_order, repeated_key};
+ghost use Rattle.rss_access.specs.Filling.{keys_by, IsEntryLong, AreEntries, HasNoTables, SearchesPages, FindsKey, IsMisspelled, entry_order, repeated_key};
 
 use crate::edit::TUPLES_MOST;
 use crate::tuples::find;
@@ -50,36 +50,6 @@ pub fn entries_of<P: Pages>(
 {
     // A number of four bytes, which bounds those of pages.
     let _slots = tuples.pages.slots();
-    let mut entries = gather(alloc, tuples, relation, number, which)?;
-    entries.sort_unstable_by(|a, b| compare_entries(a, b));
-    Ok(entries)
-}
-
-/// The entries in the order of their identifiers.
-fn gather<P: Pages>(
-    alloc: Global,
-    tuples: &mut Store<P>,
-    relation: &RelationEntry,
-    number: u8,
-    which: &[u8],
-) -> Result<Vec<(Key, Tid)>, PageFault>
-    requires segment { IsSegment relation.now.segment }
-    requires numbers { All (IsNumberOf relation.now.fields) which.now }
-    requires narrow { key_width (chosen which.now (kinds relation.now.fields)) ≤ most_key_width }
-    requires heaps { IsTold (P.view tuples.old.pages).disk → AreHeaps (P.view tuples.old.pages) }
-    ensures long { IfOk result (λ entries.
-        All (IsEntryLong (keys_by relation.now which.now)) entries.items) }
-    ensures few { IfOk result (λ entries. (length entries.items ≤ relation.now.live)
-        × (length entries.items ≤ pairs_most)) }
-    ensures are { IfOk result (λ entries. IsTold (P.view tuples.old.pages).disk
-        → AreGathered (P.view tuples.old.pages) number relation.now which.now entries.items) }
-    ensures fault { (place : AnyPlace) → result ≡ Err (PageDamaged place)
-        → IsTold (P.view tuples.old.pages).disk → (catalog : CatalogView)
-        → HasNoTables (both (P.view tuples.old.pages) catalog) number relation.now }
-    ensures did { SearchesPages (P.view tuples.old.pages) (P.view tuples.new.pages) result }
-{
-    // A number of four bytes, which bounds those of pages.
-    let _slots = tuples.pages.slots();
     let damaged = PageFault::Damaged(Place::Count(number));
     if relation.live > TUPLES_MOST {
         return Err(damaged);
@@ -100,6 +70,7 @@ fn gather<P: Pages>(
         }
         last = Some(tid);
     }
+    entries.sort_unstable_by(|a, b| compare_entries(a, b));
     Ok(entries)
 }
 
