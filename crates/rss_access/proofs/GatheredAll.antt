@@ -1,14 +1,14 @@
 -- What was gathered of a relation's tuples are the entries of its images: no more than it has tuples, and sorted, the list of an image.
-use Rattle.std.proofs.Common.{◌≡◌, ◌≢◌, Bool, true, false, ℕ, ◌<◌, ◌≤◌, ◌^◌, List, ◌∷◌, length, get_or, refl, sym, ◌∙◌, ap, subst, arith}
+use Rattle.std.proofs.Common.{◌≡◌, ◌≢◌, Bool, true, false, ℕ, ◌<◌, ◌≤◌, ◌^◌, List, ◌∷◌, length, sym, ◌∙◌, ap, subst, arith}
 use Rattle.std.specs.Prelude.{Option, Some, All, is_some, map as list_map}
-use Rattle.std.specs.Ordering.{nat_cmp, is_lt}
+use Rattle.std.specs.Ordering.{is_lt}
 use Rattle.std.specs.Cmp.{IsTotalOrder, nat_cmp_total, on_total, then_total}
 use Rattle.std.specs.declared.cmp.Ordering.TheVariants.{Less, Equal}
 use Rattle.std.specs.List.Sorted.{IsPermutation, IsSortedBy}
 use Rattle.std.proofs.lemmas.Cmp.{nat_list_cmp_total, tied_itself}
 use Rattle.std.proofs.lemmas.List.{length-map}
 use Rattle.std.proofs.lemmas.List.Sorted.{Contains-permutation, length_permutation, ranks_by, sorted_far}
-use Rattle.rss_base.specs.TupleTypes.{kinds, tuple_bytes, Spells}
+use Rattle.rss_base.specs.TupleTypes.{tuple_bytes}
 use Rattle.rss_base.specs.Listings.{relation_at, field_numbers}
 use Rattle.rss_base.specs.declared.tid.Tid.{Tid}
 use Rattle.rss_base.specs.declared.image.ImageEntry.{ImageEntry}
@@ -21,7 +21,7 @@ use Rattle.rss_model.proofs.PlainStores.{plain_contents}
 use Rattle.rss_entries.proofs.Orders.{each_in, in_contains, of_map, map_rises}
 use Rattle.rss_access.specs.Changes.{AccessView}
 use Rattle.rss_access.specs.Checking.{ShowsTuples}
-use Rattle.rss_access.specs.Filling.{HasBytes, IsKeyAt, IsMisspelled, AreEntries, entry_order}
+use Rattle.rss_access.specs.Filling.{IsKeyAt, IsMisspelled, AreEntries, entry_order}
 use Rattle.rss_access.specs.Tuples.{body_at}
 use Rattle.rss_access.proofs.AsMany.{contains_in}
 use Rattle.rss_access.proofs.Gathering.{AreGathered, AreGatheredTo}

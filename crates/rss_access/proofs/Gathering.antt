@@ -1,5 +1,5 @@
 -- The entries of a relation's tuples, gathered along the tuples of its segment.
-use Rattle.std.proofs.Common.{◌≡◌, ◌≢◌, ◌⊎◌, inl, inr, ⊎_elim, ℕ, ◌+◌, ◌≤◌, true, List, [], ◌∷◌, ◌++◌, length, refl, sym, ◌∙◌, ap, subst, arith}
+use Rattle.std.proofs.Common.{◌≡◌, ◌≢◌, ◌⊎◌, inl, inr, ⊎_elim, ℕ, ◌+◌, true, List, [], ◌∷◌, ◌++◌, refl, sym, ◌∙◌, ap, subst, arith}
 use Rattle.std.specs.Prelude.{Option, Some, None, All, IfSome, is_some, map as list_map}
 use Rattle.std.proofs.lemmas.List.Elements.{All-push}
 use Rattle.rss_base.specs.DiskRule.{IsTold}
@@ -9,11 +9,10 @@ use Rattle.rss_base.specs.declared.relation.RelationEntry.{RelationEntry}
 use Rattle.rss_base.proofs.Steps.{rests, then}
 use Rattle.rss_levels.specs.Entries.{Each, Pairwise}
 use Rattle.rss_levels.proofs.Lists.{each_append, each_weaker, pairwise_append}
-use Rattle.rss_model.proofs.Mixing.{In, in_left, in_right}
+use Rattle.rss_model.proofs.Mixing.{In}
 use Rattle.rss_tuple.specs.Finding.{IsAfter, IsNext}
 use Rattle.rss_tuple.specs.TupleSteps.{IsBelow, IsLeast, NoneIs, tuples_in}
-use Rattle.rss_entries.proofs.Orders.{in_contains}
-use Rattle.rss_access.specs.Filling.{HasBytes, IsKeyAt, FindsKey, IsMisspelled, IsEntryLong, keys_by}
+use Rattle.rss_access.specs.Filling.{HasBytes, IsKeyAt, IsMisspelled, IsEntryLong, keys_by}
 use Rattle.rss_access.specs.Tuples.{body_at, FindsBody}
 use Rattle.rss_access.proofs.NextTuples.{IsTid, cases_tid, after_then, below_never}
 use Rattle.rss_access.proofs.Walked.{body_still}

@@ -1,5 +1,5 @@
 -- Repeated keys in a list of entries.
-use Rattle.std.proofs.Common.{◌≡◌, ℕ, suc, ◌+◌, ◌<◌, true, false, List, [], ◌∷◌, length, drop, get_or, refl, sym, ◌∙◌, ap, arith}
+use Rattle.std.proofs.Common.{ℕ, List}
 use Rattle.std.specs.Prelude.{Option, Some, None}
 use Rattle.rss_base.specs.declared.tid.Tid.{Tid}
 use Rattle.rss_access.specs.Filling.{repeated_behind, repeated_key}

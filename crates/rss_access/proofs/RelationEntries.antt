@@ -1,6 +1,6 @@
 -- The list of an image of a relation, in bytes, by the pages of its tuples. The image need not be listed.
-use Rattle.std.proofs.Common.{◌≡◌, ◌≢◌, inl, inr, ℕ, ◌<◌, ◌≤◌, ◌^◌, true, Bool, List, [], ◌∷◌, length, get_or, refl, sym, ◌∙◌, ap, subst, arith}
-use Rattle.std.specs.Prelude.{Option, Some, None, All, Contains, is_some, option_map, unwrap_or, if◌then◌else◌, map as list_map}
+use Rattle.std.proofs.Common.{◌≡◌, inl, inr, ℕ, ◌<◌, ◌^◌, List, [], ◌∷◌, length, refl, sym, ◌∙◌, ap, subst}
+use Rattle.std.specs.Prelude.{Option, Some, All, is_some, option_map, unwrap_or, if◌then◌else◌, map as list_map}
 use Rattle.std.specs.Ordering.{nat_cmp, is_eq, ordering_then}
 use Rattle.std.specs.Cmp.Lexicographic.{slice_cmp}
 use Rattle.std.specs.declared.cmp.Ordering.{Ordering}
@@ -9,7 +9,7 @@ use Rattle.std.proofs.lemmas.List.{length-map}
 use Rattle.std.proofs.lemmas.Option.{same_Some}
 use Rattle.rss_base.specs.Trees.{Pair, tid_cmp}
 use Rattle.rss_base.specs.TupleTypes.{kinds, chosen, misfit, field_names, key_bytes, values_cmp, Spells, IsKeyOf}
-use Rattle.rss_base.specs.Listings.{Listing, IsFieldNumber, relation_at, field_numbers}
+use Rattle.rss_base.specs.Listings.{relation_at, field_numbers}
 use Rattle.rss_base.specs.declared.name.Name.{Name}
 use Rattle.rss_base.specs.declared.tid.Tid.{Tid}
 use Rattle.rss_base.specs.declared.value.Value.{Value}
@@ -22,7 +22,7 @@ use Rattle.rss_levels.specs.Entries.{Pairwise}
 use Rattle.rss_node.specs.Pairs.{pair_bytes}
 use Rattle.rss_model.specs.Items.{Content, Values}
 use Rattle.rss_model.specs.Tables.{RelationDef, Tables, content, fields_of, fields_in}
-use Rattle.rss_model.specs.Images.{Entry, entry, entry_cmp, entries_by, image_list, repeated, repeated_behind as repeated_entry}
+use Rattle.rss_model.specs.Images.{Entry, entries_by, image_list, repeated, repeated_behind as repeated_entry}
 use Rattle.rss_model.specs.Store.{image_definition, pair_spelled}
 use Rattle.rss_model.proofs.ImageCounts.{entries_counted}
 use Rattle.rss_model.proofs.ImageFields.{numbers_back, chosen_kinds}
@@ -34,7 +34,7 @@ use Rattle.rss_value.proofs.KeyOrders.{keys_order}
 use Rattle.rss_entries.specs.Keyed.{key_with}
 use Rattle.rss_entries.specs.Seeking.{kinds_in, kept_pair}
 use Rattle.rss_entries.proofs.Orders.{in_map, of_map, map_rises}
-use Rattle.rss_entries.proofs.Shown.{Shows, byte_list, IsSpelledTuple, IsTupleEntry, Precedes, entries_rise, entry_with, key_fits, key_is, tuple_of as entry_tuple}
+use Rattle.rss_entries.proofs.Shown.{Shows, byte_list, IsSpelledTuple, Precedes, entries_rise, entry_with, key_fits, tuple_of as entry_tuple}
 use Rattle.rss_access.specs.Changes.{AccessView}
 use Rattle.rss_access.specs.Checking.{ShowsTuples}
 use Rattle.rss_access.specs.Filling.{keys_by, entry_order, repeated_key, repeated_behind}
@@ -130,8 +130,7 @@ module _ {at : AccessView} (small : at.pages.slots < 2 ^ 32) {tables : Tables} (
         let found = of_map (kept_pair image relation) entries pair is in
         let of = entry_tuple shown found.0 found.1 in
         let same : pair_of relation (field_numbers image) of.tid of.values ≡ pair = sym (kept_is of.tid of.values) ∙ ap (kept_pair image relation) of.is ∙ found.2 in
-        let tids : of.tid ≡ pair.1 = ap (λ (p : List ℕ × Tid). p.1) same in
-        (
+        let tids : of.tid ≡ pair.1 = ap (λ (p : List ℕ × Tid). p.1) same in (
           of.values,
           ap (λ (t : Tid). content tables.contents (TupleItem relation.name t)) (sym tids) ∙ of.there,
           ap (λ (t : Tid). pair_of relation (field_numbers image) t of.values) (sym tids) ∙ same,

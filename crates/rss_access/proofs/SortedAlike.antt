@@ -1,6 +1,6 @@
 -- A list that is sorted, and has no more members than one that rises, and all of its members, is that list.
 use Rattle.std.proofs.Common.{◌≡◌, ◌≢◌, ◌⊎◌, inl, inr, ⊎_elim, ℕ, zero, suc, ◌<◌, ◌≤◌, List, [], ◌∷◌, ◌++◌, length, get_or, refl, sym, ◌∙◌, ap, subst, arith, length-append}
-use Rattle.rss_levels.specs.Entries.{Each, Pairwise}
+use Rattle.rss_levels.specs.Entries.{Pairwise}
 use Rattle.rss_levels.proofs.Lists.{each_weaker}
 use Rattle.rss_model.proofs.Mixing.{In, in_left, in_right, in_parts}
 use Rattle.rss_entries.proofs.Orders.{each_in, each_of_in, in_contains}

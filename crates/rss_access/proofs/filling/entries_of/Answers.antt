@@ -3,7 +3,7 @@ use Rattle.std.proofs.Common.{rules, ◌≡◌, ◌+◌, ◌<◌, ℕ, List, [],
 use Rattle.std.proofs.lemmas.List.Sorted.{answers_always, ranks_by}
 use Rattle.rss_base.specs.declared.tid.Tid.{Tid}
 use Rattle.rss_base.proofs.Looking.{passed_on}
-use Rattle.rss_base.proofs.Steps.{then, then_call, done, fails}
+use Rattle.rss_base.proofs.Steps.{then, then_call, fails}
 use Rattle.rss_tuple.proofs.Seen.{heaps_after}
 use Rattle.rss_access.specs.Changes.{both}
 use Rattle.rss_access.proofs.GatheredAll.{entries_are, few_so_far, is_before, none_misspelled, order_total}

@@ -1,4 +1,4 @@
-use Rattle.std.proofs.Common.{◌≡◌, ◌≤◌, length}
+use Rattle.std.proofs.Common.{◌≤◌, length}
 use Rattle.rss_access.proofs.Gathering.{Gathered}
 use Rattle.rss_access.proofs.NextTuples.{count_behind}
 use Rattle.rss_access.proofs.filling.entries_of.Given as goal
