@@ -74,11 +74,9 @@ module _ (old : SessionView) {pages : PagesView} {asks writes : ℕ} (passes : P
       area = ap (λ (b : Backing). b.area) passes.backing ∙ ready.store.area;
       log = ready.store.log;
       system = λ page low. ap (λ (m : Mapped). m (page_key 0 System page)) mapped ∙ ready.store.system page low;
-      only = λ key is. ready.store.only key (sym (ap (λ (m : Mapped). m key) mapped) ∙ is);
       pending_places = ready.store.pending_places;
       settled_now = passes.leaves.stays_settled ready.store.settled_now;
       no_links = ready.store.no_links;
-      plain = ready.store.plain;
       heaps = heaps;
       tables = has_tables_still passes.slots refl passes.leaves.told.1 (λ told key off. ap (λ (h : Held). h key) (held told)) ready.store.tables;
     };

@@ -9,8 +9,9 @@ use Rattle.std.proofs.Math.Logic.{∥∥₁_map}
 use Rattle.rss_base.specs.Paged.{Held}
 use Rattle.rss_base.specs.Sizes.{log_pages_least, system_pages}
 use Rattle.rss_base.specs.Steps.{PagesView}
-use Rattle.rss_base.specs.Listings.{Listing, ListingFits, IsPlain, numbered}
+use Rattle.rss_base.specs.Listings.{Listing, ListingFits, numbered, relation_at, image_at}
 use Rattle.rss_base.specs.TupleTypes.{kinds}
+use Rattle.rss_base.specs.declared.image.ImageEntry.{ImageEntry}
 use Rattle.rss_base.specs.declared.item.Item.TheVariants.{Tuple as TupleItem}
 use Rattle.rss_base.specs.declared.name.Name.{Name}
 use Rattle.rss_base.specs.declared.tid.Tid.{Tid}
@@ -24,7 +25,7 @@ use Rattle.rss_model.specs.Kept.{Kept}
 use Rattle.rss_model.specs.Defining.{defined, with_definitions, relation_def, DefinesNames}
 use Rattle.rss_model.specs.Steps.{refusal}
 use Rattle.rss_model.specs.Spares.{listed_bound}
-use Rattle.rss_model.specs.Store.{SpellsTables, size_of}
+use Rattle.rss_model.specs.Store.{SpellsTables, AreNodesWithin, size_of}
 use Rattle.rss_model.proofs.BothRooms.{definitions_keep_rooms}
 use Rattle.rss_model.proofs.ByNumber.{relation_unnamed}
 use Rattle.rss_model.proofs.Counts.{none_counted}
@@ -99,8 +100,25 @@ tuples_defined {tables = tables} tuples q tid lives =
     by {fields = fields} None is = absurd (none-some fields is)
     by (Some def) is = refl
 
-tables_relisted : {pages : PagesView} {old new : CatalogView} {call : Call} → Relists old.listing call new.listing → (ListingFits old.listing → ListingFits new.listing) → HasTables (both pages old) → HasTables (both pages new)
-tables_relisted relists fits has =
+-- the images are those that were listed
+images_kept : {old new : Listing} {call : Call} → Relists old call new → new.images ≡ old.images
+images_kept (segment name number fresh least) = refl
+images_kept (relation name in_segment fields at number within fresh least) = refl
+images_kept (drop_segment name number at none) = refl
+images_kept (drop_relation number entry at live none) = refl
+
+-- each of them is one of the relation that it was one of
+abbrev KeepRelations : Listing → Listing → Type 0
+KeepRelations old new = (number : ℕ) (image : ImageEntry) → image_at old number ≡ Some image → relation_at new image.relation ≡ relation_at old image.relation
+
+-- so their nodes are those that there were
+nodes_relisted : {held : Held} {slots : ℕ} {old new : Listing} → new.images ≡ old.images → KeepRelations old new → AreNodesWithin slots held old → AreNodesWithin slots held new
+nodes_relisted {old = old} images keeps nodes number image relation listed =
+    let at : image_at old number ≡ Some image = ap (λ (l : List (Option ImageEntry)). numbered l number) (sym images) ∙ listed.at in
+    nodes number image relation (record { at = at; within = sym (keeps number image at) ∙ listed.within })
+
+tables_relisted : {pages : PagesView} {old new : CatalogView} {call : Call} → Relists old.listing call new.listing → (ListingFits old.listing → ListingFits new.listing) → KeepRelations old.listing new.listing → HasTables (both pages old) → HasTables (both pages new)
+tables_relisted relists fits keeps has =
     let now = relisted has.spells (tuples_defined has.tuples) relists (fits has.spells.listed) in
     record {
       tables = with_definitions now.definitions has.tables;
@@ -116,15 +134,8 @@ tables_relisted relists fits has =
           };
       tids = has.tids;
       few = has.few;
-      nodes = has.nodes;
+      nodes = nodes_relisted (images_kept relists) keeps has.nodes;
     }
-
--- the images are those that were listed
-images_kept : {old new : Listing} {call : Call} → Relists old call new → new.images ≡ old.images
-images_kept (segment name number fresh least) = refl
-images_kept (relation name in_segment fields at number within fresh least) = refl
-images_kept (drop_segment name number at none) = refl
-images_kept (drop_relation number entry at live none) = refl
 
 -- and so are the links
 links_kept : {old new : Listing} {call : Call} → Relists old call new → new.links ≡ old.links
@@ -132,9 +143,6 @@ links_kept (segment name number fresh least) = refl
 links_kept (relation name in_segment fields at number within fresh least) = refl
 links_kept (drop_segment name number at none) = refl
 links_kept (drop_relation number entry at live none) = refl
-
-plain_relisted : {old new : Listing} {call : Call} → Relists old call new → IsPlain old → IsPlain new
-plain_relisted relists plain = record { no_images = images_kept relists ∙ plain.no_images; no_links = links_kept relists ∙ plain.no_links }
 
 -- ---- the session
 
@@ -185,13 +193,11 @@ module _ {S : Type 0} (pages_view : S → PagesView) {call : Call} {old new : Se
       area = ready.store.area;
       log = ready.store.log;
       system = ready.store.system;
-      only = ready.store.only;
       pending_places = as_many ready.store.pending_places;
       settled_now = ready.store.settled_now;
       no_links = links_kept redefines.relists ∙ ready.store.no_links;
-      plain = plain_relisted redefines.relists ready.store.plain;
       heaps = ready.store.heaps;
-      tables = λ told image. ∥∥₁_map (ready.store.tables told (had_image image)) (tables_relisted redefines.relists redefines.fits);
+      tables = λ told image. ∥∥₁_map (ready.store.tables told (had_image image)) (tables_relisted redefines.relists redefines.fits redefines.imaged);
     };
     pages = session_of refl refl refl ready.pages;
     room = omega (arith, ready.room, images_same);

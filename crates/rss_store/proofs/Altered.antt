@@ -1,5 +1,5 @@
 -- What a change of a tuple leaves of a durable store, whatever is in its tables.
-use Rattle.std.proofs.Common.{◌≡◌, true, refl, sym, ◌∙◌, ap, subst, arith}
+use Rattle.std.proofs.Common.{◌≡◌, refl, sym, ◌∙◌, ap, subst, arith}
 use Rattle.std.specs.Prelude.{Result, Ok, Err, IsErrAnd, OnOk}
 use Rattle.std.proofs.lemmas.Result.{err_from_is_err_and, on_ok_weaker}
 use Rattle.rss_base.specs.DiskRule.{IsTold}
@@ -10,11 +10,9 @@ use Rattle.rss_base.specs.Steps.{PagesStep, AreCounted}
 use Rattle.rss_base.specs.declared.change.Change as told
 use Rattle.rss_base.specs.declared.fault.PageFault.{PageFault}
 use Rattle.rss_base.specs.declared.fault.PageFault.TheVariants.{Device as DeviceFailed, Damaged, NoMemory}
-use Rattle.rss_base.specs.declared.key.PageKey.{PageKey}
 use Rattle.rss_base.specs.declared.place.Place.{Place}
 use Rattle.rss_base.specs.declared.root.Root.{Root}
 use Rattle.rss_base.proofs.Steps.{rests, among}
-use Rattle.rss_page.specs.Slotted.{IsHeapKey}
 use Rattle.rss_model.specs.Meanings.{SameDefinitions}
 use Rattle.rss_model.specs.Spares.{page_counts, TakesTwo}
 use Rattle.rss_model.specs.Store.{Stored}
@@ -22,7 +20,7 @@ use Rattle.rss_model.proofs.Sparing.{takes_two}
 use Rattle.rss_model.proofs.StorePages.{pages_split}
 use Rattle.rss_catalog.specs.Catalogs.{HasSystemPages}
 use Rattle.rss_access.specs.Changes.{alter_cost, number_told, Makes}
-use Rattle.rss_access.specs.Written.{IsSystemOrHeap, content_of, AreWritten}
+use Rattle.rss_access.specs.Written.{content_of, AreWritten}
 use Rattle.rss_restart.specs.Restarting.{KeepsCatalog}
 use Rattle.rss_restart.proofs.Keeping.{keeps_itself, keeps_made}
 use Rattle.rss_restart.proofs.Leading.{content_told}
@@ -30,7 +28,7 @@ use Rattle.rss_store.specs.Changing.{AltersPages, access}
 use Rattle.rss_store.specs.Shown.{LeavesStore}
 use Rattle.rss_store.specs.Stores.{StoreView, IsLogBehind, IsReady}
 use Rattle.rss_store.proofs.Definitions.{same_then, counts_same}
-use Rattle.rss_store.proofs.Spelled.{heap_step, system_kept, only_kept, plain_kept}
+use Rattle.rss_store.proofs.Spelled.{system_kept}
 
 -- ---- which pages are touched
 
@@ -110,15 +108,8 @@ fault_passed {U = U} {result = result} {fault = fault} {place = place} is damage
 -- ---- a call may be made again
 
 module _ {T : Type 0} {change : told.Change} (old new : StoreView) {value : T} (makes : Makes change (access old) (access new) (Ok value)) (root : new.root ≡ old.root) where
-  -- of a store without images, pages of tuples alone were touched
-  tuples_step : IsReady old → PagesStep IsHeapKey (alter_cost old.pages.slots) (alter_cost old.pages.slots) old.pages new.pages
-  tuples_step ready = heap_step ready.plain (content_step old new makes)
-
   system_made : IsReady old → HasSystemPages new.pages.mapped
   system_made ready = system_kept (content_step old new makes) ready.system
-
-  only_made : IsReady old → (key : PageKey) → new.pages.mapped key ≡ true → IsSystemOrHeap key
-  only_made ready = only_kept (tuples_step ready) ready.only
 
   pub ready_made : new.number ≡ old.number → IsReady old → IsLogBehind new.root new.log → IsReady new
   ready_made number ready behind = record {
@@ -130,11 +121,9 @@ module _ {T : Type 0} {change : told.Change} (old new : StoreView) {value : T} (
     area = ap (λ (b : Backing). b.area) makes.step.passes.backing ∙ ready.area ∙ ap (λ (r : Root). r.area) (sym root);
     log = behind;
     system = system_made ready;
-    only = only_made ready;
     pending_places = (keeps old new makes).places ∙ ready.pending_places;
     settled_now = makes.step.passes.leaves.stays_settled ready.settled_now;
     no_links = (keeps old new makes).no_links ready.no_links;
-    plain = plain_kept (keeps old new makes) ready.plain;
     heaps = makes.still.heaps;
     tables = makes.still.tables;
   }

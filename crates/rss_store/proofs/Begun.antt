@@ -20,10 +20,9 @@ use Rattle.rss_base.specs.LogRecords.{ArePlaced, record_size}
 use Rattle.rss_base.specs.PageMap.{page_count}
 use Rattle.rss_base.specs.Paged.{Held, Fixed, Backing, HasFixed, mapped_of, mapped_pages}
 use Rattle.rss_base.specs.Sizes.{system_pages}
-use Rattle.rss_base.specs.Steps.{PagesView, PagesStep}
+use Rattle.rss_base.specs.Steps.{PagesView}
 use Rattle.rss_base.specs.StoredPages.{mapped_by}
 use Rattle.rss_base.proofs.Moments.{started, then, widened, continues, continues_then, rises_since}
-use Rattle.rss_page.specs.Slotted.{IsHeapKey}
 use Rattle.rss_catalog.specs.Catalogs.{CatalogView, HasSystemPages}
 use Rattle.rss_log.specs.Logs.{HasRecords}
 use Rattle.rss_model.specs.Tables.{Definitions, Tables, tuple_count}
@@ -44,8 +43,8 @@ use Rattle.rss_model.proofs.Restarted.{recovered_count}
 use Rattle.rss_model.proofs.Saving.{more_pages}
 use Rattle.rss_model.proofs.StorePages.{owners_split, pages_split, rest_metered}
 use Rattle.rss_model.proofs.Stores.{same_roots, same_overflow}
-use Rattle.rss_access.specs.Changes.{both, alter_cost, CanAlter}
-use Rattle.rss_access.specs.Written.{heap_now, IsSystemOrHeap}
+use Rattle.rss_access.specs.Changes.{both, CanAlter}
+use Rattle.rss_access.specs.Written.{heap_now}
 use Rattle.rss_restart.specs.Opened.{recovery_of}
 use Rattle.rss_restart.specs.Surveys.{IsLogPlace}
 use Rattle.rss_restart.specs.Restarting.{CanRestart, Recovered, NoneRecovered, RestartPasses}
@@ -54,7 +53,7 @@ use Rattle.rss_store.specs.Stores.{StoreView, IsReady, IsSaved}
 use Rattle.rss_store.specs.Shown.{HoldsTables, LeavesStore, HoldsLogged, Shows}
 use Rattle.rss_store.specs.Commits.{CanCheckpoint, IsSavedStore, CommitsPages, Saves}
 use Rattle.rss_store.specs.Opening.{RestsAt, NamesNone, IsReadFrom, OpensAt, BeginsIn, HasRoomTwice, FindsDamage, Begins}
-use Rattle.rss_store.proofs.Spelled.{heap_step, system_kept, only_kept, plain_kept}
+use Rattle.rss_store.proofs.Spelled.{system_kept}
 use Rattle.rss_store.proofs.Resting.{StandsThere, stands_there, not_none, rests, rested}
 
 -- ---- the state at rest
@@ -257,15 +256,8 @@ module _ {T : Type 0} {old : StoreView} {pages : PagesView} {catalog : CatalogVi
   pub mid_moments : IsTold old.pages.disk → Passes old.pages.disk pages.disk (HasFixed old.pages.fixed)
   mid_moments = passes.step.passes.leaves.moments ready.settled_now
 
-  -- of a store without images, pages of tuples alone were touched
-  mid_step : PagesStep IsHeapKey (passes.made * alter_cost old.pages.slots) (passes.made * alter_cost old.pages.slots) old.pages pages
-  mid_step = heap_step ready.plain passes.step
-
   pub mid_system : HasSystemPages pages.mapped
   mid_system = system_kept passes.step ready.system
-
-  pub mid_only : (key : PageKey) → pages.mapped key ≡ true → IsSystemOrHeap key
-  mid_only = only_kept mid_step ready.only
 
   -- it is ready
   pub mid_ready : CanAlter (both pages catalog) → IsReady mid
@@ -278,11 +270,9 @@ module _ {T : Type 0} {old : StoreView} {pages : PagesView} {catalog : CatalogVi
     area = ap (λ (b : Backing). b.area) passes.step.passes.backing ∙ ready.area;
     log = ready.log;
     system = mid_system;
-    only = mid_only;
     pending_places = passes.keeps.places ∙ ready.pending_places;
     settled_now = passes.step.passes.leaves.stays_settled ready.settled_now;
     no_links = passes.keeps.no_links ready.no_links;
-    plain = plain_kept passes.keeps ready.plain;
     heaps = still.heaps;
     tables = still.tables;
   }

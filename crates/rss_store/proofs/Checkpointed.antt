@@ -277,7 +277,7 @@ module _ {view : StoreView} {marks : List (ℕ × ℕ)} {mid saved : PagesView} 
       only = λ key. holds key ∙ ap (λ (m : Mapped). m key) is.saveable.mapped;
       system = listed_now;
       spells = spelled_now;
-      nodes = nodes_still (slots_next ∙ sym ready.size) (held_off_system is.step told) (nodes_within {at = access view} can.spells.images (ready.tables told));
+      nodes = nodes_still (slots_next ∙ sym ready.size) (held_off_system is.step told) (nodes_within {at = access view} (ready.tables told));
       fit = subst (λ (n : ℕ). Fits n (tables_now next)) (sym slots_next) can.fit;
       log = λ pages holds_log. disk_has_log pages after_save elog_now next stored_now holds_log;
       room = disk_has_room after_save elog_now next stored_now can.metered heap_same;

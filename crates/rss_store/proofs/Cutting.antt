@@ -29,11 +29,9 @@ ready_with ready behind = record {
   area = ready.area;
   log = behind;
   system = ready.system;
-  only = ready.only;
   pending_places = ready.pending_places;
   settled_now = ready.settled_now;
   no_links = ready.no_links;
-  plain = ready.plain;
   heaps = ready.heaps;
   tables = ready.tables;
 }

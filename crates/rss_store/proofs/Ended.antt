@@ -175,7 +175,7 @@ module _ {view : StoreView} {log : LogView} {t at : ℕ} {state : State} (append
       only = meant.only;
       system = meant.system;
       spells = meant.spells;
-      nodes = subst (λ (n : ℕ). AreNodesWithin n held) slots_stored meant.nodes;
+      nodes = subst (λ (n : ℕ). AreNodesWithin n held stored.listing) slots_stored meant.nodes;
       fit = subst (λ (n : ℕ). Fits n stored.saved) slots_stored meant.fit;
       log = λ pages log. disk_has_log pages after_end elog_now state_now stored_now log;
       room = disk_has_room after_end elog_now state_now stored_now may.metered heap_now;

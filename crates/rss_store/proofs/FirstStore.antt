@@ -33,7 +33,7 @@ use Rattle.rss_model.specs.Store.{no_tables, SpellsTables, first_stored as store
 use Rattle.rss_catalog.proofs.Plain.{plain_paths, zeros_past}
 use Rattle.rss_model.proofs.FirstLog.{first_log}
 use Rattle.rss_model.proofs.Fitting.{no_tables_fit}
-use Rattle.rss_model.proofs.PlainStores.{spelled_contents, no_image_pages, plain_images, plain_nodes, plain_defined}
+use Rattle.rss_model.proofs.PlainStores.{spelled_contents, plain_images, plain_nodes, plain_defined}
 use Rattle.rss_model.proofs.Listed.{at_place}
 use Rattle.rss_store.specs.Formatted.{first_root, first_owners, IsFormatted}
 use Rattle.rss_store.proofs.FirstOwners.{owner_first, owner_is}
@@ -171,7 +171,6 @@ spells_none slots log_pages pages made =
       formed = λ key bytes is there. absurd (none-some bytes (sym (none key is) ∙ there));
       linked = none_linked held none;
       listed = no_listing_fits;
-      plain = no_listing_plain;
       defines = listing_defines no_listing_fits;
       counts = λ number relation at. absurd (no_relation number relation at);
       contents = spelled_contents no_listing_fits.no_links (record {
@@ -203,10 +202,10 @@ opens_empty slots log_pages pages made =
         root_there = made.root_there;
         log = first_log pages 1 (first_root slots log_pages) (first_owners slots) no_listing no_tables (record { head = refl; checkpoint = refl; end = refl; tail = refl }) (no_tables_fit slots);
         map = made.map;
-        room = room_least is (plain_defined no_listing_plain spells.defines) refl refl twice (pages_counted (first_root slots log_pages) (first_owners slots) pages made.map system spells);
+        room = room_least is (plain_defined no_listing_plain spells.defines) refl refl twice (pages_counted (first_root slots log_pages) (first_owners slots) pages made.map no_listing_plain system spells);
         system = system;
         spells = spells;
-        nodes = plain_nodes (no_image_pages no_listing_plain spells.images);
+        nodes = plain_nodes slots no_listing_plain;
         fit = no_tables_fit slots;
       };
       same_size = refl;

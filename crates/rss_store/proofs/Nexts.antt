@@ -6,8 +6,8 @@ use Rattle.std.proofs.Math.Seq.{drop-append_seam}
 use Rattle.rss_base.specs.DiskRule.{Pages, Told, IsTold, Leaves}
 use Rattle.rss_base.specs.Sizes.{piece_bytes, system_pages}
 use Rattle.rss_base.specs.Layout.{slots_at, IsWellFormed}
-use Rattle.rss_base.specs.Listings.{IsPlain, HasNoLinks}
-use Rattle.rss_base.specs.Paged.{Fixed, Mapped, HasFixed, mapped_of, mapped_pages}
+use Rattle.rss_base.specs.Listings.{HasNoLinks}
+use Rattle.rss_base.specs.Paged.{Fixed, HasFixed, mapped_of, mapped_pages}
 use Rattle.rss_base.specs.PageMap.{page_count}
 use Rattle.rss_base.specs.Steps.{PagesView, AreCounted}
 use Rattle.rss_base.specs.StoredPages.{mapped_by}
@@ -94,11 +94,9 @@ ready_now {old = old} {new = new} {next = next} ready formed same_slots same_pag
   area = area ∙ ap (λ (r : Root). r.area) (sym root);
   log = subst (λ (r : Root). IsLogBehind r new.log) (sym root) log;
   system = subst HasSystemPages (sym mapped) ready.system;
-  only = λ key is. ready.only key (ap (λ (m : Mapped). m key) (sym mapped) ∙ is);
   pending_places = pending;
   settled_now = settled;
   no_links = subst HasNoLinks (sym listing) ready.no_links;
-  plain = subst IsPlain (sym listing) ready.plain;
   heaps = can.heaps;
   tables = can.tables;
 }

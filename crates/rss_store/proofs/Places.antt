@@ -91,7 +91,7 @@ store_of {pages = pages} {stored = stored} {held = held} holds log meant =
       map = subst (λ (n : ℕ). IsMap n pages (map_at n stored.root.area) stored.owners) holds.count holds.saved.map;
       system = subst (λ (h : Held). HoldsListing h stored.listing) same meant.system;
       spells = subst (λ (h : Held). SpellsTables h stored.listing stored.saved) same meant.spells;
-      nodes = subst (λ (h : Held). AreNodesWithin stored.root.slots h) same meant.nodes;
+      nodes = subst (λ (h : Held). AreNodesWithin stored.root.slots h stored.listing) same meant.nodes;
       fit = meant.fit;
       log = meant.log pages log;
       room = meant.room;

@@ -1,50 +1,22 @@
--- What a store without images spells: its pages are those of tuples, and it stays changeable where these stay.
-use Rattle.std.proofs.Common.{◌≡◌, ◌⊎◌, inl, inr, ℕ, ◌<◌, true, All, refl, sym, ◌∙◌, subst}
+-- What a store spells: it stays so, and changeable, where the pages of tuples and of images stay.
+use Rattle.std.proofs.Common.{◌≡◌, inl, inr, ℕ, refl, sym, ◌∙◌, subst}
 use Rattle.std.proofs.Math.Logic.{∥∥₁_map}
 use Rattle.rss_base.specs.DiskRule.{IsTold}
-use Rattle.rss_base.specs.Listings.{Listing, IsPlain}
-use Rattle.rss_base.specs.Nodes.{NodeEntry}
+use Rattle.rss_base.specs.Listings.{Listing}
 use Rattle.rss_base.specs.Paged.{Held, page_key}
 use Rattle.rss_base.specs.Steps.{PagesView, PagesStep}
 use Rattle.rss_base.specs.declared.key.PageKey.{PageKey}
-use Rattle.rss_base.specs.declared.key.Space.{Space}
-use Rattle.rss_base.specs.declared.key.Space.TheVariants.{Home, Overflow, Image, System}
-use Rattle.rss_base.proofs.Steps.{among}
-use Rattle.rss_page.specs.Slotted.{IsHeapKey}
+use Rattle.rss_base.specs.declared.key.Space.TheVariants.{Image, System}
 use Rattle.rss_catalog.specs.Catalogs.{HasSystemPages}
 use Rattle.rss_model.specs.Fits.{IsIdentifier}
 use Rattle.rss_model.specs.Store.{SpellsTables, AreNodesWithin}
-use Rattle.rss_model.proofs.PlainStores.{no_image_at}
 use Rattle.rss_access.specs.Changes.{AccessView, CanAlter, HasTables}
-use Rattle.rss_access.specs.Written.{IsSystemOrHeap, HasImage, content_of}
-use Rattle.rss_access.proofs.Rerooting.{still_plain}
+use Rattle.rss_access.specs.Written.{HasImage, content_of}
 use Rattle.rss_access.proofs.Writing.{SameOffSystem, off_system, heaps_same, spells_same}
-use Rattle.rss_restart.specs.Restarting.{KeepsCatalog}
 use Rattle.rss_store.specs.Changing.{access}
 use Rattle.rss_store.specs.Stores.{StoreView, IsReady}
 
 -- ---- pages that are touched
-
-content_heap : {listing : Listing} → IsPlain listing → (key : PageKey) → content_of listing key → IsHeapKey key
-content_heap plain key (inl heap) = heap
-content_heap plain key (inr image) = absurd (no_image_at plain image.1.number image.1.image image.1.at)
-
--- where no image is listed, pages of tuples alone are touched
-pub heap_step : {listing : Listing} {asks outs : ℕ} {old new : PagesView} → IsPlain listing → PagesStep (content_of listing) asks outs old new → PagesStep IsHeapKey asks outs old new
-heap_step plain step = among (λ key is. content_heap plain key is) step
-
-heap_or_other : (space : Space) → ((space ≡ Home) ⊎ (space ≡ Overflow)) ⊎ ((space ≡ Home) ⊎ (space ≡ Overflow) → ⊥)
-heap_or_other Home = inl (inl refl)
-heap_or_other Overflow = inl (inr refl)
-heap_or_other Image = inr (λ is. elim is [ inl home ↦ absurd (cc) | inr over ↦ absurd (cc) ])
-heap_or_other System = inr (λ is. elim is [ inl home ↦ absurd (cc) | inr over ↦ absurd (cc) ])
-
--- all pages but those of the system space are of tuples
-pub only_kept : {asks outs : ℕ} {old new : PagesView} → PagesStep IsHeapKey asks outs old new → ((key : PageKey) → old.mapped key ≡ true → IsSystemOrHeap key) → (key : PageKey) → new.mapped key ≡ true → IsSystemOrHeap key
-only_kept step only key is = elim (heap_or_other key.space) [
-  | inl heap ↦ inr heap
-  | inr other ↦ only key (sym (step.mapped_off key other) ∙ is)
-]
 
 content_off_system : {listing : Listing} (key : PageKey) → content_of listing key → key.space ≡ System → ⊥
 content_off_system key (inl heap) system = off_system key heap system
@@ -54,19 +26,17 @@ content_off_system key (inr image) system = let not : Image ≡ System = sym ima
 pub system_kept : {listing : Listing} {asks outs : ℕ} {old new : PagesView} → PagesStep (content_of listing) asks outs old new → HasSystemPages old.mapped → HasSystemPages new.mapped
 system_kept step system page low = step.mapped_off (page_key 0 System page) (λ content. content_off_system (page_key 0 System page) content refl) ∙ system page low
 
--- ---- the catalog
-
--- a listing without images has none afterwards
-pub plain_kept : {old new : AccessView} → KeepsCatalog old new → IsPlain old.catalog.listing → IsPlain new.catalog.listing
-plain_kept keeps plain = still_plain keeps.images (keeps.no_links plain.no_links ∙ sym plain.no_links) plain
-
 -- ---- tables that are spelled
 
 -- the nodes of images are those that were there
-pub nodes_still : {old new : Held} {slots slots_too : ℕ} → slots_too ≡ slots → SameOffSystem old new → AreNodesWithin slots old → AreNodesWithin slots_too new
-nodes_still {slots_too = slots_too} slots same nodes of number node at =
-    subst (λ (n : ℕ). All (λ (entry : NodeEntry). entry.tid.page < n) node.entries) (sym slots)
-    (nodes of number node (record { bytes = at.bytes; there = sym (same (page_key of.segment Image number) (λ system. let not : Image ≡ System = system in absurd (cc))) ∙ at.there; is = at.is }))
+pub nodes_still : {old new : Held} {listing : Listing} {slots slots_too : ℕ} → slots_too ≡ slots → SameOffSystem old new → AreNodesWithin slots old listing → AreNodesWithin slots_too new listing
+nodes_still {new = new} {listing = listing} slots same nodes =
+    subst (λ (n : ℕ). AreNodesWithin n new listing) (sym slots) (λ number image relation l page node at.
+        nodes number image relation l page node (record {
+          bytes = at.bytes;
+          there = sym (same (page_key relation.segment Image page) (λ system. let not : Image ≡ System = system in absurd (cc))) ∙ at.there;
+          is = at.is;
+        }))
 
 module _ {old new : AccessView} (slots : new.pages.slots ≡ old.pages.slots) (listing : new.catalog.listing ≡ old.catalog.listing) where
   -- the same tables, where at most pages of the catalog were written
@@ -79,7 +49,7 @@ module _ {old new : AccessView} (slots : new.pages.slots ≡ old.pages.slots) (l
         tuples = has.tuples;
         tids = λ relation tid lives. subst (λ (n : ℕ). IsIdentifier n tid) (sym slots) (has.tids relation tid lives);
         few = has.few;
-        nodes = nodes_still slots same has.nodes;
+        nodes = subst (AreNodesWithin new.pages.slots new.pages.held) (sym listing) (nodes_still slots same has.nodes);
       }
 
   -- so they spell tables where they did

@@ -38,7 +38,7 @@ pub record IsMeant (held : Held) (stored : Stored) : Type 0 where
   pub only : (key : PageKey) → is_some (held key) ≡ mapped_by stored.owners key
   pub system : HoldsListing held stored.listing
   pub spells : SpellsTables held stored.listing stored.saved
-  pub nodes : AreNodesWithin stored.root.slots held
+  pub nodes : AreNodesWithin stored.root.slots held stored.listing
   pub fit : Fits stored.root.slots stored.saved
   pub log : (pages : Pages) → HoldsLog pages stored.root stored.older stored.newer → HasLog pages stored
   pub room : room_number stored.saved.definitions (meter_of stored) ≤ stored.root.slots

@@ -3,18 +3,17 @@ use Rattle.std.specs.Prelude.{◌≡◌, ℕ, ◌+◌, ◌<◌, ◌≤◌, true,
 use Rattle.rss_base.specs.DiskRule.{IsTold}
 use Rattle.rss_base.specs.Sizes.{system_pages}
 use Rattle.rss_base.specs.Layout.{IsWellFormed}
-use Rattle.rss_base.specs.Listings.{IsPlain, HasNoLinks}
+use Rattle.rss_base.specs.Listings.{HasNoLinks}
 use Rattle.rss_base.specs.PageMap.{page_count}
 use Rattle.rss_base.specs.Paged.{mapped_pages}
 use Rattle.rss_base.specs.Steps.{PagesView}
 use Rattle.rss_base.specs.StoredPages.{mapped_by}
-use Rattle.rss_base.specs.declared.key.PageKey.{PageKey}
 use Rattle.rss_base.specs.declared.root.Root.{Root}
 use Rattle.rss_tuple.specs.Heaps.{AreHeaps}
 use Rattle.rss_catalog.specs.Catalogs.{CatalogView, HasSystemPages}
 use Rattle.rss_log.specs.Logs.{LogView, IsLog, bytes_from, piece_start}
 use Rattle.rss_access.specs.Changes.{both, HasTables}
-use Rattle.rss_access.specs.Written.{IsSystemOrHeap, HasImage}
+use Rattle.rss_access.specs.Written.{HasImage}
 
 -- pages: those with the tuples and the catalog.
 -- catalog: what is defined, with the counts of tuples.
@@ -39,7 +38,7 @@ pub record IsLogBehind (root : Root) (log : LogView) : Type 0 where
   pub later : root.end ≤ log.end
   pub bytes : bytes_from log (piece_start root.end) ≡ root.tail ++ appended_since root log
 
--- A call may be made. Where an image is listed, the pages spell some tables. As yet there are neither images nor links.
+-- A call may be made. Where an image is listed, the pages spell some tables. As yet there are no links.
 pub record IsReady (view : StoreView) : Type 0 where
   pub number_low : 0 < view.number
   pub number_high : view.number < 3
@@ -49,11 +48,9 @@ pub record IsReady (view : StoreView) : Type 0 where
   pub area : view.pages.backing.area ≡ view.root.area
   pub log : IsLogBehind view.root view.log
   pub system : HasSystemPages view.pages.mapped
-  pub only : (key : PageKey) → view.pages.mapped key ≡ true → IsSystemOrHeap key
   pub pending_places : length view.catalog.pending ≡ system_pages
   pub settled_now : view.pages.settled ≡ true
   pub no_links : HasNoLinks view.catalog.listing
-  pub plain : IsPlain view.catalog.listing
   pub heaps : IsTold view.pages.disk → AreHeaps view.pages
   pub tables : IsTold view.pages.disk → HasImage view.catalog.listing → ∥ HasTables (both view.pages view.catalog) ∥₁
 
