@@ -35,7 +35,6 @@ use Rattle.rss_model.specs.EngineLogs.{all_logged}
 use Rattle.rss_model.specs.LogLaws.{log_of, IsRested}
 use Rattle.rss_model.specs.Spares.{change_counts}
 use Rattle.rss_model.specs.Store.{Stored, SpellsTables, held_in, meter_of, size_of, pages_of_space, IsStore}
-use Rattle.rss_model.proofs.ImageRooms.{images_allowed}
 use Rattle.rss_model.proofs.Listed.{heap_is}
 use Rattle.rss_model.proofs.LogOpening.{rest_ties, restart_ties}
 use Rattle.rss_model.proofs.LogPlaced.{recovered_fit}
@@ -52,9 +51,10 @@ use Rattle.rss_restart.proofs.Opening.{few_changes, stores_restart, gives_tables
 use Rattle.rss_store.specs.Stores.{StoreView, IsReady, IsSaved}
 use Rattle.rss_store.specs.Shown.{HoldsTables, LeavesStore, HoldsLogged, Shows}
 use Rattle.rss_store.specs.Commits.{CanCheckpoint, IsSavedStore, CommitsPages, Saves}
-use Rattle.rss_store.specs.Opening.{RestsAt, NamesNone, IsReadFrom, OpensAt, BeginsIn, HasRoomTwice, FindsDamage, Begins}
+use Rattle.rss_store.specs.Opening.{RestsAt, NamesNone, IsReadFrom, OpensAt, BeginsIn, HasRoomAtRest, FindsDamage, Begins}
 use Rattle.rss_store.proofs.Spelled.{system_kept}
 use Rattle.rss_store.proofs.Resting.{StandsThere, stands_there, not_none, rests, rested}
+use Rattle.rss_store.proofs.RoomsAtRest.{room_still, room_spelled}
 
 -- ---- the state at rest
 
@@ -199,6 +199,13 @@ module _ {stored : Stored} {view : StoreView} (ready : IsReady view) (saved : Is
   heap_here : heap_pages stored.root.slots stored.tables + mapped_of view.pages.mapped Overflow view.pages.slots ≡ heap_now view.pages
   heap_here = heap_rests view stored.root stored.tables read.opened.slots spells_here (fit_read read) held_here
 
+  -- images need no more pages than the meter of the checkpoint allows, and so there is room
+  slots_here : 2 * (heap_now view.pages + (change_counts stored.tables.definitions state.meter).images + system_pages) ≤ stored.root.slots
+  slots_here = omega (arith, heap_read read, images_recovered read.store state.meter (λ relation. omega arith), read.store.room)
+
+  pub room_here : HasRoomAtRest view
+  room_here = room_spelled view spells_here held_here state.meter (λ relation. omega arith) (omega (arith, slots_here, read.opened.slots))
+
   shows_here : Shows view state
   shows_here = record {
     log = log_of stored;
@@ -234,8 +241,7 @@ module _ {stored : Stored} {view : StoreView} (ready : IsReady view) (saved : Is
         state = state;
         shows = shows_here;
         rest = rest_here;
-        metered = rests_metered view stored.root stored.tables read.opened.slots spells_here (fit_read read) held_here stored.root.head stored.root.end (omega (arith, formed.head_first, formed.before_end))
-            (omega (arith, heap_read read, images_recovered read.store state.meter (λ relation. omega arith), read.store.room));
+        metered = rests_metered view stored.root stored.tables read.opened.slots spells_here (fit_read read) held_here stored.root.head stored.root.end (omega (arith, formed.head_first, formed.before_end)) slots_here;
         room = omega (arith, formed.room);
         opens = λ image left. opens_at ready saved shows_here rest_here image (stays (read_told read) image left);
       }
@@ -303,20 +309,15 @@ module _ {T : Type 0} {value : T} {stored : Stored} {old : StoreView} {pages : P
   images_next : (change_counts stored.tables.definitions next.meter).images ≤ (change_counts stored.saved.definitions (meter_of stored)).images
   images_next = images_recovered read.store next.meter (λ relation. omega arith)
 
-  pub next_metered : IsMetered next
-  next_metered = rests_metered (mid ready passes) stored.root stored.tables mid_size mid_spells (fit_read read) held_mid stored.root.end (stored.root.end + 2) (omega arith) (omega (arith, heap_mid, images_next, read.store.room))
+  slots_next : 2 * (heap_now pages + (change_counts stored.tables.definitions next.meter).images + system_pages) ≤ stored.root.slots
+  slots_next = omega (arith, heap_mid, images_next, read.store.room)
 
-  -- so each page has room in two slots
-  half_kept : 2 * mapped_pages pages.slots pages.mapped ≤ pages.slots
-  half_kept = omega (
-    arith,
-    heap_mid,
-    images_next,
-    images_allowed mid_spells held_mid pages.slots next.meter (λ relation. omega arith),
-    pages_split pages.mapped pages.slots (mid_system ready passes),
-    read.store.room,
-    mid_size,
-  )
+  pub next_metered : IsMetered next
+  next_metered = rests_metered (mid ready passes) stored.root stored.tables mid_size mid_spells (fit_read read) held_mid stored.root.end (stored.root.end + 2) (omega arith) slots_next
+
+  -- so there is room
+  room_kept : HasRoomAtRest (mid ready passes)
+  room_kept = room_spelled (mid ready passes) mid_spells held_mid next.meter (λ relation. omega arith) (omega (arith, slots_next, mid_size))
 
   pub next_room : HasLogRoom next
   next_room = omega (arith, read.store.root_there.there.formed.log_least)
@@ -379,7 +380,7 @@ pub begins_err : {T : Type 0} {old new : StoreView} (fault : PageFault) → Went
 begins_err fault went cause damage = record {
   ready = tt;
   saved = tt;
-  half = tt;
+  room = tt;
   appends = tt;
   begins = tt;
   moments = λ stored read. widened (went.moments (read_told read)) (read_holds read);
@@ -406,11 +407,11 @@ pub not_true : {b : Bool} → IsTrue b → b ≡ false → ⊥
 not_true is not' = search rules
 
 -- nothing is done
-pub begins_rested : {view : StoreView} → IsReady view → IsSaved view → (IsTold view.pages.disk → (key : PageKey) → is_some (view.pages.held key) ≡ view.pages.mapped key) → (IsTold view.pages.disk → (image : Pages) → Leaves view.pages.disk image → HasFixed view.pages.fixed image) → HasRoomTwice view.pages → RestsAt view.log view.root.checkpoint → Begins {T = Unit {0}} view view (Ok tt)
-begins_rested {view = view} ready saved held_are stays half rests = record {
+pub begins_rested : {view : StoreView} → IsReady view → IsSaved view → (IsTold view.pages.disk → (key : PageKey) → is_some (view.pages.held key) ≡ view.pages.mapped key) → (IsTold view.pages.disk → (image : Pages) → Leaves view.pages.disk image → HasFixed view.pages.fixed image) → HasRoomAtRest view → RestsAt view.log view.root.checkpoint → Begins {T = Unit {0}} view view (Ok tt)
+begins_rested {view = view} ready saved held_are stays room rests = record {
   ready = ready;
   saved = saved;
-  half = half;
+  room = room;
   appends = omega arith;
   begins = λ stored read. begins_here ready saved held_are stays read rests;
   moments = λ stored read. started view.pages.disk (HoldsTables (size_of stored.root) stored.tables);
@@ -441,6 +442,14 @@ finds_none {view = view} ready none = record {
   keeps = started view.pages.disk (HasFixed view.pages.fixed);
 }
 
+-- one at rest has no room
+pub finds_full : {view : StoreView} → IsReady view → IsSaved view → (IsTold view.pages.disk → (key : PageKey) → is_some (view.pages.held key) ≡ view.pages.mapped key) → (IsTold view.pages.disk → (image : Pages) → Leaves view.pages.disk image → HasFixed view.pages.fixed image) → RestsAt view.log view.root.checkpoint → (HasRoomAtRest view → ⊥) → FindsDamage view view (LogPlace view.root.checkpoint)
+finds_full {view = view} ready saved held_are stays rests full = record {
+  at = at_checkpoint ready;
+  why = λ stored read. full (room_here ready saved held_are stays read rests);
+  keeps = started view.pages.disk (HasFixed view.pages.fixed);
+}
+
 module _ {T : Type 0} {old : StoreView} {pages : PagesView} {catalog : CatalogView} {result : Result T PageFault} (ready : IsReady old) (passes : RestartPasses old.log old.root.checkpoint (both old.pages old.catalog) (both pages catalog) result) where
   -- a record
   pub finds_damaged : (place : Place) → result ≡ Err (PageDamaged place) → NoneRecovered old.log old.root.checkpoint (both old.pages old.catalog) → IsTold old.pages.disk → FindsDamage old (changed_view old pages catalog) place
@@ -460,16 +469,16 @@ begins_unrestarted {U = U} {old = old} {pages = pages} {catalog = catalog} {faul
 
 -- no room
 pub finds_no_room : {T : Type 0} {value : T} {old : StoreView} {pages : PagesView} {catalog : CatalogView} → IsReady old → RestartPasses {T = T} old.log old.root.checkpoint (both old.pages old.catalog) (both pages catalog) (Ok value) → (IsTold pages.disk → (key : PageKey) → is_some (pages.held key) ≡ pages.mapped key) → Recovered old.log old.root.checkpoint (both old.pages old.catalog) (both pages catalog)
-    → (2 * mapped_pages pages.slots pages.mapped ≤ pages.slots → ⊥) → IsTold old.pages.disk → FindsDamage old (changed_view old pages catalog) (LogPlace old.root.checkpoint)
-finds_no_room ready passes held_are recovers over told = record {
+    → (HasRoomAtRest (changed_view old pages catalog) → ⊥) → IsTold old.pages.disk → FindsDamage old (changed_view old pages catalog) (LogPlace old.root.checkpoint)
+finds_no_room ready passes held_are recovers full told = record {
   at = at_checkpoint ready;
-  why = λ stored read. over (half_kept ready passes held_are recovers read);
+  why = λ stored read. full (room_kept ready passes held_are recovers read);
   keeps = mid_moments ready passes told;
 }
 
 -- ---- a checkpoint behind a restart
 
-module _ {T : Type 0} {value : T} {old : StoreView} {pages : PagesView} {catalog : CatalogView} (ready : IsReady old) (passes : RestartPasses {T = T} old.log old.root.checkpoint (both old.pages old.catalog) (both pages catalog) (Ok value)) (held_are : IsTold pages.disk → (key : PageKey) → is_some (pages.held key) ≡ pages.mapped key) (half : 2 * mapped_pages pages.slots pages.mapped ≤ pages.slots) (recovers : Recovered old.log old.root.checkpoint (both old.pages old.catalog) (both pages catalog)) (marks : List (ℕ × ℕ)) (none : marks ≡ []) where
+module _ {T : Type 0} {value : T} {old : StoreView} {pages : PagesView} {catalog : CatalogView} (ready : IsReady old) (passes : RestartPasses {T = T} old.log old.root.checkpoint (both old.pages old.catalog) (both pages catalog) (Ok value)) (held_are : IsTold pages.disk → (key : PageKey) → is_some (pages.held key) ≡ pages.mapped key) (room : HasRoomAtRest (changed_view old pages catalog)) (recovers : Recovered old.log old.root.checkpoint (both old.pages old.catalog) (both pages catalog)) (marks : List (ℕ × ℕ)) (none : marks ≡ []) where
   -- it may be taken, and leads to this state
   abbrev behind : (stored : Stored) → IsReadFrom stored old → State
   behind stored read = next ready passes held_are recovers read
@@ -492,11 +501,9 @@ module _ {T : Type 0} {value : T} {old : StoreView} {pages : PagesView} {catalog
       }
   begins_behind new (Err fault) stays told ready_new saved shows = tt
 
-  room_behind : {U : Type 0} (new : StoreView) (result : Result U PageFault) → OnOk result (Saves marks (changed_view old pages catalog) new) → new.pages.slots ≡ pages.slots → OnOk result (HasRoomTwice new.pages)
-  room_behind new (Ok value) saves slots =
-      let same : mapped_pages new.pages.slots new.pages.mapped ≡ mapped_pages pages.slots pages.mapped = λ i. mapped_pages (slots i) (saves.mapped i) in
-      omega (arith, half, slots, same)
-  room_behind new (Err fault) saves slots = tt
+  room_behind : {U : Type 0} (new : StoreView) (result : Result U PageFault) → OnOk result (Saves marks (changed_view old pages catalog) new) → new.pages.slots ≡ pages.slots → new.catalog.listing ≡ catalog.listing → OnOk result (HasRoomAtRest new)
+  room_behind new (Ok value) saves slots listing = room_still slots saves.mapped listing room
+  room_behind new (Err fault) saves slots listing = tt
 
   log_behind : {U : Type 0} (new : StoreView) (result : Result U PageFault) → OnOk result (Saves marks (changed_view old pages catalog) new) → OnOk result (new.log.end ≤ old.log.end + record_size (records.Checkpoint []))
   log_behind new (Ok value) saves = omega (arith, saves.end, ap (λ (m : List (ℕ × ℕ)). record_size (records.Checkpoint m)) none)
@@ -504,13 +511,13 @@ module _ {T : Type 0} {value : T} {old : StoreView} {pages : PagesView} {catalog
 
   pub begins_saved : {U : Type 0} (new : StoreView) (result : Result U PageFault) → (IsTold new.pages.disk → (image : Pages) → Leaves new.pages.disk image → new.pages.settled ≡ true → HasFixed new.pages.fixed image) → OnOk result (IsReady new) → OnOk result (IsSaved new)
       → OnOk result (IsTold pages.disk → (stored : Stored) (next : State) → CanCheckpoint (changed_view old pages catalog) marks stored next → Shows new next)
-      → (IsTold pages.disk → (stored : Stored) (next : State) → CanCheckpoint (changed_view old pages catalog) marks stored next → Passes pages.disk new.pages.disk (λ image. IsStore image stored ⊎ IsSavedStore (changed_view old pages catalog) next image)) → OnOk result (Saves marks (changed_view old pages catalog) new) → CommitsPages pages new.pages result → Begins old new result
-  begins_saved new result stays ready_new saved shows moments saves did =
+      → (IsTold pages.disk → (stored : Stored) (next : State) → CanCheckpoint (changed_view old pages catalog) marks stored next → Passes pages.disk new.pages.disk (λ image. IsStore image stored ⊎ IsSavedStore (changed_view old pages catalog) next image)) → OnOk result (Saves marks (changed_view old pages catalog) new) → new.catalog.listing ≡ catalog.listing → CommitsPages pages new.pages result → Begins old new result
+  begins_saved new result stays ready_new saved shows moments saves listing did =
       let still : IsTold old.pages.disk → IsTold new.pages.disk = λ told. did.told.0 (mid_told ready passes told) in
       record {
         ready = ready_new;
         saved = saved;
-        half = room_behind new result saves did.slots;
+        room = room_behind new result saves did.slots listing;
         appends = log_behind new result saves;
         begins = begins_behind new result stays still ready_new saved shows;
         moments = λ stored read.

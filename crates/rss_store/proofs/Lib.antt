@@ -16,6 +16,7 @@ pub mod Found
 pub mod Census
 pub mod Looked
 pub mod Resting
+pub mod RoomsAtRest
 pub mod Read
 pub mod Begun
 pub mod Unopened

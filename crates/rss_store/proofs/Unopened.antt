@@ -218,7 +218,7 @@ pub opens_before : {old mid : DeviceView} {new : StoreView} → OnlyReads old mi
 opens_before reads is = record {
   ready = is.ready;
   saved = is.saved;
-  half = is.half;
+  room = is.room;
   early = is.early;
   begins = λ pages told. is.begins pages (reads.contents ∙ told);
   passes = passes_before reads is.passes;
@@ -292,7 +292,7 @@ pub opens_store : {T : Type 0} {value : T} {old : DeviceView} {mid new : StoreVi
 opens_store read begins rested = record {
   ready = begins.ready;
   saved = begins.saved;
-  half = begins.half;
+  room = begins.room;
   early = omega (arith, read.early, read.saved.log, begins.appends);
   begins = λ pages told stored store. begins.begins stored (read.read pages told stored store);
   passes = passes_begun read begins rested;

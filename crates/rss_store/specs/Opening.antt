@@ -7,6 +7,7 @@ use Rattle.rss_base.specs.declared.fault.PageFault.TheVariants.{Device as PageDe
 use Rattle.rss_base.specs.declared.log_record.LogRecord.TheVariants as records
 use Rattle.rss_base.specs.declared.root.Root.{Root}
 use Rattle.rss_base.specs.declared.key.PageKey.{PageKey}
+use Rattle.rss_base.specs.declared.key.Space.TheVariants.{Image}
 use Rattle.rss_base.specs.declared.place.Place.{Place}
 use Rattle.rss_base.specs.declared.place.Place.TheVariants.{Room, Log as LogPlace}
 use Rattle.rss_base.specs.DiskRule.{Disk, Pages, Told, IsTold, Leaves, SameOff, Passes, Continues}
@@ -18,16 +19,18 @@ use Rattle.rss_base.specs.LogRecords.{record_size, BeginsWith}
 use Rattle.rss_base.specs.PageMap.{owner_of, page_count, IsTable, IsMap}
 use Rattle.rss_base.specs.Listings.{Listing}
 use Rattle.rss_base.specs.StoredPages.{held_at}
-use Rattle.rss_base.specs.Paged.{HasFixed, mapped_pages}
+use Rattle.rss_base.specs.Paged.{HasFixed, mapped_of}
+use Rattle.rss_base.specs.Sizes.{system_pages}
 use Rattle.rss_base.specs.Steps.{PagesView, device_below}
 use Rattle.rss_log.specs.Logs.{LogView, bytes_from}
 use Rattle.rss_model.specs.Tables.{Tables}
 use Rattle.rss_model.specs.Machine.{StoreSize, State, IsAtRest}
 use Rattle.rss_model.specs.Kept.{IsMetered, HasLogRoom}
 use Rattle.rss_model.specs.LogLaws.{IsRested}
+use Rattle.rss_model.specs.Spares.{listed_bound, live_of}
 use Rattle.rss_model.specs.Store.{Stored, IsStore, OpensIn, IsBrokenAt, IsOverfull, size_of}
 use Rattle.rss_access.specs.Changes.{both}
-use Rattle.rss_access.specs.Written.{AreWritten}
+use Rattle.rss_access.specs.Written.{heap_now, AreWritten}
 use Rattle.rss_restart.specs.Opened.{IsOpened}
 use Rattle.rss_restart.specs.Surveys.{IsLogPlace}
 use Rattle.rss_store.specs.Stores.{StoreView, IsLogBehind, IsReady, IsSaved}
@@ -120,9 +123,12 @@ pub record BeginsIn (stored : Stored) (new : StoreView) : Type 0 where
 
 -- ---- a store that was read is brought to rest
 
--- each page has room in two slots
-abbrev pub HasRoomTwice : PagesView → Type 0
-HasRoomTwice pages = 2 * mapped_pages pages.slots pages.mapped ≤ pages.slots
+-- There are as many slots as a store may need in which nothing is open, and its images have no more pages than they may.
+pub record HasRoomAtRest (view : StoreView) : Type 0 where
+  pub slots : 2 * (heap_now view.pages + listed_bound view.catalog.listing (live_of view.catalog.listing) + system_pages)
+      ≤ view.pages.slots
+  pub images : mapped_of view.pages.mapped Image view.pages.slots
+      ≤ listed_bound view.catalog.listing (live_of view.catalog.listing)
 
 -- At this position of the log something is found damaged: it was read from no store. Only what isn't fixed may have been written.
 pub record FindsDamage (old new : StoreView) (place : Place) : Type 0 where
@@ -130,11 +136,11 @@ pub record FindsDamage (old new : StoreView) (place : Place) : Type 0 where
   pub why : (stored : Stored) → IsReadFrom stored old → ⊥
   pub keeps : Passes old.pages.disk new.pages.disk (HasFixed old.pages.fixed)
 
--- By the result: it is ready, all of it is on the disk, and it is where the store begins from which it was read. Its log has one Checkpoint record more at most. At each moment a stop leaves a store of the same tables. Each fault has its cause.
+-- By the result: it is ready, all of it is on the disk, there is room, and it is where the store begins from which it was read. Its log has one Checkpoint record more at most. At each moment a stop leaves a store of the same tables. Each fault has its cause.
 pub record Begins {T : Type 0} (old new : StoreView) (result : Result T PageFault) : Type 0 where
   pub ready : OnOk result (IsReady new)
   pub saved : OnOk result (IsSaved new)
-  pub half : OnOk result (HasRoomTwice new.pages)
+  pub room : OnOk result (HasRoomAtRest new)
   pub appends : OnOk result (new.log.end ≤ old.log.end + record_size (records.Checkpoint []))
   pub begins : OnOk result ((stored : Stored) → IsReadFrom stored old → BeginsIn stored new)
   pub moments : (stored : Stored) → IsReadFrom stored old
@@ -252,7 +258,7 @@ pub record ReadsFrom (old : DeviceView) (new : StoreView) : Type 0 where
 pub record OpensStore (old : DeviceView) (new : StoreView) : Type 0 where
   pub ready : IsReady new
   pub saved : IsSaved new
-  pub half : HasRoomTwice new.pages
+  pub room : HasRoomAtRest new
   pub early : new.log.end < position_most + record_size (records.Checkpoint [])
   pub begins : Told old.disk (λ pages. (stored : Stored) → IsStore pages stored
       → BeginsIn stored new)

@@ -9,6 +9,7 @@ mod committing;
 mod counting;
 mod formatting;
 mod opening;
+mod rooms;
 mod store;
 mod writing;
 

@@ -10,7 +10,7 @@ ghost use Rattle.rss_model.specs.LogLaws.{IsRested};
 ghost use Rattle.rss_model.specs.Store.{Stored};
 ghost use Rattle.rss_store.specs.Stores.{IsReady, IsSaved};
 ghost use Rattle.rss_store.specs.Opening.{IsLayout, HasLayout, IsLogRead, HasLogBytes, position_most};
-ghost use Rattle.rss_store.specs.Opening.{RestsAt, NamesNone, IsReadFrom, HasRoomTwice, Begins};
+ghost use Rattle.rss_store.specs.Opening.{RestsAt, NamesNone, IsReadFrom, Begins};
 ghost use Rattle.rss_store.specs.Opening.{IsUnopened, IsHandedBack, ReadsFrom, OpensStore, HasFrames};
 ghost use Rattle.rss_store.specs.Parts.{view, pages_of};
 
@@ -158,20 +158,28 @@ fn rests_at(log: &Log, checkpoint: u64) -> Option<bool>
 
 impl<S: Saving> DurableStore<S> {
     /// Brings a store that was just read to rest: the pages to the tables that the log recovers,
-    /// and then the disk to these by a checkpoint. Where the log is at rest, nothing is done.
+    /// and then the disk to these by a checkpoint. Where the log is at rest, nothing is done. Where
+    /// there are more pages than there may be, which no log of a store leads to, it ends before the
+    /// checkpoint.
     fn bring_to_rest(&mut self, alloc: Global) -> Result<(), PageFault>
         requires ready { IsReady (view S.view self.old) }
         requires saved { IsSaved (view S.view self.old) }
-        requires half { HasRoomTwice (view S.view self.old).pages }
         requires early { (view S.view self.old).log.end < position_most }
         ensures did { Begins (view S.view self.old) (view S.view self.new) result }
         ensures rested { (stored : Stored) → IsReadFrom stored (view S.view self.old) → IsRested stored
             → OnlyReads (device_below (view S.view self.old).pages) (device_below (view S.view self.new).pages) }
     {
-        match rests_at(&self.log, self.root.checkpoint) {
-            Some(true) => Ok(()),
+        let checkpoint = self.root.checkpoint;
+        match rests_at(&self.log, checkpoint) {
+            Some(true) => {
+                if self.has_room() {
+                    Ok(())
+                } else {
+                    Err(PageFault::Damaged(Place::Log(checkpoint)))
+                }
+            }
             Some(false) => self.recover(alloc),
-            None => Err(PageFault::Damaged(Place::Log(self.root.checkpoint))),
+            None => Err(PageFault::Damaged(Place::Log(checkpoint))),
         }
     }
 
@@ -190,18 +198,10 @@ impl<S: Saving> DurableStore<S> {
             &self.log,
             checkpoint,
         )?;
-        // More pages than there may be, which no log of a store leads to.
         if !self.has_room() {
             return Err(PageFault::Damaged(Place::Log(checkpoint)));
         }
         self.checkpoint(Marks::new())
-    }
-
-    /// Whether each page has room in two slots.
-    fn has_room(&self) -> bool
-        ensures { IsTrue result ↔ HasRoomTwice (view S.view self.now).pages }
-    {
-        2 * pages_in(self.tuples.pages.shadow().current()) <= self.tuples.pages.slots()
     }
 }
 
@@ -235,8 +235,9 @@ fn refused<D: Device>(store: DurableStore<Buffer<D>>, fault: PageFault) -> Unope
 /// `Damaged`: at `Room` where the map has too many pages; at `Catalog` where a page of the system
 /// space isn't in form; at a page or a tuple that is none of a store; at `Count` where a relation
 /// hasn't as many tuples as the catalog says, or has more than it may have; or at a position of the
-/// log where no record stands that there should be, or one that doesn't fit the tables. A store
-/// whose log ends at 2^62 or behind it is `Damaged` at that position.
+/// log where no record stands that there should be, or one that doesn't fit the tables, or from
+/// which the records lead to more pages than there may be. A store whose log ends at 2^62 or behind
+/// it is `Damaged` at that position.
 pub fn open<D: Device>(
     alloc: Global,
     device: D,

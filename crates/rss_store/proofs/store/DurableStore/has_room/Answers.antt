@@ -1,10 +1,12 @@
-use Rattle.std.proofs.Common.{◌∙◌, sym, ap}
-use Rattle.rss_base.specs.PageMap.{page_count}
-use Rattle.rss_shadow.specs.Maps.{Maps}
-use Rattle.rss_store.proofs.Read.{room_tested, current_counted}
+use Rattle.std.proofs.Common.{ap, arith}
+use Rattle.std.proofs.lemmas.Bool.{le-leb, leb-true}
 use Rattle.rss_store.proofs.store.DurableStore.has_room.Goals as goal
 
-pub returns : goal.returns
-returns g c = room_tested _ _ _ _
-    (c.pages_in.ensures.pages ∙ ap page_count (c.current.ensures.current ∙ ap (λ (m : Maps). m.current) c.shadow.ensures) ∙ sym (current_counted (g.met.S.Saving.saveable c.args.self.now.tuples.pages)))
-    c.slots.ensures
+pub returns-then-room-from : goal.returns-then-room-from
+returns-then-room-from g c = (
+  λ few. record {
+    slots = omega (arith, c.if-room-from.true);
+    images = omega (arith, leb-true c.from-then-room-from.result c.images_bound-images.result few);
+  },
+  λ is. le-leb c.from-then-room-from.result c.images_bound-images.result (omega (arith, is.images)),
+)
