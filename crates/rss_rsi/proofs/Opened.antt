@@ -1,27 +1,22 @@
 -- A store that was opened: an engine over a session in which no transaction is open.
-use Rattle.std.proofs.Common.{◌≡◌, ℕ, zero, suc, ◌+◌, ◌*◌, ◌≤◌, length, replicate, refl, sym, ◌∙◌, ap, subst, arith}
-use Rattle.std.specs.Prelude.{None, unwrap_or, sum_by}
+use Rattle.std.proofs.Common.{◌≡◌, ℕ, length, sym, ◌∙◌, ap, subst, arith}
+use Rattle.std.specs.Prelude.{unwrap_or}
 use Rattle.std.specs.FinMap.{FinMap, empty, get, get-empty}
 use Rattle.std.specs.Ordering.{nat_cmp}
-use Rattle.std.proofs.lemmas.List.Sums.{sum_by-cons}
 use Rattle.std.proofs.lemmas.Option.{none-some}
 use Rattle.rss_base.specs.Devices.{DeviceView}
 use Rattle.rss_base.specs.DiskRule.{Pages}
-use Rattle.rss_base.specs.Listings.{Listing}
 use Rattle.rss_base.specs.Paged.{mapped_of}
-use Rattle.rss_base.specs.Sizes.{images_most}
 use Rattle.rss_base.specs.Steps.{device_below}
 use Rattle.rss_base.specs.declared.key.Space.TheVariants.{Overflow}
 use Rattle.rss_lock.specs.Locks.{LocksView}
 use Rattle.rss_model.specs.Locks.{claim, claim_cmp}
 use Rattle.rss_model.specs.Machine.{StoreSize, State, IsAtRest}
 use Rattle.rss_model.specs.Ruled.{HasBothRooms}
-use Rattle.rss_model.specs.Spares.{bound_at, listed_bound, live_of}
 use Rattle.rss_model.specs.Store.{Stored, IsStore, size_of}
 use Rattle.rss_model.specs.Tables.{Tables}
 use Rattle.rss_model.proofs.LogPlaced.{recovered_fit}
 use Rattle.rss_model.proofs.StepKeeping.{rest_keeps}
-use Rattle.rss_model.proofs.StorePages.{pages_are, pages_split}
 use Rattle.rss_scan.specs.Scans.{OpenScans}
 use Rattle.rss_trans.specs.Transactions.{Transaction, nothing, OpenView, transaction_in}
 use Rattle.rss_store.specs.Opening.{OpensStore}
@@ -31,7 +26,7 @@ use Rattle.rss_store.specs.Stores.{StoreView, IsSaved}
 use Rattle.rss_store.specs.Stores.{IsReady as IsStoreReady}
 use Rattle.rss_store.proofs.Unopened.{passes_sized}
 use Rattle.rss_session.specs.Sessions.{SessionView}
-use Rattle.rss_session.specs.Sessions.{IsReady as IsSessionReady, HasRoomAtRest}
+use Rattle.rss_session.specs.Sessions.{IsReady as IsSessionReady}
 use Rattle.rss_session.specs.Shown.{Shows, IsRested}
 use Rattle.rss_rsi.specs.Opening.{BeginsIn, IsOpened, OpensOver}
 use Rattle.rss_rsi.specs.Views.{IsReady, engine_view}
@@ -42,21 +37,6 @@ use Rattle.rss_rsi.proofs.Spelled.{none_open, still_scans}
 none_saved : (opened : OpenView) → opened.transactions ≡ empty → (t : ℕ) → length (transaction_in opened t).saves ≡ 0
 none_saved opened none t =
     ap (λ (m : FinMap nat_cmp Transaction). length (unwrap_or (get m t) nothing).saves) none ∙ ap (λ o. length (unwrap_or o nothing).saves) (get-empty {X = Transaction} nat_cmp t)
-
--- no image is listed as yet, so that none needs room
-pub opened_room : {old : DeviceView} {store : StoreView} → OpensStore old store → HasRoomAtRest store
-opened_room {store = store} is =
-    let split = pages_split store.pages.mapped store.pages.slots is.ready.system in
-    let heap = pages_are store.pages.mapped (λ key there. is.ready.only key there) store.pages.slots is.ready.system in
-    let none : listed_bound store.catalog.listing (live_of store.catalog.listing) ≡ 0 = ap (sum_by (bound_at store.catalog.listing (live_of store.catalog.listing))) is.ready.plain.no_images ∙ none_bound store.catalog.listing (live_of store.catalog.listing) images_most in
-    record {
-      slots = omega (arith, is.half, split, heap, none);
-      images = omega (arith, split, heap);
-    }
-  where
-    none_bound : (listing : Listing) (entries : ℕ → ℕ) (count : ℕ) → sum_by (bound_at listing entries) (replicate count None) ≡ 0
-    none_bound listing entries zero = refl
-    none_bound listing entries (suc count) = omega (arith, none_bound listing entries count, sum_by-cons (bound_at listing entries) None (replicate count None))
 
 pub opened_ready : {old : DeviceView} {store : StoreView} {session : SessionView} → OpensStore old store → session.store ≡ store → IsSessionReady session → session.opened.transactions ≡ empty → IsReady (record { session = session; locks = record { locks = empty; spare = 0 }; scans = empty }) 0
 opened_ready {session = session} is same ready none = record {

@@ -20,10 +20,11 @@ use Rattle.rss_trans.specs.Transactions.{Transaction, nothing, OpenView, transac
 use Rattle.rss_trans.specs.Told.{SavePoints, TellsOpen}
 use Rattle.rss_trans.proofs.Told.{none_tells}
 use Rattle.rss_access.specs.Written.{heap_now}
+use Rattle.rss_store.specs.Opening.{HasRoomAtRest}
 use Rattle.rss_store.specs.Stores.{StoreView, IsSaved}
 use Rattle.rss_store.specs.Stores.{IsReady as IsStoreReady}
 use Rattle.rss_store.specs.Shown.{Shows as StoreShows}
-use Rattle.rss_session.specs.Sessions.{SessionView, few, most_in, IsReady, HasRoomAtRest, AreRising, sums_in}
+use Rattle.rss_session.specs.Sessions.{SessionView, few, most_in, IsReady, AreRising, sums_in}
 use Rattle.rss_session.specs.Sessions as sessions
 use Rattle.rss_session.specs.Shown.{Shows, IsRested}
 use Rattle.rss_session.specs.Weighing.{survived_now}

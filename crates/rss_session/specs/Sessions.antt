@@ -1,16 +1,13 @@
 -- A durable store with its open transactions, as its callers see it, and what holds of it between two calls, whatever its device tells.
 use Rattle.std.specs.Prelude.{◌≡◌, ℕ, ◌+◌, ◌-◌, ◌*◌, ◌^◌, ◌<◌, ◌≤◌, min, true, List, [], ◌∷◌}
 use Rattle.std.specs.FinMap.{values}
-use Rattle.rss_base.specs.Paged.{mapped_of}
-use Rattle.rss_base.specs.Sizes.{system_pages, largest_checkpoint, position_limit}
-use Rattle.rss_base.specs.declared.key.Space.TheVariants.{Image}
+use Rattle.rss_base.specs.Sizes.{largest_checkpoint, position_limit}
 use Rattle.rss_log.specs.Logs.{free_of}
 use Rattle.rss_model.specs.Meter.{restore_size, end_size}
-use Rattle.rss_model.specs.Spares.{ChangeCounts, listed_bound, live_of, page_counts, HasRoomFor, IsInSession}
+use Rattle.rss_model.specs.Spares.{ChangeCounts, listed_bound, page_counts, HasRoomFor, IsInSession}
 use Rattle.rss_trans.specs.declared.noted.Noted.{Noted}
 use Rattle.rss_trans.specs.declared.sums.Sums.{Sums}
 use Rattle.rss_trans.specs.Transactions.{OpenView, is_open, transaction_in, any, sums_of}
-use Rattle.rss_access.specs.Written.{heap_now}
 use Rattle.rss_store.specs.Stores.{StoreView}
 use Rattle.rss_store.specs.Stores.{IsReady as IsStoreReady}
 
@@ -83,13 +80,6 @@ pub record IsReady (view : SessionView) : Type 0 where
   pub log : owed_by view.opened ≤ free_of view.store.log
   pub placed : (t : ℕ) → AreRising view.store.log.head view.store.log.end (transaction_in view.opened t).changes
   pub numbers : (t : ℕ) → is_open view.opened t ≡ true → t < 2 ^ 32
-
--- There are as many slots as a store may need in which nothing is open, and its images have no more pages than they may.
-pub record HasRoomAtRest (store : StoreView) : Type 0 where
-  pub slots : 2 * (heap_now store.pages + listed_bound store.catalog.listing (live_of store.catalog.listing) + system_pages)
-      ≤ store.pages.slots
-  pub images : mapped_of store.pages.mapped Image store.pages.slots
-      ≤ listed_bound store.catalog.listing (live_of store.catalog.listing)
 
 -- Positions stay numbers where records of so many bytes are appended.
 abbrev pub IsEarly : SessionView → ℕ → Type 0

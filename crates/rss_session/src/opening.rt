@@ -4,10 +4,11 @@ ghost use Rattle.std.specs.FinMap.{empty};
 ghost use Rattle.rss_model.specs.Machine.{State, StoreSize, IsAtRest};
 ghost use Rattle.rss_model.specs.Tables.{Tables};
 ghost use Rattle.rss_model.specs.Ruled.{HasBothRooms};
+ghost use Rattle.rss_store.specs.Opening.{HasRoomAtRest};
 ghost use Rattle.rss_store.specs.Parts.{view as store_view};
 ghost use Rattle.rss_store.specs.Shown.{Shows as StoreShows};
 ghost use Rattle.rss_store.specs.Stores.{IsReady as IsStoreReady, IsSaved};
-ghost use Rattle.rss_session.specs.Sessions.{IsReady, HasRoomAtRest};
+ghost use Rattle.rss_session.specs.Sessions.{IsReady};
 ghost use Rattle.rss_session.specs.Shown.{Shows, IsRested};
 
 use crate::Session;

@@ -8,11 +8,8 @@ use Rattle.rss_session.specs.Parts.{view as session_view}
 use Rattle.rss_store.specs.Parts.{view as store_view}
 use Rattle.rss_rsi.specs.Opening.{OpensOver}
 use Rattle.rss_rsi.specs.Views.{engine_view}
-use Rattle.rss_rsi.proofs.Opened.{opened_room, opened_ready, opens_over}
+use Rattle.rss_rsi.proofs.Opened.{opened_ready, opens_over}
 use Rattle.rss_rsi.proofs.opening.open.Goals as goal
-
-pub new-requires-2-clause-room : goal.new-requires-2-clause-room
-new-requires-2-clause-room g c = opened_room c.in_ok-store.ensures.opened
 
 pub new-requires-3-clause-ready : goal.new-requires-3-clause-ready
 new-requires-3-clause-ready g c =
