@@ -112,13 +112,13 @@ abbrev KeepRelations : Listing → Listing → Type 0
 KeepRelations old new = (number : ℕ) (image : ImageEntry) → image_at old number ≡ Some image → relation_at new image.relation ≡ relation_at old image.relation
 
 -- so their nodes are those that there were
-nodes_relisted : {held : Held} {slots : ℕ} {old new : Listing} → new.images ≡ old.images → KeepRelations old new → AreNodesWithin slots held old → AreNodesWithin slots held new
-nodes_relisted {old = old} images keeps nodes number image relation listed =
+nodes_relisted : {held : Held} {old new : Listing} (slots : ℕ) → new.images ≡ old.images → KeepRelations old new → AreNodesWithin slots held old → AreNodesWithin slots held new
+nodes_relisted {old = old} slots images keeps nodes number image its listed =
     let at : image_at old number ≡ Some image = ap (λ (l : List (Option ImageEntry)). numbered l number) (sym images) ∙ listed.at in
-    nodes number image relation (record { at = at; within = sym (keeps number image at) ∙ listed.within })
+    nodes number image its (record { at = at; within = sym (keeps number image at) ∙ listed.within })
 
 tables_relisted : {pages : PagesView} {old new : CatalogView} {call : Call} → Relists old.listing call new.listing → (ListingFits old.listing → ListingFits new.listing) → KeepRelations old.listing new.listing → HasTables (both pages old) → HasTables (both pages new)
-tables_relisted relists fits keeps has =
+tables_relisted {pages = pages} relists fits keeps has =
     let now = relisted has.spells (tuples_defined has.tuples) relists (fits has.spells.listed) in
     record {
       tables = with_definitions now.definitions has.tables;
@@ -134,7 +134,7 @@ tables_relisted relists fits keeps has =
           };
       tids = has.tids;
       few = has.few;
-      nodes = nodes_relisted (images_kept relists) keeps has.nodes;
+      nodes = nodes_relisted pages.slots (images_kept relists) keeps has.nodes;
     }
 
 -- and so are the links

@@ -2,6 +2,7 @@ use Rattle.std.proofs.Common.{ℕ, refl, sym, subst, arith}
 use Rattle.std.specs.Prelude.{Option}
 use Rattle.rss_model.proofs.Sparing.{takes_two}
 use Rattle.rss_record.proofs.Parsing.{some_bytes}
+use Rattle.rss_record.proofs.Records.{record_most}
 use Rattle.rss_base.specs.LogRecords.{record_size}
 use Rattle.rss_base.specs.declared.log_record.LogRecord.TheVariants as records
 use Rattle.rss_access.specs.Changes.{number_told}
@@ -47,3 +48,6 @@ returns-clause-makes g c = λ told state change by kept shows may.
 
 pub returns-clause-stay : goal.returns-clause-stay
 returns-clause-stay g c = put_stay _ c.args.transaction _ c.note.ensures.transactions
+
+pub returns-clause-appends : goal.returns-clause-appends
+returns-clause-appends g c = omega (arith, c.in_ok-position.ensures.log.end, record_most (records.Change c.args.transaction c.args.change) c.requires.bounded)
