@@ -17,6 +17,7 @@ use Rattle.rss_base.specs.declared.name.Name.{Name}
 use Rattle.rss_base.specs.declared.tid.Tid.{Tid}
 use Rattle.rss_base.specs.declared.value.FieldKind.{FieldKind}
 use Rattle.rss_base.specs.declared.call.Call.{Call}
+use Rattle.rss_base.proofs.Steps.{rests}
 use Rattle.rss_model.specs.Tables.{RelationDef, Definitions, Tables, content, tuple_count}
 use Rattle.rss_model.specs.Changes.{Change}
 use Rattle.rss_model.specs.Machine.{StoreSize, State, with_changes}
@@ -39,7 +40,7 @@ use Rattle.rss_catalog.specs.Catalogs.{CatalogView}
 use Rattle.rss_entries.specs.Images.{AreTuples}
 use Rattle.rss_access.specs.Changes.{both, HasTables}
 use Rattle.rss_access.specs.Written.{AreWritten, HasImage}
-use Rattle.rss_session.specs.Calls.{with_catalog, IsRedefined}
+use Rattle.rss_session.specs.Calls.{IsRebuilt, IsRedefined}
 use Rattle.rss_session.specs.Definitions.{entry_of, Relists, Redefines}
 use Rattle.rss_session.specs.Definitions.Relists.{segment, relation, drop_segment, drop_relation}
 use Rattle.rss_session.specs.Parts.{view}
@@ -146,6 +147,10 @@ links_kept (drop_relation number entry at live none) = refl
 
 -- ---- the session
 
+-- it with another catalog
+abbrev pub with_catalog : CatalogView → SessionView → SessionView
+with_catalog catalog view = record view { store = record view.store { catalog = catalog } }
+
 module _ {S : Type 0} (pages_view : S → PagesView) {call : Call} {old new : Session S} (redefines : Redefines call old new) where
   abbrev before : SessionView
   before = view pages_view old
@@ -168,6 +173,19 @@ module _ {S : Type 0} (pages_view : S → PagesView) {call : Call} {old new : Se
     surviving = sym redefines.rest.surviving i;
     entries = λ number. slice_index (sym redefines.rest.entries i) number;
     survived = λ number. slice_index (sym redefines.rest.survived i) number;
+  }
+
+  -- no page was touched
+  relisted_only : (catalog : CatalogView) → IsRebuilt before (with_catalog catalog before)
+  relisted_only catalog = record {
+    asks = 0;
+    step = rests before.store.pages;
+    fixed = λ told. refl;
+    log = refl;
+    root = refl;
+    number = refl;
+    opened = refl;
+    counts = record { heap = refl; surviving = refl; entries = refl; survived = refl };
   }
 
   -- as many pages may have changed
@@ -244,8 +262,9 @@ module _ {S : Type 0} (pages_view : S → PagesView) {call : Call} {old new : Se
       many : log_pages_least ≤ state.size.log_pages
       many = omega (arith, ap (λ (s : StoreSize). s.log_pages) size_same, ready.store.formed.log_least)
 
-      redefined_before : IsRedefined (with_catalog new.store.catalog before) old.store.catalog state now_relisted.definitions
+      redefined_before : IsRedefined (with_catalog new.store.catalog before) before state now_relisted.definitions
       redefined_before = record {
+        rebuilt = relisted_only new.store.catalog;
         shows = shows;
         none_open = none_marked shows redefines.closed;
         none_changed = none_changed shows redefines.closed;
@@ -256,9 +275,9 @@ module _ {S : Type 0} (pages_view : S → PagesView) {call : Call} {old new : Se
       }
 
       -- it may be committed, with the definitions that the call makes
-      pub is_redefined : (definitions : Definitions) → defined call state.base.definitions ≡ Some definitions → IsRedefined after old.store.catalog state definitions
-      is_redefined definitions so = subst (λ (d : Definitions). IsRedefined after old.store.catalog state d) (same_Some _ _ (sym now_relisted.so ∙ so))
-          (subst (λ (v : SessionView). IsRedefined v old.store.catalog state now_relisted.definitions) but_catalog redefined_before)
+      pub is_redefined : (definitions : Definitions) → defined call state.base.definitions ≡ Some definitions → IsRedefined after before state definitions
+      is_redefined definitions so = subst (λ (d : Definitions). IsRedefined after before state d) (same_Some _ _ (sym now_relisted.so ∙ so))
+          (subst (λ (v : SessionView). IsRedefined v before state now_relisted.definitions) but_catalog redefined_before)
 
       -- which there are
       pub defines_some : (definitions : Definitions) × (defined call state.base.definitions ≡ Some definitions)

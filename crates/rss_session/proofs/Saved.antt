@@ -39,7 +39,7 @@ use Rattle.rss_store.specs.Stores.{IsSaved}
 use Rattle.rss_store.specs.Stores.{IsReady as IsStoreReady}
 use Rattle.rss_store.specs.Shown.{Shows as StoreShows}
 use Rattle.rss_store.specs.Commits.{HasLogRoom, least_mark, CanCheckpoint, Saves}
-use Rattle.rss_session.specs.Sessions.{SessionView, AreRising, IsReady, IsEarly, sums_in, owed_by}
+use Rattle.rss_session.specs.Sessions.{SessionView, AreRising, IsReady, CanSave, IsEarly, sums_in, owed_by}
 use Rattle.rss_session.specs.Sessions as sessions
 use Rattle.rss_session.specs.Shown.{Shows}
 use Rattle.rss_session.specs.Weighing.{named, saved_head, saved_free, survived_now, saved_images_with, HasSavedRoom, MaySave}
@@ -61,7 +61,11 @@ first_open view t place is = by (finite.get view.transactions t) refl
         none e = cc (e)
     by (Some x) at = refl
 
-module _ {view : SessionView} (ready : IsReady view) where
+-- between two calls there may be one
+pub saves_ready : {view : SessionView} → IsReady view → CanSave view
+saves_ready ready = record { store = ready.store; log = ready.log; placed = ready.placed; numbers = ready.numbers }
+
+module _ {view : SessionView} (ready : CanSave view) where
   pub head_low : view.store.log.head ≤ least_mark view.store.log.end (named view.opened)
   head_low =
       low_least view.store.log.head view.store.log.end (named view.opened) ready.store.log.is_log.ring.order
@@ -86,7 +90,7 @@ module _ {view : SessionView} (ready : IsReady view) where
           (ready.numbers t (first_open view.opened t place first), omega (arith, placed.1, ready.store.log.is_log.ring.limit)));
     }
 
-    module _ {state : State} (may : MaySave view) (kept : Kept state) (shows : Shows view state) (held_are : (key : PageKey) → is_some (view.store.pages.held key) ≡ view.store.pages.mapped key) where
+    module _ {state : State} (whole : IsReady view) (may : MaySave view) (kept : Kept state) (shows : Shows view state) (held_are : (key : PageKey) → is_some (view.store.pages.held key) ≡ view.store.pages.mapped key) where
       abbrev next : State
       next = record state { meter = saved_now state }
 
@@ -105,11 +109,11 @@ module _ {view : SessionView} (ready : IsReady view) where
       heads : head_behind log state ≡ least_mark log.end (named view.opened)
       heads =
           ap (λ (n : ℕ). least_position n state.meter.stamps) (sym shows.store.tied.ties.meter.end)
-          ∙ sym (saved_head_same ready shows)
+          ∙ sym (saved_head_same whole shows)
           ∙ ap (λ (n : ℕ). least_mark n (named view.opened)) shows.store.logged.end_is
 
       no_refusal : if_no_log_room state ≡ None
-      no_refusal = may_save ready shows may
+      no_refusal = may_save whole shows may
 
       pub can_save : CanCheckpoint view.store (named view.opened) shows.store.stored next
       can_save = record {
@@ -127,9 +131,9 @@ module _ {view : SessionView} (ready : IsReady view) where
         ties = subst (λ (n : ℕ). TiesState view.store.catalog.listing (now next) (saved_log log n tie.kept (named view.opened)) next) heads tie.ties;
         spells = shows.store.spells;
         written = shows.store.written;
-        fit = subst (λ (n : ℕ). Fits n (now state)) (slots_same ready shows) (kept_fit state kept).1;
+        fit = subst (λ (n : ℕ). Fits n (now state)) (slots_same whole shows) (kept_fit state kept).1;
         metered = (checkpoints_keep_rooms state shows.counted.rooms.metered no_refusal).metered;
-        heap = saved_heap_same ready shows held_are;
+        heap = saved_heap_same whole shows held_are;
         over = shows.store.over_is;
       }
 
@@ -148,9 +152,9 @@ module _ {view : SessionView} (ready : IsReady view) where
                 (λ number. anew.entries number ∙ ap (λ (l : Listing). live_of l number) (sym anew.listing))
                 (λ number relation at.
                 let was : relation_at view.store.catalog.listing number ≡ Some relation = ap (λ (l : Listing). relation_at l number) (sym anew.listing) ∙ at in
-                anew.survived number relation was ∙ survived_same shows (few_slots ready shows) number relation was);
-            heap = saved_heap_same ready shows held_are ∙ sym anew.heap;
-            surviving = sym (count_same ready shows) ∙ sym anew.surviving;
+                anew.survived number relation was ∙ survived_same shows (few_slots whole shows) number relation was);
+            heap = saved_heap_same whole shows held_are ∙ sym anew.heap;
+            surviving = sym (count_same whole shows) ∙ sym anew.surviving;
             rooms = checkpoints_keep_rooms state shows.counted.rooms.metered no_refusal;
           };
           rested = λ none all. store.over_is ∙ (λ i. mapped_of (saved.pages i) Overflow (slots i));
@@ -159,10 +163,10 @@ module _ {view : SessionView} (ready : IsReady view) where
 -- ---- a call may be made again
 
 -- each page has room in two slots
-pub half : {view : SessionView} → IsReady view → HasSavedRoom view → 2 * mapped_pages view.store.pages.slots view.store.pages.mapped ≤ view.store.pages.slots
+pub half : {view : SessionView} → CanSave view → HasSavedRoom view → 2 * mapped_pages view.store.pages.slots view.store.pages.mapped ≤ view.store.pages.slots
 half {view = view} ready room = omega (arith, room.slots, room.images, pages_split view.store.pages.mapped view.store.pages.slots ready.store.system, ready.store.size)
 
-module _ {old new : SessionView} (ready : IsReady old) (may : MaySave old) (room : HasSavedRoom old) (store : IsStoreReady new.store) (saved : IsSaved new.store) (saves : Saves (named old.opened) old.store new.store) (checkpoints : Checkpoints old.opened new.opened)
+module _ {old new : SessionView} (ready : CanSave old) (may : MaySave old) (room : HasSavedRoom old) (store : IsStoreReady new.store) (saved : IsSaved new.store) (saves : Saves (named old.opened) old.store new.store) (checkpoints : Checkpoints old.opened new.opened)
     (entries : (number : ℕ) → new.entries number ≡ live_of old.store.catalog.listing number) (survived : (number : ℕ) (relation : RelationEntry) → relation_at old.store.catalog.listing number ≡ Some relation → new.survived number ≡ survived_now old.opened number) (listing : new.store.catalog.listing ≡ old.store.catalog.listing)
     (heap : new.heap ≡ heap_now new.store.pages) (surviving : new.surviving ≡ (sums_in new.opened).p) (slots : new.store.pages.slots ≡ old.store.pages.slots) (counted : AreCounted new.store.pages) where
   mapped_now : mapped_pages new.store.pages.slots new.store.pages.mapped ≡ heap_now new.store.pages + mapped_of new.store.pages.mapped Image new.store.pages.slots + system_pages

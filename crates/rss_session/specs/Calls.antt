@@ -3,13 +3,14 @@ use Rattle.std.specs.Prelude.{◌≡◌, ◌↔◌, ◌⊎◌, ℕ, ◌+◌, ◌
 use Rattle.std.specs.FinMap as map
 use Rattle.rss_base.specs.DiskRule.{IsTold, Passes, Continues}
 use Rattle.rss_base.specs.Faults.{Rises}
+use Rattle.rss_base.specs.Steps.{Keys, PagesStep}
 use Rattle.rss_base.specs.Listings.{relation_at}
 use Rattle.rss_base.specs.declared.change.Change as told
 use Rattle.rss_base.specs.declared.relation.RelationEntry.{RelationEntry}
+use Rattle.rss_base.specs.declared.key.Space.TheVariants.{Image}
 use Rattle.rss_base.specs.declared.fault.PageFault.{PageFault}
 use Rattle.rss_base.specs.declared.fault.PageFault.TheVariants.{Device as DeviceFailed, NoMemory}
 use Rattle.rss_model.specs.Changes.{Change, own}
-use Rattle.rss_catalog.specs.Catalogs.{CatalogView}
 use Rattle.rss_model.specs.Tables.{Definitions}
 use Rattle.rss_model.specs.Fits.{Fits}
 use Rattle.rss_model.specs.Defining.{with_definitions}
@@ -96,13 +97,25 @@ pub record CountsAnew (old new : SessionView) : Type 0 where
 
 -- ---- definitions
 
--- the session with another catalog
-abbrev pub with_catalog : CatalogView → SessionView → SessionView
-with_catalog catalog view = record view { store = record view.store { catalog = catalog } }
+-- a page of an image
+abbrev pub IsImageKey : Keys
+IsImageKey key = key.space ≡ Image
+
+-- Pages of images may have been touched, and the catalog; all else is as it was.
+pub record IsRebuilt (old new : SessionView) : Type 0 where
+  pub asks : ℕ
+  pub step : PagesStep IsImageKey asks asks old.store.pages new.store.pages
+  pub fixed : IsTold old.store.pages.disk → new.store.pages.fixed ≡ old.store.pages.fixed
+  pub log : new.store.log ≡ old.store.log
+  pub root : new.store.root ≡ old.store.root
+  pub number : new.store.number ≡ old.store.number
+  pub opened : new.opened ≡ old.opened
+  pub counts : CountsStill old new
 
 -- Nothing is open, and the catalog lists other definitions than before. By its listing the pages spell the committed tables with them, which fit, once its own pages are written; and there is room.
-pub record IsRedefined (view : SessionView) (before : CatalogView) (state : State) (definitions : Definitions) : Type 0 where
-  pub shows : Shows (with_catalog before view) state
+pub record IsRedefined (view before : SessionView) (state : State) (definitions : Definitions) : Type 0 where
+  pub rebuilt : IsRebuilt before view
+  pub shows : Shows before state
   pub none_open : state.marks ≡ map.empty
   pub none_changed : state.changes ≡ []
   pub spells : SpellsTables view.store.pages.held view.store.catalog.listing (with_definitions definitions state.base)
@@ -113,7 +126,7 @@ pub record IsRedefined (view : SessionView) (before : CatalogView) (state : Stat
 -- at each moment a stop leaves the committed tables with the definitions of before, or with these
 abbrev pub RedefinesTables : SessionView → SessionView → Type 0
 RedefinesTables old new =
-    IsTold old.store.pages.disk → (before : CatalogView) (state : State) (definitions : Definitions)
+    IsTold old.store.pages.disk → (before : SessionView) (state : State) (definitions : Definitions)
     → IsRedefined old before state definitions
     → Passes old.store.pages.disk new.store.pages.disk (λ image.
     HoldsTables state.size state.base image

@@ -81,6 +81,13 @@ pub record IsReady (view : SessionView) : Type 0 where
   pub placed : (t : ℕ) → AreRising view.store.log.head view.store.log.end (transaction_in view.opened t).changes
   pub numbers : (t : ℕ) → is_open view.opened t ≡ true → t < 2 ^ 32
 
+-- A checkpoint may be taken, if there is room for it.
+pub record CanSave (view : SessionView) : Type 0 where
+  pub store : IsStoreReady view.store
+  pub log : owed_by view.opened ≤ free_of view.store.log
+  pub placed : (t : ℕ) → AreRising view.store.log.head view.store.log.end (transaction_in view.opened t).changes
+  pub numbers : (t : ℕ) → is_open view.opened t ≡ true → t < 2 ^ 32
+
 -- Positions stay numbers where records of so many bytes are appended.
 abbrev pub IsEarly : SessionView → ℕ → Type 0
 IsEarly view bytes = view.store.log.end + bytes < position_limit

@@ -11,11 +11,10 @@ ghost use Rattle.rss_model.specs.Rules.{saved_now};
 ghost use Rattle.rss_model.specs.Steps.{redefined};
 ghost use Rattle.rss_model.specs.Store.{Stored, IsStore};
 ghost use Rattle.rss_model.specs.Tables.{Definitions};
-ghost use Rattle.rss_catalog.specs.Catalogs.{CatalogView};
 ghost use Rattle.rss_trans.specs.Transactions.{Checkpoints};
 ghost use Rattle.rss_store.specs.Commits.{CanCheckpoint, IsSavedStore};
 ghost use Rattle.rss_store.specs.Shown.{Shows as StoreShows};
-ghost use Rattle.rss_session.specs.Sessions.{IsReady, IsEarly};
+ghost use Rattle.rss_session.specs.Sessions.{SessionView, IsReady, CanSave, IsEarly};
 ghost use Rattle.rss_session.specs.Shown.{Shows};
 ghost use Rattle.rss_base.specs.LogRecords.{marks_most};
 ghost use Rattle.rss_session.specs.Weighing.{HasSavedRoom, MaySave, named};
@@ -60,17 +59,17 @@ impl<S: Saving> Session<S> {
     ///
     /// At each moment a stop leaves the definitions of before or these; after `Ok` the latter.
     pub fn redefine(&mut self) -> Result<(), PageFault>
-        requires ready { IsReady (view S.view self.old) }
+        requires ready { CanSave (view S.view self.old) }
         requires closed { (view S.view self.old).opened.transactions ≡ empty }
         requires early { IsEarly (view S.view self.old) largest_checkpoint }
         ensures ready { OnOk result (IsReady (view S.view self.new)) }
         ensures shows { OnOk result (IsTold (view S.view self.old).store.pages.disk
-            → (before : CatalogView) (state : State) (definitions : Definitions)
+            → (before : SessionView) (state : State) (definitions : Definitions)
             → IsRedefined (view S.view self.old) before state definitions
             → Shows (view S.view self.new) (redefined definitions state)) }
         ensures sound { (place : AnyPlace) → result ≡ Err (Damaged place)
             → IsTold (view S.view self.old).store.pages.disk
-            → (before : CatalogView) (state : State) (definitions : Definitions)
+            → (before : SessionView) (state : State) (definitions : Definitions)
             → IsRedefined (view S.view self.old) before state definitions → ⊥ }
         ensures moments { RedefinesTables (view S.view self.old) (view S.view self.new) }
         ensures anew { OnOk result (CountsAnew (view S.view self.old) (view S.view self.new)) }
@@ -86,7 +85,7 @@ impl<S: Saving> Session<S> {
     /// Takes a checkpoint of what the pages spell by the catalog, where there is room behind it; else
     /// `Damaged`, which no device shows that tells its contents.
     fn save_all(&mut self) -> Result<(), PageFault>
-        requires ready { IsReady (view S.view self.old) }
+        requires ready { CanSave (view S.view self.old) }
         requires may { MaySave (view S.view self.old) }
         requires early { IsEarly (view S.view self.old) largest_checkpoint }
         ensures ready { OnOk result (IsReady (view S.view self.new)) }

@@ -5,7 +5,7 @@ ghost use Rattle.rss_model.specs.ReplyText.{IsShort};
 ghost use Rattle.rss_model.specs.Rules.{if_no_log_room};
 ghost use Rattle.rss_trans.specs.Transactions.{is_open};
 ghost use Rattle.rss_session.specs.Admissions.{Tests};
-ghost use Rattle.rss_session.specs.Sessions.{IsReady, IsEarly, sums_in, owed_for};
+ghost use Rattle.rss_session.specs.Sessions.{IsReady, CanSave, IsEarly, sums_in, owed_for};
 ghost use Rattle.rss_session.specs.Weighing.{room_of, needed_with, saved_free, weighed, HasSavedRoom, MaySave, RulesSo};
 
 use crate::Session;
@@ -95,7 +95,7 @@ impl<S: Saving> Session<S> {
     /// Whether there are as many slots as may be needed behind a checkpoint, and images have no more
     /// pages than they may.
     pub(crate) fn has_saved_room(&self) -> bool
-        requires ready { IsReady (view S.view self.now) }
+        requires ready { CanSave (view S.view self.now) }
         ensures { IsTrue result ↔ HasSavedRoom (view S.view self.now) }
     {
         let images = self.images_bound(true, None);

@@ -5,7 +5,7 @@ use Rattle.rss_model.specs.Rules.{saved_now}
 use Rattle.rss_store.specs.Shown.{HoldsTables}
 use Rattle.rss_session.specs.Parts.{view}
 use Rattle.rss_store.proofs.Nexts.{on_ok_both}
-use Rattle.rss_session.proofs.Saved.{can_save, shows_saved}
+use Rattle.rss_session.proofs.Saved.{saves_ready, can_save, shows_saved}
 use Rattle.rss_session.proofs.Passing.{on_ok_behind}
 use Rattle.rss_session.proofs.Weighed.{has_saved_room}
 use Rattle.rss_session.proofs.session.Session.checkpoint.Goals as goal
@@ -16,15 +16,15 @@ returns-clause-shows g c =
     let all = c.save_all.ensures in
     on_ok_both c.save_all.result (λ store behind told state kept shows.
     let held = g.met.S.Pages.holds self.store.tuples.pages told in
-    let can = can_save c.requires.ready all.few c.requires.may kept shows held in
-    shows_saved c.requires.ready all.few c.requires.may kept shows held (store told shows.store.stored (record state { meter = saved_now state }) can)
+    let can = can_save (saves_ready c.requires.ready) all.few c.requires.ready c.requires.may kept shows held in
+    shows_saved (saves_ready c.requires.ready) all.few c.requires.ready c.requires.may kept shows held (store told shows.store.stored (record state { meter = saved_now state }) can)
     behind.saved behind.checkpoints behind.anew behind.ready.store.size)
     all.shows (on_ok_behind (view g.S.Pages.view self) (view g.S.Pages.view c.save_all.new.self) c.save_all.result all.ready all.saved all.checkpoints all.anew)
 
 pub returns-clause-moments : goal.returns-clause-moments
 returns-clause-moments g c = λ told state kept shows.
     let self = c.args.self.now in
-    let can = can_save c.requires.ready c.save_all.ensures.few c.requires.may kept shows (g.met.S.Pages.holds self.store.tuples.pages told) in
+    let can = can_save (saves_ready c.requires.ready) c.save_all.ensures.few c.requires.ready c.requires.may kept shows (g.met.S.Pages.holds self.store.tuples.pages told) in
     widened (c.save_all.ensures.moments told shows.store.stored (record state { meter = saved_now state }) can)
     (λ image. ⊎_elim
     (λ was. record { stored = shows.store.stored; store = was; same_size = shows.store.tied.size; holds = sym shows.store.tied.tables })
