@@ -166,7 +166,7 @@ module _ {S : Type 0} (pages_view : S → PagesView) {to : Definition S} {now : 
         not_refused : refusal state to.call ≡ None
         not_refused = passed told state is_in.shows
 
-        redefining : IsRedefined between before.session state definitions
+        redefining : IsRedefined between state definitions
         redefining = is_redefined pages_view redefines is.ready.session is_in.kept is_in.shows not_refused is.names definitions so_defined
 
         step : Step state to.call (Ok Done) (redefined definitions state)
@@ -174,19 +174,19 @@ module _ {S : Type 0} (pages_view : S → PagesView) {to : Definition S} {now : 
 
         either : Passes before.session.store.pages.disk new.store.pages.disk (OpensToEither state.size state.base (with_definitions definitions state.base))
         either = subst (λ (p : PagesView). Passes p.disk new.store.pages.disk (OpensToEither state.size state.base (with_definitions definitions state.base))) pages_same
-            (moments (told_then told) before.session state definitions redefining)
+            (moments (told_then told) state definitions redefining)
 
         may_stop : IsStopped before.session.store.pages.disk new.store.pages.disk state to.call
         may_stop = record { answer = Ok Done; next = redefined definitions state; answered = record { step = step; moments = either } }
 
-        is_defined : {up : Type 0} → (IsTold between.store.pages.disk → (was : SessionView) (state : State) (definitions : Definitions) → IsRedefined between was state definitions → Shows new (redefined definitions state))
+        is_defined : {up : Type 0} → (IsTold between.store.pages.disk → (state : State) (definitions : Definitions) → IsRedefined between state definitions → Shows new (redefined definitions state))
             → IsDefined (view_of pages_view to) (engine_view (with_held new) calls up) state to.call
         is_defined shows = record {
           definitions = definitions;
           passed = not_refused;
           so = so_defined;
           shows = record {
-            shows = shows (told_then told) before.session state definitions redefining;
+            shows = shows (told_then told) state definitions redefining;
             locked = is_in.locked ∙ ap (λ (l : LocksView). l.locks) (sym is.locked);
             scanned =
                 let none = none_scanning is_in.kept redefining.none_open in
@@ -196,7 +196,7 @@ module _ {S : Type 0} (pages_view : S → PagesView) {to : Definition S} {now : 
           moments = either;
         }
 
-      pub redefined_done : {up : Type 0} → up → (IsTold between.store.pages.disk → (was : SessionView) (state : State) (definitions : Definitions) → IsRedefined between was state definitions → Shows new (redefined definitions state))
+      pub redefined_done : {up : Type 0} → up → (IsTold between.store.pages.disk → (state : State) (definitions : Definitions) → IsRedefined between state definitions → Shows new (redefined definitions state))
           → IsCallOf (view_of pages_view to) (engine_view (with_held new) calls up) to.call (Ok Done)
       redefined_done is_up shows = comes_to refl goes_redefining (defined_by is.names is_up (λ told state is_in. is_defined told state is_in shows))
 
@@ -214,9 +214,9 @@ module _ {S : Type 0} (pages_view : S → PagesView) {to : Definition S} {now : 
     -- the device failed, or shows damage, which none does that tells its contents, where what is listed may be committed
     pub redefining_fails : {new : SessionView} {fault : PageFault} {up_now : Type 0} (answer : Result Reply CallError) → IsErrAnd answer (λ why. why ≡ page_error fault) → (up_now → ⊥)
         → SessionGoesOn {T = Unit {0}} between new (Err fault) → RedefinesTables between new → new.store.pages.asks ≡ between.store.pages.asks
-        → ((place : Place) → ◌≡◌ {A = Result (Unit {0}) PageFault} (Err fault) (Err (PageDamaged place)) → IsTold between.store.pages.disk → (was : SessionView) (state : State) (definitions : Definitions) → IsRedefined between was state definitions → ⊥) → IsCallOf (view_of pages_view to) (engine_view (with_held new) calls up_now) to.call answer
+        → ((place : Place) → ◌≡◌ {A = Result (Unit {0}) PageFault} (Err fault) (Err (PageDamaged place)) → IsTold between.store.pages.disk → (state : State) (definitions : Definitions) → IsRedefined between state definitions → ⊥) → IsCallOf (view_of pages_view to) (engine_view (with_held new) calls up_now) to.call answer
     redefining_fails answer answered down on moments asks sound =
-        failed_within answer answered refl down (on_before on moments asks) (goes_redefining on moments asks) (λ place same told state is_in. sound place same (told_then told) before.session state (definitions on moments asks told state is_in) (redefining on moments asks told state is_in)) (may_stop on moments asks)
+        failed_within answer answered refl down (on_before on moments asks) (goes_redefining on moments asks) (λ place same told state is_in. sound place same (told_then told) state (definitions on moments asks told state is_in) (redefining on moments asks told state is_in)) (may_stop on moments asks)
 
 -- ---- calls that define
 

@@ -13,6 +13,7 @@ pub mod Weighed
 pub mod Outcomes
 pub mod Saved
 pub mod Made
+pub mod Rebuilt
 pub mod Redefined
 pub mod Shown
 pub mod Fresh

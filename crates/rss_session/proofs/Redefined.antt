@@ -5,12 +5,11 @@ use Rattle.std.specs.Ordering.{nat_cmp}
 use Rattle.std.specs.FinMap as finite
 use Rattle.std.specs.FinMap.{FinMap}
 use Rattle.std.proofs.lemmas.List.{append-nil}
-use Rattle.rss_base.specs.LogRecords.{ArePlaced, record_size}
+use Rattle.rss_base.specs.LogRecords.{record_size}
 use Rattle.rss_base.specs.Listings.{Listing, relation_at}
-use Rattle.rss_base.specs.DiskRule.{IsTold}
-use Rattle.rss_base.specs.Paged.{Backing, Fixed, HasFixed, mapped_of, page_key}
+use Rattle.rss_base.specs.Paged.{mapped_of}
 use Rattle.rss_base.specs.declared.key.PageKey.{PageKey}
-use Rattle.rss_base.specs.declared.key.Space.TheVariants.{Home, Overflow, Image}
+use Rattle.rss_base.specs.declared.key.Space.TheVariants.{Home, Overflow}
 use Rattle.rss_base.specs.declared.log_record.LogRecord.TheVariants as records
 use Rattle.rss_base.specs.declared.relation.RelationEntry.{RelationEntry}
 use Rattle.rss_base.specs.declared.root.Root.{Root}
@@ -22,21 +21,17 @@ use Rattle.rss_model.specs.Machine.{StoreSize, State, IsAtRest, with_changes, no
 use Rattle.rss_model.specs.Meter.{Stamp, heap_pages, changes_of, changers, checkpoint_size, least_position, free_between}
 use Rattle.rss_model.specs.Spares.{change_counts, live_of, most_of}
 use Rattle.rss_model.specs.Steps.{stamp_by, redefined}
-use Rattle.rss_model.specs.Meanings.{as_bytes}
-use Rattle.rss_model.specs.Store.{Stored, SpellsTables, size_of}
+use Rattle.rss_model.specs.Store.{SpellsTables, size_of}
 use Rattle.rss_model.specs.Tables.{Definitions, Tables, tuple_count}
 use Rattle.rss_model.proofs.ImageRooms.{bound_rises, listed_same, images_few}
 use Rattle.rss_model.proofs.Listed.{heap_is}
-use Rattle.rss_model.proofs.MappedKeys.{same_mapped_of}
 use Rattle.rss_model.proofs.LogOpening.{restart_ties}
 use Rattle.rss_trans.specs.Transactions.{Transaction, marks_of, Checkpoints}
 use Rattle.rss_trans.specs.Told.{TellsOpen}
 use Rattle.rss_trans.proofs.Told.{none_tells}
 use Rattle.rss_trans.proofs.Summing.{since_saved}
 use Rattle.rss_access.specs.Written.{heap_now}
-use Rattle.rss_log.specs.Logs.{LogView, HasRecords}
-use Rattle.rss_store.specs.Stores.{StoreView, IsSaved}
-use Rattle.rss_store.specs.Shown.{HoldsLogged, LeavesStore}
+use Rattle.rss_store.specs.Stores.{IsSaved}
 use Rattle.rss_store.specs.Shown.{Shows as StoreShows}
 use Rattle.rss_store.specs.Commits.{least_mark, CanCheckpoint}
 use Rattle.rss_session.specs.Sessions.{SessionView, CanSave}
@@ -45,41 +40,7 @@ use Rattle.rss_session.specs.Weighing.{named, saved_free, saved_most, saved_imag
 use Rattle.rss_session.proofs.Bounds.{bound_same}
 use Rattle.rss_session.proofs.Fresh.{no_entries, none_counted, none_changing, none_survived}
 use Rattle.rss_session.proofs.Traffic.{most_is, live_is, each_anew}
-use Rattle.rss_session.specs.Calls.{CountsAnew, IsRebuilt, IsRedefined}
-
--- ---- pages of images were touched
-
--- the log is that of the store still
-logged_still : {old new : StoreView} {log : EngineLog} → new.log ≡ old.log → new.root ≡ old.root → HoldsLogged old log → HoldsLogged new log
-logged_still {log = log} same root logged = record {
-  head_is = ap (λ (l : LogView). l.head) same ∙ logged.head_is;
-  end_is = ap (λ (l : LogView). l.end) same ∙ logged.end_is;
-  records = subst (λ (l : LogView). HasRecords l (as_bytes (all_logged log))) (sym same) logged.records;
-  until = subst (λ (r : Root). ArePlaced log.head (as_bytes (log.older ++ log.written)) r.end) (sym root) logged.until;
-}
-
-module _ {old new : SessionView} (rebuilt : IsRebuilt old new) where
-  slots_same : new.store.pages.slots ≡ old.store.pages.slots
-  slots_same = rebuilt.step.passes.slots
-
-  -- there are as many overflow pages
-  over_same : mapped_of new.store.pages.mapped Overflow new.store.pages.slots ≡ mapped_of old.store.pages.mapped Overflow old.store.pages.slots
-  over_same =
-      ap (mapped_of new.store.pages.mapped Overflow) slots_same
-      ∙ same_mapped_of old.store.pages.mapped new.store.pages.mapped Overflow old.store.pages.slots
-      (λ segment number. rebuilt.step.mapped_off (page_key segment Overflow number) (λ image. let not : Overflow ≡ Image = image in absurd (cc)))
-
-  told_before : IsTold new.store.pages.disk → IsTold old.store.pages.disk
-  told_before told = rebuilt.step.passes.leaves.told.1 told
-
-  -- and a stop leaves the same store
-  leaves_still : {stored : Stored} → IsTold new.store.pages.disk → LeavesStore old.store stored → LeavesStore new.store stored
-  leaves_still told disk = record {
-    number_is = disk.number_is ∙ sym rebuilt.number;
-    root_is = disk.root_is ∙ sym rebuilt.root;
-    owners_are = disk.owners_are ∙ ap (λ (b : Backing). b.shadow) (sym rebuilt.step.passes.backing);
-    fixes = λ image has. disk.fixes image (subst (λ (fixed : Fixed). HasFixed fixed image) (rebuilt.fixed (told_before told)) has);
-  }
+use Rattle.rss_session.specs.Calls.{CountsAnew, StandsBehind, IsRedefined}
 
 -- ---- nothing is open
 
@@ -96,21 +57,21 @@ module _ {view : SessionView} (ready : CanSave view) (closed : view.opened.trans
 
   -- ---- the tables with other definitions
 
-  module _ {before : SessionView} {state : State} {definitions : Definitions} (is : IsRedefined view before state definitions) where
+  module _ {state : State} {definitions : Definitions} (is : IsRedefined view state definitions) where
     abbrev tables : Tables
     tables = with_definitions definitions state.base
 
     abbrev next : State
     next = redefined definitions state
 
-    abbrev store : StoreShows before.store state
-    store = is.shows.store
+    abbrev store : StandsBehind view.store state
+    store = is.behind
 
     abbrev log : EngineLog
     log = store.log
 
     stamps_none : state.meter.stamps ≡ []
-    stamps_none = nothing state.meter.stamps (map_none state.meter.stamps (is.shows.counted.rooms.metered.makers ∙ ap (map maker) is.none_changed))
+    stamps_none = nothing state.meter.stamps (map_none state.meter.stamps (is.metered.makers ∙ ap (map maker) is.none_changed))
       where
         map_none : (ss : List Stamp) → map stamp_by ss ≡ [] → length ss ≡ 0
         map_none [] e = refl
@@ -140,7 +101,7 @@ module _ {view : SessionView} (ready : CanSave view) (closed : view.opened.trans
     }
 
     slots_are : state.size.slots ≡ view.store.root.slots
-    slots_are = ap (λ (size : StoreSize). size.slots) store.tied.size ∙ ap (λ (r : Root). r.slots) (store.disk.root_is ∙ sym is.rebuilt.root)
+    slots_are = ap (λ (size : StoreSize). size.slots) store.tied.size ∙ ap (λ (r : Root). r.slots) store.disk.root_is
 
     fits : Fits state.size.slots tables
     fits = subst (λ (n : ℕ). Fits n tables) (sym slots_are) is.fit
@@ -174,14 +135,13 @@ module _ {view : SessionView} (ready : CanSave view) (closed : view.opened.trans
         heap_is is.spells fits view.store.pages.mapped held_are,
         ap (λ (n : ℕ). mapped_of view.store.pages.mapped Home n) (slots_are ∙ sym ready.store.size),
         store.over_is,
-        over_same is.rebuilt,
       )
 
-      can_none : IsTold view.store.pages.disk → CanCheckpoint view.store [] store.stored next
-      can_none told = record {
+      can_none : CanCheckpoint view.store [] store.stored next
+      can_none = record {
         log = log;
-        disk = leaves_still is.rebuilt told store.disk;
-        logged = logged_still is.rebuilt.log is.rebuilt.root store.logged;
+        disk = store.disk;
+        logged = store.logged;
         on_disk = λ i. (store.tied.older i) ++ (store.tied.newer i);
         dropped = all_logged log;
         kept = [];
@@ -189,18 +149,18 @@ module _ {view : SessionView} (ready : CanSave view) (closed : view.opened.trans
         gone = store.tied.ties.placed;
         stay = refl;
         spellable = record { bounded = omega arith; fits = tt };
-        size = store.tied.size ∙ ap size_of (store.disk.root_is ∙ sym is.rebuilt.root);
+        size = store.tied.size ∙ ap size_of store.disk.root_is;
         ties = ties_next;
         spells = subst (SpellsTables view.store.pages.held view.store.catalog.listing) now_is is.spells;
         written = is.written;
         fit = subst (Fits view.store.root.slots) now_is is.fit;
         metered = is.rooms.metered;
         heap = heap_are;
-        over = store.over_is ∙ sym (over_same is.rebuilt);
+        over = store.over_is;
       }
 
-      pub can_redefine : IsTold view.store.pages.disk → CanCheckpoint view.store (named view.opened) store.stored next
-      can_redefine told = subst (λ (marks : List (ℕ × ℕ)). CanCheckpoint view.store marks store.stored next) (sym none_named) (can_none told)
+      pub can_redefine : CanCheckpoint view.store (named view.opened) store.stored next
+      can_redefine = subst (λ (marks : List (ℕ × ℕ)). CanCheckpoint view.store marks store.stored next) (sym none_named) can_none
 
       -- there is room behind it
       pub room_redefined : HasSavedRoom view

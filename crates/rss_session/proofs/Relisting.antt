@@ -17,7 +17,6 @@ use Rattle.rss_base.specs.declared.name.Name.{Name}
 use Rattle.rss_base.specs.declared.tid.Tid.{Tid}
 use Rattle.rss_base.specs.declared.value.FieldKind.{FieldKind}
 use Rattle.rss_base.specs.declared.call.Call.{Call}
-use Rattle.rss_base.proofs.Steps.{rests}
 use Rattle.rss_model.specs.Tables.{RelationDef, Definitions, Tables, content, tuple_count}
 use Rattle.rss_model.specs.Changes.{Change}
 use Rattle.rss_model.specs.Machine.{StoreSize, State, with_changes}
@@ -40,7 +39,7 @@ use Rattle.rss_catalog.specs.Catalogs.{CatalogView}
 use Rattle.rss_entries.specs.Images.{AreTuples}
 use Rattle.rss_access.specs.Changes.{both, HasTables}
 use Rattle.rss_access.specs.Written.{AreWritten, HasImage}
-use Rattle.rss_session.specs.Calls.{IsRebuilt, IsRedefined}
+use Rattle.rss_session.specs.Calls.{IsRedefined}
 use Rattle.rss_session.specs.Definitions.{entry_of, Relists, Redefines}
 use Rattle.rss_session.specs.Definitions.Relists.{segment, relation, drop_segment, drop_relation}
 use Rattle.rss_session.specs.Parts.{view}
@@ -49,6 +48,7 @@ use Rattle.rss_session.specs.Shown.{Shows}
 use Rattle.rss_session.specs.declared.session.Session.{Session}
 use Rattle.rss_session.proofs.Bounds.{bound_relisted, session_of}
 use Rattle.rss_session.proofs.Defined.{none_changed, none_marked}
+use Rattle.rss_session.proofs.Rebuilt.{IsRebuilt, stands_behind}
 
 -- ---- the pages
 
@@ -176,16 +176,12 @@ module _ {S : Type 0} (pages_view : S → PagesView) {call : Call} {old new : Se
   }
 
   -- no page was touched
-  relisted_only : (catalog : CatalogView) → IsRebuilt before (with_catalog catalog before)
+  relisted_only : (catalog : CatalogView) → IsRebuilt before.store (with_catalog catalog before).store
   relisted_only catalog = record {
-    asks = 0;
-    step = rests before.store.pages;
-    fixed = λ told. refl;
     log = refl;
     root = refl;
-    number = refl;
-    opened = refl;
-    counts = record { heap = refl; surviving = refl; entries = refl; survived = refl };
+    leaves = λ stored disk. record { number_is = disk.number_is; root_is = disk.root_is; owners_are = disk.owners_are; fixes = disk.fixes };
+    over = refl;
   }
 
   -- as many pages may have changed
@@ -262,10 +258,10 @@ module _ {S : Type 0} (pages_view : S → PagesView) {call : Call} {old new : Se
       many : log_pages_least ≤ state.size.log_pages
       many = omega (arith, ap (λ (s : StoreSize). s.log_pages) size_same, ready.store.formed.log_least)
 
-      redefined_before : IsRedefined (with_catalog new.store.catalog before) before state now_relisted.definitions
+      redefined_before : IsRedefined (with_catalog new.store.catalog before) state now_relisted.definitions
       redefined_before = record {
-        rebuilt = relisted_only new.store.catalog;
-        shows = shows;
+        behind = stands_behind (relisted_only new.store.catalog) shows.store;
+        metered = shows.counted.rooms.metered;
         none_open = none_marked shows redefines.closed;
         none_changed = none_changed shows redefines.closed;
         spells = now_relisted.spells;
@@ -275,9 +271,9 @@ module _ {S : Type 0} (pages_view : S → PagesView) {call : Call} {old new : Se
       }
 
       -- it may be committed, with the definitions that the call makes
-      pub is_redefined : (definitions : Definitions) → defined call state.base.definitions ≡ Some definitions → IsRedefined after before state definitions
-      is_redefined definitions so = subst (λ (d : Definitions). IsRedefined after before state d) (same_Some _ _ (sym now_relisted.so ∙ so))
-          (subst (λ (v : SessionView). IsRedefined v before state now_relisted.definitions) but_catalog redefined_before)
+      pub is_redefined : (definitions : Definitions) → defined call state.base.definitions ≡ Some definitions → IsRedefined after state definitions
+      is_redefined definitions so = subst (λ (d : Definitions). IsRedefined after state d) (same_Some _ _ (sym now_relisted.so ∙ so))
+          (subst (λ (v : SessionView). IsRedefined v state now_relisted.definitions) but_catalog redefined_before)
 
       -- which there are
       pub defines_some : (definitions : Definitions) × (defined call state.base.definitions ≡ Some definitions)

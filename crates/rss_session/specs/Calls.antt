@@ -3,11 +3,11 @@ use Rattle.std.specs.Prelude.{◌≡◌, ◌↔◌, ◌⊎◌, ℕ, ◌+◌, ◌
 use Rattle.std.specs.FinMap as map
 use Rattle.rss_base.specs.DiskRule.{IsTold, Passes, Continues}
 use Rattle.rss_base.specs.Faults.{Rises}
-use Rattle.rss_base.specs.Steps.{Keys, PagesStep}
+use Rattle.rss_base.specs.Paged.{mapped_of}
 use Rattle.rss_base.specs.Listings.{relation_at}
 use Rattle.rss_base.specs.declared.change.Change as told
 use Rattle.rss_base.specs.declared.relation.RelationEntry.{RelationEntry}
-use Rattle.rss_base.specs.declared.key.Space.TheVariants.{Image}
+use Rattle.rss_base.specs.declared.key.Space.TheVariants.{Overflow}
 use Rattle.rss_base.specs.declared.fault.PageFault.{PageFault}
 use Rattle.rss_base.specs.declared.fault.PageFault.TheVariants.{Device as DeviceFailed, NoMemory}
 use Rattle.rss_model.specs.Changes.{Change, own}
@@ -17,13 +17,16 @@ use Rattle.rss_model.specs.Defining.{with_definitions}
 use Rattle.rss_model.specs.Machine.{State, now}
 use Rattle.rss_model.specs.Meanings.{SameDefinitions}
 use Rattle.rss_model.specs.Ruled.{HasBothRooms, ruled}
-use Rattle.rss_model.specs.Kept.{Kept, FitMixed}
+use Rattle.rss_model.specs.Kept.{Kept, FitMixed, IsMetered}
+use Rattle.rss_model.specs.EngineLogs.{EngineLog}
+use Rattle.rss_model.specs.LogLaws.{IsStoredOf}
 use Rattle.rss_model.specs.Steps.{IsOver, MayUndo, undone_to, left_at, restored, gone, committing, redefined}
 use Rattle.rss_model.specs.Spares.{live_of}
-use Rattle.rss_model.specs.Store.{SpellsTables}
+use Rattle.rss_model.specs.Store.{Stored, SpellsTables}
 use Rattle.rss_trans.specs.Transactions.{OpenView, Transaction, is_open, transaction_in, without_newest, count_at, Steps}
 use Rattle.rss_store.specs.Changing.{MayMake, IsOwnAt}
-use Rattle.rss_store.specs.Shown.{HoldsTables}
+use Rattle.rss_store.specs.Stores.{StoreView}
+use Rattle.rss_store.specs.Shown.{HoldsLogged, HoldsTables, LeavesStore}
 use Rattle.rss_access.specs.Written.{heap_now, AreWritten}
 use Rattle.rss_session.specs.Sessions.{SessionView, CountsStill, sums_in}
 use Rattle.rss_session.specs.Weighing.{survived_now, saved_head, saved_end}
@@ -97,25 +100,19 @@ pub record CountsAnew (old new : SessionView) : Type 0 where
 
 -- ---- definitions
 
--- a page of an image
-abbrev pub IsImageKey : Keys
-IsImageKey key = key.space ≡ Image
-
--- Pages of images may have been touched, and the catalog; all else is as it was.
-pub record IsRebuilt (old new : SessionView) : Type 0 where
-  pub asks : ℕ
-  pub step : PagesStep IsImageKey asks asks old.store.pages new.store.pages
-  pub fixed : IsTold old.store.pages.disk → new.store.pages.fixed ≡ old.store.pages.fixed
-  pub log : new.store.log ≡ old.store.log
-  pub root : new.store.root ≡ old.store.root
-  pub number : new.store.number ≡ old.store.number
-  pub opened : new.opened ≡ old.opened
-  pub counts : CountsStill old new
+-- The log and what a stop leaves are those of this state of the machine, and as many overflow pages are mapped as it counts.
+pub record StandsBehind (view : StoreView) (state : State) : Type 0 where
+  pub log : EngineLog
+  pub stored : Stored
+  pub disk : LeavesStore view stored
+  pub tied : IsStoredOf stored log state
+  pub logged : HoldsLogged view log
+  pub over_is : state.meter.over ≡ mapped_of view.pages.mapped Overflow view.pages.slots
 
 -- Nothing is open, and the catalog lists other definitions than before. By its listing the pages spell the committed tables with them, which fit, once its own pages are written; and there is room.
-pub record IsRedefined (view before : SessionView) (state : State) (definitions : Definitions) : Type 0 where
-  pub rebuilt : IsRebuilt before view
-  pub shows : Shows before state
+pub record IsRedefined (view : SessionView) (state : State) (definitions : Definitions) : Type 0 where
+  pub behind : StandsBehind view.store state
+  pub metered : IsMetered state
   pub none_open : state.marks ≡ map.empty
   pub none_changed : state.changes ≡ []
   pub spells : SpellsTables view.store.pages.held view.store.catalog.listing (with_definitions definitions state.base)
@@ -126,8 +123,8 @@ pub record IsRedefined (view before : SessionView) (state : State) (definitions 
 -- at each moment a stop leaves the committed tables with the definitions of before, or with these
 abbrev pub RedefinesTables : SessionView → SessionView → Type 0
 RedefinesTables old new =
-    IsTold old.store.pages.disk → (before : SessionView) (state : State) (definitions : Definitions)
-    → IsRedefined old before state definitions
+    IsTold old.store.pages.disk → (state : State) (definitions : Definitions)
+    → IsRedefined old state definitions
     → Passes old.store.pages.disk new.store.pages.disk (λ image.
     HoldsTables state.size state.base image
     ⊎ HoldsTables state.size (with_definitions definitions state.base) image)

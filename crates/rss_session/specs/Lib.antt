@@ -11,3 +11,4 @@ pub mod FieldTests
 pub mod Definitions
 pub mod Imaging
 pub mod Uniques
+pub mod Planning

@@ -14,7 +14,7 @@ ghost use Rattle.rss_model.specs.Tables.{Definitions};
 ghost use Rattle.rss_trans.specs.Transactions.{Checkpoints};
 ghost use Rattle.rss_store.specs.Commits.{CanCheckpoint, IsSavedStore};
 ghost use Rattle.rss_store.specs.Shown.{Shows as StoreShows};
-ghost use Rattle.rss_session.specs.Sessions.{SessionView, IsReady, CanSave, IsEarly};
+ghost use Rattle.rss_session.specs.Sessions.{IsReady, CanSave, IsEarly};
 ghost use Rattle.rss_session.specs.Shown.{Shows};
 ghost use Rattle.rss_base.specs.LogRecords.{marks_most};
 ghost use Rattle.rss_session.specs.Weighing.{HasSavedRoom, MaySave, named};
@@ -64,13 +64,13 @@ impl<S: Saving> Session<S> {
         requires early { IsEarly (view S.view self.old) largest_checkpoint }
         ensures ready { OnOk result (IsReady (view S.view self.new)) }
         ensures shows { OnOk result (IsTold (view S.view self.old).store.pages.disk
-            → (before : SessionView) (state : State) (definitions : Definitions)
-            → IsRedefined (view S.view self.old) before state definitions
+            → (state : State) (definitions : Definitions)
+            → IsRedefined (view S.view self.old) state definitions
             → Shows (view S.view self.new) (redefined definitions state)) }
         ensures sound { (place : AnyPlace) → result ≡ Err (Damaged place)
             → IsTold (view S.view self.old).store.pages.disk
-            → (before : SessionView) (state : State) (definitions : Definitions)
-            → IsRedefined (view S.view self.old) before state definitions → ⊥ }
+            → (state : State) (definitions : Definitions)
+            → IsRedefined (view S.view self.old) state definitions → ⊥ }
         ensures moments { RedefinesTables (view S.view self.old) (view S.view self.new) }
         ensures anew { OnOk result (CountsAnew (view S.view self.old) (view S.view self.new)) }
         ensures saved { OnOk result (IsSaved (view S.view self.new).store) }
