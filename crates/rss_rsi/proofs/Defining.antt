@@ -40,11 +40,11 @@ use Rattle.rss_session.specs.Calls.{GoesOn as SessionGoesOn}
 use Rattle.rss_session.specs.Definitions.{Relists, Redefines, Defining}
 use Rattle.rss_session.specs.Definitions.Relists.{segment, relation, drop_segment, drop_relation}
 use Rattle.rss_session.specs.Parts.{view as session_view}
-use Rattle.rss_session.specs.Sessions.{SessionView, IsEarly}
+use Rattle.rss_session.specs.Sessions.{SessionView, CanSave, IsEarly}
 use Rattle.rss_session.specs.Sessions.{IsReady as IsSessionReady}
 use Rattle.rss_session.specs.Shown.{Shows}
 use Rattle.rss_session.specs.declared.session.Session.{Session}
-use Rattle.rss_session.proofs.Relisting.{with_catalog, but_catalog, ready_redefined, closed_redefined, early_redefined, is_redefined, defines_some}
+use Rattle.rss_session.proofs.Relisting.{with_catalog, but_catalog, saves_redefined, closed_redefined, early_redefined, is_redefined, defines_some}
 use Rattle.rss_rsi.specs.Definitions.{Definition, IsDefining, parts_before, view_of}
 use Rattle.rss_rsi.specs.Views.{RssParts, IsIn, engine_view, IsReady}
 use Rattle.rss_rsi.proofs.Spelled.{none_open, none_scanning, still_scans, vacant}
@@ -126,8 +126,8 @@ module _ {S : Type 0} (pages_view : S → PagesView) {to : Definition S} {now : 
     passed : Says before.session (λ state. refusal state to.call) None
     passed = listed.tests
 
-    pub listed_ready : IsSessionReady between
-    listed_ready = ready_redefined pages_view redefines is.ready.session
+    pub listed_saves : CanSave between
+    listed_saves = saves_redefined pages_view redefines is.ready.session
 
     pub listed_closed : between.opened.transactions ≡ empty
     listed_closed = closed_redefined pages_view redefines

@@ -41,11 +41,6 @@ sum_each one other none [] each = refl
 sum_each one other none (None ∷ images) each = omega (arith, none, sum_each one other none images (λ k. each (suc k)), sum_by-cons one None images, sum_by-cons other None images)
 sum_each one other none (Some image ∷ images) each = omega (arith, each 0 image refl, sum_each one other none images (λ k. each (suc k)), sum_by-cons one (Some image) images, sum_by-cons other (Some image) images)
 
-pub bound_relisted : (old new : Listing) → new.images ≡ old.images → ((number : ℕ) (image : ImageEntry) → image_at old number ≡ Some image → relation_at new image.relation ≡ relation_at old image.relation) → (entries : ℕ → ℕ) → listed_bound new entries ≡ listed_bound old entries
-bound_relisted old new images imaged entries =
-    ap (sum_by (bound_at new entries)) images
-    ∙ sum_each (bound_at new entries) (bound_at old entries) refl old.images (λ k image at. ap (bound_by entries image) (imaged (suc k) image (at_place old.images k ∙ at)))
-
 -- ---- the same definitions
 
 -- neither where an image's tree stands matters, nor how many tuples its relation has

@@ -24,7 +24,6 @@ use Rattle.rss_model.specs.Fits.{Fits, IsLive}
 use Rattle.rss_model.specs.Kept.{Kept}
 use Rattle.rss_model.specs.Defining.{defined, with_definitions, relation_def, DefinesNames}
 use Rattle.rss_model.specs.Steps.{refusal}
-use Rattle.rss_model.specs.Spares.{listed_bound}
 use Rattle.rss_model.specs.Store.{SpellsTables, AreNodesWithin, size_of}
 use Rattle.rss_model.proofs.BothRooms.{definitions_keep_rooms}
 use Rattle.rss_model.proofs.ByNumber.{relation_unnamed}
@@ -38,15 +37,14 @@ use Rattle.rss_trans.specs.Tables.{told}
 use Rattle.rss_catalog.specs.Catalogs.{CatalogView}
 use Rattle.rss_entries.specs.Images.{AreTuples}
 use Rattle.rss_access.specs.Changes.{both, HasTables}
-use Rattle.rss_access.specs.Written.{AreWritten, HasImage}
+use Rattle.rss_access.specs.Written.{AreWritten}
 use Rattle.rss_session.specs.Calls.{IsRedefined}
 use Rattle.rss_session.specs.Definitions.{entry_of, Relists, Redefines}
 use Rattle.rss_session.specs.Definitions.Relists.{segment, relation, drop_segment, drop_relation}
 use Rattle.rss_session.specs.Parts.{view}
-use Rattle.rss_session.specs.Sessions.{SessionView, most_in, counts, IsReady, IsEarly}
+use Rattle.rss_session.specs.Sessions.{SessionView, IsReady, CanSave, IsEarly}
 use Rattle.rss_session.specs.Shown.{Shows}
 use Rattle.rss_session.specs.declared.session.Session.{Session}
-use Rattle.rss_session.proofs.Bounds.{bound_relisted, session_of}
 use Rattle.rss_session.proofs.Defined.{none_changed, none_marked}
 use Rattle.rss_session.proofs.Rebuilt.{IsRebuilt, stands_behind}
 
@@ -188,16 +186,9 @@ module _ {S : Type 0} (pages_view : S → PagesView) {call : Call} {old new : Se
   as_many : length old.store.catalog.pending ≡ system_pages → length new.store.catalog.pending ≡ system_pages
   as_many places = ap (λ (pending : List Bool). length pending) redefines.lists.pending ∙ length-set old.store.catalog.pending redefines.page true ∙ places
 
-  -- images may have as many pages
-  images_same : listed_bound new.store.catalog.listing (most_in before) ≡ (counts before).images
-  images_same = bound_relisted old.store.catalog.listing new.store.catalog.listing (images_kept redefines.relists) redefines.imaged (most_in before)
-
-  had_image : HasImage new.store.catalog.listing → HasImage old.store.catalog.listing
-  had_image has = record { number = has.number; image = has.image; at = ap (λ images. numbered images has.number) (sym (images_kept redefines.relists)) ∙ has.at }
-
   -- what is defined may be committed
-  pub ready_redefined : IsReady before → IsReady after
-  ready_redefined ready = subst IsReady but_catalog (record {
+  pub saves_redefined : IsReady before → CanSave after
+  saves_redefined ready = subst CanSave but_catalog (record {
     store = record {
       number_low = ready.store.number_low;
       number_high = ready.store.number_high;
@@ -211,11 +202,8 @@ module _ {S : Type 0} (pages_view : S → PagesView) {call : Call} {old new : Se
       settled_now = ready.store.settled_now;
       no_links = links_kept redefines.relists ∙ ready.store.no_links;
       heaps = ready.store.heaps;
-      tables = λ told image. ∥∥₁_map (ready.store.tables told (had_image image)) (tables_relisted redefines.relists redefines.fits redefines.imaged);
+      tables = λ told. ∥∥₁_map (ready.store.tables told) (tables_relisted redefines.relists redefines.fits redefines.imaged);
     };
-    pages = session_of refl refl refl ready.pages;
-    room = omega (arith, ready.room, images_same);
-    saved = omega (arith, ready.saved, images_same);
     log = ready.log;
     placed = ready.placed;
     numbers = ready.numbers;

@@ -11,7 +11,7 @@ use Rattle.rss_catalog.specs.Catalogs.{HasSystemPages}
 use Rattle.rss_model.specs.Fits.{IsIdentifier}
 use Rattle.rss_model.specs.Store.{SpellsTables, AreNodesWithin}
 use Rattle.rss_access.specs.Changes.{AccessView, CanAlter, HasTables}
-use Rattle.rss_access.specs.Written.{HasImage, content_of}
+use Rattle.rss_access.specs.Written.{content_of}
 use Rattle.rss_access.proofs.Writing.{SameOffSystem, off_system, heaps_same, spells_same}
 use Rattle.rss_store.specs.Changing.{access}
 use Rattle.rss_store.specs.Stores.{StoreView, IsReady}
@@ -53,9 +53,9 @@ module _ {old new : AccessView} (slots : new.pages.slots ≡ old.pages.slots) (l
       }
 
   -- so they spell tables where they did
-  pub has_tables_still : (IsTold new.pages.disk → IsTold old.pages.disk) → (IsTold old.pages.disk → SameOffSystem old.pages.held new.pages.held) → (IsTold old.pages.disk → HasImage old.catalog.listing → ∥ HasTables old ∥₁)
-      → IsTold new.pages.disk → HasImage new.catalog.listing → ∥ HasTables new ∥₁
-  has_tables_still told same has is image = ∥∥₁_map (has (told is) (subst HasImage listing image)) (tables_still (same (told is)))
+  pub has_tables_still : (IsTold new.pages.disk → IsTold old.pages.disk) → (IsTold old.pages.disk → SameOffSystem old.pages.held new.pages.held) → (IsTold old.pages.disk → ∥ HasTables old ∥₁)
+      → IsTold new.pages.disk → ∥ HasTables new ∥₁
+  has_tables_still told same has is = ∥∥₁_map (has (told is)) (tables_still (same (told is)))
 
   -- they may be changed on then
   pub alter_still : (IsTold new.pages.disk → IsTold old.pages.disk) → (IsTold old.pages.disk → SameOffSystem old.pages.held new.pages.held) → ((key : PageKey) → (key.space ≡ System → ⊥) → new.pages.notes key ≡ old.pages.notes key) → CanAlter old → CanAlter new

@@ -13,7 +13,6 @@ use Rattle.rss_tuple.specs.Heaps.{AreHeaps}
 use Rattle.rss_catalog.specs.Catalogs.{CatalogView, HasSystemPages}
 use Rattle.rss_log.specs.Logs.{LogView, IsLog, bytes_from, piece_start}
 use Rattle.rss_access.specs.Changes.{both, HasTables}
-use Rattle.rss_access.specs.Written.{HasImage}
 
 -- pages: those with the tuples and the catalog.
 -- catalog: what is defined, with the counts of tuples.
@@ -38,7 +37,7 @@ pub record IsLogBehind (root : Root) (log : LogView) : Type 0 where
   pub later : root.end ≤ log.end
   pub bytes : bytes_from log (piece_start root.end) ≡ root.tail ++ appended_since root log
 
--- A call may be made. Where an image is listed, the pages spell some tables. As yet there are no links.
+-- A call may be made. On a device that tells its contents, the pages spell some tables. As yet there are no links.
 pub record IsReady (view : StoreView) : Type 0 where
   pub number_low : 0 < view.number
   pub number_high : view.number < 3
@@ -52,7 +51,7 @@ pub record IsReady (view : StoreView) : Type 0 where
   pub settled_now : view.pages.settled ≡ true
   pub no_links : HasNoLinks view.catalog.listing
   pub heaps : IsTold view.pages.disk → AreHeaps view.pages
-  pub tables : IsTold view.pages.disk → HasImage view.catalog.listing → ∥ HasTables (both view.pages view.catalog) ∥₁
+  pub tables : IsTold view.pages.disk → ∥ HasTables (both view.pages view.catalog) ∥₁
 
 -- The selected root has the whole log, and the map that it names has each page, once.
 pub record IsSaved (view : StoreView) : Type 0 where

@@ -1,6 +1,6 @@
 use Rattle.std.proofs.Common.{refl, ◌∙◌, sym}
 use Rattle.std.proofs.lemmas.Bool.{true≢false}
-use Rattle.rss_rsi.proofs.Defining.{made_ok, refused_define, refused_ready, listed_ready, listed_closed, listed_early, redefining_fails, redefined_done, redefined_ready}
+use Rattle.rss_rsi.proofs.Defining.{made_ok, refused_define, refused_ready, listed_saves, listed_closed, listed_early, redefining_fails, redefined_done, redefined_ready}
 use Rattle.rss_rsi.proofs.Ways.{fault_of_memory}
 use Rattle.rss_rsi.proofs.engine.Rss.redefine.Goals as goal
 
@@ -16,7 +16,7 @@ invariant_of-self g c = record { ready = λ up. refused_ready g.S.Pages.view c.r
 
 pub redefine-requires-clause-ready : goal.redefine-requires-clause-ready
 redefine-requires-clause-ready g c =
-    listed_ready g.S.Pages.view c.requires.some.1 (made_ok c.args.made c.in_default.not-Err)
+    listed_saves g.S.Pages.view c.requires.some.1 (made_ok c.args.made c.in_default.not-Err)
 
 pub redefine-requires-clause-closed : goal.redefine-requires-clause-closed
 redefine-requires-clause-closed g c =
