@@ -1,15 +1,13 @@
 -- How many pages images may have, by the numbers of their relations.
-use Rattle.std.proofs.Common.{◌≡◌, ℕ, suc, ◌<◌, ◌^◌, List, [], ◌∷◌, get_or, refl, sym, ◌∙◌, ap, arith}
+use Rattle.std.proofs.Common.{◌≡◌, ℕ, ◌<◌, ◌^◌, List, refl, sym, ◌∙◌, ap, arith}
 use Rattle.std.specs.Prelude.{Option, Some, None, option_map, sum_by}
-use Rattle.std.proofs.lemmas.List.Sums.{sum_by-cons}
-use Rattle.rss_base.specs.Listings.{Listing, numbered, relation_at, image_at, with_count}
+use Rattle.rss_base.specs.Listings.{Listing, numbered, relation_at, with_count}
 use Rattle.rss_base.specs.declared.image.ImageEntry.{ImageEntry}
 use Rattle.rss_base.specs.declared.relation.RelationEntry.{RelationEntry}
 use Rattle.rss_catalog.proofs.Numbered.{numbered_map}
 use Rattle.rss_model.specs.Meanings.{SameDefinitions}
 use Rattle.rss_model.specs.Spares.{ChangeCounts, PageCounts, bound_by, bound_at, listed_bound, IsInSession}
 use Rattle.rss_model.proofs.ImageRooms.{bound_rises}
-use Rattle.rss_model.proofs.Listed.{at_place}
 use Rattle.rss_restart.proofs.Rooming.{rootless_bounds}
 use Rattle.rss_session.specs.Sessions.{few}
 
@@ -33,13 +31,6 @@ session_of heap surviving since is = record {
     all = is.made.all;
   };
 }
-
--- ---- a listing in which the images have their relations still
-
-sum_each : (one other : Option ImageEntry → ℕ) → one None ≡ other None → (images : List (Option ImageEntry)) → ((k : ℕ) (image : ImageEntry) → get_or images k None ≡ Some image → one (Some image) ≡ other (Some image)) → sum_by one images ≡ sum_by other images
-sum_each one other none [] each = refl
-sum_each one other none (None ∷ images) each = omega (arith, none, sum_each one other none images (λ k. each (suc k)), sum_by-cons one None images, sum_by-cons other None images)
-sum_each one other none (Some image ∷ images) each = omega (arith, each 0 image refl, sum_each one other none images (λ k. each (suc k)), sum_by-cons one (Some image) images, sum_by-cons other (Some image) images)
 
 -- ---- the same definitions
 
