@@ -19,6 +19,7 @@ pub mod ImageRooms
 pub mod Rooted
 pub mod ImageMoves
 pub mod Looking
+pub mod Built
 mod NextTuples
 mod Walked
 mod AsMany

@@ -8,3 +8,4 @@ pub mod Moved
 pub mod Imaging
 pub mod Checking
 pub mod Filling
+pub mod Trees

@@ -9,6 +9,7 @@ mod filling;
 mod imaging;
 mod moving;
 mod rooms;
+mod trees;
 mod tuples;
 
 pub use applying::{apply, undo};
@@ -18,4 +19,5 @@ pub use edit::TUPLES_MOST;
 pub use filling::{entries_of, repeated};
 pub use imaging::{find_owner, next_entry};
 pub use rooms::image_bound;
+pub use trees::{fill_image, take_image};
 pub use tuples::{delete, find, find_next, insert, update};
