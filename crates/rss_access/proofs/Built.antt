@@ -1,5 +1,5 @@
 -- The tree of a listed image, built or taken away.
-use Rattle.std.proofs.Common.{◌≡◌, ◌^◌, ◌<◌, ◌≤◌, ℕ, true, List, [], ◌∷◌, length, refl, sym, ◌∙◌, ap, subst, arith}
+use Rattle.std.proofs.Common.{◌≡◌, ◌^◌, ◌<◌, ◌≤◌, ℕ, true, List, [], ◌∷◌, length, refl, ◌∙◌, ap, subst, arith}
 use Rattle.std.specs.Prelude.{Some, All}
 use Rattle.std.proofs.lemmas.List.Elements.{All-head, All-tail}
 use Rattle.rss_base.specs.Sizes.{page_entries}
@@ -20,7 +20,6 @@ use Rattle.rss_model.specs.Store.{IsListedImage}
 use Rattle.rss_entries.specs.Building.{pair_list, BuildsMade}
 use Rattle.rss_entries.specs.Images.{image_of}
 use Rattle.rss_entries.proofs.Showing.{same_entry, at_same}
-
 
 -- ---- an image that begins elsewhere
 
@@ -63,6 +62,7 @@ pub pairs_within : (width slots : ℕ) (entries : List (List ℕ × Tid)) → sl
 pairs_within width slots [] few long slot page = tt
 pairs_within width slots (e ∷ es) few long slot page =
     let low = All-head (λ (entry : List ℕ × Tid). entry.1.page < slots) e es page in
-    let place = All-head (λ (entry : List ℕ × Tid). entry.1.slot < 128) e es slot in
-    (page_pair width slots e.0 e.1 (All-head (λ (entry : List ℕ × Tid). length entry.0 ≡ width) e es long) (record { page = omega (arith, low, few); slot = omega (arith, place) }) low,
-    pairs_within width slots es few (All-tail (λ (entry : List ℕ × Tid). length entry.0 ≡ width) e es long) (All-tail (λ (entry : List ℕ × Tid). entry.1.slot < 128) e es slot) (All-tail (λ (entry : List ℕ × Tid). entry.1.page < slots) e es page))
+    let place = All-head (λ (entry : List ℕ × Tid). entry.1.slot < 128) e es slot in (
+      page_pair width slots e.0 e.1 (All-head (λ (entry : List ℕ × Tid). length entry.0 ≡ width) e es long) (record { page = omega (arith, low, few); slot = omega (arith, place) }) low,
+      pairs_within width slots es few (All-tail (λ (entry : List ℕ × Tid). length entry.0 ≡ width) e es long) (All-tail (λ (entry : List ℕ × Tid). entry.1.slot < 128) e es slot) (All-tail (λ (entry : List ℕ × Tid). entry.1.page < slots) e es page),
+    )

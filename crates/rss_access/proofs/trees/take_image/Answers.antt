@@ -1,12 +1,10 @@
 -- The image is that of the catalog's entry, whose pages are given.
-use Rattle.std.proofs.Common.{◌<◌, ℕ, sym, ◌∙◌, ap, subst}
+use Rattle.std.proofs.Common.{◌<◌, ℕ, sym, ◌∙◌, subst}
 use Rattle.std.proofs.Math.Logic.{∥∥₁_map}
-use Rattle.rss_base.proofs.Steps.{among, done, fails}
 use Rattle.rss_image.specs.Images.{HasImage, DestroysImage}
 use Rattle.rss_image.specs.declared.image.Image.{Image}
 use Rattle.rss_access.proofs.ImageRooms.{image_used}
 use Rattle.rss_access.proofs.Looking.{has_image}
-use Rattle.rss_access.proofs.Built.{pages_listed}
 use Rattle.rss_access.proofs.trees.take_image.Goals as goal
 
 pub destroy-requires-clause-there : goal.destroy-requires-clause-there
@@ -20,3 +18,10 @@ destroy-requires-clause-there g c = λ told.
 
 pub remove-requires-clause-used : goal.remove-requires-clause-used
 remove-requires-clause-used g c = image_used c.args.catalog.now.listing c.args.number ∙ c.requires.there
+
+pub returns-clause-takes : goal.returns-clause-takes
+returns-clause-takes g c = record {
+  lists = c.remove.ensures.lists;
+  fits = c.remove.ensures.fits (λ other. absurd (cc));
+  destroys = λ told image relation its. subst (λ (i : Image). DestroysImage i (g.P.Pages.view c.args.pages.now) (g.P.Pages.view c.destroy.new.pages)) (c.image_of-image.ensures.is image relation its) (c.in_ok-destroy.ensures.destroyed told);
+}
