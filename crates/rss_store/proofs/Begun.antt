@@ -18,7 +18,7 @@ use Rattle.rss_base.specs.Faults.{Rises}
 use Rattle.rss_base.specs.Listings.{Listing}
 use Rattle.rss_base.specs.LogRecords.{ArePlaced, record_size}
 use Rattle.rss_base.specs.PageMap.{page_count}
-use Rattle.rss_base.specs.Paged.{Held, Fixed, Backing, HasFixed, mapped_of, mapped_pages}
+use Rattle.rss_base.specs.Paged.{Held, Fixed, Backing, HasFixed, mapped_of}
 use Rattle.rss_base.specs.Sizes.{system_pages}
 use Rattle.rss_base.specs.Steps.{PagesView}
 use Rattle.rss_base.specs.StoredPages.{mapped_by}

@@ -1,8 +1,8 @@
 -- The room of a store in which nothing is open.
-use Rattle.std.proofs.Common.{◌≡◌, ℕ, ◌+◌, ◌*◌, ◌≤◌, true, ap, subst, arith}
+use Rattle.std.proofs.Common.{◌≡◌, ◌+◌, ◌*◌, ◌≤◌, ap, arith}
 use Rattle.std.specs.Prelude.{is_some, Option, option_map, unwrap_or}
-use Rattle.rss_base.specs.Listings.{Listing, relation_at}
-use Rattle.rss_base.specs.Paged.{Held, Mapped, mapped_of, mapped_pages}
+use Rattle.rss_base.specs.Listings.{Listing}
+use Rattle.rss_base.specs.Paged.{Held, mapped_of, mapped_pages}
 use Rattle.rss_base.specs.Sizes.{system_pages}
 use Rattle.rss_base.specs.declared.key.PageKey.{PageKey}
 use Rattle.rss_base.specs.declared.key.Space.TheVariants.{Home, Overflow, Image}

@@ -32,11 +32,11 @@ system_kept step system page low = step.mapped_off (page_key 0 System page) (λ 
 pub nodes_still : {old new : Held} {listing : Listing} {slots slots_too : ℕ} → slots_too ≡ slots → SameOffSystem old new → AreNodesWithin slots old listing → AreNodesWithin slots_too new listing
 nodes_still {new = new} {listing = listing} slots same nodes =
     subst (λ (n : ℕ). AreNodesWithin n new listing) (sym slots) (λ number image relation l page node at.
-        nodes number image relation l page node (record {
-          bytes = at.bytes;
-          there = sym (same (page_key relation.segment Image page) (λ system. let not : Image ≡ System = system in absurd (cc))) ∙ at.there;
-          is = at.is;
-        }))
+    nodes number image relation l page node (record {
+      bytes = at.bytes;
+      there = sym (same (page_key relation.segment Image page) (λ system. let not : Image ≡ System = system in absurd (cc))) ∙ at.there;
+      is = at.is;
+    }))
 
 module _ {old new : AccessView} (slots : new.pages.slots ≡ old.pages.slots) (listing : new.catalog.listing ≡ old.catalog.listing) where
   -- the same tables, where at most pages of the catalog were written
