@@ -30,3 +30,6 @@ returns g c =
           wrote.written wrote.did.step (c.requires.formed told) told;
       did = widens (λ key there. there) (omega arith) (omega arith) (done _ wrote.did.step);
     }
+
+pub returns-in_err-give : goal.returns-in_err-give
+returns-in_err-give g c = edits_fails _ c.from_residual.ensures.1 (λ key none. absurd none) (omega arith) (omega arith) c.in_err-give.ensures.did

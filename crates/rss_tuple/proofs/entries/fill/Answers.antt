@@ -1,4 +1,5 @@
-use Rattle.std.proofs.Common.{◌≡◌, ◌≤◌, ℕ, List, length, subst, sym, ◌∙◌}
+use Rattle.std.proofs.Common.{◌≡◌, ◌≤◌, ℕ, List, length, subst, sym, ◌∙◌, arith}
+use Rattle.rss_base.proofs.Steps.{fails}
 use Rattle.rss_page.specs.Content.{Empty, Here}
 use Rattle.rss_page.proofs.Blanks.{blank_empty}
 use Rattle.rss_tuple.proofs.Sets.{entry_set, entry_kept, set_short, set_some, blank_room}
@@ -33,3 +34,6 @@ returns-clause-fills g c =
       here = here;
       others = λ other off. entry_kept page now c.args.slot other (Here c.args.body.now) off sets.holds ∙ empty other;
     }
+
+pub returns-in_err-write-clause-did : goal.returns-in_err-write-clause-did
+returns-in_err-write-clause-did g c = fails _ c.from_residual.ensures.1 (λ key none. absurd none) (omega arith) (omega arith) c.in_err-write.ensures.did

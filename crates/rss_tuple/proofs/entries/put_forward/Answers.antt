@@ -2,7 +2,7 @@ use Rattle.std.proofs.Common.{arith}
 use Rattle.rss_base.proofs.Steps.{done, widens}
 use Rattle.rss_page.specs.Content.{Content, Forward}
 use Rattle.rss_page.specs.Slotted.{Sets}
-use Rattle.rss_tuple.proofs.Sets.{entry_set, sets_written, set_some}
+use Rattle.rss_tuple.proofs.Sets.{entry_set, sets_written, set_some, edits_fails}
 use Rattle.rss_tuple.proofs.entries.put_forward.Goals as goal
 
 pub returns : goal.returns
@@ -19,3 +19,6 @@ returns g c =
           wrote.written wrote.did.step (may.formed told) told;
       did = widens (λ key there. there) (omega arith) (omega arith) (done _ wrote.did.step);
     }
+
+pub returns-in_err-write : goal.returns-in_err-write
+returns-in_err-write g c = edits_fails _ c.from_residual.ensures.1 (λ key none. absurd none) (omega arith) (omega arith) c.in_err-write.ensures.did

@@ -1,7 +1,7 @@
 use Rattle.std.proofs.Common.{◌∙◌, arith}
 use Rattle.rss_base.proofs.Steps.{then, then_call, widens}
 use Rattle.rss_tuple.proofs.Seen.{on_ok_then}
-use Rattle.rss_tuple.proofs.Sets.{sets_taken, none_held}
+use Rattle.rss_tuple.proofs.Sets.{sets_taken, none_held, edits_fails}
 use Rattle.rss_tuple.proofs.entries.take_here.Goals as goal
 
 pub returns : goal.returns
@@ -15,3 +15,6 @@ returns g c =
           c.fill.ensures.fills;
       did = widens (λ key there. there) (omega arith) (omega arith) (then_call took c.fill.ensures.did);
     }
+
+pub returns-in_err-take_at : goal.returns-in_err-take_at
+returns-in_err-take_at g c = edits_fails _ c.from_residual.ensures.1 (λ key none. absurd none) (omega arith) (omega arith) c.in_err-take_at.ensures.did

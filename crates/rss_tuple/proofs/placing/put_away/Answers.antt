@@ -64,3 +64,6 @@ returns-in_ok-page-in-None-clause-puts g c = λ told.
 
 pub returns-in_ok-page-in-None-clause-one : goal.returns-in_ok-page-in-None-clause-one
 returns-in_ok-page-in-None-clause-one g c = takes_same c.find_page.ensures.kept.mapped c.in_ok-page-in-None.ensures.one
+
+pub returns-in_ok-page-in-None-clause-did : goal.returns-in_ok-page-in-None-clause-did
+returns-in_ok-page-in-None-clause-did g c = widens (λ key there. there) (omega arith) (omega arith) (done _ (then c.find_page.ensures.did.step c.in_ok-page-in-None.ensures.did.step))
