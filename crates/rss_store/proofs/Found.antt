@@ -1,20 +1,21 @@
 -- The tables that the pages of a store are found to spell, where they are sound; and that sound pages are those of tables.
-use Rattle.std.proofs.Common.{◌≡◌, inl, inr, ℕ, ◌≤◌, true, false, List, ◌∷◌, refl, sym, ◌∙◌, ap, subst, arith}
+use Rattle.std.proofs.Common.{◌≡◌, inl, inr, ℕ, ◌<◌, ◌≤◌, true, false, List, ◌∷◌, refl, sym, ◌∙◌, ap, subst, arith}
 use Rattle.std.specs.Prelude.{Option, Some, None, is_some, option_map, ◌==◌}
 use Rattle.std.specs.FinMap as map
 use Rattle.std.specs.FinMap.{same_map}
 use Rattle.std.proofs.lemmas.Bool.{cases_Bool, cases_lt, true≢false, eq-eqb, and_from}
 use Rattle.std.proofs.lemmas.List.{get_or_past}
 use Rattle.std.proofs.lemmas.Option.{none-some, same_Some}
-use Rattle.rss_base.specs.PageMap.{IsKey}
+use Rattle.rss_base.specs.PageMap.{IsKey, number_limit}
 use Rattle.rss_base.specs.Paged.{Held, page_key}
 use Rattle.rss_base.specs.Sizes.{segments}
 use Rattle.rss_base.specs.TupleTypes.{kinds, misfit, tuple_bytes, Spells}
-use Rattle.rss_base.specs.Listings.{Listing, ListingFits, IsPlain, HoldsListing, segment_at, relation_at}
+use Rattle.rss_base.specs.Listings.{Listing, ListingFits, HoldsListing, segment_at, relation_at}
 use Rattle.rss_base.specs.declared.key.PageKey.{PageKey}
 use Rattle.rss_base.specs.declared.key.Space.{Space}
 use Rattle.rss_base.specs.declared.key.Space.TheVariants.{Home, Overflow, Image, System}
 use Rattle.rss_base.specs.declared.name.Name.{Name}
+use Rattle.rss_base.specs.declared.image.ImageEntry.{ImageEntry}
 use Rattle.rss_base.specs.declared.relation.RelationEntry.{RelationEntry}
 use Rattle.rss_base.specs.declared.tid.Tid.{Tid}
 use Rattle.rss_base.specs.declared.item.Item.{Item}
@@ -27,25 +28,31 @@ use Rattle.rss_page.specs.Slotted.{IsHeapKey, entries}
 use Rattle.rss_page.specs.Surveyed.{held_at}
 use Rattle.rss_page.proofs.Contents.{length-entries}
 use Rattle.rss_tuple.specs.Directory.{contents_in, homes, overflows, body_by, bodies_of}
-use Rattle.rss_tuple.specs.Heaps.{AreLinked}
+use Rattle.rss_tuple.specs.Heaps.{IsHeap, AreLinked}
 use Rattle.rss_tuple.specs.Checked.{tuples_of}
 use Rattle.rss_model.specs.Items.{Content, Values}
-use Rattle.rss_model.specs.Tables.{RelationDef, Contents, Tables, content, fields_of, segment_of, is_tuple_of, tuple_count}
-use Rattle.rss_model.specs.Fits.{HasContent, IsTupleOf, IsLive, Fits, tuple_limit}
-use Rattle.rss_model.proofs.Plain.{plain_keys, plain_links}
-use Rattle.rss_model.specs.Store.{IsStorePage, IsTupleItem, AreCounts, Defines, SpellsTables, plain_body as body_of}
-use Rattle.rss_model.proofs.PlainStores.{plain_defined, spelled_contents, plain_images, contents_spelled, PlainBody as IsTupleBody}
-use Rattle.rss_store.specs.Looks.{IsPlainPage}
+use Rattle.rss_model.specs.Tables.{RelationDef, ImageDef, Contents, Tables, content, fields_of, segment_of, is_tuple_of, tuple_count}
+use Rattle.rss_model.specs.Fits.{HasContent, IsTupleOf, IsLive, IsIdentifier, Fits, tuple_limit}
+use Rattle.rss_model.specs.Images.{HasKey, KeysFit}
+use Rattle.rss_model.specs.Chains.{LinksFit}
+use Rattle.rss_model.proofs.Plain.{plain_links}
+use Rattle.rss_model.specs.Store.{IsStorePage, IsTupleItem, IsListedImage, AreCounts, Defines, SpellsContents, SpellsImages, SpellsTables, image_definition, plain_body as body_of}
+use Rattle.rss_model.proofs.PlainStores.{spelled_contents, contents_spelled, PlainBody as IsTupleBody}
 use Rattle.rss_model.proofs.Codes.{item_total, item_apart, name_total, name_apart}
 use Rattle.rss_model.proofs.Contents.{not_tied}
 use Rattle.rss_model.proofs.Listed.{listed, stands_within, number_within}
 use Rattle.rss_model.proofs.LogLists.{some_of}
 use Rattle.rss_model.proofs.Putting.{same_parts}
 use Rattle.rss_model.proofs.Relisted.{number_within_list}
-use Rattle.rss_model.proofs.Spelled.{named_relation, spelled, tuple_bytes_same}
+use Rattle.rss_model.proofs.Spelled.{named_relation, named_image, spelled, tuple_bytes_same}
+use Rattle.rss_entries.specs.Seeking.{AreSingle}
 use Rattle.rss_access.specs.Bodies.{is_body, is_values_of}
-use Rattle.rss_store.specs.Checks.{count_of, IsSegmentOf}
-use Rattle.rss_store.specs.Looks.{HoldsTables, HoldsNone}
+use Rattle.rss_access.specs.Changes.{AccessView}
+use Rattle.rss_access.specs.Checking.{ShowsTuples}
+use Rattle.rss_access.proofs.Looking.{single}
+use Rattle.rss_access.proofs.NodesReached.{all_within}
+use Rattle.rss_store.specs.Checks.{count_of, IsSegmentOf, AreSound, ChecksImages}
+use Rattle.rss_store.specs.Looks.{HoldsTables, HoldsNone, AreNodesBelow}
 use Rattle.rss_store.proofs.Empties.{entry_none, linked_none}
 use Rattle.rss_store.proofs.Made.{definitions_of, listing_defines, listing_fits}
 use Rattle.rss_model.proofs.ListedOnce.{listing_once}
@@ -82,10 +89,10 @@ module _ (held : Held) (slots : ℕ) (allowed : (key : PageKey) → is_some (hel
           }
 
 -- a page of a tuple store is one of a segment that is listed
-pub heap_listed : (held : Held) (listing : Listing) → ((key : PageKey) → is_some (held key) ≡ true → IsPlainPage listing key) → (key : PageKey) → IsHeapKey key → is_some (held key) ≡ true → is_some (segment_at listing key.segment) ≡ true
+pub heap_listed : (held : Held) (listing : Listing) → ((key : PageKey) → is_some (held key) ≡ true → IsStorePage listing key) → (key : PageKey) → IsHeapKey key → is_some (held key) ≡ true → is_some (segment_at listing key.segment) ≡ true
 heap_listed held listing only key heap there = elim (only key there) [
   | inl system ↦ elim heap [ inl home ↦ absurd (cc) | inr over ↦ absurd (cc) ]
-  | inr listed ↦ listed.0
+  | inr listed ↦ listed
 ]
 
 none_if : (bytes : Option (List ℕ)) → (is_some bytes ≡ true → ⊥) → bytes ≡ None
@@ -93,7 +100,7 @@ none_if None lacks = refl
 none_if (Some bytes) lacks = absurd (lacks refl)
 
 -- where no segment of this number is listed, its pages are linked
-unlisted_linked : (held : Held) (listing : Listing) → ((key : PageKey) → is_some (held key) ≡ true → IsPlainPage listing key) → (segment : ℕ) → is_some (segment_at listing segment) ≡ false → AreLinked (homes held segment) (overflows held segment)
+unlisted_linked : (held : Held) (listing : Listing) → ((key : PageKey) → is_some (held key) ≡ true → IsStorePage listing key) → (segment : ℕ) → is_some (segment_at listing segment) ≡ false → AreLinked (homes held segment) (overflows held segment)
 unlisted_linked held listing only segment none = linked_none (homes held segment) (overflows held segment)
     (λ page slot. entry_none held segment Home page slot (gone Home page (inl refl)))
     (λ page slot. entry_none held segment Overflow page slot (gone Overflow page (inr refl)))
@@ -103,7 +110,7 @@ unlisted_linked held listing only segment none = linked_none (homes held segment
 
 -- ---- pages that are found sound
 
-module _ (held : Held) (slots : ℕ) (listing : Listing) (fits : ListingFits listing) (plain : IsPlain listing) (only : (key : PageKey) → is_some (held key) ≡ true → IsPlainPage listing key) (allowed : (key : PageKey) → is_some (held key) ≡ true → IsKey slots key)
+module _ (held : Held) (slots : ℕ) (listing : Listing) (fits : ListingFits listing) (only : (key : PageKey) → is_some (held key) ≡ true → IsStorePage listing key) (allowed : (key : PageKey) → is_some (held key) ≡ true → IsKey slots key)
     (sound : (segment : ℕ) → is_some (segment_at listing segment) ≡ true → IsSegmentOf held slots listing segment) where
   body_listed : (segment : ℕ) (tid : Tid) (body : List ℕ) → bodies_of held segment tid ≡ Some body → is_some (segment_at listing segment) ≡ true
   body_listed segment tid body is = heap_listed held listing only (page_key segment Home tid.page) (inl refl) (there (held (page_key segment Home tid.page)) refl is)
@@ -176,29 +183,11 @@ module _ (held : Held) (slots : ℕ) (listing : Listing) (fits : ListingFits lis
     | inr none ↦ unlisted_linked held listing only segment none
   ]
 
-  found_spells : SpellsTables held listing found_tables
-  found_spells = record {
-    only = λ key there. store_page key (only key there);
-    formed = λ key bytes heap is. (sound key.segment (heap_listed held listing only key heap (ap is_some is))).sound.formed key bytes (refl, heap) is;
-    linked = linked_found;
-    listed = fits;
-    plain = plain;
-    defines = defines;
-    counts = found_counts;
-    contents = spelled_contents fits.no_links (record { stands = stands_found; bodies_are = body_found; only = item_found });
-    images = plain_images plain (λ key image there. no_image key image (only key there));
-  }
-    where
-      store_page : (key : PageKey) → IsPlainPage listing key → IsStorePage listing key
-      store_page key (inl system) = inl system
-      store_page key (inr heap) = inr heap.0
+  found_contents : SpellsContents listing (bodies_of held) found_tables.contents
+  found_contents = spelled_contents fits.no_links (record { stands = stands_found; bodies_are = body_found; only = item_found })
 
-      no_image : (key : PageKey) → key.space ≡ Image → IsPlainPage listing key → ⊥
-      no_image key image (inl system) = let both : Image ≡ System = sym image ∙ system in absurd (cc)
-      no_image key image (inr heap) = elim heap.1 [
-        | inl home ↦ absurd (let both : Image ≡ Home = sym image ∙ home in cc)
-        | inr over ↦ absurd (let both : Image ≡ Overflow = sym image ∙ over in cc)
-      ]
+  formed_found : (key : PageKey) (bytes : List ℕ) → IsHeapKey key → held key ≡ Some bytes → IsHeap key bytes None
+  formed_found key bytes heap is = (sound key.segment (heap_listed held listing only key heap (ap is_some is))).sound.formed key bytes (refl, heap) is
 
   -- ---- they fit
 
@@ -274,24 +263,92 @@ module _ (held : Held) (slots : ℕ) (listing : Listing) (fits : ListingFits lis
           not_tied name_total name_apart name (named_by listing spot.1.1) (λ same. true≢false
           (sym (ap (λ (n : Name). is_some (map.get (definitions_of listing).relations n)) (same ∙ of.named) ∙ ap is_some (defines.relations of.number of.relation so.0 so.1)) ∙ none))
 
-  found_fit : Fits slots found_tables
-  found_fit = record {
-    definitions = listing_fits fits defines;
-    tuples = tuple_found;
-    tids = λ name tid lives. let of = (live_found name tid lives).1 in (named_in held slots allowed of.relation.segment tid (of.number ∷ of.bytes) of.stands).named;
-    alone = alone_found;
-    few = few_found;
-    keys = plain_keys found_tables (plain_defined plain defines);
-    links = plain_links found_tables (λ link parent. no_chain link parent (content found_tables.contents (ChainItem link parent)) refl);
-    only = λ item there. let of = item_found item there in subst HasContent (sym of.is) (tt {0});
-  }
+  tids_found : (name : Name) (tid : Tid) → IsLive found_tables name tid → IsIdentifier slots tid
+  tids_found name tid lives = let of = (live_found name tid lives).1 in (named_in held slots allowed of.relation.segment tid (of.number ∷ of.bytes) of.stands).named
+
+  links_found : LinksFit found_tables
+  links_found = plain_links found_tables (λ link parent. no_chain link parent (content found_tables.contents (ChainItem link parent)) refl)
     where
       no_chain : (link : Name) (parent : Option Tid) (found : Option Content) → content found_tables.contents (ChainItem link parent) ≡ found → content found_tables.contents (ChainItem link parent) ≡ None
       no_chain link parent None is = is
       no_chain link parent (Some held) is = let of = item_found (ChainItem link parent) (ap is_some is) in let both : ChainItem link parent ≡ TupleItem of.relation.name of.tid = of.is in absurd (cc)
 
-  pub holds_found : HoldsListing held listing → HoldsTables held slots listing
-  holds_found system = record { tables = found_tables; system = system; spells = found_spells; fit = found_fit }
+  only_found : (item : Item) → is_some (content found_tables.contents item) ≡ true → HasContent item
+  only_found item there = let of = item_found item there in subst HasContent (sym of.is) (tt {0})
+
+-- where no unique image that is listed has a key twice, no unique image that is defined has
+keys_single : {listing : Listing} {tables : Tables} → ListingFits listing → Defines listing tables.definitions
+    → ((number : ℕ) (image : ImageEntry) (relation : RelationEntry) → IsListedImage listing number image relation → image.is_unique ≡ true → AreSingle tables (image_definition image relation)) → KeysFit tables
+keys_single {listing = listing} {tables = tables} fits defines single name image one other key is unique first second =
+    let has = named_image listing name (defines.paths.only_images name (ap is_some is)) in
+    let its = fits.paths.images has.number has.image has.at in
+    let listed_so : IsListedImage listing has.number has.image its.relation = record { at = has.at; within = its.listed } in
+    let same : image_definition has.image its.relation ≡ image = same_Some _ _ (sym (defines.paths.images has.number has.image its.relation listed_so) ∙ ap (map.get tables.definitions.images) has.named ∙ is) in
+    single has.number has.image its.relation listed_so (ap (λ (i : ImageDef). i.is_unique) same ∙ unique) one other key
+    (subst (λ (i : ImageDef). HasKey tables i one key) (sym same) first) (subst (λ (i : ImageDef). HasKey tables i other key) (sym same) second)
+
+-- ---- pages whose images are found sound
+
+module _ (at : AccessView) (small : at.pages.slots < 4294967296) (fits : ListingFits at.catalog.listing) (only : (key : PageKey) → is_some (at.pages.held key) ≡ true → IsStorePage at.catalog.listing key) (allowed : (key : PageKey) → is_some (at.pages.held key) ≡ true → IsKey at.pages.slots key)
+    (sound : (segment : ℕ) → is_some (segment_at at.catalog.listing segment) ≡ true → IsSegmentOf at.pages.held at.pages.slots at.catalog.listing segment) (images : ChecksImages at) where
+  abbrev tables : Tables
+  tables = found_tables at.pages.held at.pages.slots at.catalog.listing fits only allowed sound
+
+  found_shows : ShowsTuples at tables
+  found_shows = record {
+    listed = fits;
+    defines = listing_defines fits;
+    counts = found_counts at.pages.held at.pages.slots at.catalog.listing fits only allowed sound;
+    contents = found_contents at.pages.held at.pages.slots at.catalog.listing fits only allowed sound;
+    tuples = tuple_found at.pages.held at.pages.slots at.catalog.listing fits only allowed sound;
+    tids = tids_found at.pages.held at.pages.slots at.catalog.listing fits only allowed sound;
+  }
+
+  found_sound : AreSound at tables
+  found_sound = images tables found_shows
+
+  found_images : SpellsImages at.pages.held at.catalog.listing tables
+  found_images = record {
+    each = λ number image relation listed. let one = found_sound.each number image relation listed in (one.pages, one.spells);
+    reached = found_sound.reached;
+  }
+
+  found_spells : SpellsTables at.pages.held at.catalog.listing tables
+  found_spells = record {
+    only = only;
+    formed = formed_found at.pages.held at.pages.slots at.catalog.listing fits only allowed sound;
+    linked = linked_found at.pages.held at.pages.slots at.catalog.listing fits only allowed sound;
+    listed = fits;
+    defines = found_shows.defines;
+    counts = found_shows.counts;
+    contents = found_shows.contents;
+    images = found_images;
+  }
+
+  found_nodes : AreNodesBelow at.pages.slots at.pages.held at.catalog.listing
+  found_nodes = all_within (λ key there. low_number key.space (allowed key there).number) fits found_images
+      (λ number image relation listed. let one = found_sound.each number image relation listed in record { pages = one.pages; spells = one.spells; within = one.within })
+    where
+      low_number : {n : ℕ} (space : Space) → n < number_limit at.pages.slots space → n < 4294967295
+      low_number Home low = omega (arith, low, small)
+      low_number Overflow low = omega (arith, low, small)
+      low_number Image low = omega (arith, low, small)
+      low_number System low = omega (arith, low)
+
+  found_fit : Fits at.pages.slots tables
+  found_fit = record {
+    definitions = listing_fits fits found_shows.defines;
+    tuples = found_shows.tuples;
+    tids = found_shows.tids;
+    alone = alone_found at.pages.held at.pages.slots at.catalog.listing fits only allowed sound;
+    few = few_found at.pages.held at.pages.slots at.catalog.listing fits only allowed sound;
+    keys = keys_single fits found_shows.defines (λ number image relation listed. (found_sound.each number image relation listed).single);
+    links = links_found at.pages.held at.pages.slots at.catalog.listing fits only allowed sound;
+    only = only_found at.pages.held at.pages.slots at.catalog.listing fits only allowed sound;
+  }
+
+  pub holds_found : HoldsListing at.pages.held at.catalog.listing → HoldsTables at.pages.held at.pages.slots at.catalog.listing
+  holds_found system = record { tables = tables; system = system; spells = found_spells; nodes = found_nodes; fit = found_fit }
 
 -- ---- tables that are spelled
 
@@ -376,9 +433,36 @@ module _ {held : Held} {slots : ℕ} {listing : Listing} {tables : Tables} (allo
         (sym same ∙ live, omega (arith, few, live));
   }
 
+-- ---- images of tables that are spelled
+
+module _ {at : AccessView} {tables : Tables} (spells : SpellsTables at.pages.held at.catalog.listing tables) (fit : Fits at.pages.slots tables) where
+  pub shows_spelled : ShowsTuples at tables
+  shows_spelled = record {
+    listed = spells.listed;
+    defines = spells.defines;
+    counts = spells.counts;
+    contents = spells.contents;
+    tuples = fit.tuples;
+    tids = fit.tids;
+  }
+
+  pub sound_spelled : AreNodesBelow at.pages.slots at.pages.held at.catalog.listing → AreSound at tables
+  sound_spelled below = record {
+    each = λ number image relation listed.
+        let one = spells.images.each number image relation listed in
+        record {
+          pages = one.0;
+          spells = one.1;
+          within = λ page node among. below number image relation listed page node;
+          single = single at.pages spells listed fit;
+        };
+    reached = spells.images.reached;
+  }
+
 -- ---- pages of no tables
 
 -- The pages of a listing's system space spell tables by no other listing.
-pub none_by : (held : Held) (slots : ℕ) (listing : Listing) → ListingFits listing → HoldsListing held listing → ((tables : Tables) → SpellsTables held listing tables → Fits slots tables → ⊥) → HoldsNone held slots
-none_by held slots listing fits system none other tables there spells fit =
-    none tables (subst (λ (l : Listing). SpellsTables held l tables) (listing_once held spells.listed fits there system) spells) fit
+pub none_by : (held : Held) (slots : ℕ) (listing : Listing) → ListingFits listing → HoldsListing held listing → ((tables : Tables) → SpellsTables held listing tables → AreNodesBelow slots held listing → Fits slots tables → ⊥) → HoldsNone held slots
+none_by held slots listing fits system none other tables there spells below fit =
+    let same = listing_once held spells.listed fits there system in
+    none tables (subst (λ (l : Listing). SpellsTables held l tables) same spells) (subst (AreNodesBelow slots held) same below) fit

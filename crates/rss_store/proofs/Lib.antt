@@ -14,6 +14,8 @@ pub mod Made
 pub mod Rows
 pub mod Found
 pub mod Census
+pub mod DifferentKeys
+pub mod LookedImages
 pub mod Looked
 pub mod Resting
 pub mod RoomsAtRest

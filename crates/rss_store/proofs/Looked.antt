@@ -2,16 +2,13 @@
 use Rattle.std.proofs.Common.{◌≡◌, inl, inr, ℕ, zero, suc, ◌+◌, ◌-◌, ◌*◌, ◌<◌, ◌≤◌, true, false, get_or, replicate, Option, None, refl, sym, ◌∙◌, ap, subst, arith}
 use Rattle.std.specs.Prelude.{Result, Ok, Err, Some, is_some}
 use Rattle.std.proofs.lemmas.Bool.{cases_eq, true≢false}
-use Rattle.std.proofs.lemmas.List.{length-replicate, same_lists, get_or_default, get_or-replicate}
 use Rattle.rss_base.specs.DiskRule.{IsTold}
 use Rattle.rss_base.specs.PageMap.{IsKey, IsSegmentOf as IsSegmentNumber}
 use Rattle.rss_base.specs.Paged.{Held, Mapped, page_key}
 use Rattle.rss_base.specs.Sizes.{segments, system_pages}
 use Rattle.rss_base.specs.Steps.{PagesView, no_page}
 use Rattle.rss_base.specs.Looking.{ChecksPages}
-use Rattle.rss_base.specs.Listings.{Listing, ListingFits, IsPlain, HoldsListing, numbered, names_of, segment_at, image_at}
-use Rattle.rss_base.specs.declared.image.ImageEntry.{ImageEntry}
-use Rattle.rss_base.specs.declared.refusal.Kind.TheVariants.{Image as ImageKind}
+use Rattle.rss_base.specs.Listings.{Listing, ListingFits, HoldsListing, segment_at}
 use Rattle.rss_base.specs.declared.place.Place.{Place}
 use Rattle.rss_base.specs.declared.place.Place.TheVariants.{Room}
 use Rattle.rss_base.specs.declared.fault.PageFault.{PageFault}
@@ -25,16 +22,15 @@ use Rattle.rss_tuple.specs.Directory.{homes, overflows}
 use Rattle.rss_tuple.specs.Heaps.{AreLinked, AreHeaps}
 use Rattle.rss_tuple.specs.Checked.{pages_of, IsNoted, AreNoted}
 use Rattle.rss_catalog.specs.Catalogs.{CatalogView, Loads, IsCatalogPlace}
-use Rattle.rss_catalog.proofs.Numbered.{numbered_at, unused_none}
-use Rattle.rss_catalog.proofs.Plain.{none_at}
-use Rattle.rss_access.proofs.ImageRooms.{image_used}
+use Rattle.rss_access.specs.Changes.{both}
+use Rattle.rss_access.proofs.Looking.{heaps_looked}
+use Rattle.rss_model.specs.Store.{IsStorePage}
 use Rattle.rss_model.proofs.LogLists.{some_of}
 use Rattle.rss_model.proofs.Relisted.{number_within_list}
-use Rattle.rss_store.specs.Looks.{IsPlainPage as IsStorePage}
-use Rattle.rss_store.specs.Checks.{IsSegmentOf, ChecksSegment, MissesSegment, ChecksSegments, MissesOne}
+use Rattle.rss_store.specs.Checks.{IsSegmentOf, ChecksSegment, MissesSegment, ChecksSegments, MissesOne, ChecksImages, MissesImages}
 use Rattle.rss_store.specs.Looks.{FindsTables, FindsNone, AreAllNoted}
-use Rattle.rss_model.proofs.StorePages.{plain_page}
-use Rattle.rss_store.proofs.Found.{heap_listed, linked_found, holds_found, spelled_segment, none_by}
+use Rattle.rss_store.proofs.Found.{heap_listed, linked_found, holds_found, spelled_segment, none_by, shows_spelled, sound_spelled}
+use Rattle.rss_store.proofs.LookedImages.{tuples_same, all_same}
 
 -- ---- pages of no segment that is listed
 
@@ -45,25 +41,20 @@ same_key key segment space one two = λ i. record { segment = one i; space = two
 pub none_mapped : (mapped : Mapped) (segment : ℕ) (space : Space) → ((number : ℕ) → 0 ≤ number → mapped (page_key segment space number) ≡ true → ⊥) → (key : PageKey) → key.segment ≡ segment → key.space ≡ space → mapped key ≡ true → ⊥
 none_mapped mapped segment space none key one two is = none key.number (omega arith) (ap mapped (sym (same_key key segment space one two)) ∙ is)
 
--- a page of the image space is that of no store
-pub image_foreign : (listing : Listing) (key : PageKey) → key.space ≡ Image → IsStorePage listing key → ⊥
-image_foreign listing key image (inl system) = cc
-image_foreign listing key image (inr listed) = elim listed.1 [ inl home ↦ absurd (cc) | inr over ↦ absurd (cc) ]
-
--- nor is one of a segment that isn't listed
+-- a page of a segment that isn't listed is that of no store
 pub unlisted_foreign : (listing : Listing) (key : PageKey) → (key.space ≡ System → ⊥) → is_some (segment_at listing key.segment) ≡ false → IsStorePage listing key → ⊥
 unlisted_foreign listing key other none (inl system) = other system
-unlisted_foreign listing key other none (inr listed) = true≢false (sym listed.0 ∙ none)
+unlisted_foreign listing key other none (inr listed) = true≢false (sym listed ∙ none)
 
--- by its space, a page is one of a store
-pub store_page : (listing : Listing) (key : PageKey) → (key.space ≡ Image → ⊥) → (IsHeapKey key → is_some (segment_at listing key.segment) ≡ true) → IsStorePage listing key
-store_page listing key image listed = by key.space refl
+-- where no page of a segment and of another space is mapped, a page of the segment is one of the system space
+pub store_page : (listing : Listing) (mapped : Mapped) (segment : ℕ) → ((space : Space) → (space ≡ System → ⊥) → (key : PageKey) → key.segment ≡ segment → key.space ≡ space → mapped key ≡ true → ⊥) → (key : PageKey) → key.segment ≡ segment → mapped key ≡ true → IsStorePage listing key
+store_page listing mapped segment none key at is = by key.space refl
   where
     by : (space : Space) → key.space ≡ space → IsStorePage listing key
-    by Home is = inr (listed (inl is), inl is)
-    by Overflow is = inr (listed (inr is), inr is)
-    by Image is = absurd (image is)
-    by System is = inl is
+    by Home same = absurd (none Home (λ other. cc) key at same is)
+    by Overflow same = absurd (none Overflow (λ other. cc) key at same is)
+    by Image same = absurd (none Image (λ other. cc) key at same is)
+    by System same = inl same
 
 -- each page of a map is, where those of the segments that there may be are
 pub store_pages : (listing : Listing) (slots : ℕ) (key : PageKey) → IsKey slots key → ((1 ≤ key.segment) → key.segment ≤ segments → IsStorePage listing key) → IsStorePage listing key
@@ -74,25 +65,6 @@ store_pages listing slots key is each = by key.space refl is.segment
     by Overflow at low = each low.0 low.1
     by Image at low = each low.0 low.1
     by System at low = inl at
-
--- ---- images
-
--- a number that is not in use has no image
-pub number_unused : (listing : Listing) (number : ℕ) → is_some (numbered (names_of ImageKind listing) number) ≡ false → image_at listing number ≡ None
-number_unused listing number is = unused_none _ (sym (image_used listing number) ∙ is)
-
--- and one that is in use has one
-pub number_used : (listing : Listing) (number : ℕ) → is_some (numbered (names_of ImageKind listing) number) ≡ true → IsPlain listing → ⊥
-number_used listing number is plain = true≢false (sym is ∙ image_used listing number ∙ ap is_some (none_at listing.images 128 number plain.no_images))
-
--- where no number has one, no image is listed
-pub none_numbered : (listing : Listing) → ListingFits listing → ((number : ℕ) → 1 ≤ number → image_at listing number ≡ None) → IsPlain listing
-none_numbered listing fits none = record {
-  no_images = same_lists listing.images (replicate 128 None) (fits.paths.image_places ∙ sym (length-replicate {A = Option ImageEntry} 128 None)) (λ k d low.
-      get_or_default listing.images k d None low ∙ ap (λ (n : ℕ). get_or listing.images n None) (omega arith) ∙ sym (numbered_at listing.images (k + 1) (omega arith) (omega (arith, low))) ∙ none (k + 1) (omega arith)
-      ∙ sym (get_or-replicate 128 k None d (omega (arith, low, fits.paths.image_places))));
-  no_links = fits.no_links;
-}
 
 -- ---- one segment after another
 
@@ -198,15 +170,8 @@ looked_all {listing = listing} fits all so segment there =
 -- the pages of the system space spell no listing
 pub none_listed : {old : PagesView} {place : Place} → (IsTold old.disk → (listing : Listing) → ListingFits listing → HoldsListing old.held listing → ⊥) → IsCatalogPlace place → FindsNone old place
 none_listed flawed named = record {
-  none = λ told listing tables system spells fit. flawed told listing spells.listed system;
-  elsewhere = λ room. let at = named.is in absurd (cc);
-}
-
--- they list an image, as those of no store do as yet
-pub none_imaged : {old : PagesView} {place : Place} {catalog : CatalogView} → Loads old catalog → (IsPlain catalog.listing → ⊥) → IsCatalogPlace place → FindsNone old place
-none_imaged {old = old} {catalog = catalog} loads imaged named = record {
-  none = λ told. none_by old.held old.slots catalog.listing loads.fits (loads.holds told) (λ tables spells fit. imaged spells.plain);
-  elsewhere = λ room. let at = named.is in absurd (cc);
+  none = λ told listing tables system spells nodes fit. flawed told listing spells.listed system;
+  elsewhere = λ told room. let at = named.is in absurd (cc);
 }
 
 module _ {T : Type 0} {old mid : PagesView} {catalog : CatalogView} {first : Result T PageFault} (holds : IsTold old.disk → (key : PageKey) → is_some (old.held key) ≡ old.mapped key) (allowed : (key : PageKey) → old.mapped key ≡ true → IsKey old.slots key) (loads : Loads old catalog) (did : ChecksPages no_page system_pages old mid first) where
@@ -219,8 +184,8 @@ module _ {T : Type 0} {old mid : PagesView} {catalog : CatalogView} {first : Res
   -- there is a page that no store with these definitions has
   pub none_foreign : {place : Place} (key : PageKey) → mid.mapped key ≡ true → (IsStorePage catalog.listing key → ⊥) → (place ≡ Room → ⊥) → FindsNone old place
   none_foreign key is foreign elsewhere = record {
-    none = λ told. none_by old.held old.slots catalog.listing loads.fits (loads.holds told) (λ tables spells fit. foreign (plain_page spells key (holds told key ∙ was_mapped key is)));
-    elsewhere = elsewhere;
+    none = λ told. none_by old.held old.slots catalog.listing loads.fits (loads.holds told) (λ tables spells nodes fit. foreign (spells.only key (holds told key ∙ was_mapped key is)));
+    elsewhere = λ told. elsewhere;
   }
 
   key_held : IsTold old.disk → (key : PageKey) → is_some (old.held key) ≡ true → IsKey old.slots key
@@ -229,20 +194,49 @@ module _ {T : Type 0} {old mid : PagesView} {catalog : CatalogView} {first : Res
   -- a segment isn't in form
   pub none_sound : {place : Place} → MissesOne catalog.listing mid place → FindsNone old place
   none_sound one = record {
-    none = λ told. none_by old.held old.slots catalog.listing loads.fits (loads.holds told) (λ tables spells fit.
+    none = λ told. none_by old.held old.slots catalog.listing loads.fits (loads.holds told) (λ tables spells nodes fit.
         one.misses.is_not (told_then told) (subst (λ (h : Held). IsSegmentOf h mid.slots catalog.listing one.segment) (sym (did.looks.held told))
         (subst (λ (n : ℕ). IsSegmentOf old.held n catalog.listing one.segment) (sym did.looks.step.passes.slots) (spelled_segment (key_held told) spells fit one.segment))));
-    elsewhere = one.misses.elsewhere;
+    elsewhere = λ told. one.misses.elsewhere;
   }
 
-  module _ {U : Type 0} {new : PagesView} {second : Result U PageFault} (did_then : ChecksPages IsHeapKey (1040 * mid.slots) mid new second) where
+  module _ {U : Type 0} {seen : PagesView} {second : Result U PageFault} (did_then : ChecksPages IsHeapKey (1040 * mid.slots) mid seen second) where
     -- both looks together
-    pub did_all : {V : Type 0} (result : Result V PageFault) → (result ≡ Err DeviceFailed → second ≡ Err DeviceFailed) → ChecksPages IsHeapKey (1040 * old.slots + system_pages) old new result
-    did_all result is =
+    pub did_two : {V : Type 0} (result : Result V PageFault) → (result ≡ Err DeviceFailed → second ≡ Err DeviceFailed) → ChecksPages IsHeapKey (1040 * old.slots + system_pages) old seen result
+    did_two result is =
         let wide : ChecksPages IsHeapKey system_pages old mid first = checks_within (λ key none. absurd none) (omega arith) did in
         checks_as result is (checks_within (λ key page. page) (omega (arith, did.looks.step.passes.slots)) (checks_then wide did_then))
 
-    module _ (plain : IsPlain catalog.listing) (only : (key : PageKey) → mid.mapped key ≡ true → IsStorePage catalog.listing key) (checks : ChecksSegments catalog.listing mid new) where
+    -- and a third
+    pub did_all : {V : Type 0} {most : ℕ} {new : PagesView} {third : Result V PageFault} → ChecksPages no_page most seen new third → {W : Type 0} (result : Result W PageFault) → (result ≡ Err DeviceFailed → third ≡ Err DeviceFailed)
+        → (asks : ℕ) × ChecksPages IsHeapKey asks old new result
+    did_all {most = most} did_last result is = (
+      1040 * old.slots + system_pages + most,
+      checks_as result is (checks_then (did_two {V = U} second (λ failed. failed)) (checks_within (λ key none. absurd none) (omega arith) did_last)),
+    )
+
+    told_seen : IsTold old.disk → IsTold seen.disk
+    told_seen told = did_then.looks.step.passes.leaves.told.0 (told_then told)
+
+    told_back : IsTold seen.disk → IsTold old.disk
+    told_back told = did.looks.step.passes.leaves.told.1 (did_then.looks.step.passes.leaves.told.1 told)
+
+    slots_seen : seen.slots ≡ old.slots
+    slots_seen = did_then.looks.step.passes.slots ∙ did.looks.step.passes.slots
+
+    held_seen : IsTold old.disk → seen.held ≡ old.held
+    held_seen told = did_then.looks.held (told_then told) ∙ did.looks.held told
+
+    -- an image isn't in form
+    pub none_imaged : {place : Place} → (IsTold seen.disk → MissesImages (both seen catalog) place) → FindsNone old place
+    none_imaged misses = record {
+      none = λ told. none_by old.held old.slots catalog.listing loads.fits (loads.holds told) (λ tables spells nodes fit.
+          (misses (told_seen told)).is_not tables (tuples_same {old = old} {new = seen} catalog slots_seen (held_seen told) (shows_spelled {at = both old catalog} spells fit))
+          (all_same {old = old} {new = seen} catalog slots_seen (held_seen told) (sound_spelled {at = both old catalog} spells fit nodes)));
+      elsewhere = λ told. (misses (told_seen told)).elsewhere;
+    }
+
+    module _ (small : old.slots < 4294967296) (only : (key : PageKey) → mid.mapped key ≡ true → IsStorePage catalog.listing key) (checks : ChecksSegments catalog.listing mid seen) where
       only_mapped : (key : PageKey) → old.mapped key ≡ true → IsStorePage catalog.listing key
       only_mapped key is = only key (ap (λ (m : Mapped). m key) did.looks.mapped ∙ is)
 
@@ -254,28 +248,37 @@ module _ {T : Type 0} {old mid : PagesView} {catalog : CatalogView} {first : Res
           subst (λ (h : Held). IsSegmentOf h old.slots catalog.listing segment) (did.looks.held told)
           (subst (λ (n : ℕ). IsSegmentOf mid.held n catalog.listing segment) did.looks.step.passes.slots ((checks segment there).is (told_then told)))
 
-      same_held : IsTold old.disk → new.held ≡ old.held
-      same_held told = did_then.looks.held (told_then told) ∙ did.looks.held told
+      noted_seen : IsTold old.disk → AreAllNoted catalog.listing seen
+      noted_seen told segment there = (checks segment there).noted (told_then told)
 
-      all_noted : IsTold old.disk → AreAllNoted catalog.listing new
-      all_noted told segment there = (checks segment there).noted (told_then told)
-
-      heaps_now : IsTold old.disk → AreHeaps new
-      heaps_now told = record {
+      heaps_old : IsTold old.disk → AreHeaps seen
+      heaps_old told = record {
         formed = λ key bytes heap is.
-            let was : old.held key ≡ Some bytes = ap (λ (h : Held). h key) (sym (same_held told)) ∙ is in
-            (all_noted told key.segment (heap_listed old.held catalog.listing (only_held told) key heap (ap is_some was)) key bytes (refl, heap) is).heap;
-        linked = λ segment. subst (λ (h : Held). AreLinked (homes h segment) (overflows h segment)) (sym (same_held told))
-            (linked_found old.held old.slots catalog.listing loads.fits plain (only_held told) (key_held told) (sound_old told) segment);
+            let was : old.held key ≡ Some bytes = ap (λ (h : Held). h key) (sym (held_seen told)) ∙ is in
+            (noted_seen told key.segment (heap_listed old.held catalog.listing (only_held told) key heap (ap is_some was)) key bytes (refl, heap) is).heap;
+        linked = λ segment. subst (λ (h : Held). AreLinked (homes h segment) (overflows h segment)) (sym (held_seen told))
+            (linked_found old.held old.slots catalog.listing loads.fits (only_held told) (key_held told) (sound_old told) segment);
       }
 
-      -- all are found
-      pub finds_tables : FindsTables old new catalog
-      finds_tables = record {
-        loaded = loads;
-        plain = plain;
-        only = only_mapped;
-        holds = λ told. holds_found old.held old.slots catalog.listing loads.fits plain (only_held told) (key_held told) (sound_old told) (loads.holds told);
-        heaps = heaps_now;
-        noted = all_noted;
-      }
+      pub heaps_seen : IsTold seen.disk → AreHeaps seen
+      heaps_seen told = heaps_old (told_back told)
+
+      module _ {V : Type 0} {most : ℕ} {new : PagesView} {third : Result V PageFault} (did_last : ChecksPages no_page most seen new third) (images : IsTold seen.disk → ChecksImages (both seen catalog)) where
+        images_old : IsTold old.disk → ChecksImages (both old catalog)
+        images_old told tables shows =
+            all_same catalog (sym slots_seen) (sym (held_seen told)) (images (told_seen told) tables (tuples_same catalog slots_seen (held_seen told) shows))
+
+        noted_now : IsTold old.disk → AreAllNoted catalog.listing new
+        noted_now told segment there key bytes page is =
+            let was : seen.held key ≡ Some bytes = ap (λ (h : Held). h key) (sym (did_last.looks.held (told_seen told))) ∙ is in
+            subst (IsNoted key bytes) (sym (did_last.looks.step.notes_off key (λ none. none))) (noted_seen told segment there key bytes page was)
+
+        -- all are found
+        pub finds_tables : FindsTables old new catalog
+        finds_tables = record {
+          loaded = loads;
+          only = only_mapped;
+          holds = λ told. holds_found (both old catalog) small loads.fits (only_held told) (key_held told) (sound_old told) (images_old told) (loads.holds told);
+          heaps = λ told. heaps_looked did_last.looks.step (told_seen told) (heaps_old told);
+          noted = noted_now;
+        }

@@ -5,12 +5,19 @@ use Rattle.rss_base.specs.Sizes.{relations_most}
 use Rattle.rss_base.specs.Steps.{PagesView}
 use Rattle.rss_base.specs.Paged.{Held}
 use Rattle.rss_base.specs.Listings.{Listing, segment_at, relation_at}
+use Rattle.rss_base.specs.declared.image.ImageEntry.{ImageEntry}
 use Rattle.rss_base.specs.declared.relation.RelationEntry.{RelationEntry}
+use Rattle.rss_base.specs.declared.key.PageKey.{PageKey}
+use Rattle.rss_base.specs.declared.key.Space.TheVariants.{Image as ImageSpace}
 use Rattle.rss_base.specs.declared.place.Place.{Place}
 use Rattle.rss_base.specs.declared.place.Place.TheVariants.{Room}
 use Rattle.rss_tuple.specs.Checked.{Row, Rows, tuples_of, IsSound, AreNoted}
 use Rattle.rss_model.specs.Fits.{tuple_limit}
+use Rattle.rss_model.specs.Tables.{Tables}
+use Rattle.rss_model.specs.Store.{IsListedImage, IsReached}
 use Rattle.rss_access.specs.Bodies.{is_body}
+use Rattle.rss_access.specs.Changes.{AccessView}
+use Rattle.rss_access.specs.Checking.{ShowsTuples, IsSound as IsSoundImage}
 
 -- the body is that of a tuple of the relation of this number
 abbrev pub begins_with : ℕ → List ℕ → Bool
@@ -68,3 +75,22 @@ pub record MissesOne (listing : Listing) (old : PagesView) (place : Place) : Typ
   pub segment : ℕ
   pub listed : is_some (segment_at listing segment) ≡ true
   pub misses : MissesSegment listing segment old place
+
+-- ---- images
+
+-- Each image that is listed shows these tables, with identifiers of the store, and where it is unique no key twice; and each page of the space of images is one of theirs.
+pub record AreSound (at : AccessView) (tables : Tables) : Type 0 where
+  pub each : (number : ℕ) (image : ImageEntry) (relation : RelationEntry)
+      → IsListedImage at.catalog.listing number image relation
+      → IsSoundImage at tables number image relation
+  pub reached : (key : PageKey) → key.space ≡ ImageSpace → is_some (at.pages.held key) ≡ true
+      → IsReached at.pages.held at.catalog.listing tables key
+
+-- so it is with whatever tables the pages of tuples spell
+abbrev pub ChecksImages : AccessView → Type 0
+ChecksImages at = (tables : Tables) → ShowsTuples at tables → AreSound at tables
+
+-- It is so with none of them, which shows at this place.
+pub record MissesImages (at : AccessView) (place : Place) : Type 0 where
+  pub is_not : (tables : Tables) → ShowsTuples at tables → AreSound at tables → ⊥
+  pub elsewhere : place ≡ Room → ⊥

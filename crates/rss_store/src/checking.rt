@@ -1,27 +1,31 @@
 // What the pages of a store hold, as an opening finds it.
-ghost use Rattle.std.specs.Prelude.{◌≡◌, ◌≢◌, ◌+◌, ◌*◌, ◌<◌, ◌≤◌, length, true, is_some, IfSome, IfNone, IfOk, IfErr, OnOk, Err};
+ghost use Rattle.std.specs.Prelude.{◌≡◌, ◌≢◌, ◌+◌, ◌*◌, ◌<◌, ◌≤◌, ℕ, length, true, is_some, IfSome, IfNone, IfOk, IfErr, OnOk, Err};
+ghost use Rattle.rss_base.specs.DiskRule.{IsTold};
 ghost use Rattle.rss_base.specs.Looking.{ChecksPages};
 ghost use Rattle.rss_base.specs.PageMap.{IsTable, page_count};
-ghost use Rattle.rss_base.specs.Sizes.{system_pages, relations_most, segments as segments_most};
-ghost use Rattle.rss_base.specs.Listings.{ListingFits, IsPlain, segment_at};
+ghost use Rattle.rss_base.specs.Sizes.{relations_most, segments as segments_most};
+ghost use Rattle.rss_base.specs.Steps.{no_page};
+ghost use Rattle.rss_base.specs.Listings.{ListingFits, segment_at};
 ghost use Rattle.rss_base.specs.declared.fault.PageFault.TheVariants.{Damaged as PageDamaged};
 ghost use Rattle.rss_base.specs.declared.place.Place.{Place as AnyPlace};
-ghost use Rattle.rss_base.specs.declared.place.Place.TheVariants.{Count as CountPlace};
+ghost use Rattle.rss_base.specs.declared.place.Place.TheVariants.{Count as CountPlace, Room as RoomPlace};
 ghost use Rattle.rss_base.specs.declared.key.PageKey.{PageKey as Key};
 ghost use Rattle.rss_base.specs.declared.key.Space.TheVariants.{System};
 ghost use Rattle.rss_page.specs.Slotted.{IsHeapKey};
 ghost use Rattle.rss_tuple.specs.Checked.{pages_of};
-ghost use Rattle.rss_store.specs.Looks.{IsPlainPage as IsStorePage};
+ghost use Rattle.rss_tuple.specs.Heaps.{AreHeaps};
+ghost use Rattle.rss_model.specs.Store.{IsStorePage};
 ghost use Rattle.rss_access.specs.Bodies.{is_body};
+ghost use Rattle.rss_access.specs.Changes.{both};
 ghost use Rattle.rss_store.specs.Checks.{AreSeen, ChecksSegment, MissesSegment, IsCountOf};
-ghost use Rattle.rss_store.specs.Checks.{ChecksSegments, MissesOne};
+ghost use Rattle.rss_store.specs.Checks.{ChecksSegments, MissesOne, ChecksImages, MissesImages};
 ghost use Rattle.rss_store.specs.Looks.{FindsTables, FindsNone};
 
-use rss_access::TUPLES_MOST;
+use rss_access::{TUPLES_MOST, check_image};
 use rss_base::{Kind, PageFault, PageKey, Pages, Place, RELATIONS_MOST, SEGMENTS, Space, Tid};
-use rss_catalog::{Catalog, image_page_of};
+use rss_catalog::Catalog;
 use rss_pagemap::SlotTable;
-use rss_tuple::{Visitor, check};
+use rss_tuple::{Store, Visitor, check};
 use rss_value::spells;
 use std::alloc::Global;
 
@@ -42,41 +46,29 @@ pub fn pages_in(table: &SlotTable) -> u32
 
 /// The catalog of the pages, which are looked through. What is found of the room on each page is
 /// noted there.
-pub fn look_through<P: Pages>(alloc: Global, pages: &mut P) -> Result<Catalog, PageFault>
-    ensures finds { IfOk result (FindsTables (P.view pages.old) (P.view pages.new)) }
+pub fn look_through<P: Pages>(
+    alloc: Global,
+    tuples: &mut Store<P>,
+) -> Result<Catalog, PageFault>
+    ensures finds { IfOk result
+        (FindsTables (P.view tuples.old.pages) (P.view tuples.new.pages)) }
     ensures none { (place : AnyPlace) → result ≡ Err (PageDamaged place)
-        → FindsNone (P.view pages.old) place }
-    ensures did { ChecksPages IsHeapKey (1040 * (P.view pages.old).slots + system_pages)
-        (P.view pages.old) (P.view pages.new) result }
+        → FindsNone (P.view tuples.old.pages) place }
+    ensures did { (most : ℕ) × ChecksPages IsHeapKey most
+        (P.view tuples.old.pages) (P.view tuples.new.pages) result }
 {
-    let catalog = Catalog::load(alloc, pages)?;
-    if let Some(page) = page_with_image(&catalog) {
-        return Err(PageFault::Damaged(Place::Catalog(page)));
-    }
-    if let Some(key) = first_foreign(pages, &catalog) {
+    // Numbers of pages are below this, so none of them is the one that stands for no page.
+    let _slots = tuples.pages.slots();
+    let catalog = Catalog::load(alloc, &mut tuples.pages)?;
+    if let Some(key) = first_foreign(&tuples.pages, &catalog) {
         return Err(PageFault::Damaged(Place::Page(key)));
     }
-    look_at_segments(alloc, pages, &catalog)?;
+    look_at_segments(alloc, &mut tuples.pages, &catalog)?;
+    look_at_images(tuples, &catalog)?;
     Ok(catalog)
 }
 
-/// The page of the catalog that lists its first image. As yet a store has none.
-fn page_with_image(catalog: &Catalog) -> Option<u8>
-    requires { ListingFits catalog.now.listing }
-    ensures some { IfSome result (λ page. (page < system_pages)
-        × (IsPlain catalog.now.listing → ⊥)) }
-    ensures none { IfNone result (IsPlain catalog.now.listing) }
-{
-    for place in 0..catalog.last_image() {
-        if catalog.used(Kind::Image, place + 1) {
-            return Some(image_page_of(place + 1));
-        }
-    }
-    None
-}
-
-/// A page that no store with these definitions has: one of a segment that isn't defined, or of the
-/// image space.
+/// A page that no store with these definitions has: one of a segment that isn't defined.
 fn first_foreign<P: Pages>(pages: &P, catalog: &Catalog) -> Option<PageKey>
     ensures some { IfSome result (λ key. (P.view pages.now).mapped key ≡ true
         × (IsStorePage catalog.now.listing key → ⊥)) }
@@ -100,16 +92,16 @@ fn foreign_in<P: Pages>(pages: &P, catalog: &Catalog, segment: u8) -> Option<Pag
     ensures none { IfNone result ((key : Key) → key.segment ≡ segment
         → (P.view pages.now).mapped key ≡ true → IsStorePage catalog.now.listing key) }
 {
-    if let Some(key) = first_of(pages, segment, Space::Image) {
-        return Some(key);
-    }
     if catalog.used(Kind::Segment, segment) {
         return None;
     }
     if let Some(key) = first_of(pages, segment, Space::Home) {
         return Some(key);
     }
-    first_of(pages, segment, Space::Overflow)
+    if let Some(key) = first_of(pages, segment, Space::Overflow) {
+        return Some(key);
+    }
+    first_of(pages, segment, Space::Image)
 }
 
 /// The first page of a segment and a space.
@@ -150,6 +142,45 @@ fn look_at_segments<P: Pages>(
         }
     }
     Ok(())
+}
+
+/// Looks at each image that is listed: it has the entries of its relation, and together they have
+/// each page of the space of images.
+fn look_at_images<P: Pages>(tuples: &mut Store<P>, catalog: &Catalog) -> Result<(), PageFault>
+    requires heaps { IsTold (P.view tuples.old.pages).disk → AreHeaps (P.view tuples.old.pages) }
+    ensures checks { OnOk result (IsTold (P.view tuples.old.pages).disk
+        → ChecksImages (both (P.view tuples.old.pages) catalog.now)) }
+    ensures misses { (place : AnyPlace) → result ≡ Err (PageDamaged place)
+        → IsTold (P.view tuples.old.pages).disk
+        → MissesImages (both (P.view tuples.old.pages) catalog.now) place }
+    ensures did { (most : ℕ) × ChecksPages no_page most
+        (P.view tuples.old.pages) (P.view tuples.new.pages) result }
+{
+    let last = catalog.last_image();
+    let mut sum = 0;
+    for place in 0..last {
+        if catalog.used(Kind::Image, place + 1) {
+            sum += u64::from(check_image(tuples, catalog, place + 1)?);
+        }
+    }
+    if sum == u64::from(tuples.pages.image_pages()) {
+        Ok(())
+    } else {
+        Err(PageFault::Damaged(unused_place(&tuples.pages, last)))
+    }
+}
+
+/// Where pages of images show that they are used by none: at the first of them, or at this image
+/// where there is no such page.
+fn unused_place<P: Pages>(pages: &P, image: u8) -> Place
+    ensures { result ≢ RoomPlace }
+{
+    for segment in 1..=SEGMENTS {
+        if let Some(key) = first_of(pages, segment, Space::Image) {
+            return Place::Page(key);
+        }
+    }
+    Place::Image(image)
 }
 
 /// Counts the tuples of a segment that it sees by their relations, each up to 2^32 - 1.

@@ -120,18 +120,19 @@ fn store_of<D: Device>(
         log,
     } = layout;
     let room = root.slots.min(frames);
-    let mut pages = Buffer::new(alloc, device, &root, table, room)?;
-    let catalog = match look_through(alloc, &mut pages) {
+    let pages = Buffer::new(alloc, device, &root, table, room)?;
+    let mut tuples = Store::new(pages);
+    let catalog = match look_through(alloc, &mut tuples) {
         Ok(catalog) => catalog,
         Err(fault) => {
             return Err(Unopened {
-                device: pages.into_device(),
+                device: tuples.into_pages().into_device(),
                 fault: OpenFault::from(fault),
             });
         }
     };
     Ok(DurableStore {
-        tuples: Store::new(pages),
+        tuples,
         catalog,
         log,
         root,
@@ -234,10 +235,11 @@ fn refused<D: Device>(store: DurableStore<Buffer<D>>, fault: PageFault) -> Unope
 /// layout of the device, of its root or of its map is out of form. Where the layout is sound it is
 /// `Damaged`: at `Room` where the map has too many pages; at `Catalog` where a page of the system
 /// space isn't in form; at a page or a tuple that is none of a store; at `Count` where a relation
-/// hasn't as many tuples as the catalog says, or has more than it may have; or at a position of the
-/// log where no record stands that there should be, or one that doesn't fit the tables, or from
-/// which the records lead to more pages than there may be. A store whose log ends at 2^62 or behind
-/// it is `Damaged` at that position.
+/// hasn't as many tuples as the catalog says, or has more than it may have; at `Image` where an
+/// image hasn't the entries of its relation's tuples; or at a position of the log where no record
+/// stands that there should be, or one that doesn't fit the tables, or from which the records lead
+/// to more pages than there may be. A store whose log ends at 2^62 or behind it is `Damaged` at that
+/// position.
 pub fn open<D: Device>(
     alloc: Global,
     device: D,

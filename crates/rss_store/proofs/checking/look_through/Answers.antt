@@ -1,43 +1,69 @@
-use Rattle.std.proofs.Common.{arith}
+use Rattle.std.proofs.Common.{◌+◌, ◌*◌, arith}
+use Rattle.rss_base.specs.Sizes.{system_pages}
 use Rattle.rss_base.proofs.Looking.{checks_as, checks_within, passed_on}
-use Rattle.rss_store.proofs.Looked.{none_listed, none_imaged, none_foreign, none_sound, finds_tables, did_all}
+use Rattle.rss_store.proofs.Looked.{none_listed, none_foreign, none_sound, none_imaged, heaps_seen, finds_tables, did_two, did_all}
 use Rattle.rss_store.proofs.checking.look_through.Goals as goal
+
+-- ---- the catalog
 
 pub returns-in_err-catalog-clause-none : goal.returns-in_err-catalog-clause-none
 returns-in_err-catalog-clause-none g c = λ place is.
     let failed = passed_on _ c.from_residual.ensures.1 is in
     none_listed (c.in_err-catalog.ensures.flawed place failed) (c.in_err-catalog.ensures.named place failed)
 
+pub returns-in_err-catalog-clause-did : goal.returns-in_err-catalog-clause-did
+returns-in_err-catalog-clause-did g c = (system_pages, checks_as _ (passed_on _ c.from_residual.ensures.1) (checks_within (λ key none. absurd none) (omega arith) c.in_err-catalog.ensures.did))
+
+-- ---- pages of no segment
+
 pub returns-in-Some-clause-none : goal.returns-in-Some-clause-none
 returns-in-Some-clause-none g c = λ place is.
-    none_imaged c.in_ok-catalog.ensures.loaded c.in-Some.ensures.some.1 (record { page = c.in-Some.page; low = c.in-Some.ensures.some.0; is = cc })
-
-pub returns-in-Some-first_foreign-clause-none : goal.returns-in-Some-first_foreign-clause-none
-returns-in-Some-first_foreign-clause-none g c = λ place is.
-    none_foreign (g.met.P.Pages.holds c.args.pages.now) (g.met.P.Pages.allowed c.args.pages.now) c.in_ok-catalog.ensures.loaded c.in_ok-catalog.ensures.did c.in-Some-first_foreign.key c.in-Some-first_foreign.ensures.some.0 c.in-Some-first_foreign.ensures.some.1 (λ room. cc)
+    none_foreign (g.met.P.Pages.holds c.args.tuples.now.pages) (g.met.P.Pages.allowed c.args.tuples.now.pages) c.in_ok-catalog.ensures.loaded c.in_ok-catalog.ensures.did c.in-Some.key c.in-Some.ensures.some.0 c.in-Some.ensures.some.1 (λ room. cc)
 
 pub returns-in-Some-clause-did : goal.returns-in-Some-clause-did
-returns-in-Some-clause-did g c = checks_as _ (λ is. absurd (cc)) (checks_within (λ key none. absurd none) (omega arith) c.in_ok-catalog.ensures.did)
+returns-in-Some-clause-did g c = (system_pages, checks_as _ (λ is. absurd (cc)) (checks_within (λ key none. absurd none) (omega arith) c.in_ok-catalog.ensures.did))
 
-pub returns-in-Some-first_foreign-clause-did : goal.returns-in-Some-first_foreign-clause-did
-returns-in-Some-first_foreign-clause-did g c = checks_as _ (λ is. absurd (cc)) (checks_within (λ key none. absurd none) (omega arith) c.in_ok-catalog.ensures.did)
+-- ---- segments
 
 pub returns-in_err-look_at_segments-clause-none : goal.returns-in_err-look_at_segments-clause-none
 returns-in_err-look_at_segments-clause-none g c = λ place is.
-    none_sound (g.met.P.Pages.holds c.args.pages.now) (g.met.P.Pages.allowed c.args.pages.now) c.in_ok-catalog.ensures.loaded c.in_ok-catalog.ensures.did
+    none_sound (g.met.P.Pages.holds c.args.tuples.now.pages) (g.met.P.Pages.allowed c.args.tuples.now.pages) c.in_ok-catalog.ensures.loaded c.in_ok-catalog.ensures.did
     (c.in_err-look_at_segments.ensures.misses place (passed_on _ c.from_residual-in_err-look_at_segments.ensures.1 is))
 
 pub returns-in_err-look_at_segments-clause-did : goal.returns-in_err-look_at_segments-clause-did
-returns-in_err-look_at_segments-clause-did g c =
-    did_all (g.met.P.Pages.holds c.args.pages.now) (g.met.P.Pages.allowed c.args.pages.now) c.in_ok-catalog.ensures.loaded c.in_ok-catalog.ensures.did
-    c.in_err-look_at_segments.ensures.did _ (passed_on _ c.from_residual-in_err-look_at_segments.ensures.1)
+returns-in_err-look_at_segments-clause-did g c = (
+  1040 * (g.P.Pages.view c.args.tuples.now.pages).slots + system_pages,
+  did_two (g.met.P.Pages.holds c.args.tuples.now.pages) (g.met.P.Pages.allowed c.args.tuples.now.pages) c.in_ok-catalog.ensures.loaded c.in_ok-catalog.ensures.did
+      c.in_err-look_at_segments.ensures.did _ (passed_on _ c.from_residual-in_err-look_at_segments.ensures.1),
+)
+
+-- ---- images
+
+pub look_at_images-requires : goal.look_at_images-requires
+look_at_images-requires g c = record {
+  heaps = heaps_seen (g.met.P.Pages.holds c.args.tuples.now.pages) (g.met.P.Pages.allowed c.args.tuples.now.pages) c.in_ok-catalog.ensures.loaded c.in_ok-catalog.ensures.did
+      c.in_ok-look_at_segments.ensures.did (omega (arith, c.slots-slots.ensures, c.slots-slots.type_inv)) c.in_default.ensures.none c.in_ok-look_at_segments.ensures.checks;
+}
+
+pub returns-in_err-look_at_images-clause-none : goal.returns-in_err-look_at_images-clause-none
+returns-in_err-look_at_images-clause-none g c = λ place is.
+    none_imaged (g.met.P.Pages.holds c.args.tuples.now.pages) (g.met.P.Pages.allowed c.args.tuples.now.pages) c.in_ok-catalog.ensures.loaded c.in_ok-catalog.ensures.did
+    c.in_ok-look_at_segments.ensures.did (c.in_err-look_at_images.ensures.misses place (passed_on _ c.from_residual-in_err-look_at_images.ensures.1 is))
+
+pub returns-in_err-look_at_images-clause-did : goal.returns-in_err-look_at_images-clause-did
+returns-in_err-look_at_images-clause-did g c =
+    did_all (g.met.P.Pages.holds c.args.tuples.now.pages) (g.met.P.Pages.allowed c.args.tuples.now.pages) c.in_ok-catalog.ensures.loaded c.in_ok-catalog.ensures.did
+    c.in_ok-look_at_segments.ensures.did c.in_err-look_at_images.ensures.did.1 _ (passed_on _ c.from_residual-in_err-look_at_images.ensures.1)
+
+-- ---- all is found
 
 pub returns-clause-finds : goal.returns-clause-finds
 returns-clause-finds g c =
-    finds_tables (g.met.P.Pages.holds c.args.pages.now) (g.met.P.Pages.allowed c.args.pages.now) c.in_ok-catalog.ensures.loaded c.in_ok-catalog.ensures.did
-    c.in_ok-look_at_segments.ensures.did c.in_default.ensures.none c.in_default-first_foreign.ensures.none c.in_ok-look_at_segments.ensures.checks
+    finds_tables (g.met.P.Pages.holds c.args.tuples.now.pages) (g.met.P.Pages.allowed c.args.tuples.now.pages) c.in_ok-catalog.ensures.loaded c.in_ok-catalog.ensures.did
+    c.in_ok-look_at_segments.ensures.did (omega (arith, c.slots-slots.ensures, c.slots-slots.type_inv)) c.in_default.ensures.none c.in_ok-look_at_segments.ensures.checks
+    c.in_ok-look_at_images.ensures.did.1 c.in_ok-look_at_images.ensures.checks
 
 pub returns-clause-did : goal.returns-clause-did
 returns-clause-did g c =
-    did_all (g.met.P.Pages.holds c.args.pages.now) (g.met.P.Pages.allowed c.args.pages.now) c.in_ok-catalog.ensures.loaded c.in_ok-catalog.ensures.did
-    c.in_ok-look_at_segments.ensures.did _ (λ is. absurd (cc))
+    did_all (g.met.P.Pages.holds c.args.tuples.now.pages) (g.met.P.Pages.allowed c.args.tuples.now.pages) c.in_ok-catalog.ensures.loaded c.in_ok-catalog.ensures.did
+    c.in_ok-look_at_segments.ensures.did c.in_ok-look_at_images.ensures.did.1 _ (λ is. absurd (cc))
