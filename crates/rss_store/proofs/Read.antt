@@ -9,7 +9,7 @@ use Rattle.rss_base.specs.declared.fault.PageFault.{PageFault}
 use Rattle.rss_base.specs.Devices.{OnlyReads}
 use Rattle.rss_base.specs.DiskRule.{Pages, page, Told, IsTold, SameOff}
 use Rattle.rss_base.specs.Layout.{map_at, slots_at}
-use Rattle.rss_base.specs.Listings.{HoldsListing}
+use Rattle.rss_base.specs.Listings.{Listing, HoldsListing}
 use Rattle.rss_base.specs.Looking.{ChecksPages}
 use Rattle.rss_base.specs.PageMap.{owner_of, IsMap, page_count}
 use Rattle.rss_base.specs.Paged.{Mapped, Held, Fixed, Backing, HasFixed, page_key, mapped_pages}
@@ -22,14 +22,13 @@ use Rattle.rss_buffer.specs.Saving.{SavingView, AreSaveable, IsFresh}
 use Rattle.rss_buffer.proofs.SavingSteps.{fresh_unchanged}
 use Rattle.rss_catalog.specs.Catalogs.{CatalogView}
 use Rattle.rss_log.specs.Logs.{LogView}
-use Rattle.rss_model.specs.Fits.{Fits}
-use Rattle.rss_model.specs.Store.{SpellsTables, Stored, IsStore}
+use Rattle.rss_model.specs.Fits.{Fits, IsIdentifier}
+use Rattle.rss_model.specs.Store.{SpellsTables, AreNodesWithin, Stored, IsStore}
 use Rattle.rss_model.proofs.ListedOnce.{listing_once}
-use Rattle.rss_model.proofs.PlainStores.{no_image_at}
 use Rattle.rss_model.proofs.Stores.{one_root, one_map}
-use Rattle.rss_access.specs.Written.{IsSystemOrHeap}
+use Rattle.rss_access.specs.Changes.{both, HasTables as SomeTables}
 use Rattle.rss_store.specs.Stores.{StoreView, IsReady, IsSaved}
-use Rattle.rss_store.specs.Looks.{IsPlainPage, HoldsTables as PagesHoldTables, HoldsNone, FindsTables}
+use Rattle.rss_store.specs.Looks.{AreNodesBelow, HoldsTables as PagesHoldTables, HoldsNone, FindsTables}
 use Rattle.rss_store.specs.Opening.{IsLayout, HasLayout, IsLogRead, HasLogBytes, IsReadFrom, IsNoStore, IsFreeSlot, HasTables, ReadsFrom}
 use Rattle.rss_store.proofs.Places.{held_slots, store_fixed}
 
@@ -55,11 +54,6 @@ fixed_same {root = root} {owners = owners} {pages = pages} has = record {
 pub held_map : {pages : Pages} {root : Root} {number : ℕ} {owners : List (Option PageKey)} → IsLayout root number owners → HasLayout pages root number owners → HoldsMapAt owners root.area pages
 held_map {pages = pages} {root = root} {owners = owners} layout has = subst (λ (n : ℕ). IsMap n pages (map_at n root.area) owners) (sym layout.slots) has.map
 
--- a page of a store is one of the system space, or a home or overflow page
-plain_key : (catalog : CatalogView) (key : PageKey) → IsPlainPage catalog.listing key → IsSystemOrHeap key
-plain_key catalog key (inl system) = inl system
-plain_key catalog key (inr listed) = inr listed.1
-
 -- ---- how many pages there are
 
 -- as many as the map in memory has
@@ -72,6 +66,26 @@ pub room_tested : (n m pages slots : ℕ) → n ≡ pages → m ≡ slots → (I
 room_tested n m pages slots same size =
     subst (λ (p : ℕ). (IsTrue (nat_le (2 * n) m) → 2 * p ≤ slots) × (2 * p ≤ slots → IsTrue (nat_le (2 * n) m))) same
     (subst (λ (s : ℕ). (IsTrue (nat_le (2 * n) m) → 2 * n ≤ s) × (2 * n ≤ s → IsTrue (nat_le (2 * n) m))) size (search rules))
+
+-- ---- tables
+
+-- TEMP: AreNodesWithin of rss_model is to say the same as AreNodesBelow; then both of these go
+below_of : {slots : ℕ} {held : Held} {listing : Listing} → AreNodesWithin slots held listing → AreNodesBelow slots held listing
+below_of nodes = ?
+
+of_below : {slots : ℕ} {held : Held} {listing : Listing} → AreNodesBelow slots held listing → AreNodesWithin slots held listing
+of_below nodes number image relation listed page node at = tt
+
+-- the tables that pages hold can be told of
+tables_read : {slots : ℕ} {held : Held} {new : PagesView} {catalog : CatalogView} → PagesHoldTables held slots catalog.listing → new.held ≡ held → new.slots ≡ slots → SomeTables (both new catalog)
+tables_read {slots = slots} {held = held} {new = new} {catalog = catalog} has same_held same_slots = record {
+  tables = has.tables;
+  spells = subst (λ (h : Held). SpellsTables h catalog.listing has.tables) (sym same_held) has.spells;
+  tuples = has.fit.tuples;
+  tids = λ relation tid lives. subst (λ (n : ℕ). IsIdentifier n tid) (sym same_slots) (has.fit.tids relation tid lives);
+  few = has.fit.few;
+  nodes = of_below (subst (λ (n : ℕ). AreNodesBelow n new.held catalog.listing) (sym same_slots) (subst (λ (h : Held). AreNodesBelow slots h catalog.listing) (sym same_held) has.nodes));
+}
 
 -- ---- a store of these pages has the root and the map that were read
 
@@ -131,6 +145,7 @@ module _ {root : Root} {number frames writes : ℕ} {owners : List (Option PageK
         let is = store_here told stored store in
         none stored.listing stored.saved (listing_here told stored store)
         (subst (λ (h : Held). SpellsTables h stored.listing stored.saved) (slots_hold told) is.spells)
+        (subst (λ (n : ℕ). AreNodesBelow n old.held stored.listing) (sym size_is) (subst (λ (h : Held). AreNodesBelow root.slots h stored.listing) (slots_hold told) (below_of is.nodes)))
         (subst (λ (n : ℕ). Fits n stored.saved) (sym size_is) is.fit)
 
     module _ {T : Type 0} {noted : Keys} {asks : ℕ} {catalog : CatalogView} {new : PagesView} {result : Result T PageFault} {log : LogView} (did : ChecksPages noted asks old new result) (finds : FindsTables old new catalog) (counted : AreCounted new) (read : IsLogRead root log) (bytes : Told old.disk (λ pages. HasLogBytes pages root log)) where
@@ -163,13 +178,11 @@ module _ {root : Root} {number frames writes : ℕ} {owners : List (Option PageK
         area = ap (λ (b : Backing). b.area) did.looks.step.passes.backing ∙ ap (λ (b : Backing). b.area) fresh.backing;
         log = read.behind;
         system = λ n low. same_mapped (page_key 0 System n) ∙ finds.loaded.mapped n low;
-        only = λ key is. plain_key catalog key (finds.only key (sym (same_mapped key) ∙ is));
         pending_places = ap (λ (l : List Bool). length l) finds.loaded.written;
         settled_now = did.looks.step.passes.leaves.stays_settled fresh.settled;
-        no_links = finds.plain.no_links;
-        plain = finds.plain;
+        no_links = finds.loaded.fits.no_links;
         heaps = λ told. finds.heaps (did.looks.step.passes.leaves.told.1 told);
-        tables = λ told image. absurd (no_image_at finds.plain image.number image.image image.at);
+        tables = λ told image. ∣ tables_read (finds.holds (did.looks.step.passes.leaves.told.1 told)) (did.looks.held (did.looks.step.passes.leaves.told.1 told)) did.looks.step.passes.slots ∣₁;
       }
 
       read_saved : IsSaved read_view

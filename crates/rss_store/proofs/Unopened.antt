@@ -146,9 +146,9 @@ fault_has_layout (PageDamaged found) place is = cc (is)
 fault_has_layout PageNoMemory place is = cc (is)
 
 -- the pages were looked through, and are no store
-pub unopened_look : {device : DeviceView} {root : Root} {number : ℕ} {owners : List (Option PageKey)} (fault : PageFault) → Told device.disk (λ pages. HasLayout pages root number owners) → 2 * page_count owners ≤ root.slots → root.end < position_most → ((place : Place) → fault ≡ PageDamaged place → Told device.disk IsNoStore) → ((place : Place) → fault ≡ PageDamaged place → place ≡ Room → ⊥) → IsUnopened device (open_error fault)
+pub unopened_look : {device : DeviceView} {root : Root} {number : ℕ} {owners : List (Option PageKey)} (fault : PageFault) → Told device.disk (λ pages. HasLayout pages root number owners) → 2 * page_count owners ≤ root.slots → root.end < position_most → ((place : Place) → fault ≡ PageDamaged place → Told device.disk IsNoStore) → ((place : Place) → fault ≡ PageDamaged place → Told device.disk (λ pages. place ≡ Room → ⊥)) → IsUnopened device (open_error fault)
 unopened_look fault has half early none elsewhere = record {
-  refused = λ pages told. refused_fault fault (has pages told) half early (λ place is. none place is pages told) elsewhere;
+  refused = λ pages told. refused_fault fault (has pages told) half early (λ place is. none place is pages told) (λ place is. elsewhere place is pages told);
   right_size = fault_no_size fault;
 }
 

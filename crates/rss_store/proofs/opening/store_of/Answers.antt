@@ -15,7 +15,7 @@ use Rattle.rss_store.proofs.opening.store_of.Goals as goal
 pub returns-in-Err-clause-refused : goal.returns-in-Err-clause-refused
 returns-in-Err-clause-refused g c =
     let back = ap (λ (d : _). (g.D.Device.view d).disk.contents) (sym c.in_ok-pages.ensures.device) in
-    let reads = c.look_through.ensures.did.looks.unwritten (fresh_unchanged c.in_ok-pages.ensures.fresh (saveable_by c.in_ok-pages.pages.holds)) in
+    let reads = c.look_through.ensures.did.1.looks.unwritten (fresh_unchanged c.in_ok-pages.ensures.fresh (saveable_by c.in_ok-pages.pages.holds)) in
     subst (λ (fault : OpenFault). IsHandedBack (g.D.Device.view c.args.device) (g.D.Device.view c.into_device.result) fault) (sym c.from.ensures)
     (subst (λ (d : _). IsHandedBack (g.D.Device.view d) (g.D.Device.view c.into_device.result) (open_error c.in-Err.fault)) c.in_ok-pages.ensures.device
     (subst (λ (d : _). IsHandedBack (g.D.Device.view (device_of c.in_ok-pages.pages)) (g.D.Device.view d) (open_error c.in-Err.fault)) (sym c.into_device.ensures)
@@ -24,8 +24,8 @@ returns-in-Err-clause-refused g c =
     (λ place is pages told. lacks_tables c.requires.layout (saveable_by c.in_ok-pages.pages.holds) c.in_ok-pages.ensures.fresh (λ read key. holds_by (buffer_view c.in_ok-pages.pages) key)
     (λ p read. c.requires.holds p (back ∙ read)) (λ p read. c.in_ok-pages.ensures.held p (back ∙ read))
     (record { pages = pages; is = told }) ((c.in-Err.ensures.none place (ap Err is)).none (record { pages = pages; is = told })))
-    (λ place is room. (c.in-Err.ensures.none place (ap Err is)).elsewhere room))
-    (λ failed. c.in-Err.ensures.did.failed (ap Err (fault_device c.in-Err.fault failed)))
+    (λ place is pages told. (c.in-Err.ensures.none place (ap Err is)).elsewhere (record { pages = pages; is = told })))
+    (λ failed. c.in-Err.ensures.did.1.failed (ap Err (fault_device c.in-Err.fault failed)))
     (record { contents = reads.contents; moments = reads.moments; same_writes = reads.same_writes; later = reads.later }))))
 
 -- ---- they spell tables
@@ -37,5 +37,5 @@ returns-clause-read g c =
     subst (λ (b : _). ReadsFrom (g.D.Device.view c.args.device) (record { pages = pages_view (buffer_view b); catalog = c.in-Ok.catalog; log = c.args.layout.log; root = c.args.layout.root; number = c.args.layout.number })) (sym c.new-2.ensures)
     (subst (λ (d : _). ReadsFrom (g.D.Device.view d) (record { pages = pages_view (buffer_view c.look_through.new.pages); catalog = c.in-Ok.catalog; log = c.args.layout.log; root = c.args.layout.root; number = c.args.layout.number })) c.in_ok-pages.ensures.device
     (reads_from c.requires.layout (saveable_by c.in_ok-pages.pages.holds) c.in_ok-pages.ensures.fresh (λ read key. holds_by (buffer_view c.in_ok-pages.pages) key)
-    (λ p read. c.requires.holds p (back ∙ read)) (λ p read. c.in_ok-pages.ensures.held p (back ∙ read)) c.in-Ok.ensures.did c.in-Ok.ensures.finds
+    (λ p read. c.requires.holds p (back ∙ read)) (λ p read. c.in_ok-pages.ensures.held p (back ∙ read)) c.in-Ok.ensures.did.1 c.in-Ok.ensures.finds
     (counted_by c.look_through.new.pages.holds) c.requires.log (λ p read. c.requires.bytes p (back ∙ read)) _))
