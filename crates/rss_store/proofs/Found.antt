@@ -36,7 +36,7 @@ use Rattle.rss_model.specs.Fits.{HasContent, IsTupleOf, IsLive, IsIdentifier, Fi
 use Rattle.rss_model.specs.Images.{HasKey, KeysFit}
 use Rattle.rss_model.specs.Chains.{LinksFit}
 use Rattle.rss_model.proofs.Plain.{plain_links}
-use Rattle.rss_model.specs.Store.{IsStorePage, IsTupleItem, IsListedImage, AreCounts, Defines, SpellsContents, SpellsImages, SpellsTables, image_definition, plain_body as body_of}
+use Rattle.rss_model.specs.Store.{IsStorePage, IsTupleItem, IsListedImage, AreCounts, AreNodesWithin, Defines, SpellsContents, SpellsImages, SpellsTables, image_definition, plain_body as body_of}
 use Rattle.rss_model.proofs.PlainStores.{spelled_contents, contents_spelled, PlainBody as IsTupleBody}
 use Rattle.rss_model.proofs.Codes.{item_total, item_apart, name_total, name_apart}
 use Rattle.rss_model.proofs.Contents.{not_tied}
@@ -52,7 +52,7 @@ use Rattle.rss_access.specs.Checking.{ShowsTuples}
 use Rattle.rss_access.proofs.Looking.{single}
 use Rattle.rss_access.proofs.NodesReached.{all_within}
 use Rattle.rss_store.specs.Checks.{count_of, IsSegmentOf, AreSound, ChecksImages}
-use Rattle.rss_store.specs.Looks.{HoldsTables, HoldsNone, AreNodesBelow}
+use Rattle.rss_store.specs.Looks.{HoldsTables, HoldsNone}
 use Rattle.rss_store.proofs.Empties.{entry_none, linked_none}
 use Rattle.rss_store.proofs.Made.{definitions_of, listing_defines, listing_fits}
 use Rattle.rss_model.proofs.ListedOnce.{listing_once}
@@ -325,7 +325,7 @@ module _ (at : AccessView) (small : at.pages.slots < 4294967296) (fits : Listing
     images = found_images;
   }
 
-  found_nodes : AreNodesBelow at.pages.slots at.pages.held at.catalog.listing
+  found_nodes : AreNodesWithin at.pages.slots at.pages.held at.catalog.listing
   found_nodes = all_within (λ key there. low_number key.space (allowed key there).number) fits found_images
       (λ number image relation listed. let one = found_sound.each number image relation listed in record { pages = one.pages; spells = one.spells; within = one.within })
     where
@@ -446,7 +446,7 @@ module _ {at : AccessView} {tables : Tables} (spells : SpellsTables at.pages.hel
     tids = fit.tids;
   }
 
-  pub sound_spelled : AreNodesBelow at.pages.slots at.pages.held at.catalog.listing → AreSound at tables
+  pub sound_spelled : AreNodesWithin at.pages.slots at.pages.held at.catalog.listing → AreSound at tables
   sound_spelled below = record {
     each = λ number image relation listed.
         let one = spells.images.each number image relation listed in
@@ -462,7 +462,7 @@ module _ {at : AccessView} {tables : Tables} (spells : SpellsTables at.pages.hel
 -- ---- pages of no tables
 
 -- The pages of a listing's system space spell tables by no other listing.
-pub none_by : (held : Held) (slots : ℕ) (listing : Listing) → ListingFits listing → HoldsListing held listing → ((tables : Tables) → SpellsTables held listing tables → AreNodesBelow slots held listing → Fits slots tables → ⊥) → HoldsNone held slots
+pub none_by : (held : Held) (slots : ℕ) (listing : Listing) → ListingFits listing → HoldsListing held listing → ((tables : Tables) → SpellsTables held listing tables → AreNodesWithin slots held listing → Fits slots tables → ⊥) → HoldsNone held slots
 none_by held slots listing fits system none other tables there spells below fit =
     let same = listing_once held spells.listed fits there system in
-    none tables (subst (λ (l : Listing). SpellsTables held l tables) same spells) (subst (AreNodesBelow slots held) same below) fit
+    none tables (subst (λ (l : Listing). SpellsTables held l tables) same spells) (subst (AreNodesWithin slots held) same below) fit

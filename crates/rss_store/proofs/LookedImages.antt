@@ -5,13 +5,12 @@ use Rattle.std.proofs.lemmas.Bool.{cases_eq, cases_lt}
 use Rattle.std.proofs.lemmas.List.{length-map, get_or_default}
 use Rattle.std.proofs.lemmas.Option.{none-some}
 use Rattle.rss_base.specs.DiskRule.{IsTold}
-use Rattle.rss_base.specs.Devices.{OnlyReads}
 use Rattle.rss_base.specs.Nodes.{IsNodePage}
 use Rattle.rss_base.specs.PageMap.{IsKey, IsSegmentOf, number_limit}
 use Rattle.rss_base.specs.Paged.{Held, Mapped, page_key, mapped_of}
 use Rattle.rss_base.specs.Sizes.{segments}
-use Rattle.rss_base.specs.Steps.{PagesView, PagesStep, NoneChanged, no_page, device_below}
-use Rattle.rss_base.specs.Looking.{LooksStep, ChecksPages}
+use Rattle.rss_base.specs.Steps.{PagesView, no_page}
+use Rattle.rss_base.specs.Looking.{ChecksPages}
 use Rattle.rss_base.specs.Listings.{Listing, AreDifferent, numbered, names_of, image_at}
 use Rattle.rss_base.specs.declared.image.ImageEntry.{ImageEntry}
 use Rattle.rss_base.specs.declared.relation.RelationEntry.{RelationEntry}
@@ -279,10 +278,6 @@ module _ (at : AccessView) (tables : Tables) where
 
 -- ---- one image after another
 
--- TEMP: a field of PagesStep in rss_base is to say so
-unwritten : {most : ℕ} {old new : PagesView} → PagesStep no_page most most old new → NoneChanged old → OnlyReads (device_below old) (device_below new)
-unwritten step none = ?
-
 checked_pages : {T : Type 0} {old new : PagesView} {result : Result T PageFault} (did : LooksAt old new result) → ChecksPages no_page did.most old new result
 checked_pages did = record {
   looks = record {
@@ -290,7 +285,7 @@ checked_pages did = record {
     mapped = all_mapped did.step;
     held = λ told. all_held did.step told;
     changed = none_changed_more did.step;
-    unwritten = unwritten did.step;
+    unwritten = did.step.unwritten (λ key none. none);
   };
   failed = did.failed;
 }

@@ -9,7 +9,7 @@ use Rattle.rss_base.specs.declared.fault.PageFault.{PageFault}
 use Rattle.rss_base.specs.Devices.{OnlyReads}
 use Rattle.rss_base.specs.DiskRule.{Pages, page, Told, IsTold, SameOff}
 use Rattle.rss_base.specs.Layout.{map_at, slots_at}
-use Rattle.rss_base.specs.Listings.{Listing, HoldsListing}
+use Rattle.rss_base.specs.Listings.{HoldsListing}
 use Rattle.rss_base.specs.Looking.{ChecksPages}
 use Rattle.rss_base.specs.PageMap.{owner_of, IsMap, page_count}
 use Rattle.rss_base.specs.Paged.{Mapped, Held, Fixed, Backing, HasFixed, page_key, mapped_pages}
@@ -28,7 +28,7 @@ use Rattle.rss_model.proofs.ListedOnce.{listing_once}
 use Rattle.rss_model.proofs.Stores.{one_root, one_map}
 use Rattle.rss_access.specs.Changes.{both, HasTables as SomeTables}
 use Rattle.rss_store.specs.Stores.{StoreView, IsReady, IsSaved}
-use Rattle.rss_store.specs.Looks.{AreNodesBelow, HoldsTables as PagesHoldTables, HoldsNone, FindsTables}
+use Rattle.rss_store.specs.Looks.{HoldsTables as PagesHoldTables, HoldsNone, FindsTables}
 use Rattle.rss_store.specs.Opening.{IsLayout, HasLayout, IsLogRead, HasLogBytes, IsReadFrom, IsNoStore, IsFreeSlot, HasTables, ReadsFrom}
 use Rattle.rss_store.proofs.Places.{held_slots, store_fixed}
 
@@ -69,13 +69,6 @@ room_tested n m pages slots same size =
 
 -- ---- tables
 
--- TEMP: AreNodesWithin of rss_model is to say the same as AreNodesBelow; then both of these go
-below_of : {slots : ℕ} {held : Held} {listing : Listing} → AreNodesWithin slots held listing → AreNodesBelow slots held listing
-below_of nodes = ?
-
-of_below : {slots : ℕ} {held : Held} {listing : Listing} → AreNodesBelow slots held listing → AreNodesWithin slots held listing
-of_below nodes number image relation listed page node at = tt
-
 -- the tables that pages hold can be told of
 tables_read : {slots : ℕ} {held : Held} {new : PagesView} {catalog : CatalogView} → PagesHoldTables held slots catalog.listing → new.held ≡ held → new.slots ≡ slots → SomeTables (both new catalog)
 tables_read {slots = slots} {held = held} {new = new} {catalog = catalog} has same_held same_slots = record {
@@ -84,7 +77,7 @@ tables_read {slots = slots} {held = held} {new = new} {catalog = catalog} has sa
   tuples = has.fit.tuples;
   tids = λ relation tid lives. subst (λ (n : ℕ). IsIdentifier n tid) (sym same_slots) (has.fit.tids relation tid lives);
   few = has.fit.few;
-  nodes = of_below (subst (λ (n : ℕ). AreNodesBelow n new.held catalog.listing) (sym same_slots) (subst (λ (h : Held). AreNodesBelow slots h catalog.listing) (sym same_held) has.nodes));
+  nodes = subst (λ (n : ℕ). AreNodesWithin n new.held catalog.listing) (sym same_slots) (subst (λ (h : Held). AreNodesWithin slots h catalog.listing) (sym same_held) has.nodes);
 }
 
 -- ---- a store of these pages has the root and the map that were read
@@ -145,7 +138,7 @@ module _ {root : Root} {number frames writes : ℕ} {owners : List (Option PageK
         let is = store_here told stored store in
         none stored.listing stored.saved (listing_here told stored store)
         (subst (λ (h : Held). SpellsTables h stored.listing stored.saved) (slots_hold told) is.spells)
-        (subst (λ (n : ℕ). AreNodesBelow n old.held stored.listing) (sym size_is) (subst (λ (h : Held). AreNodesBelow root.slots h stored.listing) (slots_hold told) (below_of is.nodes)))
+        (subst (λ (n : ℕ). AreNodesWithin n old.held stored.listing) (sym size_is) (subst (λ (h : Held). AreNodesWithin root.slots h stored.listing) (slots_hold told) is.nodes))
         (subst (λ (n : ℕ). Fits n stored.saved) (sym size_is) is.fit)
 
     module _ {T : Type 0} {noted : Keys} {asks : ℕ} {catalog : CatalogView} {new : PagesView} {result : Result T PageFault} {log : LogView} (did : ChecksPages noted asks old new result) (finds : FindsTables old new catalog) (counted : AreCounted new) (read : IsLogRead root log) (bytes : Told old.disk (λ pages. HasLogBytes pages root log)) where

@@ -1,13 +1,9 @@
 -- What a look through the pages of a store finds.
-use Rattle.std.specs.Prelude.{◌≡◌, ℕ, ◌<◌, true, is_some, All}
+use Rattle.std.specs.Prelude.{◌≡◌, ℕ, true, is_some}
 use Rattle.rss_base.specs.DiskRule.{IsTold}
 use Rattle.rss_base.specs.Paged.{Held}
 use Rattle.rss_base.specs.Steps.{PagesView}
-use Rattle.rss_base.specs.Nodes.{Node}
-use Rattle.rss_base.specs.Trees.{IsNodeAt}
 use Rattle.rss_base.specs.Listings.{Listing, HoldsListing, segment_at}
-use Rattle.rss_base.specs.declared.image.ImageEntry.{ImageEntry}
-use Rattle.rss_base.specs.declared.relation.RelationEntry.{RelationEntry}
 use Rattle.rss_base.specs.declared.key.PageKey.{PageKey}
 use Rattle.rss_base.specs.declared.place.Place.{Place}
 use Rattle.rss_base.specs.declared.place.Place.TheVariants.{Room}
@@ -16,31 +12,23 @@ use Rattle.rss_tuple.specs.Checked.{AreNoted}
 use Rattle.rss_catalog.specs.Catalogs.{CatalogView, Loads}
 use Rattle.rss_model.specs.Tables.{Tables}
 use Rattle.rss_model.specs.Fits.{Fits}
-use Rattle.rss_model.specs.Store.{IsListedImage, IsStorePage, SpellsTables, nodes_of}
+use Rattle.rss_model.specs.Store.{IsStorePage, SpellsTables, AreNodesWithin}
 
 -- ---- what the pages hold
-
--- TEMP: the form that AreNodesWithin of rss_model is to have; it goes once it has that
-abbrev pub AreNodesBelow : ℕ → Held → Listing → Type 0
-AreNodesBelow slots held listing =
-    (number : ℕ) (image : ImageEntry) (relation : RelationEntry)
-    → IsListedImage listing number image relation
-    → (page : ℕ) (node : Node) → IsNodeAt held (nodes_of number image relation) page node
-    → All (λ entry. entry.tid.page < slots) node.entries
 
 -- the pages spell tables that fit, whose definitions are listed so
 pub record HoldsTables (held : Held) (slots : ℕ) (listing : Listing) : Type 0 where
   pub tables : Tables
   pub system : HoldsListing held listing
   pub spells : SpellsTables held listing tables
-  pub nodes : AreNodesBelow slots held listing
+  pub nodes : AreNodesWithin slots held listing
   pub fit : Fits slots tables
 
 -- they spell no tables that fit, or identifiers in nodes of images are none of the store
 abbrev pub HoldsNone : Held → ℕ → Type 0
 HoldsNone held slots =
     (listing : Listing) (tables : Tables) → HoldsListing held listing
-    → SpellsTables held listing tables → AreNodesBelow slots held listing → Fits slots tables → ⊥
+    → SpellsTables held listing tables → AreNodesWithin slots held listing → Fits slots tables → ⊥
 
 -- the pages of each segment that is listed are those of a tuple store, and the note on each is its room
 abbrev pub AreAllNoted : Listing → PagesView → Type 0
