@@ -104,15 +104,6 @@ const NOT_SEGMENT_2: Ending = Ending::Damaged(
     b"damaged page 2 home 0\n",
 );
 
-const NOT_IMAGE_0: Ending = Ending::Damaged(
-    Place::Page(PageKey {
-        segment: 1,
-        space: Space::Image,
-        number: 0,
-    }),
-    b"damaged page 1 image 0\n",
-);
-
 const NOT_OVERFLOW_0: Ending = Ending::Damaged(
     Place::Page(PageKey {
         segment: 1,
@@ -204,7 +195,7 @@ static TURNED: [(usize, usize, u8, Ending); 82] = [
     (MAP_1, 23, 1, NOT_SLOT_3),
     (MAP_1, 15, 1, NOT_HOME_1),
     (MAP_1, 9, 3, NOT_SEGMENT_2),
-    (MAP_1, 8, 2, NOT_IMAGE_0),
+    (MAP_1, 8, 2, NOT_COUNT_1),
     (MAP_1, 8, 3, NOT_OVERFLOW_0),
     (MAP_1, 512, 1, NOT_SLOT_64),
     // The segments: the name of the first, which may be another one, or none; a second one, which may

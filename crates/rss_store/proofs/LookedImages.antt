@@ -179,8 +179,7 @@ module _ (at : AccessView) (tables : Tables) where
 
     new_own : (key : PageKey) → In key (keys_of relation sound.pages) → (key.space ≡ ImageSpace) × ((of : IsReached at.pages.held at.catalog.listing tables key) × (of.number ≡ most + 1))
     new_own key is =
-        let page = page_of_key relation sound.pages key is in
-        (
+        let page = page_of_key relation sound.pages key is in (
           sym (ap (λ (k : PageKey). k.space) page.1),
           (
             record {

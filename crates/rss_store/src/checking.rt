@@ -46,10 +46,7 @@ pub fn pages_in(table: &SlotTable) -> u32
 
 /// The catalog of the pages, which are looked through. What is found of the room on each page is
 /// noted there.
-pub fn look_through<P: Pages>(
-    alloc: Global,
-    tuples: &mut Store<P>,
-) -> Result<Catalog, PageFault>
+pub fn look_through<P: Pages>(alloc: Global, tuples: &mut Store<P>) -> Result<Catalog, PageFault>
     ensures finds { IfOk result
         (FindsTables (P.view tuples.old.pages) (P.view tuples.new.pages)) }
     ensures none { (place : AnyPlace) → result ≡ Err (PageDamaged place)
