@@ -175,7 +175,7 @@ module _ {root : Root} {number frames writes : ℕ} {owners : List (Option PageK
         settled_now = did.looks.step.passes.leaves.stays_settled fresh.settled;
         no_links = finds.loaded.fits.no_links;
         heaps = λ told. finds.heaps (did.looks.step.passes.leaves.told.1 told);
-        tables = λ told image. ∣ tables_read (finds.holds (did.looks.step.passes.leaves.told.1 told)) (did.looks.held (did.looks.step.passes.leaves.told.1 told)) did.looks.step.passes.slots ∣₁;
+        tables = λ told. ∣ tables_read (finds.holds (did.looks.step.passes.leaves.told.1 told)) (did.looks.held (did.looks.step.passes.leaves.told.1 told)) did.looks.step.passes.slots ∣₁;
       }
 
       read_saved : IsSaved read_view
