@@ -20,6 +20,9 @@ pub mod Rooted
 pub mod ImageMoves
 pub mod Looking
 pub mod Built
+pub mod ImageTouched
+pub mod ImageTables
+pub mod ImageGone
 mod NextTuples
 mod Walked
 mod AsMany
