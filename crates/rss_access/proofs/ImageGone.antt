@@ -1,15 +1,15 @@
 -- The tree of an image was given, and the image isn't listed any longer: the pages spell the tables without it.
-use Rattle.std.proofs.Common.{◌≡◌, ◌≢◌, ◌+◌, ◌-◌, ◌<◌, ◌≤◌, inl, inr, ⊎_elim, ℕ, Bool, List, length, refl, sym, ◌∙◌, ap, subst, arith}
+use Rattle.std.proofs.Common.{◌≡◌, ◌≢◌, ◌<◌, ◌≤◌, inl, inr, ⊎_elim, ℕ, List, length, refl, sym, ◌∙◌, ap, subst, arith}
 use Rattle.std.specs.Prelude.{Option, Some, None, All}
 use Rattle.std.specs.FinMap as map
 use Rattle.std.proofs.lemmas.Option.{none-some}
 use Rattle.rss_base.specs.DiskRule.{IsTold}
 use Rattle.rss_base.specs.Nodes.{Node}
 use Rattle.rss_base.specs.Paged.{mapped_of, page_key}
-use Rattle.rss_base.specs.Sizes.{images_most, system_pages}
-use Rattle.rss_base.specs.Steps.{PagesView, PagesStep, pages_in}
+use Rattle.rss_base.specs.Sizes.{system_pages}
+use Rattle.rss_base.specs.Steps.{PagesStep, pages_in}
 use Rattle.rss_base.specs.Trees.{IsNodeAt}
-use Rattle.rss_base.specs.Listings.{Listing, ListingFits, image_at, relation_at, with_image}
+use Rattle.rss_base.specs.Listings.{Listing, ListingFits, image_at, relation_at}
 use Rattle.rss_base.specs.declared.key.Space.TheVariants.{Image as ImageSpace}
 use Rattle.rss_base.specs.declared.image.ImageEntry.{ImageEntry}
 use Rattle.rss_base.specs.declared.relation.RelationEntry.{RelationEntry}
@@ -17,7 +17,6 @@ use Rattle.rss_levels.specs.Entries.{IsIn}
 use Rattle.rss_levels.proofs.Pages.{in_or_not}
 use Rattle.rss_image.specs.Emptied.{Gives}
 use Rattle.rss_image.specs.Images.{DestroysImage, nodes_of as image_nodes, pages_of}
-use Rattle.rss_image.specs.declared.image.Image.{Image}
 use Rattle.rss_model.specs.Tables.{Tables}
 use Rattle.rss_model.specs.Defining.{with_definitions}
 use Rattle.rss_model.specs.Store.{AreNodesWithin, IsListedImage, SpellsImage, SpellsTables, nodes_of}

@@ -1,6 +1,6 @@
 -- An image was listed, and its tree built of the entries of its relation's tuples: the pages spell the tables with it.
 use Rattle.std.proofs.Common.{◌≡◌, ◌≢◌, ◌+◌, ◌-◌, ◌<◌, ◌≤◌, ◌⊎◌, inl, inr, ⊎_elim, ℕ, true, Bool, List, [], ◌∷◌, length, get_or, refl, sym, ◌∙◌, ap, subst, arith}
-use Rattle.std.specs.Prelude.{Option, Some, None, All, is_some, map as list_map, slice_set}
+use Rattle.std.specs.Prelude.{Option, Some, None, All, is_some, slice_set}
 use Rattle.std.specs.FinMap as map
 use Rattle.std.proofs.lemmas.List.{set-set}
 use Rattle.std.proofs.lemmas.Option.{none-some, same_Some}
@@ -8,7 +8,7 @@ use Rattle.rss_base.specs.DiskRule.{IsTold}
 use Rattle.rss_base.specs.Nodes.{Node}
 use Rattle.rss_base.specs.Paged.{Held, mapped_of, page_key}
 use Rattle.rss_base.specs.Sizes.{images_most, system_pages}
-use Rattle.rss_base.specs.Steps.{PagesView, PagesStep, pages_in}
+use Rattle.rss_base.specs.Steps.{PagesView, PagesStep, no_page, pages_in}
 use Rattle.rss_base.specs.Trees.{IsNodeAt}
 use Rattle.rss_base.specs.TupleTypes.{kinds, chosen, key_bytes}
 use Rattle.rss_base.specs.Listings.{Listing, ListingFits, ImageFits, field_numbers, image_at, relation_at, with_image, with_root}
@@ -18,6 +18,7 @@ use Rattle.rss_base.specs.declared.refusal.Kind.TheVariants.{Image as ImageKind}
 use Rattle.rss_base.specs.declared.relation.RelationEntry.{RelationEntry}
 use Rattle.rss_base.specs.declared.tid.Tid.{Tid}
 use Rattle.rss_base.specs.declared.value.FieldKind.{FieldKind}
+use Rattle.rss_base.proofs.Steps.{all_held}
 use Rattle.rss_value.specs.Numbers.{IsNumberOf}
 use Rattle.rss_levels.specs.Entries.{Each, IsIn}
 use Rattle.rss_node.specs.Nodes.{AreNodes}
@@ -27,39 +28,39 @@ use Rattle.rss_image.proofs.Halves.{many}
 use Rattle.rss_image.proofs.Kept.{page_pair}
 use Rattle.rss_image.proofs.Laid.{zeros_page}
 use Rattle.rss_image.proofs.Putting.{few_pages, spell_one}
+use Rattle.rss_tuple.specs.Directory.{bodies_of}
 use Rattle.rss_catalog.specs.Catalogs.{CatalogView, Lists, page_of}
 use Rattle.rss_model.specs.Tables.{Tables}
 use Rattle.rss_model.specs.Defining.{with_definitions, with_image as with_image_def}
-use Rattle.rss_model.specs.Store.{AreNodesWithin, IsListedImage, IsReached, SpellsTables, image_definition, nodes_of}
+use Rattle.rss_model.specs.Store.{AreNodesWithin, IsListedImage, IsReached, SpellsContents, SpellsTables, image_definition, nodes_of}
 use Rattle.rss_model.proofs.ImageMade.{HoldsNewImage, image_made_spells}
 use Rattle.rss_model.proofs.LogLists.{by_same}
 use Rattle.rss_model.proofs.Relisted.{number_set, number_kept}
 use Rattle.rss_entries.specs.Building.{pair_list}
 use Rattle.rss_entries.specs.Images.{image_of}
 use Rattle.rss_entries.specs.Rooms.{width_of}
-use Rattle.rss_entries.specs.Seeking.{kept_pair}
 use Rattle.rss_entries.proofs.Entries.{length-key}
 use Rattle.rss_entries.proofs.Fitting.{fitting_nodes}
 use Rattle.rss_entries.proofs.Kept.{HoldsNode, image_node}
-use Rattle.rss_entries.proofs.NewImage.{HaveSpelledTids, TouchesImages, holds_new_image, segment_kept, others_counted, new_image_counted}
+use Rattle.rss_entries.proofs.NewImage.{HaveSpelledTids, TouchesImages, holds_new_image, segment_kept, new_image_counted}
 use Rattle.rss_entries.proofs.Orders.{each_of_in}
 use Rattle.rss_entries.proofs.Showing.{same_entry, at_same}
 use Rattle.rss_entries.proofs.Shown.{Shows, IsSpelledTuple, byte_list, key_fits, pair_is, tuple_pair}
-use Rattle.rss_entries.proofs.Standing.{AreLow, IsRowed, contained, low_cells, rowed}
+use Rattle.rss_entries.proofs.Standing.{IsRowed, contained, low_cells, rowed}
 use Rattle.rss_access.specs.Changes.{AccessView, CanAlter, HasTables, both}
 use Rattle.rss_access.specs.Checking.{ShowsTuples}
 use Rattle.rss_access.specs.Filling.{AreEntries}
 use Rattle.rss_access.specs.Trees.{BuildsTree, FillsImage}
 use Rattle.rss_access.specs.Written.{AreWritten, heap_now}
 use Rattle.rss_access.proofs.Checked.{all_spelled}
-use Rattle.rss_access.proofs.ImageTouched.{AreLawful, are_low, touches, heap_stays, system_stays, one_owner, written_beside, tuples_shown, tables_imaged, can_imaged}
+use Rattle.rss_access.proofs.ImageTouched.{AreLawful, are_low, touches, heap_stays, system_stays, one_owner, written_beside, spelled_shown, tables_imaged, can_imaged}
 use Rattle.rss_access.proofs.NodesWithin.{nodes_below}
 use Rattle.rss_access.proofs.RelationEntries.{shown, kept_bytes}
 
 -- ---- what was done
 
 -- The catalog listed the entry by a number that had none, and its tree was built of these pairs, in image pages of its relation's segment.
-pub record Filled (old new : AccessView) (listed : CatalogView) (number : ℕ) (entry : ImageEntry) (relation : RelationEntry) (pairs : List (List ℕ)) : Type 0 where
+pub record Filled (old : AccessView) (listed : CatalogView) (new : AccessView) (number : ℕ) (entry : ImageEntry) (relation : RelationEntry) (pairs : List (List ℕ)) : Type 0 where
   pub free : image_at old.catalog.listing number ≡ None
   pub low : 1 ≤ number
   pub high : number ≤ images_most
@@ -77,7 +78,7 @@ pub record Filled (old new : AccessView) (listed : CatalogView) (number : ℕ) (
 abbrev pub AreBytes : AccessView → ImageEntry → RelationEntry → List (List ℕ) → Type 0
 AreBytes at entry relation pairs = (tables : Tables) → ShowsTuples at tables → pairs ≡ byte_list tables entry relation
 
-module _ {old new : AccessView} {listed : CatalogView} {number : ℕ} {entry : ImageEntry} {relation : RelationEntry} {pairs : List (List ℕ)} (filled : Filled old new listed number entry relation pairs) where
+module _ {old : AccessView} {listed : CatalogView} {new : AccessView} {number : ℕ} {entry : ImageEntry} {relation : RelationEntry} {pairs : List (List ℕ)} (filled : Filled old listed new number entry relation pairs) where
   -- the entry that is listed then
   abbrev pub entry_now : ImageEntry
   entry_now = with_root filled.fills.root filled.fills.levels entry
@@ -263,17 +264,39 @@ module _ {old new : AccessView} {listed : CatalogView} {number : ℕ} {entry : I
 
   -- ---- where pages spell tables
 
-  -- They spell some with the image.
-  pub filled_tables : IsTold old.pages.disk → AreBytes old entry relation pairs → HasTables old → HasTables new
-  filled_tables told bytes has =
-      let shows = tuples_shown has in
-      let tids : HaveSpelledTids has.tables = all_spelled filled.before.small shows in
-      let are : pairs ≡ byte_list has.tables entry relation = bytes has.tables shows in
-      let good : Each (λ p. has_page (width_of entry relation) new.pages.slots p ≡ true) pairs =
-      subst (λ (ps : List (List ℕ)). Each (λ p. has_page (width_of entry relation) new.pages.slots p ≡ true) ps) (sym are)
-      (subst (λ (slots : ℕ). Each (λ p. has_page (width_of entry relation) slots p ≡ true) (byte_list has.tables entry relation)) (sym filled.step.passes.slots) (bytes_good shows)) in
-      tables_imaged (map.insert has.tables.definitions.images entry.name (image_definition entry relation)) filled.step.passes.slots has (filled_spells told has.spells tids are) (filled_nodes told has.spells tids are good has.nodes)
+  module _ (told : IsTold old.pages.disk) (bytes : AreBytes old entry relation pairs) where
+    -- from each such tables they come to spell those with the image
+    pub filled_shows : {tables : Tables} → SpellsTables old.pages.held old.catalog.listing tables → ShowsTuples old tables
+        → SpellsTables new.pages.held new.catalog.listing (with_definitions (with_image_def tables.definitions entry.name (image_definition entry relation)) tables)
+    filled_shows {tables = tables} spells shows = filled_spells told spells (all_spelled filled.before.small shows) (bytes tables shows)
+
+    pairs_good : {tables : Tables} → ShowsTuples old tables → Each (λ p. has_page (width_of entry relation) new.pages.slots p ≡ true) pairs
+    pairs_good {tables = tables} shows =
+        subst (λ (ps : List (List ℕ)). Each (λ p. has_page (width_of entry relation) new.pages.slots p ≡ true) ps) (sym (bytes tables shows))
+        (subst (λ (slots : ℕ). Each (λ p. has_page (width_of entry relation) slots p ≡ true) (byte_list tables entry relation)) (sym filled.step.passes.slots) (bytes_good shows))
+
+    -- so there are such
+    pub filled_tables : HasTables old → HasTables new
+    filled_tables has =
+        let shows : ShowsTuples old has.tables = spelled_shown has.spells has.tuples has.tids in
+        tables_imaged (map.insert has.tables.definitions.images entry.name (image_definition entry relation)) filled.step.passes.slots has (filled_shows has.spells shows)
+        (filled_nodes told has.spells (all_spelled filled.before.small shows) (bytes has.tables shows) (pairs_good shows) has.nodes)
 
   -- The pages may be changed on.
   pub filled_can : (IsTold old.pages.disk → AreBytes old entry relation pairs) → CanAlter old → CanAlter new
   filled_can bytes can = can_imaged filled.step (λ told. filled_tables told (bytes told)) can
+
+-- ---- entries that were gathered
+
+-- after a search they are those that they were
+pub entries_still : {asks outs : ℕ} {old new : PagesView} (catalog : CatalogView) (number : ℕ) (relation : RelationEntry) (which : List ℕ) (entries : List (List ℕ × Tid)) → PagesStep no_page asks outs old new → IsTold old.disk → AreEntries (both old catalog) number relation which entries → AreEntries (both new catalog) number relation which entries
+entries_still {old = old} {new = new} catalog number relation which entries step told are tables other shows = are tables other (record {
+  listed = shows.listed;
+  defines = shows.defines;
+  counts = shows.counts;
+  contents = subst (λ (h : Held). SpellsContents catalog.listing (bodies_of h) tables.contents) (all_held step told) shows.contents;
+  tuples = shows.tuples;
+  tids = λ name tid live.
+      let id = shows.tids name tid live in
+      record { page = omega (arith, id.page, step.passes.slots); slot = id.slot };
+})

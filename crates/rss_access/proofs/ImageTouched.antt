@@ -14,6 +14,8 @@ use Rattle.rss_base.specs.Sizes.{images_most, system_pages}
 use Rattle.rss_base.specs.Steps.{PagesView, PagesStep, AreCounted, pages_in}
 use Rattle.rss_base.specs.Trees.{IsNodeAt}
 use Rattle.rss_base.specs.Listings.{Listing, with_image, catalog_page, relation_spelled, relations_on, image_spelled, images_on, link_spelled, padded}
+use Rattle.rss_base.specs.declared.name.Name.{Name}
+use Rattle.rss_base.specs.declared.tid.Tid.{Tid}
 use Rattle.rss_base.specs.declared.key.PageKey.{PageKey}
 use Rattle.rss_base.specs.declared.key.Space.TheVariants.{System, Home, Overflow, Image as ImageSpace}
 use Rattle.rss_base.specs.declared.image.ImageEntry.{ImageEntry}
@@ -22,9 +24,11 @@ use Rattle.rss_page.specs.Slotted.{IsHeapKey}
 use Rattle.rss_tuple.specs.Heaps.{AreHeaps}
 use Rattle.rss_catalog.specs.Catalogs.{CatalogView, Lists, IsPending, page_of}
 use Rattle.rss_model.specs.Items.{name_cmp}
+use Rattle.rss_model.specs.Fits.{IsLive, IsIdentifier}
 use Rattle.rss_model.specs.Tables.{ImageDef, Tables}
 use Rattle.rss_model.specs.Defining.{with_definitions}
 use Rattle.rss_model.specs.Store.{SpellsTables, AreNodesWithin}
+use Rattle.rss_entries.specs.Images.{AreTuples}
 use Rattle.rss_entries.proofs.Kept.{HoldsNode, one_image}
 use Rattle.rss_entries.proofs.NewImage.{TouchesImages, touches_images, others_counted}
 use Rattle.rss_entries.proofs.Standing.{AreLow, low_held}
@@ -129,15 +133,15 @@ module _ (number : ℕ) (image : Option ImageEntry) {old new : CatalogView} (lis
 
 -- ---- tables
 
--- the tables that pages spell, as a look at the pages of tuples finds them
-pub tuples_shown : {at : AccessView} (has : HasTables at) → ShowsTuples at has.tables
-tuples_shown has = record {
-  listed = has.spells.listed;
-  defines = has.spells.defines;
-  counts = has.spells.counts;
-  contents = has.spells.contents;
-  tuples = has.tuples;
-  tids = has.tids;
+-- the tables that pages spell are shown by the pages of tuples
+pub spelled_shown : {at : AccessView} {tables : Tables} → SpellsTables at.pages.held at.catalog.listing tables → AreTuples tables → ((relation : Name) (tid : Tid) → IsLive tables relation tid → IsIdentifier at.pages.slots tid) → ShowsTuples at tables
+spelled_shown spells tuples tids = record {
+  listed = spells.listed;
+  defines = spells.defines;
+  counts = spells.counts;
+  contents = spells.contents;
+  tuples = tuples;
+  tids = tids;
 }
 
 -- the tables with other images
