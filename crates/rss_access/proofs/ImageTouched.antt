@@ -20,7 +20,6 @@ use Rattle.rss_base.specs.declared.key.PageKey.{PageKey}
 use Rattle.rss_base.specs.declared.key.Space.TheVariants.{System, Home, Overflow, Image as ImageSpace}
 use Rattle.rss_base.specs.declared.image.ImageEntry.{ImageEntry}
 use Rattle.rss_base.specs.declared.refusal.Kind.TheVariants.{Image as ImageKind}
-use Rattle.rss_page.specs.Slotted.{IsHeapKey}
 use Rattle.rss_tuple.specs.Heaps.{AreHeaps}
 use Rattle.rss_catalog.specs.Catalogs.{CatalogView, Lists, IsPending, page_of}
 use Rattle.rss_model.specs.Items.{name_cmp}
@@ -35,6 +34,7 @@ use Rattle.rss_entries.proofs.Standing.{AreLow, low_held}
 use Rattle.rss_access.specs.Changes.{AccessView, CanAlter, HasTables}
 use Rattle.rss_access.specs.Checking.{ShowsTuples}
 use Rattle.rss_access.specs.Written.{AreWritten, heap_now}
+use Rattle.rss_access.proofs.Between.{heap_no_image}
 use Rattle.rss_access.proofs.Heaped.{heaps_alike}
 
 -- ---- pages
@@ -49,11 +49,6 @@ pub record AreLawful (view : PagesView) : Type 0 where
 pub are_low : {view : PagesView} → AreLawful view → IsTold view.disk → AreLow view.held
 are_low {view = view} lawful told = low_held view lawful.small (lawful.holds told) lawful.allowed
 
--- a home or overflow page is none of an image
-off_heap : (key : PageKey) → IsHeapKey key → key.space ≢ ImageSpace
-off_heap key (inl home) image = let not : Home ≡ ImageSpace = sym home ∙ image in absurd (cc)
-off_heap key (inr over) image = let not : Overflow ≡ ImageSpace = sym over ∙ image in absurd (cc)
-
 module _ {segment asks outs : ℕ} {old new : PagesView} (step : PagesStep (pages_in segment ImageSpace) asks outs old new) where
   off_images : (key : PageKey) → key.space ≢ ImageSpace → pages_in segment ImageSpace key → ⊥
   off_images key other touched = other (ap (λ (k : PageKey). k.space) touched)
@@ -65,7 +60,7 @@ module _ {segment asks outs : ℕ} {old new : PagesView} (step : PagesStep (page
   pub heaps_stay : (IsTold old.disk → AreHeaps old) → IsTold new.disk → AreHeaps new
   heaps_stay heaps told =
       let was = step.passes.leaves.told.1 told in
-      heaps_alike (λ key heap. step.held_off was key (off_images key (off_heap key heap))) (λ key heap. step.notes_off key (off_images key (off_heap key heap))) (heaps was)
+      heaps_alike (λ key heap. step.held_off was key (off_images key (heap_no_image key heap))) (λ key heap. step.notes_off key (off_images key (heap_no_image key heap))) (heaps was)
 
   -- and as many
   pub heap_stays : heap_now new ≡ heap_now old
