@@ -1,9 +1,8 @@
 -- Image pages of one segment alone are touched: what that leaves of tuples, of counts and of the catalog's pages.
-use Rattle.std.proofs.Common.{◌≡◌, ◌≢◌, ◌+◌, ◌-◌, ◌/◌, ◌*◌, ◌<◌, ◌≤◌, ◌^◌, ◌⊎◌, inl, inr, ℕ, true, false, Bool, cond, ◌==◌, List, length, take, drop, get_or, refl, sym, ◌∙◌, ap, subst, arith}
-use Rattle.std.specs.Prelude.{Option, Some, is_some, slice_set, flat_map, nat_le}
+use Rattle.std.proofs.Common.{◌≡◌, ◌≢◌, ◌+◌, ◌-◌, ◌<◌, ◌≤◌, ◌^◌, ℕ, true, false, Bool, List, length, get_or, sym, ◌∙◌, ap, subst, arith}
+use Rattle.std.specs.Prelude.{Option, Some, is_some, slice_set}
 use Rattle.std.specs.FinMap as map
-use Rattle.std.proofs.lemmas.Bool.{cases_lt, leb-false}
-use Rattle.std.proofs.lemmas.List.{get_or-set_same, get_or-set_other, take-set-le, drop-set-lt, drop-set-add}
+use Rattle.std.proofs.lemmas.List.{get_or-set_same, get_or-set_other}
 use Rattle.std.proofs.lemmas.Option.{same_Some}
 use Rattle.std.proofs.Math.Logic.{∥∥₁_map}
 use Rattle.rss_base.specs.DiskRule.{IsTold}
@@ -13,7 +12,7 @@ use Rattle.rss_base.specs.Paged.{Held, page_key}
 use Rattle.rss_base.specs.Sizes.{images_most, system_pages}
 use Rattle.rss_base.specs.Steps.{PagesView, PagesStep, AreCounted, pages_in}
 use Rattle.rss_base.specs.Trees.{IsNodeAt}
-use Rattle.rss_base.specs.Listings.{Listing, with_image, catalog_page, relation_spelled, relations_on, image_spelled, images_on, link_spelled, padded}
+use Rattle.rss_base.specs.Listings.{Listing, with_image, catalog_page}
 use Rattle.rss_base.specs.declared.name.Name.{Name}
 use Rattle.rss_base.specs.declared.tid.Tid.{Tid}
 use Rattle.rss_base.specs.declared.key.PageKey.{PageKey}
@@ -36,6 +35,7 @@ use Rattle.rss_access.specs.Checking.{ShowsTuples}
 use Rattle.rss_access.specs.Written.{AreWritten, heap_now}
 use Rattle.rss_access.proofs.Between.{heap_no_image}
 use Rattle.rss_access.proofs.Heaped.{heaps_alike}
+use Rattle.rss_access.proofs.Rooted.{page_same}
 
 -- ---- pages
 
@@ -78,34 +78,6 @@ one_owner {held = held} {of = of} {page = page} same has at =
 
 -- ---- pages of the catalog
 
--- a part of a list that a place is not in
-part_same : {A : Type 0} (from count : ℕ) (list : List A) (i : ℕ) (a : A) → (i < from) ⊎ (from + count ≤ i) → take count (drop from (slice_set list i a)) ≡ take count (drop from list)
-part_same from count list i a (inl before) = ap (take count) (drop-set-lt from list i a before)
-part_same {A = A} from count list i a (inr behind) =
-    let place : from + (i - from) ≡ i = omega (arith, behind) in
-    ap (λ (j : ℕ). take count (drop from (slice_set list j a))) (sym place) ∙ ap (take count) (drop-set-add from list (i - from) a) ∙ take-set-le count (drop from list) (i - from) a (omega (arith, behind))
-
-outside : (i page : ℕ) → 6 < page → page ≢ 7 + i / 64 → (i < 64 * (page - 1 - 6)) ⊎ (64 * (page - 1 - 6) + 64 ≤ i)
-outside i page behind off = elim (cases_lt i (64 * (page - 1 - 6))) [
-  | inl before ↦ inl before
-  | inr from ↦ elim (cases_lt i (64 * (page - 1 - 6) + 64)) [
-    | inl inside ↦ absurd (off (omega (arith, from, inside, behind)))
-    | inr past ↦ inr past
-  ]
-]
-
-either_same : (b : Bool) (one two other : List ℕ) → (b ≡ false → two ≡ other) → cond b one two ≡ cond b one other
-either_same true one two other same = refl
-either_same false one two other same = same refl
-
--- a page that doesn't have an image's place is as it was, whatever is listed there
-pub page_beside : (listing : Listing) (number : ℕ) (image : Option ImageEntry) (page : ℕ) → page ≢ page_of ImageKind number → catalog_page (with_image listing number image) page ≡ catalog_page listing page
-page_beside listing number image page other =
-    ap (padded 4096)
-    (either_same (page == 0) _ _ _ (λ some. either_same (nat_le page 6) (flat_map relation_spelled (relations_on listing page)) _ _ (λ behind.
-    let part : images_on (with_image listing number image) page ≡ images_on listing page = part_same (64 * (page - 1 - 6)) 64 listing.images (number - 1) image (outside (number - 1) page (leb-false page 6 behind) other) in
-    ap (λ (on_page : List (Option ImageEntry)). cond (nat_le page 8) (flat_map image_spelled on_page) (flat_map link_spelled listing.links)) part)))
-
 module _ (number : ℕ) (image : Option ImageEntry) {old new : CatalogView} (lists : Lists (with_image old.listing number image) (page_of ImageKind number) old new) (high : number ≤ images_most) (places : length old.pending ≡ system_pages) where
   abbrev its_page : ℕ
   its_page = page_of ImageKind number
@@ -124,7 +96,7 @@ module _ (number : ℕ) (image : Option ImageEntry) {old new : CatalogView} (lis
   pub written_beside : (was now : Held) → ((page : ℕ) → now (page_key 0 System page) ≡ was (page_key 0 System page)) → AreWritten was old → AreWritten now new
   written_beside was now same written page low not =
       same page ∙ written page low (not_before page not)
-      ∙ ap Some (sym (ap (λ (l : Listing). catalog_page l page) lists.is ∙ page_beside old.listing number image page (not_its page not)))
+      ∙ ap Some (sym (ap (λ (l : Listing). catalog_page l page) lists.is ∙ page_same old.listing number image page (not_its page not)))
 
 -- ---- tables
 

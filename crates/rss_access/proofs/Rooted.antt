@@ -49,7 +49,7 @@ either_same true one two other same = refl
 either_same false one two other same = same refl
 
 -- a page that doesn't have the image's place
-page_same : (listing : Listing) (number : ℕ) (image : Option ImageEntry) (page : ℕ) → page ≢ 7 + (number - 1) / 64 → catalog_page (with_image listing number image) page ≡ catalog_page listing page
+pub page_same : (listing : Listing) (number : ℕ) (image : Option ImageEntry) (page : ℕ) → page ≢ 7 + (number - 1) / 64 → catalog_page (with_image listing number image) page ≡ catalog_page listing page
 page_same listing number image page other =
     ap (padded 4096)
     (either_same (page == 0) _ _ _ (λ some. either_same (nat_le page 6) (flat_map relation_spelled (relations_on listing page)) _ _ (λ behind.

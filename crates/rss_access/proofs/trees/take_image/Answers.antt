@@ -12,7 +12,7 @@ destroy-requires-clause-there g c = λ told.
     let view = g.P.Pages.view c.args.pages.now in
     let few : view.slots < 4294967296 = subst (λ (n : ℕ). n < 4294967296) c.slots-slots.ensures c.slots-slots.type_inv in
     let listed = c.image_of-image.ensures.listed in
-    ∥∥₁_map (c.requires.may.tables told (record { number = c.args.number; image = listed.image; at = listed.at.at })) (λ has.
+    ∥∥₁_map (c.requires.may.tables told) (λ has.
     subst (λ (i : Image). HasImage i view.held) (sym (c.image_of-image.ensures.is listed.image listed.relation listed.at))
     (has_image few (g.met.P.Pages.holds c.args.pages.now told) (g.met.P.Pages.allowed c.args.pages.now) listed.at has))
 
