@@ -40,3 +40,7 @@ pub mod NextUniques
 pub mod Duplicates
 pub mod Starts
 pub mod ImagesShown
+pub mod FilledRooms
+pub mod FilledLists
+pub mod FilledPages
+pub mod FilledStates

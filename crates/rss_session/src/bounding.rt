@@ -77,7 +77,7 @@ impl<S: Saving> Session<S> {
     }
 
     /// Behind a checkpoint.
-    fn saved_most(&self, relation: u8) -> u64
+    pub(crate) fn saved_most(&self, relation: u8) -> u64
         ensures is { result ≡ saved_most (view S.view self.now) relation }
         ensures small { result ≤ 2 ^ 34 - 2 }
     {

@@ -8,6 +8,7 @@ mod changing;
 mod counting;
 mod defining;
 mod ending;
+mod filling;
 mod going_back;
 mod imaging;
 mod looking;

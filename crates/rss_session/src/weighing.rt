@@ -125,7 +125,7 @@ fn owed_for(changes: u64, transactions: u64) -> u64
 
 /// How many slots may be needed, by how many pages the heap had at the last checkpoint, how many
 /// changes survived there, how many were made since then, and how many pages images may have.
-fn room_of(heap: u64, surviving: u64, since: u64, images: u64) -> u64
+pub(crate) fn room_of(heap: u64, surviving: u64, since: u64, images: u64) -> u64
     requires heap { heap < 2 ^ 32 }
     requires surviving { surviving < 2 ^ 32 }
     requires since { since < 2 ^ 32 }
