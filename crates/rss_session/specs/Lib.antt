@@ -12,5 +12,4 @@ pub mod Definitions
 pub mod Imaging
 pub mod Planning
 pub mod Uniques
-pub mod Planning
 pub mod Filling
