@@ -43,4 +43,8 @@ pub mod ImagesShown
 pub mod FilledRooms
 pub mod FilledLists
 pub mod FilledPages
+pub mod Touched
 pub mod FilledStates
+pub mod FilledTables
+pub mod Dropped
+pub mod Searched

@@ -13,3 +13,4 @@ pub mod Imaging
 pub mod Uniques
 pub mod Planning
 pub mod Filling
+pub mod Taking

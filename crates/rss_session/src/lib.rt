@@ -16,6 +16,7 @@ mod opening;
 mod saving;
 mod session;
 mod starting;
+mod taking;
 mod uniques;
 mod weighing;
 
