@@ -39,6 +39,8 @@ pub mod Behind
 pub mod NextUniques
 pub mod Duplicates
 pub mod Starts
+pub mod KeyFields
+pub mod Planned
 pub mod ImagesShown
 pub mod FilledRooms
 pub mod FilledLists

@@ -1,14 +1,17 @@
 -- What an image that is to be made is refused for before any tuple is looked at, and its entry in the catalog.
 use Rattle.std.specs.Prelude.{◌≡◌, ℕ, ◌^◌, ◌<◌, ◌≤◌, ◌||◌, nat_le, Bool, List, [], ◌∷◌, length, Option, Some}
 use Rattle.rss_base.specs.Listings.{Listing, ImageFits, IsUnlisted, AreAllUsed, relation_at, with_root}
+use Rattle.rss_base.specs.TupleTypes.{key_width, most_key_width}
+use Rattle.rss_base.specs.declared.field.FieldDef.{FieldDef}
 use Rattle.rss_base.specs.declared.image.ImageEntry.{ImageEntry}
 use Rattle.rss_base.specs.declared.name.Name.{Name}
 use Rattle.rss_base.specs.declared.refusal.Kind.TheVariants.{Image as ImageKind}
-use Rattle.rss_base.specs.declared.refusal.LimitKind.TheVariants.{Fields as FieldLimit}
+use Rattle.rss_base.specs.declared.refusal.LimitKind.TheVariants.{Fields as FieldLimit, KeyWidth as KeyWidthLimit}
 use Rattle.rss_base.specs.declared.refusal.Refusal.{Refusal}
 use Rattle.rss_base.specs.declared.refusal.Refusal.TheVariants.{Limit, NameTaken}
 use Rattle.rss_base.specs.declared.relation.RelationEntry.{RelationEntry}
 use Rattle.rss_model.specs.Defining.{refused_if, refused_unless, if_any_open, unless_relation, unless_fields, is_image, has_twice, if_images_used_up, unless_narrow, image_def}
+use Rattle.rss_model.specs.Images.{key_kinds}
 use Rattle.rss_model.specs.Machine.{State}
 use Rattle.rss_model.specs.Store.{image_definition}
 
@@ -34,3 +37,8 @@ pub record PlansImage (listing : Listing) (name relation : Name) (is_unique : Bo
       → ImageFits listing (with_root root levels entry)
   pub fresh : IsUnlisted ImageKind listing name
   pub room : AreAllUsed ImageKind listing → ⊥
+
+-- a key of these fields of a relation is wider than a key may be, and refused so
+pub record IsTooWide (fields : List FieldDef) (names : List Name) (why : Refusal) : Type 0 where
+  pub wide : most_key_width < key_width (key_kinds fields names)
+  pub is : why ≡ Limit KeyWidthLimit

@@ -13,6 +13,7 @@ mod going_back;
 mod imaging;
 mod looking;
 mod opening;
+mod planning;
 mod saving;
 mod session;
 mod starting;

@@ -114,3 +114,8 @@ returns-clause-did g t c =
     let few : length c.in_ok-node.node.entries ≤ capacity c.args.of.width = subst (λ (w : ℕ). length c.in_ok-node.node.entries ≤ capacity w) c.in_ok-node.ensures.is.width c.count-at-end.ensures.few in
     let all = times_up c.args.of.width c.loop-at.at m (omega (arith, few, c.loop-at.invariant.low, c.count-at-end.ensures.count)) in
     widens (λ key there. there) (omega (arith, up, all)) (omega (arith, up, all)) (then_call c.loop-at.invariant.step c.give_page-2.ensures.did)
+
+pub returns-in_err-node-clause-did : goal.returns-in_err-node-clause-did
+returns-in_err-node-clause-did g t c =
+    let up = inner_up c.args.of.width c.args.level (omega arith) in
+    fails _ c.from_residual.ensures.1 (λ key none. absurd none) (omega (arith, up)) (omega (arith, up)) c.in_err-node.ensures.did

@@ -144,3 +144,12 @@ returns-clause-evened g c = λ told left right next are.
 
 pub returns-clause-did : goal.returns-clause-did
 returns-clause-did g c = widens (λ key there. there) (omega arith) (omega arith) (done _ (then (untouched (then c.in_ok-left.ensures.did.step c.in_ok-right.ensures.did.step)) c.in_ok-first.ensures.did.step))
+
+pub join_nodes-requires-clause-right_mapped : goal.join_nodes-requires-clause-right_mapped
+join_nodes-requires-clause-right_mapped g c = λ told_two.
+    let of = c.args.of in
+    let one = g.P.Pages.view c.read_node.new.pages in
+    let two = g.P.Pages.view c.read_node-2.new.pages in
+    let told_one = c.in_ok-right.ensures.did.step.passes.leaves.told.1 told_two in
+    held_is_mapped of two c.args.level c.args.other c.in_ok-right.right.next c.in_ok-right.right.entries (g.met.P.Pages.holds c.read_node-2.new.pages told_two)
+    (was_holding of c.args.level c.args.other c.in_ok-right.right.next c.in_ok-right.right.entries two one (sym (keeps_none of one two c.in_ok-right.ensures.did.step told_one)) (c.in_ok-right.ensures.holds told_one))

@@ -11,7 +11,7 @@ use Rattle.rss_levels.specs.Rows.{Cells}
 use Rattle.rss_levels.specs.Removes.{Removes}
 use Rattle.rss_levels.proofs.Spotted.{at_place}
 use Rattle.rss_node.specs.Nodes.{NodeView, IsPassed}
-use Rattle.rss_image.specs.Trees.{cells_of}
+use Rattle.rss_image.specs.Trees.{cells_of, HoldsNode}
 use Rattle.rss_image.specs.Removed.{MayRemove}
 use Rattle.rss_image.proofs.Calls.{damage, keeps_none}
 use Rattle.rss_image.proofs.Halves.{many}
@@ -134,3 +134,11 @@ returns-clause-did g t c = elim c.if-left-capacity.branch [
   | else-left-capacity w ↦ subst (λ (p : _). PagesCall (pages_in c.args.of.segment Image) (3 * c.args.level + 1) (6 * c.args.level + 2) (g.P.Pages.view c.args.pages.now) (g.P.Pages.view p) (Ok c.count.result)) (sym w.pages-is)
       (widens (λ key there. there) (omega arith) (omega arith) (done _ (then (untouched c.in_ok-node.ensures.did.step) c.in_ok-left.ensures.did.step)))
 ]
+
+pub take_out-requires-clause-node : goal.take_out-requires-clause-node
+take_out-requires-clause-node g t c = λ told_one.
+    let node = c.in_ok-node.node in
+    let step = c.in_ok-node.ensures.did.step in
+    let told = step.passes.leaves.told.1 told_one in
+    subst (λ (h : Held). HoldsNode c.args.of h 0 c.args.number node.next node.entries) (sym (all_held step told))
+    (subst (λ (l : ℕ). HoldsNode c.args.of (g.P.Pages.view c.args.pages.now).held l c.args.number node.next node.entries) c.if-level-eq0.true (c.in_ok-node.ensures.holds told))

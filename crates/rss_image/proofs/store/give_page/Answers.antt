@@ -1,6 +1,7 @@
-use Rattle.std.proofs.Common.{◌≡◌, true, sym}
+use Rattle.std.proofs.Common.{◌≡◌, true, sym, arith}
 use Rattle.rss_base.specs.Paged.{page_key}
 use Rattle.rss_base.specs.declared.key.Space.TheVariants.{Image}
+use Rattle.rss_base.proofs.Steps.{done, widens, is_in}
 use Rattle.rss_image.proofs.Calls.{given_unmapped, given_loses, spare_given}
 use Rattle.rss_image.proofs.store.give_page.Goals as goal
 
@@ -17,3 +18,6 @@ returns-clause-spare g c =
     let step = c.in_ok-give.ensures.did.step in
     let there : old.mapped c.node_key-key.result ≡ true = sym c.if-not-has.ensures in
     spare_given old new c.node_key-key.result (g.met.P.Pages.are_counted c.args.pages.now) (g.met.P.Pages.are_counted c.give.new.self) step.passes.slots step.passes.backing (g.met.P.Pages.allowed c.args.pages.now c.node_key-key.result there) there c.in_ok-give.ensures.given
+
+pub returns-clause-did : goal.returns-clause-did
+returns-clause-did g c = widens (is_in c.node_key-key.result c.node_key-key.ensures) (omega arith) (omega arith) (done _ c.in_ok-give.ensures.did.step)

@@ -1,4 +1,5 @@
 use Rattle.std.proofs.Common.{◌-◌, ◌≤◌, ◌+◌, ℕ, List, [], length, sym, subst, arith}
+use Rattle.rss_base.proofs.Steps.{fails}
 use Rattle.rss_levels.specs.Entries.{zeros}
 use Rattle.rss_image.specs.Images.{nodes_of}
 use Rattle.rss_image.specs.Checking.{IsSeenUnder}
@@ -31,3 +32,6 @@ returns-clause-sound g c = λ told.
     let whole = subst (λ (l : List ℕ). IsSeenUnder of view.slots view.held (image.levels - 1) image.root l fewest [] 0 seen) c.zeros-low.ensures from_none in
     let low = below_slots view holds allowed of image.root (stands_held of view.slots view.held (image.levels - 1) image.root (zeros image.width) fewest [] whole.stands) in
     census_is image view seen fewest c.requires.of (numbered view (omega (arith, c.slots-slots.ensures, c.slots-slots.type_inv)) holds allowed of) (omega (arith, low)) (omega (arith, c.if-self-eq0.false)) c.fewest_of-fewest.ensures.inner whole
+
+pub returns-in_err-fits-clause-did : goal.returns-in_err-fits-clause-did
+returns-in_err-fits-clause-did g c = (c.in_err-fits.ensures.did.0, fails _ c.from_residual.ensures.1 (λ key there. there) (omega arith) (omega arith) c.in_err-fits.ensures.did.1)

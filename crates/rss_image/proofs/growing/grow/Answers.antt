@@ -1,0 +1,21 @@
+use Rattle.std.proofs.Common.{◌≡◌, ℕ, List, length, ◌∙◌, ap, subst, arith}
+use Rattle.rss_levels.specs.Entries.{Entry, capacity}
+use Rattle.rss_node.specs.Nodes.{NodeView, with_entries}
+use Rattle.rss_image.specs.Grown.{put_at}
+use Rattle.rss_image.specs.Trees.{HoldsNode}
+use Rattle.rss_image.proofs.Halves.{long_put, spliced_put}
+use Rattle.rss_image.proofs.growing.grow.Goals as goal
+
+pub returns-then-count-capacity-clause-grown : goal.returns-then-count-capacity-clause-grown
+returns-then-count-capacity-clause-grown g c = λ told.
+    let node = c.args.node.now in
+    let e : Entry = record { pair = c.args.pair.now; child = c.args.child } in
+    let all : List Entry = put_at node.entries c.args.at e in
+    let made : c.put.new.self ≡ with_entries node all = c.put.ensures ∙ ap (with_entries node) (spliced_put node.entries c.args.at e) in
+    let writes = c.in_ok-write_node.ensures.writes told in
+    record {
+      held = subst (λ (n : NodeView). HoldsNode c.args.of (g.P.Pages.view c.write_node.new.pages).held c.args.level c.args.number n.next n.entries) made writes.holds;
+      few = omega (arith, long_put node.entries c.args.at e c.requires.at, c.count.ensures.count, c.capacity.ensures, c.if-count-capacity.true);
+      keeps = writes.keeps;
+      loses_none = writes.loses_none;
+    }
