@@ -3,25 +3,22 @@ use Rattle.std.proofs.Common.{◌≡◌, inl, inr, ℕ, true, false, Bool, refl,
 use Rattle.std.specs.Prelude.{Some, None, is_some}
 use Rattle.std.specs.FinMap.{empty}
 use Rattle.std.proofs.lemmas.Bool.{cases_Bool}
-use Rattle.rss_base.specs.Listings.{Listing, IsUnlisted}
-use Rattle.rss_base.specs.Steps.{PagesView, PagesStep, pages_in}
+use Rattle.rss_base.specs.Listings.{Listing, IsUnlisted, with_image}
+use Rattle.rss_base.specs.Steps.{PagesView}
 use Rattle.rss_base.specs.declared.call.Call.TheVariants.{DropImage}
 use Rattle.rss_base.specs.declared.image.ImageEntry.{ImageEntry}
-use Rattle.rss_base.specs.declared.key.Space.TheVariants.{Image as ImageSpace}
 use Rattle.rss_base.specs.declared.name.Name.{Name}
 use Rattle.rss_base.specs.declared.refusal.Kind.TheVariants.{Image as ImageKind}
 use Rattle.rss_base.specs.declared.refusal.Refusal.TheVariants.{NoSuch}
 use Rattle.rss_base.specs.declared.relation.RelationEntry.{RelationEntry}
-use Rattle.rss_catalog.specs.Catalogs.{CatalogView}
+use Rattle.rss_catalog.specs.Catalogs.{CatalogView, Lists, page_of}
 use Rattle.rss_model.specs.Defining.{is_image, with_definitions}
 use Rattle.rss_model.specs.Machine.{State}
 use Rattle.rss_model.specs.Steps.{refusal}
 use Rattle.rss_model.specs.Store.{IsListedImage, SpellsTables}
 use Rattle.rss_model.proofs.Tests.{goes_on, passes_unless, refuses_at, refuses_unless}
 use Rattle.rss_access.specs.Changes.{both}
-use Rattle.rss_access.specs.Trees.{TakesImage as TakesTree}
 use Rattle.rss_access.proofs.ImageGone.{Taken, taken_can, taken_spells, taken_written}
-use Rattle.rss_access.proofs.ImageTouched.{AreLawful}
 use Rattle.rss_session.specs.Sessions.{SessionView, IsReady}
 use Rattle.rss_session.specs.Shown.{Shows}
 use Rattle.rss_session.specs.Taking.{TakesImage, without_image}
@@ -47,44 +44,23 @@ module _ {view : SessionView} {state : State} (shows : Shows view state) (closed
 
 -- ---- what is done
 
--- The image of this number had the name, its pages were given, and its definition was taken away.
-pub record Drops (name : Name) (old : SessionView) (pages : PagesView) (catalog : CatalogView) : Type 0 where
-  pub number : ℕ
-  pub image : ImageEntry
-  pub relation : RelationEntry
-  pub at : IsListedImage old.store.catalog.listing number image relation
-  pub named : image.name ≡ name
-  pub takes : TakesTree number (both old.store.pages old.store.catalog) (both pages catalog)
-  pub asks : ℕ
-  pub outs : ℕ
-  pub step : PagesStep (pages_in relation.segment ImageSpace) asks outs old.store.pages pages
-  pub before : AreLawful old.store.pages
-  pub after : AreLawful pages
+-- the image of this number was listed, its pages were given, and its definition was taken away
+module _ {old : SessionView} {pages : PagesView} {catalog : CatalogView} {number : ℕ} {image : ImageEntry} {relation : RelationEntry} (taken : Taken (both old.store.pages old.store.catalog) (both pages catalog) number image relation) where
+  abbrev lists : Lists (with_image old.store.catalog.listing number None) (page_of ImageKind number) old.store.catalog catalog
+  lists = taken.takes.lists
 
-module _ {name : Name} {old : SessionView} {pages : PagesView} {catalog : CatalogView} (drops : Drops name old pages catalog) where
-  taken : Taken (both old.store.pages old.store.catalog) (both pages catalog) drops.number drops.image drops.relation
-  taken = record {
-    at = drops.at;
-    takes = drops.takes;
-    asks = drops.asks;
-    outs = drops.outs;
-    step = drops.step;
-    before = drops.before;
-    after = drops.after;
-  }
-
-  pub drops_takes : IsReady old → old.opened.transactions ≡ empty → TakesImage name old (with_tables pages catalog old)
-  drops_takes ready closed =
-      let touches = touches_images drops.step catalog in
-      let lists = drops.takes.lists in
+  -- so what is defined without it may be committed
+  pub image_taken : {name : Name} → image.name ≡ name → IsReady old → old.opened.transactions ≡ empty → TakesImage name old (with_tables pages catalog old)
+  image_taken {name = name} named ready closed =
+      let touches = touches_images taken.step catalog in
       let links = ap (λ (l : Listing). l.links) lists.is in
       let can = taken_can taken (record { heaps = ready.store.heaps; tables = ready.store.tables }) in record {
         closed = closed;
         touches = touches;
-        saves = can_save_touched ready touches (store_touched drops.step catalog ready.store (pending_long lists ready.store.pending_places) (links ∙ ready.store.no_links) can);
+        saves = can_save_touched ready touches (store_touched taken.step catalog ready.store (pending_long lists ready.store.pending_places) (links ∙ ready.store.no_links) can);
         redefines = λ told state kept shows.
-            redefined_touched ready touches told closed kept shows (DropImage name) (without_image state.base.definitions name) (image_drops shows closed drops.at drops.named) tt refl
+            redefined_touched ready touches told closed kept shows (DropImage name) (without_image state.base.definitions name) (image_drops shows closed taken.at named) tt refl
             (taken_written taken shows.store.spells.listed told ready.store.pending_places shows.store.written)
-            (subst (λ (n : Name). SpellsTables pages.held catalog.listing (with_definitions (without_image state.base.definitions n) state.base)) drops.named
-            (taken_spells taken told (base_spelled ready touches told closed kept shows)));
+            (subst (λ (n : Name). SpellsTables pages.held catalog.listing (with_definitions (without_image state.base.definitions n) state.base)) named
+            (taken_spells taken told (base_spelled closed shows)));
       }

@@ -93,11 +93,11 @@ module _ {old : SessionView} {entry : ImageEntry} {entries : List (List ℕ × T
     builds_fills : old.opened.transactions ≡ empty → FillsImage old new entry
     builds_fills closed told state kept shows may =
         let touches = touches_images builds.step catalog in
-        let spelled = base_spelled ready touches told closed kept shows in
+        let spelled = base_spelled closed shows in
         let same : builds.relation ≡ may.plans.within = same_Some _ _ (sym builds.within ∙ may.plans.at) in
         image_redefined ready touches told closed builds_lists kept shows may
         (subst (λ (r : RelationEntry). SpellsTables pages.held catalog.listing (with_definitions (with_image state.base.definitions entry.name (image_definition entry r)) state.base)) same
-        (filled_shows (filled spelled.listed) told (bytes told) spelled (base_shown ready touches told closed kept shows)))
+        (filled_shows (filled spelled.listed) told (bytes told) spelled (base_shown closed shows ready kept)))
 
     pub builds_makes : old.opened.transactions ≡ empty → MakesImage entry old new
     builds_makes closed = record {

@@ -45,6 +45,23 @@ use Rattle.rss_session.proofs.FilledPages.{spaces_same}
 use Rattle.rss_session.proofs.Looked.{slots_shown}
 use Rattle.rss_session.proofs.Rebuilt.{IsRebuilt, stands_behind}
 
+-- ---- where nothing is open
+
+module _ {view : SessionView} {state : State} (closed : view.opened.transactions ≡ empty) (shows : Shows view state) where
+  -- the committed tables are those now
+  pub base_spelled : SpellsTables view.store.pages.held view.store.catalog.listing state.base
+  base_spelled = subst (λ (changes : List Change). SpellsTables view.store.pages.held view.store.catalog.listing (with_changes state.base changes)) (none_changed shows closed) shows.store.spells
+
+  -- and the pages of tuples spell them
+  pub base_shown : IsReady view → Kept state → ShowsTuples (both view.store.pages view.store.catalog) state.base
+  base_shown ready kept =
+      let fits = (kept_fit state kept).0 in
+      spelled_shown base_spelled fits.tuples (λ relation tid live.
+          let id = fits.tids relation tid live in
+          record { page = omega (arith, id.page, slots_shown ready shows); slot = id.slot })
+
+-- ---- once image pages were touched
+
 -- the session with other pages and another catalog
 abbrev pub with_tables : PagesView → CatalogView → SessionView → SessionView
 with_tables pages catalog view = record view { store = record view.store { pages = pages; catalog = catalog } }
@@ -126,17 +143,6 @@ module _ {old new : SessionView} (ready : IsReady old) (touches : TouchesImages 
     system_same page = touches.step.held_off told (page_key 0 System page) (λ same. absurd (cc (same)))
 
     module _ {state : State} (closed : old.opened.transactions ≡ empty) (kept : Kept state) (shows : Shows old state) where
-      -- the committed tables are those now
-      pub base_spelled : SpellsTables old.store.pages.held old.store.catalog.listing state.base
-      base_spelled = subst (λ (changes : List Change). SpellsTables old.store.pages.held old.store.catalog.listing (with_changes state.base changes)) (none_changed shows closed) shows.store.spells
-
-      pub base_shown : ShowsTuples (both old.store.pages old.store.catalog) state.base
-      base_shown =
-          let fits = (kept_fit state kept).0 in
-          spelled_shown base_spelled fits.tuples (λ relation tid live.
-              let id = fits.tids relation tid live in
-              record { page = omega (arith, id.page, slots_shown ready shows); slot = id.slot })
-
       size_same : state.size ≡ size_of old.store.root
       size_same = shows.store.tied.size ∙ ap size_of shows.store.disk.root_is
 

@@ -1,5 +1,5 @@
 -- The room that an image needs which is to be made, what it is built of, and what it is then.
-use Rattle.std.specs.Prelude.{◌≡◌, ◌≢◌, ℕ, ◌+◌, ◌≤◌, Bool, List, length, All, Some, None, Result}
+use Rattle.std.specs.Prelude.{◌≡◌, ◌≢◌, ℕ, ◌+◌, ◌≤◌, Bool, List, length, All, Option, Some, None, Result, Ok, Err}
 use Rattle.rss_base.specs.DiskRule.{IsTold}
 use Rattle.rss_base.specs.Listings.{Listing, ListingFits, IsLeastUnused, catalog_page, field_numbers, relation_at, with_image as with_listed, with_root}
 use Rattle.rss_base.specs.Paged.{mapped_of}
@@ -13,7 +13,7 @@ use Rattle.rss_base.specs.declared.refusal.Refusal.{Refusal}
 use Rattle.rss_base.specs.declared.relation.RelationEntry.{RelationEntry}
 use Rattle.rss_base.specs.declared.tid.Tid.{Tid}
 use Rattle.rss_catalog.specs.Catalogs.{CatalogView, Lists, page_of}
-use Rattle.rss_model.specs.Defining.{with_image, image_def}
+use Rattle.rss_model.specs.Defining.{if_repeated, with_image, image_def}
 use Rattle.rss_model.specs.Fits.{tuple_limit}
 use Rattle.rss_model.specs.Kept.{Kept}
 use Rattle.rss_model.specs.Machine.{State}
@@ -80,6 +80,19 @@ pub record AreImageEntries (view : SessionView) (image : ImageEntry) (entries : 
   pub rising : AreRising entries
   pub of : (relation : RelationEntry) → relation_at view.store.catalog.listing image.relation ≡ Some relation
       → AreEntriesOf view image relation entries
+
+-- what was refused, if anything was
+abbrev pub refused_by : {T : Type 0} → Result T Refusal → Option Refusal
+refused_by (Ok value) = None
+refused_by (Err why) = Some why
+
+-- In each state in which the session may be, the test of the keys of an image that the entry plans says this.
+abbrev pub TestsKeys : {T : Type 0} → SessionView → ImageEntry → Result T Refusal → Type 0
+TestsKeys view entry result =
+    (name relation : Name) (is_unique : Bool) (fields : List Name)
+    → PlansImage view.store.catalog.listing name relation is_unique fields entry
+    → IsTold view.store.pages.disk → (state : State) → Kept state → Shows view state
+    → if_repeated state name is_unique (image_def relation is_unique fields) ≡ refused_by result
 
 -- ---- once it is made
 

@@ -10,7 +10,6 @@ pub mod Admissions
 pub mod FieldTests
 pub mod Definitions
 pub mod Imaging
-pub mod Planning
 pub mod Uniques
 pub mod Planning
 pub mod Filling

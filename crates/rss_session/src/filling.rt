@@ -6,14 +6,16 @@ ghost use Rattle.rss_base.specs.Runs.{run_pages};
 ghost use Rattle.rss_base.specs.declared.fault.PageFault.TheVariants.{Damaged};
 ghost use Rattle.rss_base.specs.declared.place.Place.{Place as AnyPlace};
 ghost use Rattle.rss_base.specs.declared.place.Place.TheVariants.{Room};
+ghost use Rattle.rss_model.specs.ReplyText.{IsShort};
 ghost use Rattle.rss_session.specs.Calls.{GoesOn, KeepsTables, ShowsNone};
-ghost use Rattle.rss_session.specs.Filling.{IsPlanned, room_for, RoomsImage, HasFewPages, TestsRoom, AreImageEntries, MakesImage};
+ghost use Rattle.rss_session.specs.Filling.{IsPlanned, room_for, RoomsImage, HasFewPages, TestsRoom, AreImageEntries, TestsKeys, MakesImage};
 ghost use Rattle.rss_session.specs.Looks.{SearchesOn};
 ghost use Rattle.rss_session.specs.Sessions.{IsReady};
 
 use crate::Session;
+use crate::uniques::duplicate;
 use crate::weighing::room_of;
-use rss_access::{entries_of, fill_image, image_bound};
+use rss_access::{entries_of, fill_image, image_bound, repeated};
 use rss_base::{ImageEntry, Key, PageFault, Place, Refusal, Tid};
 use rss_buffer::Saving;
 use std::alloc::Global;
@@ -86,6 +88,26 @@ impl<S: Saving> Session<S> {
             image.relation,
             which,
         )
+    }
+
+    /// Where an image that was planned is unique, no two of its entries have one key.
+    pub fn test_image_keys(
+        &self,
+        image: &ImageEntry,
+        entries: &[(Key, Tid)],
+    ) -> Result<(), Refusal>
+        requires ready { IsReady (view S.view self.now) }
+        requires closed { (view S.view self.now).opened.transactions ≡ empty }
+        requires entries { AreImageEntries (view S.view self.now) image.now entries.now }
+        ensures tests { TestsKeys (view S.view self.now) image.now result }
+        ensures short { IfErr result (λ why. IsShort (Err why)) }
+    {
+        if image.is_unique {
+            if let Some(tid) = repeated(entries) {
+                return Err(duplicate(image.name, tid));
+            }
+        }
+        Ok(())
     }
 
     /// Lists an image that was planned, for which there is room, and builds its tree of its entries.

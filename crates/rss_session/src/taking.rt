@@ -1,15 +1,16 @@
 // An image that is taken away.
-ghost use Rattle.std.specs.Prelude.{◌≡◌, Err, IfOk, IfNone, IfSome};
+ghost use Rattle.std.specs.Prelude.{◌≡◌, Err, IfOk, IfNone, IfSome, OnOk};
+ghost use Rattle.std.specs.FinMap.{empty};
 ghost use Rattle.rss_base.specs.DiskRule.{IsTold};
 ghost use Rattle.rss_base.specs.declared.call.Call.TheVariants.{DropImage};
 ghost use Rattle.rss_base.specs.declared.fault.PageFault.TheVariants.{Damaged};
 ghost use Rattle.rss_base.specs.declared.place.Place.{Place as AnyPlace};
 ghost use Rattle.rss_model.specs.ReplyText.{IsShort};
 ghost use Rattle.rss_model.specs.Steps.{refusal};
-ghost use Rattle.rss_session.specs.Admissions.{Says};
+ghost use Rattle.rss_session.specs.Admissions.{Says, Tests};
 ghost use Rattle.rss_session.specs.Calls.{GoesOn, KeepsTables};
 ghost use Rattle.rss_session.specs.Sessions.{IsReady};
-ghost use Rattle.rss_session.specs.Taking.{TakesImage};
+ghost use Rattle.rss_session.specs.Taking.{IsImageNamed, TakesImage};
 
 use crate::Session;
 use rss_access::take_image;
@@ -34,19 +35,32 @@ impl<S: Saving> Session<S> {
         ensures moments { KeepsTables (view S.view self.old) (view S.view self.new) }
         ensures goes { GoesOn (view S.view self.old) (view S.view self.new) result }
     {
-        if let Err(why) = self.test_rest() {
-            return Ok(Some(why));
-        }
-        let Some(number) = self.store.catalog.find(Kind::Image, name) else {
-            return Ok(Some(Refusal::NoSuch(Kind::Image)));
+        let number = match self.test_drop(name) {
+            Ok(number) => number,
+            Err(why) => return Ok(Some(why)),
         };
-        // It is listed, and so is its relation.
-        let _image = self.store.catalog.image(number);
         take_image(
             &mut self.store.tuples.pages,
             &mut self.store.catalog,
             number,
         )?;
         Ok(None)
+    }
+
+    /// An image may be taken away. Answers its number.
+    fn test_drop(&self, name: &Name) -> Result<u8, Refusal>
+        ensures closed { OnOk result ((view S.view self.now).opened.transactions ≡ empty) }
+        ensures known { IfOk result
+            (IsImageNamed (view S.view self.now).store.catalog.listing name.now) }
+        ensures tests { Tests (view S.view self.now) (λ state. refusal state (DropImage name.now))
+            result }
+    {
+        self.test_rest()?;
+        let Some(number) = self.store.catalog.find(Kind::Image, name) else {
+            return Err(Refusal::NoSuch(Kind::Image));
+        };
+        // Where an image is listed, so is its relation.
+        let _image = self.store.catalog.image(number);
+        Ok(number)
     }
 }
