@@ -1,32 +1,40 @@
--- What was gathered of a relation's tuples are the entries of its images: no more than it has tuples, and sorted, the list of an image.
-use Rattle.std.proofs.Common.{◌≡◌, ◌≢◌, Bool, true, false, ℕ, ◌<◌, ◌≤◌, ◌^◌, List, ◌∷◌, length, sym, ◌∙◌, ap, subst, arith}
+-- What was gathered of a relation's tuples are the entries of its images: no more than it has tuples, and sorted, a list that rises on any device, and the list of an image.
+use Rattle.std.proofs.Common.{◌≡◌, ◌≢◌, Bool, true, false, ℕ, ◌<◌, ◌≤◌, ◌^◌, List, [], ◌∷◌, length, sym, ◌∙◌, ap, subst, arith}
 use Rattle.std.specs.Prelude.{Option, Some, All, is_some, map as list_map}
-use Rattle.std.specs.Ordering.{is_lt}
-use Rattle.std.specs.Cmp.{IsTotalOrder, nat_cmp_total, on_total, then_total}
-use Rattle.std.specs.declared.cmp.Ordering.TheVariants.{Less, Equal}
+use Rattle.std.specs.Ordering.{is_lt, ordering_then}
+use Rattle.std.specs.Cmp.{IsStrictWeakOrder, IsTotalOrder, nat_cmp_total, on_total, then_total}
+use Rattle.std.specs.declared.cmp.Ordering.{Ordering}
+use Rattle.std.specs.declared.cmp.Ordering.TheVariants.{Less, Equal, Greater}
 use Rattle.std.specs.List.Sorted.{IsPermutation, IsSortedBy}
 use Rattle.std.proofs.lemmas.Cmp.{nat_list_cmp_total, tied_itself}
 use Rattle.std.proofs.lemmas.List.{length-map}
-use Rattle.std.proofs.lemmas.List.Sorted.{Contains-permutation, length_permutation, ranks_by, sorted_far}
-use Rattle.rss_base.specs.TupleTypes.{tuple_bytes}
+use Rattle.std.proofs.lemmas.List.Elements.{All-contains}
+use Rattle.std.proofs.lemmas.List.Sorted.{All-permutation, Contains-permutation, length_permutation, ranks_by, sorted_far}
+use Rattle.rss_base.specs.TupleTypes.{chosen, key_width, tuple_bytes}
 use Rattle.rss_base.specs.Listings.{relation_at, field_numbers}
 use Rattle.rss_base.specs.declared.tid.Tid.{Tid}
 use Rattle.rss_base.specs.declared.image.ImageEntry.{ImageEntry}
 use Rattle.rss_base.specs.declared.relation.RelationEntry.{RelationEntry}
 use Rattle.rss_value.specs.Numbers.{IsNumberOf}
-use Rattle.rss_levels.specs.Entries.{Each, Pairwise}
+use Rattle.rss_levels.specs.Entries.{Each, IsLess, Pairwise}
+use Rattle.rss_node.specs.Pairs.{IsSpelledTid, pair_bytes}
+use Rattle.rss_node.proofs.Ordered.{pairs_ordered}
+use Rattle.rss_model.specs.Images.{Entry}
 use Rattle.rss_model.specs.Tables.{Tables}
+use Rattle.rss_model.proofs.ImageLists.{entry_apart}
 use Rattle.rss_model.proofs.Mixing.{In}
 use Rattle.rss_model.proofs.PlainStores.{plain_contents}
+use Rattle.rss_entries.specs.Building.{AreRising}
+use Rattle.rss_entries.specs.Moving.{KeyKinds}
 use Rattle.rss_entries.proofs.Orders.{each_in, in_contains, of_map, map_rises}
 use Rattle.rss_access.specs.Changes.{AccessView}
 use Rattle.rss_access.specs.Checking.{ShowsTuples}
-use Rattle.rss_access.specs.Filling.{IsKeyAt, IsMisspelled, AreEntries, entry_order}
+use Rattle.rss_access.specs.Filling.{IsEntryLong, IsKeyAt, IsMisspelled, AreEntries, entry_order}
 use Rattle.rss_access.specs.Tuples.{body_at}
 use Rattle.rss_access.proofs.AsMany.{contains_in}
-use Rattle.rss_access.proofs.Gathering.{AreGathered, AreGatheredTo}
+use Rattle.rss_access.proofs.Gathering.{AreApartTo, AreGathered, AreGatheredTo}
 use Rattle.rss_access.proofs.RelationEntries.{body_tuple, kept, kept_long, kept_rises, kept_tuple, shown, tid_shown, tids_long, tids_shown}
-use Rattle.rss_access.proofs.SortedAlike.{few_apart, pairwise_at, same_sorted}
+use Rattle.rss_access.proofs.SortedAlike.{few_apart, pairwise_at, pairwise_weaker, same_sorted, sorted_strictly}
 
 -- ---- the order of entries
 
@@ -37,11 +45,42 @@ order_total = then_total (on_total (λ (p : List ℕ × Tid). p.0) nat_list_cmp_
 abbrev pub is_before : List ℕ × Tid → List ℕ × Tid → Bool
 is_before a b = is_lt (entry_order a b)
 
+pub ranked : IsStrictWeakOrder is_before
+ranked = ranks_by order_total (λ (p : List ℕ × Tid). p)
+
 -- in a sorted list none is before one that stands before it
 sorted_pairs : (pairs : List (List ℕ × Tid)) → IsSortedBy is_before pairs → Pairwise (λ a b. entry_order b a ≡ Less → ⊥) pairs
 sorted_pairs pairs sorted = pairwise_at (λ a b. entry_order b a ≡ Less → ⊥) pairs (λ i j d less low before.
-    let never : true ≡ false = sym (ap is_lt before) ∙ sorted_far is_before (ranks_by order_total (λ (p : List ℕ × Tid). p)) pairs sorted i j d (omega (arith, less)) low in
+    let never : true ≡ false = sym (ap is_lt before) ∙ sorted_far is_before ranked pairs sorted i j d (omega (arith, less)) low in
     absurd (cc))
+
+-- ---- on any device
+
+-- entries of two tuples don't tie
+apart_never : (a b : List ℕ × Tid) → a.1 ≢ b.1 → entry_order a b ≢ Equal
+apart_never a b other tie = other (ap (λ (e : Entry). e.tid) (entry_apart (record { key = []; tid = a.1 }) (record { key = []; tid = b.1 }) (tied_then _ _ tie)))
+  where
+    tied_then : (o p : Ordering) → ordering_then o p ≡ Equal → p ≡ Equal
+    tied_then Less p is = absurd (cc)
+    tied_then Equal p is = is
+    tied_then Greater p is = absurd (cc)
+
+-- and sorted they rise as bytes
+pub sorted_rise : (keys : KeyKinds) (entries sorted : List (List ℕ × Tid)) → Pairwise (λ a b. a.1 ≢ b.1) entries → All (IsEntryLong keys) entries → All (λ pair. IsSpelledTid pair.1) entries
+    → IsPermutation entries sorted → IsSortedBy is_before sorted → AreRising sorted
+sorted_rise keys entries sorted apart long spelled moved is =
+    map_rises (λ (p : List ℕ × Tid). pair_bytes p.0 p.1) (λ a b. entry_order a b ≡ Less) IsLess sorted
+    (λ a b one other before. record { is = pairs_ordered (record { key = a.0; tid = a.1 }) (record { key = b.0; tid = b.1 }) (long_in a one ∙ sym (long_in b other)) (spelled_in a one) (spelled_in b other) ∙ before })
+    (sorted_strictly order_total entries sorted (pairwise_weaker (λ a b. a.1 ≢ b.1) (λ a b. entry_order a b ≢ Equal) entries apart_never apart) moved is)
+  where
+    in_sorted : (P : List ℕ × Tid → Type 0) → All P entries → (a : List ℕ × Tid) → In a sorted → P a
+    in_sorted P all a there = All-contains P sorted a (All-permutation P entries sorted moved all) (in_contains sorted a there)
+
+    long_in : (a : List ℕ × Tid) → In a sorted → length a.0 ≡ key_width (chosen keys.which keys.fields)
+    long_in a there = (in_sorted (IsEntryLong keys) long a there).0
+
+    spelled_in : (a : List ℕ × Tid) → In a sorted → IsSpelledTid a.1
+    spelled_in = in_sorted (λ pair. IsSpelledTid pair.1) spelled
 
 -- ---- as many as there are tuples
 
@@ -63,8 +102,8 @@ module _ {at : AccessView} (small : at.pages.slots < 2 ^ 32) {tables : Tables} (
           let of = body_tuple small shows number its found.0.1 key.has.bytes key.has.there in
           subst (λ (t : Tid). In t (tids_shown small shows number its)) found.2 (tid_shown small shows number its found.0.1 of.values of.there)
 
-  pub few_so_far : {which : List ℕ} {last : Option Tid} {entries : List (List ℕ × Tid)} → AreGatheredTo number relation which at.pages last entries → length entries ≤ relation.live
-  few_so_far {which = which} {entries = entries} so = few_of which entries so.each so.apart
+  pub few_so_far : {which : List ℕ} {last : Option Tid} {entries : List (List ℕ × Tid)} → AreApartTo last entries → AreGatheredTo number relation which at.pages last entries → length entries ≤ relation.live
+  few_so_far {which = which} {entries = entries} apart so = few_of which entries so.each apart.apart
 
   -- ---- the list of an image
 

@@ -9,6 +9,7 @@ use Rattle.rss_base.specs.declared.relation.RelationEntry.{RelationEntry}
 use Rattle.rss_base.proofs.Steps.{rests, then}
 use Rattle.rss_levels.specs.Entries.{Each, Pairwise}
 use Rattle.rss_levels.proofs.Lists.{each_append, each_weaker, pairwise_append}
+use Rattle.rss_node.specs.Pairs.{IsSpelledTid}
 use Rattle.rss_model.proofs.Mixing.{In}
 use Rattle.rss_tuple.specs.Finding.{IsAfter, IsNext}
 use Rattle.rss_tuple.specs.TupleSteps.{IsBelow, IsLeast, NoneIs, tuples_in}
@@ -25,6 +26,27 @@ bytes_found {number = number} finds first bytes same =
   where
     rest_same : {a b : ℕ} {x y : List ℕ} → a ∷ x ≡ b ∷ y → x ≡ y
     rest_same same = cc
+
+-- ---- on any device
+
+-- No entry stands behind `last`, and no two are of one tuple.
+pub record AreApartTo (last : Option Tid) (entries : List (List ℕ × Tid)) : Type 0 where
+  pub passed : Each (λ pair. IsAfter last pair.1 → ⊥) entries
+  pub apart : Pairwise (λ a b. a.1 ≢ b.1) entries
+
+module _ {last : Option Tid} {entries : List (List ℕ × Tid)} (so : AreApartTo last entries) (tid : Tid) (behind : IsAfter last tid) where
+  pub apart_past : AreApartTo (Some tid) entries
+  apart_past = record {
+    passed = each_weaker (λ pair. IsAfter last pair.1 → ⊥) (λ pair. IsAfter (Some tid) pair.1 → ⊥) entries (λ pair not after. not (after_then last tid pair.1 behind after)) so.passed;
+    apart = so.apart;
+  }
+
+  pub apart_more : (key : List ℕ) → AreApartTo (Some tid) (entries ++ (key, tid) ∷ [])
+  apart_more key = record {
+    passed = each_append (λ pair. IsAfter (Some tid) pair.1 → ⊥) entries ((key, tid) ∷ []) apart_past.passed (below_never tid, tt);
+    apart = pairwise_append (λ a b. a.1 ≢ b.1) entries ((key, tid) ∷ []) so.apart (tt, tt)
+        (each_weaker (λ pair. IsAfter last pair.1 → ⊥) (λ pair. Each (λ (b : List ℕ × Tid). pair.1 ≢ b.1) ((key, tid) ∷ [])) entries (λ pair not. (λ same. not (subst (IsAfter last) (sym same) behind), tt)) so.passed);
+  }
 
 module _ (number : ℕ) (relation : RelationEntry) (which : List ℕ) where
   -- ---- where nothing was touched, there are the same tuples
@@ -44,17 +66,12 @@ module _ (number : ℕ) (relation : RelationEntry) (which : List ℕ) where
   -- They are those of the tuples that don't stand behind `last`.
   pub record AreGatheredTo (pages : PagesView) (last : Option Tid) (entries : List (List ℕ × Tid)) : Type 0 where
     pub each : Each (λ pair. IsKeyAt pages number relation which pair.1 pair.0) entries
-    pub passed : Each (λ pair. IsAfter last pair.1 → ⊥) entries
-    pub apart : Pairwise (λ a b. a.1 ≢ b.1) entries
     pub all : (tid : Tid) → HasBytes pages number relation tid → IsAfter last tid ⊎ In tid (list_map (λ (pair : List ℕ × Tid). pair.1) entries)
 
   abbrev tids_in : List (List ℕ × Tid) → List Tid
   tids_in entries = list_map (λ (pair : List ℕ × Tid). pair.1) entries
 
-  module _ {pages : PagesView} {last : Option Tid} {entries : List (List ℕ × Tid)} (so : AreGatheredTo pages last entries) (tid : Tid) (behind : IsAfter last tid) (least : (other : Tid) → HasBytes pages number relation other → IsAfter last other → IsBelow other tid → ⊥) where
-    passed_then : Each (λ pair. IsAfter (Some tid) pair.1 → ⊥) entries
-    passed_then = each_weaker (λ pair. IsAfter last pair.1 → ⊥) (λ pair. IsAfter (Some tid) pair.1 → ⊥) entries (λ pair not after. not (after_then last tid pair.1 behind after)) so.passed
-
+  module _ {pages : PagesView} {last : Option Tid} {entries : List (List ℕ × Tid)} (so : AreGatheredTo pages last entries) (tid : Tid) (least : (other : Tid) → HasBytes pages number relation other → IsAfter last other → IsBelow other tid → ⊥) where
     -- where each tuple stands, once the one with this identifier was looked at
     all_then : (others : List (List ℕ × Tid)) → (HasBytes pages number relation tid → In tid (tids_in others)) → ((other : Tid) → In other (tids_in entries) → In other (tids_in others))
         → (other : Tid) → HasBytes pages number relation other → IsAfter (Some tid) other ⊎ In other (tids_in others)
@@ -68,15 +85,12 @@ module _ (number : ℕ) (relation : RelationEntry) (which : List ℕ) where
 
     -- it is another relation's
     pub gathered_past : (HasBytes pages number relation tid → ⊥) → AreGatheredTo pages (Some tid) entries
-    gathered_past none = record { each = so.each; passed = passed_then; apart = so.apart; all = all_then entries (λ has. absurd (none has)) (λ other is. is) }
+    gathered_past none = record { each = so.each; all = all_then entries (λ has. absurd (none has)) (λ other is. is) }
 
     -- or it has this key
     pub gathered_more : (key : List ℕ) → IsKeyAt pages number relation which tid key → AreGatheredTo pages (Some tid) (entries ++ (key, tid) ∷ [])
     gathered_more key is = record {
       each = each_append (λ pair. IsKeyAt pages number relation which pair.1 pair.0) entries ((key, tid) ∷ []) so.each (is, tt);
-      passed = each_append (λ pair. IsAfter (Some tid) pair.1 → ⊥) entries ((key, tid) ∷ []) passed_then (below_never tid, tt);
-      apart = pairwise_append (λ a b. a.1 ≢ b.1) entries ((key, tid) ∷ []) so.apart (tt, tt)
-          (each_weaker (λ pair. IsAfter last pair.1 → ⊥) (λ pair. Each (λ (b : List ℕ × Tid). pair.1 ≢ b.1) ((key, tid) ∷ [])) entries (λ pair not. (λ same. not (subst (IsAfter last) (sym same) behind), tt)) so.passed);
       all = all_then (entries ++ (key, tid) ∷ []) (λ has. at_end entries) (λ other is. in_front entries other is);
     }
       where
@@ -96,10 +110,10 @@ module _ (number : ℕ) (relation : RelationEntry) (which : List ℕ) where
     pub all : (tid : Tid) → HasBytes pages number relation tid → In tid (tids_in entries)
 
   -- behind the last tuple there is none
-  gathered_all : {pages : PagesView} {last : Option Tid} {entries : List (List ℕ × Tid)} → AreGatheredTo pages last entries → ((tid : Tid) → HasBytes pages number relation tid → IsAfter last tid → ⊥) → AreGathered pages entries
-  gathered_all {entries = entries} so none = record {
+  gathered_all : {pages : PagesView} {last : Option Tid} {entries : List (List ℕ × Tid)} → AreApartTo last entries → AreGatheredTo pages last entries → ((tid : Tid) → HasBytes pages number relation tid → IsAfter last tid → ⊥) → AreGathered pages entries
+  gathered_all {entries = entries} apart so none = record {
     each = so.each;
-    apart = so.apart;
+    apart = apart.apart;
     all = λ tid has. ⊎_elim (λ after. absurd (none tid has after)) (λ is. is) (so.all tid has);
   }
 
@@ -110,15 +124,19 @@ module _ (number : ℕ) (relation : RelationEntry) (which : List ℕ) where
     pub most : ℕ
     pub step : PagesStep no_page most most start now
     pub are : IsTold start.disk → AreGatheredTo start last entries
+    pub apart : AreApartTo last entries
     pub long : All (IsEntryLong (keys_by relation which)) entries
+    pub spelled : All (λ pair. IsSpelledTid pair.1) entries
     pub within : IfSome last IsTid
 
   pub gathered_none : (start : PagesView) → Gathered start start None []
   gathered_none start = record {
     most = 0;
     step = rests start;
-    are = λ told. record { each = tt; passed = tt; apart = tt; all = λ tid has. inl tt };
+    are = λ told. record { each = tt; all = λ tid has. inl tt };
+    apart = record { passed = tt; apart = tt };
     long = λ k d low. absurd (omega (arith, low));
+    spelled = λ k d low. absurd (omega (arith, low));
     within = tt;
   }
 
@@ -128,19 +146,21 @@ module _ (number : ℕ) (relation : RelationEntry) (which : List ℕ) where
     next_of told tid has behind = record { behind = behind; live = subst (λ (o : Option (List ℕ)). is_some o ≡ true) (sym (body_still so.step told relation.segment tid ∙ has.there)) refl }
 
     pub gathered_end : IsTold start.disk → NoneIs (IsNext (tuples_in now) relation.segment last) → AreGathered start entries
-    gathered_end told none = gathered_all (so.are told) (λ tid has after. none tid (next_of told tid has after))
+    gathered_end told none = gathered_all so.apart (so.are told) (λ tid has after. none tid (next_of told tid has after))
 
-    module _ (mid : PagesView) {asks outs : ℕ} (on : PagesStep no_page asks outs now mid) (tid : Tid) (least : IsTold start.disk → IsLeast (IsNext (tuples_in now) relation.segment last) tid) where
+    module _ (mid : PagesView) {asks outs : ℕ} (on : PagesStep no_page asks outs now mid) (tid : Tid) (behind : IsAfter last tid) (least : IsTold start.disk → IsLeast (IsNext (tuples_in now) relation.segment last) tid) where
       -- the tuple that was found has this key
       pub gathered_key : (key : List ℕ) → IsTold start.disk → IsKeyAt mid number relation which tid key → AreGatheredTo start (Some tid) (entries ++ (key, tid) ∷ [])
-      gathered_key key told is = gathered_more (so.are told) tid (least told).has.behind (λ other has after before. (least told).least other before (next_of told other has after)) key (key_back (then so.step on) told tid key is)
+      gathered_key key told is = gathered_more (so.are told) tid (λ other has after before. (least told).least other before (next_of told other has after)) key (key_back (then so.step on) told tid key is)
 
       pub walked_past : (new : PagesView) {most : ℕ} → PagesStep no_page most most now new → IsTid tid → (IsTold start.disk → HasBytes mid number relation tid → ⊥) → Gathered start new (Some tid) entries
       walked_past new {most = most} step is none = record {
         most = so.most + most;
         step = then so.step step;
-        are = λ told. gathered_past (so.are told) tid (least told).has.behind (λ other has after before. (least told).least other before (next_of told other has after)) (λ has. none told (bytes_then (then so.step on) told tid has));
+        are = λ told. gathered_past (so.are told) tid (λ other has after before. (least told).least other before (next_of told other has after)) (λ has. none told (bytes_then (then so.step on) told tid has));
+        apart = apart_past so.apart tid behind;
         long = so.long;
+        spelled = so.spelled;
         within = is;
       }
 
@@ -149,6 +169,8 @@ module _ (number : ℕ) (relation : RelationEntry) (which : List ℕ) where
         most = so.most + most;
         step = then so.step step;
         are = λ told. gathered_key key told (found told);
+        apart = apart_more so.apart tid behind key;
         long = All-push (IsEntryLong (keys_by relation which)) entries (key, tid) so.long long;
+        spelled = All-push (λ pair. IsSpelledTid pair.1) entries (key, tid) so.spelled (record { page = is.page; slot = is.slot });
         within = is;
       }

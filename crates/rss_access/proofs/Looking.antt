@@ -84,3 +84,8 @@ module _ {listing : Listing} {number : ℕ} (listed : ListsImage listing number)
   pub pair_long : (pair : Option (List ℕ × Tid)) → IfSome pair (λ p. IsKeyLong listing number p.0) → IfSome pair (λ p. length p.0 ≡ passed.width)
   pair_long None long = tt
   pair_long (Some pair) long = key_long pair.0 long
+
+  -- and what is as long as the image's keys is so by the listing
+  pub pair_wide : (pair : Option (List ℕ × Tid)) → IfSome pair (λ p. length p.0 ≡ passed.width) → IfSome pair (λ p. IsKeyLong listing number p.0)
+  pair_wide None wide = tt
+  pair_wide (Some pair) wide = λ image relation its. wide ∙ ap (λ (i : Image). i.width) (is image relation its)

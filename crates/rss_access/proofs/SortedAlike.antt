@@ -1,6 +1,14 @@
--- A list that is sorted, and has no more members than one that rises, and all of its members, is that list.
-use Rattle.std.proofs.Common.{◌≡◌, ◌≢◌, ◌⊎◌, inl, inr, ⊎_elim, ℕ, zero, suc, ◌<◌, ◌≤◌, List, [], ◌∷◌, ◌++◌, length, get_or, refl, sym, ◌∙◌, ap, subst, arith, length-append}
-use Rattle.rss_levels.specs.Entries.{Pairwise}
+-- A list that is sorted, and has no more members than one that rises, and all of its members, is that list. One that was sorted without ties rises.
+use Rattle.std.proofs.Common.{◌≡◌, ◌≢◌, ◌⊎◌, inl, inr, ⊎_elim, Bool, true, false, ℕ, zero, suc, ◌<◌, ◌≤◌, List, [], ◌∷◌, ◌++◌, length, get_or, refl, sym, ◌∙◌, ap, subst, arith, length-append}
+use Rattle.std.specs.Cmp.{IsTotalOrder}
+use Rattle.std.specs.List.{AllByRecursion, IsDistinct}
+use Rattle.std.specs.List.Sorted.{IsPermutation, IsSortedBy}
+use Rattle.std.specs.Ordering.{is_eq, is_lt, ordering_reverse}
+use Rattle.std.specs.declared.cmp.Ordering.{Ordering}
+use Rattle.std.specs.declared.cmp.Ordering.TheVariants.{Less, Equal, Greater}
+use Rattle.std.proofs.lemmas.List.Sorted.{ranks_by, sorted_far}
+use Rattle.std.proofs.lemmas.Map.Keys.{IsDistinct-IsPermutation, apart_from_distinct}
+use Rattle.rss_levels.specs.Entries.{Each, Pairwise}
 use Rattle.rss_levels.proofs.Lists.{each_weaker}
 use Rattle.rss_model.proofs.Mixing.{In, in_left, in_right, in_parts}
 use Rattle.rss_entries.proofs.Orders.{each_in, each_of_in, in_contains}
@@ -74,3 +82,51 @@ module _ {X : Type 0} where
     each_of_in (R x) xs (λ a is. let place = in_contains xs a is in subst (R x) place.2 (at zero (suc place.0) a (omega arith) (omega (arith, place.1)))),
     pairwise_at R xs (λ i j d less low. at (suc i) (suc j) d (omega (arith, less)) (omega (arith, low))),
   )
+
+  pub pairwise_weaker : (R S : X → X → Type 0) (xs : List X) → ((a b : X) → R a b → S a b) → Pairwise R xs → Pairwise S xs
+  pairwise_weaker R S [] gives all = tt
+  pairwise_weaker R S (x ∷ xs) gives all = (each_weaker (R x) (S x) xs (gives x) all.0, pairwise_weaker R S xs gives all.1)
+
+-- ---- a list without ties, sorted
+
+module _ {X : Type 0} {R : X → X → Ordering} (total : IsTotalOrder R) where
+  abbrev ties : X → X → Bool
+  ties a b = is_eq (R a b)
+
+  no_ties : (xs : List X) → Pairwise (λ a b. R a b ≢ Equal) xs → IsDistinct ties xs
+  unfolding IsDistinct
+  no_ties [] apart = tt
+  no_ties (x ∷ xs) apart = (none_with x xs apart.0, no_ties xs apart.1)
+    where
+      untied : (o : Ordering) → o ≢ Equal → is_eq o ≡ false
+      untied Less not = refl
+      untied Equal not = absurd (not refl)
+      untied Greater not = refl
+
+      none_with : (x : X) (xs : List X) → Each (λ b. R x b ≢ Equal) xs → AllByRecursion (λ b. ties x b ≡ false) xs
+      none_with x [] apart = tt
+      none_with x (y ∷ xs) apart = (untied (R x y) apart.0, none_with x xs apart.1)
+
+  ties_flip : (a b : X) → ties a b ≡ ties b a
+  ties_flip a b = ap is_eq (total.antisymm a b) ∙ by (R b a)
+    where
+      by : (o : Ordering) → is_eq (ordering_reverse o) ≡ is_eq o
+      by Less = refl
+      by Equal = refl
+      by Greater = refl
+
+  less_of : (a b : X) → ties a b ≡ false → is_lt (R b a) ≡ false → R a b ≡ Less
+  less_of a b untied above = by (R a b) (R b a) (total.antisymm a b) untied above
+    where
+      by : (o p : Ordering) → o ≡ ordering_reverse p → is_eq o ≡ false → is_lt p ≡ false → o ≡ Less
+      by o Less is untied above = absurd (cc)
+      by o Equal is untied above = let tied : is_eq o ≡ true = ap is_eq is in absurd (cc)
+      by o Greater is untied above = is
+
+  -- each is less than those behind it
+  pub sorted_strictly : (xs sorted : List X) → Pairwise (λ a b. R a b ≢ Equal) xs → IsPermutation xs sorted → IsSortedBy (λ a b. is_lt (R a b)) sorted → Pairwise (λ a b. R a b ≡ Less) sorted
+  sorted_strictly xs sorted apart moved is =
+      let distinct = IsDistinct-IsPermutation ties ties_flip xs sorted moved (no_ties xs apart) in
+      pairwise_at (λ a b. R a b ≡ Less) sorted (λ i j d less low. less_of (get_or sorted i d) (get_or sorted j d)
+      (apart_from_distinct ties sorted i j d distinct less low)
+      (sorted_far (λ a b. is_lt (R a b)) (ranks_by total (λ (a : X). a)) sorted is i j d (omega (arith, less)) low))

@@ -9,6 +9,7 @@ ghost use Rattle.rss_catalog.specs.Catalogs.{CatalogView};
 ghost use Rattle.rss_image.specs.Images.{pairs_most};
 ghost use Rattle.rss_tuple.specs.Calls.{IsSegment};
 ghost use Rattle.rss_tuple.specs.Heaps.{AreHeaps};
+ghost use Rattle.rss_entries.specs.Building.{AreRising};
 ghost use Rattle.rss_access.specs.Changes.{both};
 ghost use Rattle.rss_access.specs.Filling.{keys_by, IsEntryLong, AreEntries, HasNoTables, SearchesPages, FindsKey, IsMisspelled, entry_order, repeated_key};
 
@@ -41,6 +42,7 @@ pub fn entries_of<P: Pages>(
     ensures are { IfOk result (λ entries. IsTold (P.view tuples.old.pages).disk
         → (catalog : CatalogView) → AreEntries (both (P.view tuples.old.pages) catalog)
         number relation.now which.now entries.items) }
+    ensures rising { IfOk result (λ entries. AreRising entries.items) }
     ensures fault { (place : AnyPlace) → result ≡ Err (PageDamaged place)
         → IsTold (P.view tuples.old.pages).disk → (catalog : CatalogView)
         → HasNoTables (both (P.view tuples.old.pages) catalog) number relation.now }

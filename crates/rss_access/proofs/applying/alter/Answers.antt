@@ -4,6 +4,7 @@ use Rattle.rss_base.proofs.Steps.{rests, fails, among, then, then_call, untouche
 use Rattle.rss_access.specs.Edits.{told_by}
 use Rattle.rss_access.proofs.Making.{used_listed, misfits_unlisted, misfits_tuple, misfits_room, misfits_count, damaged_makes, fails_makes, can_put, may_become_as, short_body, heap_told, images_told, may_move, widens_to, made}
 use Rattle.rss_access.proofs.Rerooting.{rerooted_itself}
+use Rattle.rss_access.proofs.Walked.{body_still}
 use Rattle.rss_access.proofs.applying.alter.Goals as goal
 
 pub relation-relation-requires : goal.relation-relation-requires
@@ -66,3 +67,9 @@ pub returns : goal.returns
 returns g c = made c.args.change c.relation-relation.ensures.is (g.met.P.Pages.are_counted c.args.tuples.now.pages) (g.met.P.Pages.are_counted c.put.new.tuples.pages) c.in_ok-is_found.ensures.did.step (c.in_ok-is_found.ensures.found c.if-not-branch.false) (c.has_room.ensures.room c.if-not-has_room.false)
     (may_become_as c.slots.ensures c.as_slice.ensures (c.may_become.ensures.yes c.if-not-may_become.false)) (omega (arith, c.slots.ensures)) c.requires c.in_ok-put.ensures.did.step c.in_ok-put.ensures.changes
     (g.met.P.Pages.are_counted c.move_entries.new.pages) c.in_ok-move_entries.ensures.moves c.in_ok-move_entries.ensures.nodes c.in_ok-move_entries.ensures.rerooted c.in_ok-move_entries.ensures.did.step c.in-Some.count c.in-Some.ensures.some c.in-Some.ensures.may c.recount.ensures.lists c.recount.ensures.keeps c.recount.ensures.fits
+
+pub put-requires-clause-found : goal.put-requires-clause-found
+put-requires-clause-found g c = λ told_mid.
+    let step = c.in_ok-is_found.ensures.did.step in
+    let told = step.passes.leaves.told.1 told_mid in
+    body_still step told _ c.args.change.tid ∙ c.in_ok-is_found.ensures.found c.if-not-branch.false told

@@ -3,7 +3,8 @@ use Rattle.std.proofs.Common.{◌+◌, arith}
 use Rattle.rss_entries.specs.Keyed.{kinds_of}
 use Rattle.rss_base.proofs.Steps.{then, then_call, done, fails}
 use Rattle.rss_tuple.proofs.Seen.{heaps_after}
-use Rattle.rss_access.proofs.Walked.{tuple_then, looked_more}
+use Rattle.std.proofs.Math.Logic.{∥∥₁_map}
+use Rattle.rss_access.proofs.Walked.{image_still, tuple_then, looked_all, looked_more}
 use Rattle.rss_access.proofs.checking.has_entries.Goals as goal
 
 pub next_live-requires-clause-heaps : goal.next_live-requires-clause-heaps
@@ -33,3 +34,12 @@ loop-tid-preserved g c =
 
 pub returns-clause-did : goal.returns-clause-did
 returns-clause-did g c = (_, done _ (then c.loop-tid.invariant.step c.in_ok-tid.ensures.did.below.step))
+
+pub has_entry-requires-clause-there : goal.has_entry-requires-clause-there
+has_entry-requires-clause-there g c = λ told_mid.
+    let before = then c.loop-tid.invariant.step c.in_ok-tid.ensures.did.below.step in
+    let told = before.passes.leaves.told.1 told_mid in
+    ∥∥₁_map (c.requires.there told) (image_still before told c.args.image.now)
+
+pub returns-clause-all : goal.returns-clause-all
+returns-clause-all g c = λ is told. looked_all c.loop-tid.invariant told ((rw c.in_default.is at c.in_ok-tid.ensures.next) (c.loop-tid.invariant.step.passes.leaves.told.0 told))

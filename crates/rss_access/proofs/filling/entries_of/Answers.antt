@@ -1,13 +1,14 @@
 -- Each tuple of the segment is looked at once, those of the relation are kept with their keys, and at last they are sorted.
 use Rattle.std.proofs.Common.{rules, ◌≡◌, ◌+◌, ◌<◌, ℕ, List, [], ◌∷◌, ◌++◌, length, Some, sym, ap, subst, arith, length-append}
-use Rattle.std.proofs.lemmas.List.Sorted.{answers_always, ranks_by}
+use Rattle.std.proofs.lemmas.List.Sorted.{answers_always}
 use Rattle.rss_base.specs.declared.tid.Tid.{Tid}
 use Rattle.rss_base.proofs.Looking.{passed_on}
 use Rattle.rss_base.proofs.Steps.{then, then_call, fails}
 use Rattle.rss_tuple.proofs.Seen.{heaps_after}
 use Rattle.rss_access.specs.Changes.{both}
-use Rattle.rss_access.proofs.GatheredAll.{entries_are, few_so_far, is_before, none_misspelled, order_total}
-use Rattle.rss_access.proofs.Gathering.{Gathered, gathered_end, gathered_key, misspelled_back, walked_key, walked_past}
+use Rattle.rss_access.specs.Filling.{keys_by}
+use Rattle.rss_access.proofs.GatheredAll.{entries_are, few_so_far, is_before, none_misspelled, ranked, sorted_rise}
+use Rattle.rss_access.proofs.Gathering.{Gathered, apart_more, gathered_end, gathered_key, misspelled_back, walked_key, walked_past}
 use Rattle.rss_access.proofs.Searching.{searches, searched, then_search, search_fails}
 use Rattle.rss_access.proofs.filling.entries_of.Goals as goal
 
@@ -31,8 +32,8 @@ returns-then-len-most-clause-fault g c = λ place is told catalog tables shows i
     let so = c.loop-entries.invariant.0 in
     let on = c.in_ok-tid.ensures.did.below.step in
     let key = (rw c.in-Some-2.is at c.in_ok-key.ensures.finds) ((then so.step on).passes.leaves.told.0 told) in
-    let more = gathered_key c.args.number c.args.relation.now c.args.which.now so _ on c.in-Some.tid (λ told. (rw c.in-Some.is at c.in_ok-tid.ensures.next) (so.step.passes.leaves.told.0 told)) c.in-Some-2.key told key in
-    let most = few_so_far (subst (λ (n : ℕ). n < 4294967296) c.slots-slots.ensures c.slots-slots.type_inv) shows c.args.number its more in
+    let more = gathered_key c.args.number c.args.relation.now c.args.which.now so _ on c.in-Some.tid (rw c.in-Some.is at c.in_ok-tid.ensures.behind) (λ told. (rw c.in-Some.is at c.in_ok-tid.ensures.next) (so.step.passes.leaves.told.0 told)) c.in-Some-2.key told key in
+    let most = few_so_far (subst (λ (n : ℕ). n < 4294967296) c.slots-slots.ensures c.slots-slots.type_inv) shows c.args.number its (apart_more so.apart c.in-Some.tid (rw c.in-Some.is at c.in_ok-tid.ensures.behind) c.in-Some-2.key) more in
     omega (arith, most, length-append c.loop-entries.entries.items ((c.in-Some-2.key, c.in-Some.tid) ∷ []), c.len.ensures, c.if-len-most.true)
 
 pub returns-then-len-most-clause-did : goal.returns-then-len-most-clause-did
@@ -47,7 +48,7 @@ loop-entries-preserved-else-is_err g c =
     let on = c.in_ok-tid.ensures.did.below.step in
     let items : c.push.new.self.items ≡ c.loop-entries.entries.items ++ (c.in-Some-2.key, c.in-Some.tid) ∷ [] = rw c.if-is_err.ensures.negation at c.push.ensures.items in (
       subst (λ (l : List (List ℕ × Tid)). Gathered c.args.number c.args.relation.now c.args.which.now (g.P.Pages.view c.args.tuples.now.pages) (g.P.Pages.view c.key_at.new.tuples.pages) (Some c.in-Some.tid) l) (sym items)
-          (walked_key c.args.number c.args.relation.now c.args.which.now so _ on c.in-Some.tid (λ told. (rw c.in-Some.is at c.in_ok-tid.ensures.next) (so.step.passes.leaves.told.0 told)) _ (then on c.in_ok-key.ensures.did.step) (record { page = omega arith; slot = omega arith }) c.in-Some-2.key
+          (walked_key c.args.number c.args.relation.now c.args.which.now so _ on c.in-Some.tid (rw c.in-Some.is at c.in_ok-tid.ensures.behind) (λ told. (rw c.in-Some.is at c.in_ok-tid.ensures.next) (so.step.passes.leaves.told.0 told)) _ (then on c.in_ok-key.ensures.did.step) (record { page = omega arith; slot = omega arith }) c.in-Some-2.key
           (rw c.in-Some-2.is at c.in_ok-key.ensures.long) (λ told. (rw c.in-Some-2.is at c.in_ok-key.ensures.finds) ((then so.step on).passes.leaves.told.0 told))),
       omega (arith, c.loop-entries.invariant.1, c.len.ensures, c.if-len-most.false, ap (λ (l : List (List ℕ × Tid)). length l) items, length-append c.loop-entries.entries.items ((c.in-Some-2.key, c.in-Some.tid) ∷ [])),
     )
@@ -56,7 +57,7 @@ pub loop-entries-preserved : goal.loop-entries-preserved
 loop-entries-preserved g c =
     let so = c.loop-entries.invariant.0 in
     let on = c.in_ok-tid.ensures.did.below.step in (
-      walked_past c.args.number c.args.relation.now c.args.which.now so _ on c.in-Some.tid (λ told. (rw c.in-Some.is at c.in_ok-tid.ensures.next) (so.step.passes.leaves.told.0 told)) _ (then on c.in_ok-key.ensures.did.step) (record { page = omega arith; slot = omega arith })
+      walked_past c.args.number c.args.relation.now c.args.which.now so _ on c.in-Some.tid (rw c.in-Some.is at c.in_ok-tid.ensures.behind) (λ told. (rw c.in-Some.is at c.in_ok-tid.ensures.next) (so.step.passes.leaves.told.0 told)) _ (then on c.in_ok-key.ensures.did.step) (record { page = omega arith; slot = omega arith })
           (λ told. (rw c.in_default-3.is at c.in_ok-key.ensures.finds) ((then so.step on).passes.leaves.told.0 told)),
       c.loop-entries.invariant.1,
     )
@@ -66,7 +67,13 @@ returns-clause-are g c = λ told catalog.
     let so = c.loop-entries.invariant.0 in
     let all = gathered_end c.args.number c.args.relation.now c.args.which.now so told ((rw c.in_default-2.is at c.in_ok-tid.ensures.next) (so.step.passes.leaves.told.0 told)) in
     entries_are {at = both (g.P.Pages.view c.args.tuples.now.pages) catalog} (subst (λ (n : ℕ). n < 4294967296) c.slots-slots.ensures c.slots-slots.type_inv) c.args.number c.args.relation.now c.args.which.now c.requires.numbers _ _ all
-    c.sort_unstable_by.ensures.permutation (c.sort_unstable_by.ensures.sorted is_before (ranks_by order_total (λ (p : List ℕ × Tid). p)) (answers_always _ _ _ (λ f a r g called. search rules)))
+    c.sort_unstable_by.ensures.permutation (c.sort_unstable_by.ensures.sorted is_before ranked (answers_always _ _ _ (λ f a r g called. search rules)))
+
+pub returns-clause-rising : goal.returns-clause-rising
+returns-clause-rising g c =
+    let so = c.loop-entries.invariant.0 in
+    sorted_rise (keys_by c.args.relation.now c.args.which.now) _ _ so.apart.apart so.long so.spelled
+    c.sort_unstable_by.ensures.permutation (c.sort_unstable_by.ensures.sorted is_before ranked (answers_always _ _ _ (λ f a r g called. search rules)))
 
 pub returns-clause-heaps : goal.returns-clause-heaps
 returns-clause-heaps g c = λ told.

@@ -6,7 +6,7 @@ use Rattle.rss_base.specs.Steps.{PagesCall, no_page}
 use Rattle.rss_image.specs.declared.image.Image.{Image}
 use Rattle.rss_image.specs.Images.{HasImage}
 use Rattle.rss_tuple.proofs.Seen.{on_ok}
-use Rattle.rss_access.proofs.Looking.{shows_fit, has_image, heaps_looked, key_long, pair_long, levels_passed}
+use Rattle.rss_access.proofs.Looking.{shows_fit, has_image, heaps_looked, key_long, pair_long, pair_wide, levels_passed}
 use Rattle.rss_access.proofs.imaging.next_entry.Goals as goal
 
 pub next_pair-requires-clause-long : goal.next_pair-requires-clause-long
@@ -38,3 +38,6 @@ pub returns-clause-did : goal.returns-clause-did
 returns-clause-did g c = λ image at.
     subst (λ (n : ℕ). PagesCall no_page (n + 1) (n + 1) (g.P.Pages.view c.args.tuples.now.pages) (g.P.Pages.view c.next_pair.new.pages) c.next_pair.result)
     (levels_passed c.image_of-image.ensures.listed c.image_of-image.ensures.is at) c.next_pair.ensures.did
+
+pub returns-clause-wide : goal.returns-clause-wide
+returns-clause-wide g c = IfOk-weaker c.next_pair.result _ _ (λ found wide. pair_wide c.image_of-image.ensures.listed c.image_of-image.ensures.is found wide) c.next_pair.ensures.wide
