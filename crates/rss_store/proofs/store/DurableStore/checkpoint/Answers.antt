@@ -20,6 +20,10 @@ pub returns-in_err-store-clause-writes : goal.returns-in_err-store-clause-writes
 returns-in_err-store-clause-writes g c =
     λ keys has. omega (arith, c.store.ensures.did.step.passes.writes_high)
 
+pub returns-in_err-store-clause-moments : goal.returns-in_err-store-clause-moments
+returns-in_err-store-clause-moments g c = λ told stored next can.
+    widened (c.in_err-store.ensures.did.step.passes.leaves.moments c.requires.ready.settled_now told) (λ image has. inl (can.disk.fixes image has))
+
 -- ---- the pages are saved
 
 pub returns-in_err-save-clause-moments : goal.returns-in_err-save-clause-moments
