@@ -52,12 +52,12 @@ module _ {old : SessionView} {pages : PagesView} {catalog : CatalogView} {number
   -- so what is defined without it may be committed
   pub image_taken : {name : Name} → image.name ≡ name → IsReady old → old.opened.transactions ≡ empty → TakesImage name old (with_tables pages catalog old)
   image_taken {name = name} named ready closed =
-      let touches = touches_images taken.step catalog in
+      let touches = touches_images old taken.step catalog in
       let links = ap (λ (l : Listing). l.links) lists.is in
       let can = taken_can taken (record { heaps = ready.store.heaps; tables = ready.store.tables }) in record {
         closed = closed;
         touches = touches;
-        saves = can_save_touched ready touches (store_touched taken.step catalog ready.store (pending_long lists ready.store.pending_places) (links ∙ ready.store.no_links) can);
+        saves = can_save_touched ready touches (store_touched old taken.step catalog ready.store (pending_long lists ready.store.pending_places) (links ∙ ready.store.no_links) can);
         redefines = λ told state kept shows.
             redefined_touched ready touches told closed kept shows (DropImage name) (without_image state.base.definitions name) (image_drops shows closed taken.at named) tt refl
             (taken_written taken shows.store.spells.listed told ready.store.pending_places shows.store.written)

@@ -21,7 +21,7 @@ module _ {view : SessionView} {entry : ImageEntry} {entries : List (List ℕ × 
   pub slots_low : (relation : RelationEntry) → relation_at view.store.catalog.listing entry.relation ≡ Some relation → All (λ e. e.1.slot < page_entries) entries
   slots_low relation at k d low = ((are.of relation at).long k d low).1
 
-  module _ {mid : CatalogView} {number root levels : ℕ} (least : IsLeastUnused ImageKind view.store.catalog.listing number) (lists : Lists (with_image view.store.catalog.listing number (Some (with_root root levels entry))) (page_of ImageKind number) view.store.catalog mid) where
+  module _ {mid : CatalogView} {number : ℕ} (root levels : ℕ) (least : IsLeastUnused ImageKind view.store.catalog.listing number) (lists : Lists (with_image view.store.catalog.listing number (Some (with_root root levels entry))) (page_of ImageKind number) view.store.catalog mid) where
     pub keys_long : All (λ e. IsKeyLong mid.listing number e.0) entries
     keys_long k d low image relation its =
         let once = listed_once least lists its in

@@ -87,12 +87,12 @@ module _ {old : SessionView} {entry : ImageEntry} {entries : List (List ℕ × T
     builds_saves : CanSave new
     builds_saves =
         let links = ap (λ (l : Listing). l.links) builds_lists.lists.is in
-        can_save_touched ready (touches_images builds.step catalog)
-        (store_touched builds.step catalog ready.store (pending_long builds_lists.lists ready.store.pending_places) (links ∙ ready.store.no_links) builds_can)
+        can_save_touched ready (touches_images old builds.step catalog)
+        (store_touched old builds.step catalog ready.store (pending_long builds_lists.lists ready.store.pending_places) (links ∙ ready.store.no_links) builds_can)
 
     builds_fills : old.opened.transactions ≡ empty → FillsImage old new entry
     builds_fills closed told state kept shows may =
-        let touches = touches_images builds.step catalog in
+        let touches = touches_images old builds.step catalog in
         let spelled = base_spelled closed shows in
         let same : builds.relation ≡ may.plans.within = same_Some _ _ (sym builds.within ∙ may.plans.at) in
         image_redefined ready touches told closed builds_lists kept shows may
@@ -101,7 +101,7 @@ module _ {old : SessionView} {entry : ImageEntry} {entries : List (List ℕ × T
 
     pub builds_makes : old.opened.transactions ≡ empty → MakesImage entry old new
     builds_makes closed = record {
-      touches = touches_images builds.step catalog;
+      touches = touches_images old builds.step catalog;
       lists = builds_lists;
       saves = builds_saves;
       fills = builds_fills closed;

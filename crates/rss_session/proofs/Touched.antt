@@ -70,7 +70,7 @@ with_tables pages catalog view = record view { store = record view.store { pages
 pub pending_long : {listing : Listing} {page : ℕ} {old new : CatalogView} → Lists listing page old new → length old.pending ≡ system_pages → length new.pending ≡ system_pages
 pending_long {page = page} {old = old} lists places = ap (λ (pending : List Bool). length pending) lists.pending ∙ length-set old.pending page true ∙ places
 
-module _ {old : SessionView} {pages : PagesView} {segment asks outs : ℕ} (step : PagesStep (pages_in segment ImageSpace) asks outs old.store.pages pages) (catalog : CatalogView) where
+module _ (old : SessionView) {pages : PagesView} {segment asks outs : ℕ} (step : PagesStep (pages_in segment ImageSpace) asks outs old.store.pages pages) (catalog : CatalogView) where
   pub touches_images : TouchesImages old (with_tables pages catalog old)
   touches_images = record {
     asks = asks + outs;
