@@ -3,7 +3,7 @@ use Rattle.std.proofs.Common.{◌≡◌, inl, inr, ℕ, true, false, Bool, refl,
 use Rattle.std.specs.Prelude.{Some, None, is_some}
 use Rattle.std.specs.FinMap.{empty}
 use Rattle.std.proofs.lemmas.Bool.{cases_Bool}
-use Rattle.rss_base.specs.Listings.{Listing, IsUnlisted, with_image}
+use Rattle.rss_base.specs.Listings.{Listing, IsUnlisted}
 use Rattle.rss_base.specs.Steps.{PagesView}
 use Rattle.rss_base.specs.declared.call.Call.TheVariants.{DropImage}
 use Rattle.rss_base.specs.declared.image.ImageEntry.{ImageEntry}
@@ -11,7 +11,7 @@ use Rattle.rss_base.specs.declared.name.Name.{Name}
 use Rattle.rss_base.specs.declared.refusal.Kind.TheVariants.{Image as ImageKind}
 use Rattle.rss_base.specs.declared.refusal.Refusal.TheVariants.{NoSuch}
 use Rattle.rss_base.specs.declared.relation.RelationEntry.{RelationEntry}
-use Rattle.rss_catalog.specs.Catalogs.{CatalogView, Lists, page_of}
+use Rattle.rss_catalog.specs.Catalogs.{CatalogView}
 use Rattle.rss_model.specs.Defining.{is_image, with_definitions}
 use Rattle.rss_model.specs.Machine.{State}
 use Rattle.rss_model.specs.Steps.{refusal}
@@ -46,12 +46,10 @@ module _ {view : SessionView} {state : State} (shows : Shows view state) (closed
 
 -- the image of this number was listed, its pages were given, and its definition was taken away
 module _ {old : SessionView} {pages : PagesView} {catalog : CatalogView} {number : ℕ} {image : ImageEntry} {relation : RelationEntry} (taken : Taken (both old.store.pages old.store.catalog) (both pages catalog) number image relation) where
-  abbrev lists : Lists (with_image old.store.catalog.listing number None) (page_of ImageKind number) old.store.catalog catalog
-  lists = taken.takes.lists
-
   -- so what is defined without it may be committed
   pub image_taken : {name : Name} → image.name ≡ name → IsReady old → old.opened.transactions ≡ empty → TakesImage name old (with_tables pages catalog old)
   image_taken {name = name} named ready closed =
+      let lists = taken.takes.lists in
       let touches = touches_images old taken.step catalog in
       let links = ap (λ (l : Listing). l.links) lists.is in
       let can = taken_can taken (record { heaps = ready.store.heaps; tables = ready.store.tables }) in record {
