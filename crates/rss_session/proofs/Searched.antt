@@ -1,6 +1,6 @@
 -- A look that may lack memory: the entries of an image that is planned.
 use mathlib.Core.HLevel.{⊥_prop}
-use Rattle.std.proofs.Common.{◌≡◌, ℕ, ◌≤◌, List, length, sym, ◌∙◌, ap, subst, arith}
+use Rattle.std.proofs.Common.{◌≡◌, ℕ, ◌≤◌, List, length, refl, sym, ◌∙◌, ap, subst, arith}
 use Rattle.std.specs.Prelude.{Some, All, Result, Ok, Err, IfOk, OnOk, IsErrOf}
 use Rattle.std.proofs.Math.Logic.{∥∥₁_elim}
 use Rattle.std.proofs.lemmas.Option.{same_Some}
@@ -19,6 +19,7 @@ use Rattle.rss_base.proofs.Steps.{all_mapped, all_held}
 use Rattle.rss_tuple.specs.Heaps.{AreHeaps}
 use Rattle.rss_model.specs.Fits.{tuple_limit}
 use Rattle.rss_entries.specs.Building.{AreRising}
+use Rattle.rss_entries.specs.Moving.{KeyKinds}
 use Rattle.rss_access.specs.Changes.{both}
 use Rattle.rss_access.specs.Filling.{keys_by, IsEntryLong, AreEntries, HasNoTables, SearchesPages}
 use Rattle.rss_access.proofs.Heaped.{heaps_alike}
@@ -34,7 +35,7 @@ use Rattle.rss_session.proofs.Passing.{looks_on}
 
 device_failed : {T : Type 0} (result : Result T PageFault) → IsErrOf (but_memory result) DeviceFailed → IsErrOf result DeviceFailed
 device_failed (Ok value) is = absurd (cc (is))
-device_failed (Err DeviceFailed) is = ap Err (cc (is))
+device_failed (Err DeviceFailed) is = refl
 device_failed (Err (Damaged place)) is = absurd (cc (is))
 device_failed (Err NoMemory) is = absurd (cc (is))
 
@@ -73,16 +74,13 @@ searches_on {result = result} old ready counted_old counted did sound =
     (all_mapped did.step) (all_held did.step) (in_any_case (but_memory result) (λ told. heaps_searched did.step told (ready.store.heaps told)))
 
 -- the pages spell tables in which a relation has no more tuples than it may
-pub has_tables_of : {view : SessionView} {number : ℕ} {relation : RelationEntry} → IsReady view → IsTold view.store.pages.disk → relation_at view.store.catalog.listing number ≡ Some relation → HasNoTables (both view.store.pages view.store.catalog) number relation → ⊥
-has_tables_of {number = number} {relation = relation} ready told at none = ∥∥₁_elim (ready.store.tables told) ⊥_prop (λ has.
+pub has_tables_of : {view : SessionView} (number : ℕ) {relation : RelationEntry} → IsReady view → IsTold view.store.pages.disk → relation_at view.store.catalog.listing number ≡ Some relation → HasNoTables (both view.store.pages view.store.catalog) number relation → ⊥
+has_tables_of number {relation = relation} ready told at none = ∥∥₁_elim (ready.store.tables told) ⊥_prop (λ has.
     none has.tables (spelled_shown has.spells has.tuples has.tids) at (omega (arith, has.spells.counts number relation at, has.few relation.name)))
 
 -- ---- the entries
 
-module _ (old : SessionView) {pages : PagesView} (image : ImageEntry) (relation : RelationEntry) (at : relation_at old.store.catalog.listing image.relation ≡ Some relation) {asks outs : ℕ} (step : PagesStep no_page asks outs old.store.pages pages) where
-  abbrev which : List ℕ
-  which = field_numbers image
-
+module _ (old : SessionView) {pages : PagesView} (image : ImageEntry) (relation : RelationEntry) (at : relation_at old.store.catalog.listing image.relation ≡ Some relation) {which : List ℕ} (numbers : which ≡ field_numbers image) {asks outs : ℕ} (step : PagesStep no_page asks outs old.store.pages pages) where
   image_entries : (entries : List (List ℕ × Tid)) → (length entries ≤ relation.live) × (length entries ≤ tuple_limit) → All (IsEntryLong (keys_by relation which)) entries → AreRising entries
       → (IsTold old.store.pages.disk → AreEntries (both old.store.pages old.store.catalog) image.relation relation which entries) → AreImageEntries (with_pages pages old) image entries
   image_entries entries few long rising are = record {
@@ -91,10 +89,10 @@ module _ (old : SessionView) {pages : PagesView} (image : ImageEntry) (relation 
     of = λ other there.
         let same : relation ≡ other = same_Some _ _ (sym at ∙ there) in record {
           few = subst (λ (r : RelationEntry). length entries ≤ r.live) same few.0;
-          long = subst (λ (r : RelationEntry). All (IsEntryLong (keys_by r which)) entries) same long;
+          long = subst (λ (key : KeyKinds). All (IsEntryLong key) entries) (λ i. keys_by (same i) (numbers i)) long;
           are = λ now.
               let told = step.passes.leaves.told.1 now in
-              subst (λ (r : RelationEntry). AreEntries (both pages old.store.catalog) image.relation r which entries) same
+              subst (λ (its : RelationEntry × List ℕ). AreEntries (both pages old.store.catalog) image.relation its.0 its.1 entries) (λ i. (same i, numbers i))
               (entries_still old.store.catalog image.relation relation which entries step told (are told));
         };
   }
