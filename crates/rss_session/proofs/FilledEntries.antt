@@ -1,5 +1,5 @@
 -- The entries of a planned image are such as its tree may be built of, once it is listed.
-use Rattle.std.proofs.Common.{◌≡◌, ℕ, ◌<◌, List, length, sym, ◌∙◌, ap}
+use Rattle.std.proofs.Common.{◌≡◌, ℕ, ◌<◌, List, sym, ◌∙◌, ap}
 use Rattle.std.specs.Prelude.{Some, All}
 use Rattle.rss_base.specs.Listings.{IsLeastUnused, field_numbers, relation_at, with_image, with_root}
 use Rattle.rss_base.specs.Sizes.{page_entries}

@@ -1,12 +1,11 @@
 -- The keys of the entries of a planned image stand twice in bytes where they do in the machine's list.
-use Rattle.std.proofs.Common.{◌≡◌, ◌<◌, ◌^◌, ℕ, true, false, Bool, List, length, refl, sym, ◌∙◌, ap, subst, arith}
-use Rattle.std.specs.Prelude.{Option, Some, None, option_map, All}
+use Rattle.std.proofs.Common.{◌≡◌, ◌<◌, ◌^◌, ℕ, true, false, Bool, List, refl, sym, ◌∙◌, ap, arith}
+use Rattle.std.specs.Prelude.{None, option_map, All}
 use Rattle.std.specs.FinMap.{empty}
 use Rattle.rss_base.specs.DiskRule.{IsTold}
 use Rattle.rss_base.specs.Listings.{field_numbers}
 use Rattle.rss_base.specs.declared.image.ImageEntry.{ImageEntry}
 use Rattle.rss_base.specs.declared.name.Name.{Name}
-use Rattle.rss_base.specs.declared.refusal.Refusal.{Refusal}
 use Rattle.rss_base.specs.declared.refusal.Refusal.TheVariants.{Duplicate}
 use Rattle.rss_base.specs.declared.tid.Tid.{Tid}
 use Rattle.rss_value.specs.Numbers.{IsNumberOf}

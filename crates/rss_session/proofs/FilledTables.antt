@@ -1,5 +1,5 @@
 -- The tree of a planned image is built of its entries: what the session is then.
-use Rattle.std.proofs.Common.{◌≡◌, ℕ, ◌≤◌, List, length, sym, ◌∙◌, ap, subst, arith}
+use Rattle.std.proofs.Common.{◌≡◌, ℕ, List, sym, ◌∙◌, ap, subst, arith}
 use Rattle.std.specs.Prelude.{Some}
 use Rattle.std.specs.FinMap.{empty}
 use Rattle.std.proofs.Math.Logic.{∥∥₁_map}

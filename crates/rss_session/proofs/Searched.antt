@@ -5,9 +5,7 @@ use Rattle.std.specs.Prelude.{Some, All, Result, Ok, Err, IfOk, OnOk, IsErrOf}
 use Rattle.std.proofs.Math.Logic.{∥∥₁_elim}
 use Rattle.std.proofs.lemmas.Option.{same_Some}
 use Rattle.rss_base.specs.DiskRule.{IsTold}
-use Rattle.rss_base.specs.Faults.{Rises}
 use Rattle.rss_base.specs.Listings.{field_numbers, relation_at}
-use Rattle.rss_base.specs.Paged.{Held}
 use Rattle.rss_base.specs.Steps.{PagesView, PagesStep, AreCounted, no_page}
 use Rattle.rss_base.specs.declared.fault.PageFault.{PageFault}
 use Rattle.rss_base.specs.declared.fault.PageFault.TheVariants.{Device as DeviceFailed, Damaged, NoMemory}

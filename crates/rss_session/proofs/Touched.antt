@@ -1,5 +1,5 @@
 -- What the session is once pages of images were touched, and the catalog: it goes on, and what is defined then may be committed.
-use Rattle.std.proofs.Common.{◌≡◌, ◌≢◌, ℕ, ◌+◌, ◌≤◌, true, Bool, List, length, refl, sym, ◌∙◌, ap, subst, arith}
+use Rattle.std.proofs.Common.{◌≡◌, ℕ, ◌+◌, ◌≤◌, true, Bool, List, length, refl, sym, ◌∙◌, ap, subst, arith}
 use Rattle.std.specs.Prelude.{Some, None, Result, IsErrOf}
 use Rattle.std.specs.FinMap.{empty}
 use Rattle.std.proofs.lemmas.List.{length-set}
@@ -34,7 +34,7 @@ use Rattle.rss_trans.specs.Transactions.{OpenView, transaction_in, is_open}
 use Rattle.rss_access.specs.Changes.{both, CanAlter}
 use Rattle.rss_access.specs.Checking.{ShowsTuples}
 use Rattle.rss_access.specs.Written.{AreWritten}
-use Rattle.rss_access.proofs.ImageTouched.{AreLawful, spelled_shown}
+use Rattle.rss_access.proofs.ImageTouched.{spelled_shown}
 use Rattle.rss_store.specs.Stores.{IsReady as IsStoreReady}
 use Rattle.rss_session.specs.Calls.{GoesOn, IsRedefined}
 use Rattle.rss_session.specs.Filling.{TouchesImages}
@@ -57,8 +57,8 @@ module _ {view : SessionView} {state : State} (closed : view.opened.transactions
   base_shown ready kept =
       let fits = (kept_fit state kept).0 in
       spelled_shown base_spelled fits.tuples (λ relation tid live.
-          let id = fits.tids relation tid live in
-          record { page = omega (arith, id.page, slots_shown ready shows); slot = id.slot })
+      let id = fits.tids relation tid live in
+      record { page = omega (arith, id.page, slots_shown ready shows); slot = id.slot })
 
 -- ---- once image pages were touched
 

@@ -91,11 +91,7 @@ impl<S: Saving> Session<S> {
     }
 
     /// Where an image that was planned is unique, no two of its entries have one key.
-    pub fn test_image_keys(
-        &self,
-        image: &ImageEntry,
-        entries: &[(Key, Tid)],
-    ) -> Result<(), Refusal>
+    pub fn test_image_keys(&self, image: &ImageEntry, entries: &[(Key, Tid)]) -> Result<(), Refusal>
         requires ready { IsReady (view S.view self.now) }
         requires closed { (view S.view self.now).opened.transactions ≡ empty }
         requires entries { AreImageEntries (view S.view self.now) image.now entries.now }
@@ -112,11 +108,7 @@ impl<S: Saving> Session<S> {
 
     /// Lists an image that was planned, for which there is room, and builds its tree of its entries.
     /// `redefine` commits it. At each moment a stop leaves the committed tables.
-    pub fn fill_image(
-        &mut self,
-        image: ImageEntry,
-        entries: &[(Key, Tid)],
-    ) -> Result<(), PageFault>
+    pub fn fill_image(&mut self, image: ImageEntry, entries: &[(Key, Tid)]) -> Result<(), PageFault>
         requires ready { IsReady (view S.view self.old) }
         requires closed { (view S.view self.old).opened.transactions ≡ empty }
         requires planned { IsPlanned (view S.view self.old).store.catalog.listing image }

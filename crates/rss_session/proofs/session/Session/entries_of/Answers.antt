@@ -1,14 +1,13 @@
 use Rattle.std.proofs.Common.{◌≡◌, ◌∙◌, ◌≤◌, ap, subst, sym, arith}
-use Rattle.std.specs.Prelude.{All, length, take}
+use Rattle.std.specs.Prelude.{take}
 use Rattle.std.proofs.lemmas.Option.{same_Some}
 use Rattle.std.proofs.lemmas.Result.{IfOk-weaker}
-use Rattle.rss_base.specs.Listings.{IsFieldNumber, field_numbers}
 use Rattle.rss_base.specs.TupleTypes.{key_width, most_key_width}
 use Rattle.rss_base.specs.declared.relation.RelationEntry.{RelationEntry}
 use Rattle.rss_model.proofs.ImageFields.{chosen_kinds}
 use Rattle.rss_entries.specs.Rooms.{width_of}
 use Rattle.rss_session.specs.Parts.{view}
-use Rattle.rss_session.proofs.FilledRooms.{planned_narrow, planned_within}
+use Rattle.rss_session.proofs.FilledRooms.{planned_narrow}
 use Rattle.rss_session.proofs.Searched.{searches_on, has_tables_of, entries_found}
 use Rattle.rss_session.proofs.session.Session.entries_of.Goals as goal
 
