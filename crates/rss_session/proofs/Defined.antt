@@ -87,7 +87,7 @@ module _ {view : SessionView} {state : State} (shows : Shows view state) (closed
       ∙ ap (λ (m : FinMap nat_cmp Transaction). slice_get (finite.keys m) 0) closed
       ∙ ap (λ (es : List (ℕ × Transaction)). slice_get (map (λ (e : ℕ × Transaction). e.0) es) 0) no_entries
 
-  none_is_open : if_any_open state ≡ None
+  pub none_is_open : if_any_open state ≡ None
   none_is_open = ap (option_map TransactionsOpen) least
 
   none_listed : length shows.listed ≡ 0

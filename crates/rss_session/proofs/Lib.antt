@@ -45,4 +45,10 @@ pub mod ImagesShown
 pub mod FilledRooms
 pub mod FilledLists
 pub mod FilledPages
+pub mod Touched
 pub mod FilledStates
+pub mod FilledEntries
+pub mod FilledKeys
+pub mod FilledTables
+pub mod Dropped
+pub mod Searched

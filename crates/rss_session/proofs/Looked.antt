@@ -139,7 +139,7 @@ finds_tuple {view = view} {segment = segment} {number = number} {tid = tid} {the
 -- ---- identifiers for new tuples
 
 -- a state that is shown has as many slots
-slots_shown : {view : SessionView} {state : State} → IsReady view → Shows view state → view.store.pages.slots ≡ state.size.slots
+pub slots_shown : {view : SessionView} {state : State} → IsReady view → Shows view state → view.store.pages.slots ≡ state.size.slots
 slots_shown ready shows = ready.store.size ∙ ap (λ (r : Root). r.slots) (sym shows.store.disk.root_is) ∙ ap (λ (s : StoreSize). s.slots) (sym shows.store.tied.size)
 
 -- whose tables fit

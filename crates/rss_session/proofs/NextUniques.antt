@@ -91,7 +91,7 @@ passed_not (one ∷ next ∷ passed) left rise image (inr is) behind = passed_no
 -- ---- images of a listing
 
 -- the image of a number whose name is known
-image_named : (listing : Listing) (name : Name) (number : ℕ) → IsNumberOf ImageKind listing name number → (image : ImageEntry) × (image_at listing number ≡ Some image) × (image.name ≡ name)
+pub image_named : (listing : Listing) (name : Name) (number : ℕ) → IsNumberOf ImageKind listing name number → (image : ImageEntry) × (image_at listing number ≡ Some image) × (image.name ≡ name)
 image_named listing name zero is = absurd (none-some name is)
 image_named listing name (suc k) is =
     let some = entry listing.images k (sym (at_place (list_map (option_map (λ (i : ImageEntry). i.name)) listing.images) k) ∙ is) in

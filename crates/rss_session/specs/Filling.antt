@@ -1,7 +1,7 @@
--- The room that an image needs which is to be made.
-use Rattle.std.specs.Prelude.{◌≡◌, ◌≢◌, ℕ, ◌+◌, ◌≤◌, Bool, List, Some, None, Result}
+-- The room that an image needs which is to be made, what it is built of, and what it is then.
+use Rattle.std.specs.Prelude.{◌≡◌, ◌≢◌, ℕ, ◌+◌, ◌≤◌, Bool, List, length, All, Option, Some, None, Result, Ok, Err}
 use Rattle.rss_base.specs.DiskRule.{IsTold}
-use Rattle.rss_base.specs.Listings.{Listing, ListingFits, IsLeastUnused, catalog_page, with_image as with_listed, with_root}
+use Rattle.rss_base.specs.Listings.{Listing, ListingFits, IsLeastUnused, catalog_page, field_numbers, relation_at, with_image as with_listed, with_root}
 use Rattle.rss_base.specs.Paged.{mapped_of}
 use Rattle.rss_base.specs.Steps.{Keys, PagesStep}
 use Rattle.rss_base.specs.declared.call.Call.TheVariants.{MakeImage}
@@ -10,18 +10,24 @@ use Rattle.rss_base.specs.declared.key.Space.TheVariants.{Image}
 use Rattle.rss_base.specs.declared.name.Name.{Name}
 use Rattle.rss_base.specs.declared.refusal.Kind.TheVariants.{Image as ImageKind}
 use Rattle.rss_base.specs.declared.refusal.Refusal.{Refusal}
+use Rattle.rss_base.specs.declared.relation.RelationEntry.{RelationEntry}
+use Rattle.rss_base.specs.declared.tid.Tid.{Tid}
 use Rattle.rss_catalog.specs.Catalogs.{CatalogView, Lists, page_of}
-use Rattle.rss_model.specs.Defining.{with_image, image_def}
+use Rattle.rss_model.specs.Defining.{if_repeated, with_image, image_def}
+use Rattle.rss_model.specs.Fits.{tuple_limit}
 use Rattle.rss_model.specs.Kept.{Kept}
 use Rattle.rss_model.specs.Machine.{State}
 use Rattle.rss_model.specs.Rules.{if_no_room_for}
 use Rattle.rss_model.specs.Spares.{bound_at}
 use Rattle.rss_model.specs.Steps.{refusal}
+use Rattle.rss_entries.specs.Building.{AreRising}
+use Rattle.rss_access.specs.Changes.{both}
+use Rattle.rss_access.specs.Filling.{keys_by, IsEntryLong, AreEntries}
 use Rattle.rss_access.specs.Written.{heap_now}
 use Rattle.rss_session.specs.Admissions.{Tests}
 use Rattle.rss_session.specs.Calls.{IsRedefined}
 use Rattle.rss_session.specs.Planning.{PlansImage}
-use Rattle.rss_session.specs.Sessions.{SessionView, CountsStill, sums_in}
+use Rattle.rss_session.specs.Sessions.{SessionView, CanSave, CountsStill, sums_in}
 use Rattle.rss_session.specs.Shown.{Shows}
 use Rattle.rss_session.specs.Weighing.{room_of, saved_most, saved_images_with}
 
@@ -58,6 +64,35 @@ TestsRoom view entry result =
     → PlansImage view.store.catalog.listing name relation is_unique fields entry
     → Tests view (λ state. if_no_room_for state
     (with_image state.base.definitions name (image_def relation is_unique fields))) result
+
+-- ---- what it is built of
+
+-- The entries are those of all tuples of this relation, in the image's order.
+pub record AreEntriesOf (view : SessionView) (image : ImageEntry) (relation : RelationEntry) (entries : List (List ℕ × Tid)) : Type 0 where
+  pub few : length entries ≤ relation.live
+  pub long : All (IsEntryLong (keys_by relation (field_numbers image))) entries
+  pub are : IsTold view.store.pages.disk
+      → AreEntries (both view.store.pages view.store.catalog) image.relation relation (field_numbers image) entries
+
+-- and they are no more than an image may have
+pub record AreImageEntries (view : SessionView) (image : ImageEntry) (entries : List (List ℕ × Tid)) : Type 0 where
+  pub most : length entries ≤ tuple_limit
+  pub rising : AreRising entries
+  pub of : (relation : RelationEntry) → relation_at view.store.catalog.listing image.relation ≡ Some relation
+      → AreEntriesOf view image relation entries
+
+-- what was refused, if anything was
+abbrev pub refused_by : {T : Type 0} → Result T Refusal → Option Refusal
+refused_by (Ok value) = None
+refused_by (Err why) = Some why
+
+-- In each state in which the session may be, the test of the keys of an image that the entry plans says this.
+abbrev pub TestsKeys : {T : Type 0} → SessionView → ImageEntry → Result T Refusal → Type 0
+TestsKeys view entry result =
+    (name relation : Name) (is_unique : Bool) (fields : List Name)
+    → PlansImage view.store.catalog.listing name relation is_unique fields entry
+    → IsTold view.store.pages.disk → (state : State) → Kept state → Shows view state
+    → if_repeated state name is_unique (image_def relation is_unique fields) ≡ refused_by result
 
 -- ---- once it is made
 
@@ -102,3 +137,10 @@ FillsImage old new entry =
     IsTold old.store.pages.disk → (state : State) → Kept state → Shows old state
     → (may : MayMakeImage old.store.catalog.listing state entry)
     → IsRedefined new state (with_image state.base.definitions may.name (image_def may.relation may.is_unique may.fields))
+
+-- It is listed, and its definition may be committed.
+pub record MakesImage (entry : ImageEntry) (old new : SessionView) : Type 0 where
+  pub touches : TouchesImages old new
+  pub lists : ListsImage entry old.store.catalog new.store.catalog
+  pub saves : CanSave new
+  pub fills : FillsImage old new entry

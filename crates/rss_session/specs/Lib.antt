@@ -10,6 +10,6 @@ pub mod Admissions
 pub mod FieldTests
 pub mod Definitions
 pub mod Imaging
-pub mod Planning
 pub mod Uniques
 pub mod Filling
+pub mod Taking

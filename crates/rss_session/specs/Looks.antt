@@ -1,10 +1,10 @@
 -- What a look at tuples finds, and what it passes on.
-use Rattle.std.specs.Prelude.{◌≡◌, ℕ, Bool, true, false, List, [], Option, Some, None, option_map, IfSome, Result, Err, OnOk, Contains}
+use Rattle.std.specs.Prelude.{◌≡◌, ℕ, Bool, true, false, List, [], Option, Some, None, option_map, IfSome, Result, Ok, Err, OnOk, Contains}
 use Rattle.rss_base.specs.DiskRule.{IsTold}
 use Rattle.rss_base.specs.Listings.{relation_at}
 use Rattle.rss_base.specs.TupleTypes.{kinds}
 use Rattle.rss_base.specs.declared.fault.PageFault.{PageFault}
-use Rattle.rss_base.specs.declared.fault.PageFault.TheVariants.{Damaged}
+use Rattle.rss_base.specs.declared.fault.PageFault.TheVariants.{Device as DeviceFailed, Damaged, NoMemory}
 use Rattle.rss_base.specs.declared.item.Item.TheVariants.{Tuple}
 use Rattle.rss_base.specs.declared.name.Name.{Name}
 use Rattle.rss_base.specs.declared.place.Place.{Place}
@@ -35,6 +35,17 @@ pub record LooksOn {T : Type 0} (old new : SessionView) (result : Result T PageF
   pub sound : (place : Place) → result ≡ Err (Damaged place) → IsTold old.store.pages.disk → ⊥
   pub moments : KeepsTables old new
   pub goes : GoesOn old new result
+
+-- what came of a call that may lack memory, but for that: it is no fault of the device
+abbrev pub but_memory : {T : Type 0} → Result T PageFault → Result (Unit {0}) PageFault
+but_memory (Ok value) = Ok tt
+but_memory (Err DeviceFailed) = Err DeviceFailed
+but_memory (Err (Damaged place)) = Err (Damaged place)
+but_memory (Err NoMemory) = Ok tt
+
+-- A look that may lack memory. Then the session is as it is behind one that finds something.
+abbrev pub SearchesOn : {T : Type 0} → SessionView → SessionView → Result T PageFault → Type 0
+SearchesOn old new result = LooksOn old new (but_memory result)
 
 -- the pages hold what they held
 pub record KeepsPages (old new : SessionView) : Type 0 where

@@ -17,6 +17,7 @@ mod planning;
 mod saving;
 mod session;
 mod starting;
+mod taking;
 mod uniques;
 mod weighing;
 

@@ -139,7 +139,7 @@ fn is_less(one: &Name, other: &Name) -> bool
 }
 
 /// The refusal that tells which tuple has a key in an image.
-fn duplicate(image: Name, tid: Tid) -> Refusal
+pub(crate) fn duplicate(image: Name, tid: Tid) -> Refusal
     ensures is { result ≡ Duplicate image tid }
     ensures short { IsShort (Err (Duplicate image tid)) }
 {
