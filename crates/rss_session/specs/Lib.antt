@@ -11,5 +11,6 @@ pub mod FieldTests
 pub mod Definitions
 pub mod Imaging
 pub mod Uniques
+pub mod Planning
 pub mod Filling
 pub mod Taking
