@@ -2,6 +2,7 @@ pub mod Ways
 pub mod Claims
 pub mod NoLinks
 pub mod Defining
+pub mod Imaging
 pub mod TransactionSteps
 pub mod Looks
 pub mod NoTuple
