@@ -3,6 +3,7 @@ pub mod Claims
 pub mod NoLinks
 pub mod Defining
 pub mod Imaging
+pub mod Imaged
 pub mod TransactionSteps
 pub mod Looks
 pub mod NoTuple

@@ -1,5 +1,5 @@
 // The calls that make an image and take one away.
-ghost use Rattle.std.specs.Prelude.{◌≡◌, ◌<◌, false, true, IfOk, IsErrOf, OnOk};
+ghost use Rattle.std.specs.Prelude.{◌≡◌, ◌<◌, false, true, IfOk, IsErrOf};
 ghost use Rattle.rss_base.specs.Names.{IsName};
 ghost use Rattle.rss_base.specs.declared.answer.CallError.TheVariants.{NoMemory};
 ghost use Rattle.rss_base.specs.declared.call.Call.TheVariants.{MakeImage, DropImage};

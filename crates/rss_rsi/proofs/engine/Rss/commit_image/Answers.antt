@@ -1,4 +1,5 @@
 use Rattle.std.proofs.Common.{refl, ◌∙◌, sym}
+use Rattle.std.specs.Prelude.{Ok}
 use Rattle.std.proofs.lemmas.Bool.{true≢false}
 use Rattle.rss_rsi.proofs.Imaging.{image_closed, image_early, image_done, image_ready, image_fails}
 use Rattle.rss_rsi.proofs.Ways.{fault_of_memory}
@@ -24,9 +25,9 @@ returns-in_err-redefine-clause-memory g c = fault_of_memory c.from_residual.resu
 pub invariant_of-self-2 : goal.invariant_of-self-2
 invariant_of-self-2 g c =
     let redefine = c.in_ok-redefine.ensures in
-    record { ready = λ up. image_ready g.S.Pages.view c.requires.some.1 redefine.goes redefine.moments redefine.ready redefine.appends redefine.anew.transactions }
+    record { ready = λ up. image_ready g.S.Pages.view c.requires.some.1 {result = Ok tt} redefine.goes redefine.moments redefine.ready redefine.appends redefine.anew.transactions }
 
 pub returns-clause-did : goal.returns-clause-did
 returns-clause-did g c = λ to is.
     let redefine = c.in_ok-redefine.ensures in
-    image_done g.S.Pages.view is redefine.goes redefine.moments refl redefine.shows
+    image_done g.S.Pages.view is {result = Ok tt} redefine.goes redefine.moments refl redefine.shows
