@@ -34,9 +34,7 @@ impl<S: Saving> Rss<S> {
         ensures untouched { ((view self.old).is_up → ⊥) → self.new ≡ self.old }
     {
         self.ask()?;
-        let image = self
-            .session
-            .plan_image(name, relation, is_unique, fields)?;
+        let image = self.session.plan_image(name, relation, is_unique, fields)?;
         let entries = self.image_entries(&image)?;
         self.session.test_image_keys(&image, &entries)?;
         self.session.test_image_room(&image)?;
