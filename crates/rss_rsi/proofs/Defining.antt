@@ -79,7 +79,7 @@ but_listed catalog on = record {
 }
 
 -- no transaction is open
-none_open_in : (session : SessionView) → session.opened.transactions ≡ empty → (t : ℕ) → is_open session.opened t ≡ false
+pub none_open_in : (session : SessionView) → session.opened.transactions ≡ empty → (t : ℕ) → is_open session.opened t ≡ false
 none_open_in session none t = ap (λ (m : FinMap nat_cmp Transaction). contains_key m t) none ∙ ap (λ (o : Option Transaction). is_some o) (get-empty {X = Transaction} nat_cmp t)
 
 -- what was made is a definition, where it is no refusal

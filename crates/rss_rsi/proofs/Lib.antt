@@ -2,6 +2,8 @@ pub mod Ways
 pub mod Claims
 pub mod NoLinks
 pub mod Defining
+pub mod Imaging
+pub mod Imaged
 pub mod TransactionSteps
 pub mod Looks
 pub mod NoTuple

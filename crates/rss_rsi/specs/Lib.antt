@@ -4,6 +4,7 @@ pub mod Changing
 pub mod RsiLaws
 pub mod Opening
 pub mod Definitions
+pub mod Imaging
 pub mod Locking
 pub mod Looking
 pub mod Placing

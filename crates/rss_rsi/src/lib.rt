@@ -9,6 +9,7 @@ mod definitions;
 mod deleting;
 mod engine;
 mod fetching;
+mod images;
 mod inserting;
 mod keys;
 mod locking;
