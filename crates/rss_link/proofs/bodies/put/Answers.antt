@@ -1,9 +1,10 @@
-use Rattle.std.proofs.Common.{◌≡◌, ℕ, sym, ◌∙◌, ap, List, arith}
+use Rattle.std.proofs.Common.{◌≡◌, ℕ, sym, ◌∙◌, ap, List, length, rules, arith}
 use Rattle.std.specs.Prelude.{Some}
 use Rattle.std.proofs.lemmas.Grind.{common_steps}
 use Rattle.rss_base.specs.Steps.{with_bytes}
-use Rattle.rss_link.proofs.TupleSteps.{stepped, same_slots, untouched, then_call, widens, done, then, within, fails_at}
-use Rattle.rss_link.proofs.Edited.{puts_after, takes_for}
+use Rattle.rss_link.proofs.TupleSteps.{stepped, heaps_then, told_before, same_slots, untouched, then_call, widens, done, then, within, fails_at, is_damaged}
+use Rattle.rss_link.proofs.Lists.{some_one}
+use Rattle.rss_link.proofs.Edited.{length-with_bytes, puts_after, takes_for}
 use Rattle.rss_link.proofs.bodies.put.Goals as goal
 
 pub returns-in-Ok-clause-puts : goal.returns-in-Ok-clause-puts
@@ -26,3 +27,29 @@ returns-in-Err-clause-did g c =
     let step = stepped c.in_ok-read.ensures.did in
     widens _ (λ key there. there) (λ segment tid there. there) (omega (arith, same_slots step))
     (then_call _ (untouched step) (fails_at c.in-Err.fault c.fault_at.result c.args.segment c.args.tid c.fault_at.ensures.at c.fault_at.ensures.failed c.fault_at.ensures.damaged c.in-Err.ensures.puts.did))
+
+pub returns-then-old-end-clause-did : goal.returns-then-old-end-clause-did
+returns-then-old-end-clause-did g c = is_damaged c.damaged.result c.damaged.ensures
+    (within (λ key none. absurd none) (λ segment tid none. absurd none) (omega arith) (stepped c.in_ok-read.ensures.did))
+    (λ told.
+    let reaches = c.requires.reaches told in
+    let same = some_one _ _ (sym reaches.there ∙ c.in_ok-read.ensures.read told) ∙ sym c.as_slice-old.ensures.bytes in
+    omega (arith, reaches.room, ap (λ (l : List ℕ). length l) same, c.if-old-end.true))
+
+pub replace-requires : goal.replace-requires
+replace-requires g c =
+    let step = stepped c.in_ok-read.ensures.did in
+    let old = c.as_slice-old.result.now in
+    let is : c.as_slice.result.now ≡ with_bytes old c.args.at c.args.bytes.now = grind (arith, common_steps) in
+    let long : length c.as_slice.result.now ≡ length old = ap (λ (l : List ℕ). length l) is ∙ length-with_bytes old c.args.at c.args.bytes.now c.if-old-end.false in
+    record {
+      may = record {
+        segment = c.requires.segment;
+        length = record { some = omega (arith, long, c.if-old-end.false, c.requires.some); most = search rules };
+      };
+      there = record { heaps = heaps_then step; live = search rules };
+      room = λ told bytes body less.
+          let before = told_before step told in
+          let same = some_one _ _ (sym body ∙ step.others before c.args.segment c.args.tid (λ none. none) ∙ c.in_ok-read.ensures.read before) ∙ sym c.as_slice-old.ensures.bytes in
+          omega (arith, less, long, ap (λ (l : List ℕ). length l) same);
+    }

@@ -1,6 +1,9 @@
-use Rattle.std.proofs.Common.{◌∙◌, arith}
+use Rattle.std.proofs.Common.{sym, ◌∙◌, subst, arith}
+use Rattle.rss_tuple.specs.Directory.{Bodies}
+use Rattle.rss_link.specs.Edits.{SaysSome}
+use Rattle.rss_link.proofs.Meaning.{says_some}
 use Rattle.std.proofs.lemmas.Result.{on_ok_weaker}
-use Rattle.rss_link.proofs.TupleSteps.{stepped, told_then, told_before, heaps_then, untouched, then, then_call, widens, fails, same_slots, takes_after, takes_then}
+use Rattle.rss_link.proofs.TupleSteps.{stepped, same_bodies, told_then, told_before, heaps_then, untouched, then, then_call, widens, fails, same_slots, takes_after, takes_then}
 use Rattle.rss_link.proofs.Connected.{connect_left, connect_right, connect_turns_left, connect_turns_right, connected}
 use Rattle.std.proofs.lemmas.Result.{IfErr-weaker}
 use Rattle.rss_link.proofs.TupleSteps.{fault_is}
@@ -109,3 +112,17 @@ returns-in_err-restate-clause-faults g c = fault_is (IsLinkFault c.args.self.now
 
 pub returns-in_err-turn-clause-faults : goal.returns-in_err-turn-clause-faults
 returns-in_err-turn-clause-faults g c = fault_is (IsLinkFault c.args.self.now) _ c.from_residual-in_err-turn.ensures.1 (pointer_fault c.args.self.now c.args.parent c.args.left c.requires.kind _ c.in_err-turn.ensures.faults)
+
+pub returns-in_err-right-clause-did : goal.returns-in_err-right-clause-did
+returns-in_err-right-clause-did g c = fails c.from_residual.result c.from_residual.ensures.1 (λ key none. absurd none) (omega arith) c.in_err-right.ensures.did
+
+pub restate-requires-clause-may : goal.restate-requires-clause-may
+restate-requires-clause-may g c =
+    let step0 = stepped c.in_ok-right.ensures.did in
+    record {
+      heaps = heaps_then step0;
+      some = λ told.
+          let told0 = told_before step0 told in
+          let knows = c.requires.knows told0 in
+          subst (λ (bodies : Bodies). SaysSome c.args.self.now bodies c.args.child) (sym (same_bodies step0 told0)) (says_some knows.spells c.args.child knows.free.child);
+    }

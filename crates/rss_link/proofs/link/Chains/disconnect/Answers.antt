@@ -1,9 +1,11 @@
-use Rattle.std.proofs.Common.{inr, ◌∙◌, subst, arith}
+use Rattle.std.proofs.Common.{inr, sym, ◌∙◌, subst, arith}
+use Rattle.rss_tuple.specs.Directory.{Bodies}
+use Rattle.rss_link.specs.Edits.{SaysSome}
 use Rattle.std.proofs.lemmas.Result.{on_ok_weaker}
 use Rattle.rss_link.specs.declared.blocks.Standing.{Standing}
 use Rattle.rss_link.specs.Blocks.{IsStanding}
 use Rattle.rss_link.specs.Links.{Says}
-use Rattle.rss_link.proofs.TupleSteps.{stepped, told_then, told_before, heaps_then, untouched, then, then_call, widens, within, fails, is_damaged, same_slots, takes_after, takes_then}
+use Rattle.rss_link.proofs.TupleSteps.{stepped, same_bodies, told_then, told_before, heaps_then, untouched, then, then_call, widens, within, fails, is_damaged, same_slots, takes_after, takes_then}
 use Rattle.rss_link.proofs.Meaning.{says_some, stands_by}
 use Rattle.rss_link.proofs.Connected.{disconnect_left, disconnect_right, disconnect_turns_left, disconnect_turns_right, disconnected}
 use Rattle.std.proofs.lemmas.Result.{IfErr-weaker}
@@ -123,3 +125,14 @@ returns-in_err-turn-clause-faults g c =
 
 pub returns-in_default-clause-faults : goal.returns-in_default-clause-faults
 returns-in_default-clause-faults g c = child_fault c.args.self.now c.args.child c.damaged.result (inr c.damaged.ensures)
+
+pub restate-requires-clause-may : goal.restate-requires-clause-may
+restate-requires-clause-may g c =
+    let step0 = stepped c.in_ok-parent.ensures.did in
+    record {
+      heaps = heaps_then step0;
+      some = λ told.
+          let told0 = told_before step0 told in
+          let knows = c.requires.knows told0 in
+          subst (λ (bodies : Bodies). SaysSome c.args.self.now bodies c.args.child) (sym (same_bodies step0 told0)) (says_some knows.spells c.args.child (knows.spells.chains.children c.args.child knows.stands));
+    }

@@ -1,4 +1,4 @@
-use Rattle.std.proofs.Common.{Option, ◌∙◌, sym, subst, ℕ, List}
+use Rattle.std.proofs.Common.{rules, Option, ◌∙◌, sym, subst, ℕ, List}
 use Rattle.rss_base.specs.declared.tid.Tid.{Tid}
 use Rattle.rss_link.specs.Blocks.{HasEnds}
 use Rattle.rss_link.specs.Calls.{seen}
@@ -15,3 +15,6 @@ returns-in-None-clause-did g c = is_damaged c.damaged.result c.damaged.ensures (
     c.in-None.ensures (record { first = some.ends.first; last = some.ends.last })
     (subst (λ (at : ℕ). HasEnds c.as_slice.result.now at some.ends) (sym c.from.ensures)
     (subst (λ (body : List ℕ). HasEnds body link.parent_at some.ends) same some.says.block)))
+
+pub returns-in-Some-ends_at-clause-says : goal.returns-in-Some-ends_at-clause-says
+returns-in-Some-ends_at-clause-says g c = λ told. search rules
