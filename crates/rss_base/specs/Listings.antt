@@ -176,7 +176,6 @@ pub record ListingFits (listing : Listing) : Type 0 where
   pub relations_once : AreListedOnce Relation listing
   pub relations : (number : ℕ) (relation : RelationEntry) → relation_at listing number ≡ Some relation → EntryFits listing relation
   pub paths : PathsFit listing
-  pub no_links : HasNoLinks listing
 
 -- nothing is defined
 abbrev pub no_listing : Listing

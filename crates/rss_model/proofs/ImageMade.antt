@@ -32,7 +32,6 @@ use Rattle.rss_model.specs.Store.{Defines, DefinesPaths, IsListedImage, IsReache
 use Rattle.rss_model.proofs.Codes.{name_apart}
 use Rattle.rss_model.proofs.LogLists.{by_test, none_some, some_of}
 use Rattle.rss_model.proofs.Named.{made, made_here, made_other, gone, gone_other}
-use Rattle.rss_model.proofs.PlainStores.{no_link_at, no_link_named, spelled_contents, contents_spelled}
 use Rattle.rss_model.proofs.Relisted.{contents_relisted, number_set, number_kept, number_within_list, page_kind}
 use Rattle.rss_model.proofs.Spelled.{named_image, name_numbered}
 
@@ -103,7 +102,7 @@ module _ {old new : Held} {listing : Listing} {tables : Tables} (spells : Spells
 
   contents_kept : SpellsContents listed_now (bodies_of new) tables.contents
   contents_kept = subst (λ (bodies : Bodies). SpellsContents listed_now bodies tables.contents) (sym (bodies_kept kept))
-      (spelled_contents fits.no_links (contents_relisted listing listed_now (bodies_of old) tables.contents (λ k relation tid at there. at) (λ k relation tid at there. at) (contents_spelled spells)))
+      (contents_relisted listing listed_now (bodies_of old) tables.contents (λ k relation tid at there. at) (λ k relation tid at there. at) refl spells.contents)
 
   -- what else is defined stays so
   defines_beside : (images : map.FinMap name_cmp ImageDef) → DefinesPaths listed_now (record tables.definitions { images = images }) → Defines listed_now (record tables.definitions { images = images })
@@ -127,6 +126,7 @@ module _ {old new : Held} {listing : Listing} {tables : Tables} (spells : Spells
     counts = spells.counts;
     contents = contents_kept;
     images = shown;
+    no_links = spells.no_links;
   }
     where
       stays : (key : PageKey) → is_some (new key) ≡ true → (key.space ≡ System) ⊎ ((key.space ≡ ImageSpace) ⊎ IsHeapKey key) → IsStorePage listed_now key
@@ -201,8 +201,8 @@ module _ {old new : Held} {listing : Listing} {tables : Tables} (spells : Spells
           let had = named_image listing name (spells.defines.paths.only_images name (ap is_some (sym was) ∙ there)) in
           (had.number, number_of_image had.number had.image (else_kept had.number (was_other had.number had.image had.at) ∙ had.at) ∙ ap Some had.named)
     ];
-    links = λ k link child l. absurd (no_link_at listed_more fits.no_links k link l.at);
-    only_links = λ name there. let had = spells.defines.paths.only_links name there in absurd (no_link_named listing spells.listed.no_links name had.0 had.1);
+    links = λ k link child l. spells.defines.paths.links k link child (record { at = l.at; within = l.within });
+    only_links = spells.defines.paths.only_links;
   }
 
   images_made : SpellsImages new listed_more (with_definitions (record tables.definitions { images = images_more }) tables)
@@ -294,8 +294,8 @@ module _ {old new : Held} {listing : Listing} {tables : Tables} (spells : Spells
         let had = named_image listing name (spells.defines.paths.only_images name (ap is_some (sym was.1) ∙ there)) in
         let apart : had.number ≢ number = λ same. was.0 (sym had.named ∙ ap (λ (i : ImageEntry). i.name) (same_Some _ _ (sym had.at ∙ ap (image_at listing) same ∙ at))) in
         (had.number, name_numbered (λ (i : ImageEntry). i.name) listed_less.images had.number had.image (rest_kept had.number apart ∙ had.at) ∙ ap Some had.named);
-    links = λ k link child l. absurd (no_link_at listed_less fits.no_links k link l.at);
-    only_links = λ name there. let had = spells.defines.paths.only_links name there in absurd (no_link_named listing spells.listed.no_links name had.0 had.1);
+    links = λ k link child l. spells.defines.paths.links k link child (record { at = l.at; within = l.within });
+    only_links = spells.defines.paths.only_links;
   }
 
   images_gone : SpellsImages new listed_less (with_definitions (record tables.definitions { images = images_less }) tables)

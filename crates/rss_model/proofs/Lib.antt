@@ -1,4 +1,5 @@
 pub mod Codes
+pub mod Places
 pub mod Contents
 pub mod Lengths
 pub mod Counts

@@ -1,5 +1,5 @@
 -- A store whose definitions are listed: what it defines, by the numbers, and which pages it has.
-use Rattle.std.proofs.Common.{◌≡◌, ◌≢◌, inl, inr, ℕ, zero, suc, ◌+◌, ◌-◌, ◌<◌, true, false, List, [], ◌∷◌, length, get_or, refl, sym, ◌∙◌, ap, arith}
+use Rattle.std.proofs.Common.{◌≡◌, ◌≢◌, ◌⊎◌, inl, inr, ℕ, zero, suc, ◌+◌, ◌-◌, ◌<◌, true, false, List, [], ◌∷◌, length, get_or, refl, sym, ◌∙◌, ap, arith}
 use Rattle.std.specs.Prelude.{Option, Some, None, is_some, option_map, option_and_then, slice_get, sum_by, map as list_map, ◌==◌}
 use Rattle.std.specs.FinMap as map
 use Rattle.std.specs.FinMap.{FinMap, get-empty, same_map}
@@ -14,7 +14,7 @@ use Rattle.rss_base.specs.declared.key.PageKey.{PageKey}
 use Rattle.rss_base.specs.declared.key.Space.TheVariants.{Home}
 use Rattle.rss_base.specs.declared.name.Name.{Name}
 use Rattle.rss_base.specs.declared.tid.Tid.{Tid}
-use Rattle.rss_base.specs.declared.item.Item.TheVariants.{Tuple}
+use Rattle.rss_base.specs.declared.item.Item.TheVariants.{Tuple, Chain}
 use Rattle.rss_base.specs.declared.relation.RelationEntry.{RelationEntry}
 use Rattle.rss_page.specs.Content.{Empty}
 use Rattle.rss_page.specs.Slotted.{entries}
@@ -25,13 +25,12 @@ use Rattle.rss_model.specs.Items.{Values, name_cmp}
 use Rattle.rss_model.specs.Tables.{RelationDef, Definitions, Tables, content, segment_of}
 use Rattle.rss_model.specs.Fits.{Fits}
 use Rattle.rss_model.specs.Meter.{is_heap_page, heap_pages}
-use Rattle.rss_model.specs.Store.{plain_body as body_of, Defines, IsListed, SpellsTables}
+use Rattle.rss_model.specs.Store.{Defines, IsListed, SpellsTables, IsTupleItem, IsChainItem, body_of}
 use Rattle.rss_model.proofs.Codes.{name_total, name_apart}
 use Rattle.rss_model.proofs.Heap.{count_same, count_none, no_entries, empty_entry}
 use Rattle.rss_model.proofs.HeapPages.{same_bool, has_tuples_at, has_tuples_of, heap_page_of, heap_page_at, pages_in}
 use Rattle.rss_model.proofs.MapSums.{removed_sum}
 use Rattle.rss_model.proofs.Named.{gone, gone_other}
-use Rattle.rss_model.proofs.PlainStores.{contents_spelled}
 use Rattle.rss_model.proofs.LogLists.{some_of}
 use Rattle.rss_model.proofs.Putting.{same_parts}
 
@@ -157,6 +156,14 @@ module _ {listing : Listing} (tables : Tables) (fits : ListingFits listing) (def
       let same : so.0 ≡ segment = same_Some _ _ (sym (stands_within so.0 so.1.within) ∙ stands) in
       fits.segments_once relation.segment n segment (so.1.within ∙ ap Some same) named
 
+-- an item that is a tuple has a listed relation
+pub tuple_item : {listing : Listing} (relation : Name) (tid : Tid) → IsTupleItem listing (Tuple relation tid) ⊎ IsChainItem listing (Tuple relation tid) → IsTupleItem listing (Tuple relation tid)
+tuple_item relation tid (inl is) = is
+tuple_item relation tid (inr chain) = absurd (none chain.is)
+  where
+    none : {link : Name} {parent : Option Tid} → Tuple relation tid ≡ Chain link parent → ⊥
+    none is = cc (is)
+
 -- ---- the pages of a segment
 
 module _ {held : Held} {listing : Listing} {tables : Tables} {slots : ℕ} (spells : SpellsTables held listing tables) (fit : Fits slots tables) where
@@ -168,13 +175,13 @@ module _ {held : Held} {listing : Listing} {tables : Tables} {slots : ℕ} (spel
       let tid : Tid = record { page = page; slot = some.0 } in
       let held_there = some_of (content tables.contents (Tuple on.relation tid)) some.2 in
       let of = fit.tuples on.relation tid held_there.0 held_there.1 in
-      let item = (contents_spelled spells).only (Tuple on.relation tid) some.2 in
+      let item = tuple_item on.relation tid (spells.contents.only (Tuple on.relation tid) some.2) in
       let same : on.relation ≡ item.relation.name = (same_parts on.relation item.relation.name tid item.tid item.is).0 in
       let here : content tables.contents (Tuple item.relation.name tid) ≡ Some (Values of.values) = ap (λ (name : Name). content tables.contents (Tuple name tid)) (sym same) ∙ held_there.1 ∙ ap Some of.tuple in
-      let stands = (contents_spelled spells).stands item.number item.relation tid of.values item.at here in
+      let stands = spells.contents.stands item.number item.relation tid of.values item.at here in
       let within : item.relation.segment ≡ n = number_within tables spells.listed spells.defines item.number item.relation item.at n segment named (ap (segment_of tables) (sym same) ∙ on.stands) in
-      let body : bodies_of held n tid ≡ Some (body_of item.number of.values) = ap (λ (k : ℕ). bodies_of held k tid) (sym within) ∙ stands in
-      by (held (page_key n Home page)) refl some.0 (body_of item.number of.values) body
+      let body : bodies_of held n tid ≡ Some (body_of listing tables.contents item.number tid of.values) = ap (λ (k : ℕ). bodies_of held k tid) (sym within) ∙ stands in
+      by (held (page_key n Home page)) refl some.0 (body_of listing tables.contents item.number tid of.values) body
     where
       by : (bytes : Option (List ℕ)) → held (page_key n Home page) ≡ bytes → (slot : ℕ) (body : List ℕ) → bodies_of held n (record { page = page; slot = slot }) ≡ Some body → is_some bytes ≡ true
       by (Some bytes) is slot body stands = refl
@@ -190,7 +197,7 @@ module _ {held : Held} {listing : Listing} {tables : Tables} {slots : ℕ} (spel
       no_body : is_heap_page tables segment page ≡ false → (slot : ℕ) → slot < 128 → (body : Option (List ℕ)) → bodies_of held n (tid slot) ≡ body → body ≡ None
       no_body none slot low None stands = refl
       no_body none slot low (Some body) stands =
-          let of = (contents_spelled spells).bodies_are n (tid slot) body stands in
+          let of = spells.contents.bodies_are n (tid slot) body stands in
           let stood : segment_of tables of.relation.name ≡ Some segment = stands_within tables spells.listed spells.defines of.number of.relation of.at segment (ap (segment_at listing) of.within ∙ named) in
           let has = has_tuples_at tables.contents of.relation.name (tid slot) low (ap is_some of.holds) in
           absurd (true≢false (sym (heap_page_at tables segment page (record { relation = of.relation.name; stands = stood; has = has })) ∙ none))

@@ -1,6 +1,6 @@
 -- The pages of the system space spell one listing.
-use Rattle.std.proofs.Common.{◌≡◌, ℕ, zero, suc, ◌+◌, ◌-◌, ◌*◌, ◌^◌, ◌<◌, ◌≤◌, List, [], ◌∷◌, ◌++◌, length, take, drop, replicate, refl, sym, ◌∙◌, ap, arith, length-append, append_assoc, append-nil, suc-mul, mul-suc, mul-zero, subst}
-use Rattle.std.specs.Prelude.{Option, Some, None, Bool, true, false, All, flat_map, nat_le, ◌&&◌, ◌==◌, min}
+use Rattle.std.proofs.Common.{◌≡◌, ℕ, zero, suc, ◌+◌, ◌-◌, ◌*◌, ◌^◌, ◌<◌, ◌≤◌, List, [], ◌∷◌, ◌++◌, length, get_or, take, drop, replicate, refl, sym, ◌∙◌, ap, arith, length-append, append_assoc, append-nil, suc-mul, mul-suc, mul-zero, subst}
+use Rattle.std.specs.Prelude.{Option, Some, None, IfSome, Bool, true, false, All, flat_map, nat_le, ◌&&◌, ◌==◌, min}
 use Rattle.std.specs.List.{list_all}
 use Rattle.std.specs.Int.{w32, to_be_bytes, from_be_bytes}
 use Rattle.std.proofs.lemmas.Bool.{and_parts, leb-true, le-leb, lt-leb, cond-true, cond-false, ne_eqb}
@@ -12,14 +12,17 @@ use Rattle.rss_base.specs.Sizes.{page_bytes, system_pages}
 use Rattle.rss_base.specs.Paged.{Held}
 use Rattle.rss_base.specs.Names.{IsName}
 use Rattle.rss_base.specs.TupleTypes.{kinds, most_fields, is_kind, AreFields}
-use Rattle.rss_base.specs.Listings.{Listing, ListingFits, HoldsListing, catalog_page, padded, flag_byte, segment_spelled, kind_spelled, field_spelled, relation_spelled, image_spelled, relations_on, images_on, relation_bytes, image_bytes, relation_pages, image_pages}
+use Rattle.rss_base.specs.Listings.{Listing, ListingFits, HoldsListing, IsSpelled, catalog_page, padded, flag_byte, segment_spelled, kind_spelled, field_spelled, relation_spelled, image_spelled, parent_spelled, link_spelled, relations_on, images_on, relation_bytes, image_bytes, link_bytes, relation_pages, image_pages}
 use Rattle.rss_base.specs.declared.name.Name.{Name}
 use Rattle.rss_base.specs.declared.field.FieldDef.{FieldDef}
 use Rattle.rss_base.specs.declared.value.FieldKind.{FieldKind}
 use Rattle.rss_base.specs.declared.value.FieldKind.TheVariants.{Int as IntField, Text as TextField}
 use Rattle.rss_base.specs.declared.relation.RelationEntry.{RelationEntry}
 use Rattle.rss_base.specs.declared.image.ImageEntry.{ImageEntry}
+use Rattle.rss_base.specs.declared.link.LinkEntry.{LinkEntry}
+use Rattle.rss_base.specs.LogRecords.{place_bytes}
 use Rattle.rss_model.proofs.Listed.{at_place}
+use Rattle.rss_model.proofs.Places.{length-place_bytes, place_parts}
 use Rattle.rss_model.proofs.Spelled.{front_parts}
 use Rattle.rss_model.proofs.Codes.{same_name}
 
@@ -240,6 +243,84 @@ image_same (Some a) (Some b) is other same =
     let parts = front_parts a.name.bytes b.name.bytes (image_tail a ++ image_zeros a) (image_tail b ++ image_zeros b) (name_length a.name (is a refl).name ∙ sym (name_length b.name (other b refl).name)) (sym (image_entry_bytes a) ∙ same ∙ image_entry_bytes b) in
     ap Some (image_tails_same a b (same_name a.name b.name parts.0) (is a refl) (other b refl) parts.1)
 
+-- ---- links
+
+-- what a listing asks of a link, as far as its own bytes go
+pub record IsLinkEntry (link : LinkEntry) : Type 0 where
+  pub name : IsName link.name
+  pub first : IfSome link.first IsSpelled
+  pub last : IfSome link.last IsSpelled
+
+-- the bytes of a link before the zeros
+abbrev link_body : LinkEntry → List ℕ
+link_body link =
+    link.name.bytes ++ parent_spelled link.parent ++ link.child ∷ 0 ∷ []
+    ++ place_bytes link.first ++ place_bytes link.last
+
+abbrev link_zeros : LinkEntry → List ℕ
+link_zeros link = replicate (link_bytes - length (link_body link)) 0
+
+-- what stands behind its parents
+abbrev link_rest : LinkEntry → List ℕ
+link_rest link = link.child ∷ 0 ∷ (place_bytes link.first ++ place_bytes link.last)
+
+-- what stands behind its name
+abbrev link_tail : LinkEntry → List ℕ
+link_tail link = parent_spelled link.parent ++ link_rest link
+
+link_body_is : (link : LinkEntry) → link_body link ≡ link.name.bytes ++ link_tail link
+link_body_is link = regroup link.name.bytes (parent_spelled link.parent) (link.child ∷ 0 ∷ []) (place_bytes link.first) (place_bytes link.last)
+  where
+    regroup : (n p c f l : List ℕ) → n ++ p ++ c ++ f ++ l ≡ n ++ (p ++ (c ++ (f ++ l)))
+    regroup n p c f l = simp append_assoc
+
+link_entry_bytes : (link : LinkEntry) → link_spelled (Some link) ≡ link.name.bytes ++ (link_tail link ++ link_zeros link)
+link_entry_bytes link = ap (λ (bytes : List ℕ). bytes ++ link_zeros link) (link_body_is link) ∙ append_assoc link.name.bytes (link_tail link) (link_zeros link)
+
+parent_length : (parent : Option ℕ) → length (parent_spelled parent) ≡ 2
+parent_length None = refl
+parent_length (Some parent) = refl
+
+link_body_length : (link : LinkEntry) → IsLinkEntry link → length (link_body link) ≤ link_bytes
+link_body_length link is =
+    let tail = length-append (parent_spelled link.parent) (link_rest link) in
+    let places = length-append (place_bytes link.first) (place_bytes link.last) in
+    omega (arith, ap length (link_body_is link), length-append link.name.bytes (link_tail link), name_length link.name is.name, tail, parent_length link.parent, places, length-place_bytes link.first, length-place_bytes link.last)
+
+abbrev pub IsLink : Option LinkEntry → Type 0
+IsLink found = (link : LinkEntry) → found ≡ Some link → IsLinkEntry link
+
+link_length : (found : Option LinkEntry) → IsLink found → length (link_spelled found) ≡ link_bytes
+link_length None is = length-replicate {A = ℕ} link_bytes 0
+link_length (Some link) is = omega (arith, length-append (link_body link) (link_zeros link), length-replicate {A = ℕ} (link_bytes - length (link_body link)) 0, link_body_length link (is link refl))
+
+parent_same : (a b : Option ℕ) → parent_spelled a ≡ parent_spelled b → a ≡ b
+parent_same None None same = refl
+parent_same None (Some q) same = absurd (cc)
+parent_same (Some p) None same = absurd (cc)
+parent_same (Some p) (Some q) same = let one : p ≡ q = cc in ap Some one
+
+-- of two links, what stands behind their names
+link_tails_same : (a b : LinkEntry) → a.name ≡ b.name → IsLinkEntry a → IsLinkEntry b → link_tail a ++ link_zeros a ≡ link_tail b ++ link_zeros b → a ≡ b
+link_tails_same a b name is other same =
+    let whole = sym (append_assoc (parent_spelled a.parent) (link_rest a) (link_zeros a)) ∙ same ∙ append_assoc (parent_spelled b.parent) (link_rest b) (link_zeros b) in
+    let parts = front_parts (parent_spelled a.parent) (parent_spelled b.parent) (link_rest a ++ link_zeros a) (link_rest b ++ link_zeros b) (parent_length a.parent ∙ sym (parent_length b.parent)) whole in
+    let parent = parent_same a.parent b.parent parts.0 in
+    let child : a.child ≡ b.child = ap (λ (l : List ℕ). get_or l 0 0) parts.1 in
+    let later : (place_bytes a.first ++ place_bytes a.last) ++ link_zeros a ≡ (place_bytes b.first ++ place_bytes b.last) ++ link_zeros b = ap (drop 2) parts.1 in
+    let firsts = place_parts a.first b.first (place_bytes a.last ++ link_zeros a) (place_bytes b.last ++ link_zeros b) is.first other.first
+    (sym (append_assoc (place_bytes a.first) (place_bytes a.last) (link_zeros a)) ∙ later ∙ append_assoc (place_bytes b.first) (place_bytes b.last) (link_zeros b)) in
+    let lasts = place_parts a.last b.last (link_zeros a) (link_zeros b) is.last other.last firsts.1 in
+    λ i. record { name = name i; parent = parent i; child = child i; first = firsts.0 i; last = lasts.0 i }
+
+link_same : (a b : Option LinkEntry) → IsLink a → IsLink b → link_spelled a ≡ link_spelled b → a ≡ b
+link_same None None is other same = refl
+link_same None (Some b) is other same = absurd (name_not_zeros b.name link_bytes (link_tail b ++ link_zeros b) (other b refl).name (sym (link_entry_bytes b) ∙ sym same))
+link_same (Some a) None is other same = absurd (name_not_zeros a.name link_bytes (link_tail a ++ link_zeros a) (is a refl).name (sym (link_entry_bytes a) ∙ same))
+link_same (Some a) (Some b) is other same =
+    let parts = front_parts a.name.bytes b.name.bytes (link_tail a ++ link_zeros a) (link_tail b ++ link_zeros b) (name_length a.name (is a refl).name ∙ sym (name_length b.name (other b refl).name)) (sym (link_entry_bytes a) ∙ same ∙ link_entry_bytes b) in
+    ap Some (link_tails_same a b (same_name a.name b.name parts.0) (is a refl) (other b refl) parts.1)
+
 -- ---- lists of which each page of the catalog has a part
 
 -- a list by its parts of one size
@@ -292,6 +373,11 @@ module _ (listing : Listing) (fits : ListingFits listing) where
       let entry = fits.paths.images (suc k) image (at_place listing.images k ∙ get_or_default listing.images k None d lt ∙ is) in
       record { name = entry.name; fields = entry.long; root = entry.root }
 
+  listed_links : All IsLink listing.links
+  listed_links k d lt link is =
+      let entry = fits.paths.links (suc k) link (at_place listing.links k ∙ get_or_default listing.links k None d lt ∙ is) in
+      record { name = entry.name; first = entry.first; last = entry.last }
+
 -- what a page of relations spells, and a page of images
 page_is : (listing : Listing) (j : ℕ) → j < 6 → catalog_page listing (suc j) ≡ padded page_bytes (flat_map relation_spelled (take 8 (drop (8 * j) listing.relations)))
 page_is listing j low = ap (padded page_bytes) (cond-false (suc j == 0) (flat_map segment_spelled listing.segments) _ (ne_eqb (suc j) 0 (λ e. absurd (omega (arith, e))))
@@ -327,11 +413,16 @@ module _ (held : Held) {a b : Listing} (fit : ListingFits a) (fits : ListingFits
   same_images = parts_same image_spelled 64 IsImage image_length image_same 64 2 a.images b.images fit.paths.image_places fits.paths.image_places (listed_images a fit) (listed_images b fits)
       (λ j low. sym (image_page_is a j low) ∙ page_same (7 + j) (omega (arith, low)) ∙ image_page_is b j low)
 
+  same_links : a.links ≡ b.links
+  same_links = spelled_same link_spelled 64 IsLink link_length link_same a.links b.links
+      (replicate (page_bytes - length (flat_map link_spelled a.links)) 0) (replicate (page_bytes - length (flat_map link_spelled b.links)) 0)
+      (fit.paths.link_places ∙ sym fits.paths.link_places) (listed_links a fit) (listed_links b fits) (page_same 9 (omega arith))
+
   -- one listing alone is spelled
   pub listing_once : a ≡ b
   listing_once =
       let segments = same_segments in
       let relations = same_relations in
       let images = same_images in
-      let links : a.links ≡ b.links = fit.no_links ∙ sym fits.no_links in
+      let links = same_links in
       λ i. record { segments = segments i; relations = relations i; images = images i; links = links i }

@@ -24,6 +24,7 @@ use Rattle.rss_model.specs.Meanings.{IsChangeTold, TellsValues, Means, Logged, i
 use Rattle.rss_model.specs.Ties.{StandsAt, here, older}
 use Rattle.rss_model.specs.EngineLogs.{EngineLog, newer_logged, lists_saved, lists_now, stamp_of, IsMeterOf}
 use Rattle.rss_model.proofs.Counts.{one_if}
+use Rattle.rss_model.proofs.Places.{length-place_bytes}
 use Rattle.rss_model.proofs.Surviving.{Falls}
 use Rattle.rss_model.proofs.LogLists.{by_test}
 use Rattle.rss_model.proofs.LogRedoing.{below_more}
@@ -31,10 +32,6 @@ use Rattle.rss_model.proofs.LogKeeping.{cut_below, stands_below, stands_count}
 use Rattle.rss_model.proofs.LogGrowing.{with_newer, lists_grown}
 
 -- ---- sizes
-
-length-place_bytes : (place : Option Tid) → length (place_bytes place) ≡ 6
-length-place_bytes None = refl
-length-place_bytes (Some tid) = refl
 
 size_at : (change : Change) (item : Item) → change.item ≡ item → change_size change ≡ change_size (record change { item = item })
 size_at change item is = ap (λ (i : Item). change_size (record change { item = i })) is

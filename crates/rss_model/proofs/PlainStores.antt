@@ -166,7 +166,7 @@ plain_images plain none = record {
 -- of a store
 module _ {held : Held} {listing : Listing} {tables : Tables} (spells : SpellsTables held listing tables) where
   pub contents_spelled : PlainContents listing (bodies_of held) tables.contents
-  contents_spelled = plain_contents spells.listed.no_links spells.contents
+  contents_spelled = plain_contents spells.no_links spells.contents
 
 pub plain_nodes : {held : Held} {listing : Listing} (slots : ℕ) → IsPlain listing → AreNodesWithin slots held listing
 plain_nodes slots plain number image relation l = absurd (no_image_at plain number image l.at)

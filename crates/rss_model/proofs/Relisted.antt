@@ -1,13 +1,13 @@
 -- Pages that spell tables spell what a definition makes of them, by the listing with that definition.
-use Rattle.std.proofs.Common.{◌≡◌, ◌≢◌, ◌⊎◌, inl, inr, ℕ, zero, suc, ◌-◌, ◌≤◌, true, false, List, length, get_or, refl, sym, ◌∙◌, ap, arith}
-use Rattle.std.specs.Prelude.{Option, Some, None, is_some, option_map, slice_set, flat_map, map as list_map}
+use Rattle.std.proofs.Common.{◌≡◌, ◌≢◌, ◌⊎◌, inl, inr, ⊎_elim, ℕ, zero, suc, ◌-◌, ◌≤◌, true, false, List, ◌∷◌, ◌++◌, length, get_or, refl, sym, ◌∙◌, ap, arith}
+use Rattle.std.specs.Prelude.{Option, Some, None, IfSome, is_some, option_map, option_and_then, slice_set, flat_map, map as list_map}
 use Rattle.std.specs.FinMap as map
 use Rattle.std.specs.FinMap.{FinMap}
 use Rattle.std.proofs.lemmas.Bool.{cases_eq, cases_lt, true≢false}
 use Rattle.std.proofs.lemmas.List.{get_or_past, get_or-set_same, get_or-set_other, length-map}
 use Rattle.std.proofs.lemmas.Option.{none-some, same_Some}
 use Rattle.rss_base.specs.Paged.{Held, page_key}
-use Rattle.rss_base.specs.Listings.{Listing, ListingFits, HasNoLinks, IsLeastUnused, IsNumberOf, numbered, with_number, segment_at, relation_at, image_at, with_segment, with_relation}
+use Rattle.rss_base.specs.Listings.{Listing, ListingFits, LinkFits, IsLeastUnused, IsNumberOf, numbered, with_number, segment_at, relation_at, image_at, link_at, with_segment, with_relation}
 use Rattle.rss_base.specs.declared.key.PageKey.{PageKey}
 use Rattle.rss_base.specs.declared.key.Space.{Space}
 use Rattle.rss_base.specs.declared.key.Space.TheVariants.{Home, Overflow, Image, System}
@@ -17,6 +17,10 @@ use Rattle.rss_base.specs.declared.item.Item.TheVariants.{Tuple}
 use Rattle.rss_base.specs.declared.field.FieldDef.{FieldDef}
 use Rattle.rss_base.specs.declared.relation.RelationEntry.{RelationEntry}
 use Rattle.rss_base.specs.declared.image.ImageEntry.{ImageEntry}
+use Rattle.rss_base.specs.declared.link.LinkEntry.{LinkEntry}
+use Rattle.rss_base.specs.declared.value.Value.{Value}
+use Rattle.rss_base.specs.declared.item.Item.{Item}
+use Rattle.rss_base.specs.TupleTypes.{tuple_bytes}
 use Rattle.rss_base.specs.declared.refusal.Kind.TheVariants.{Segment as SegmentKind, Relation as RelationKind}
 use Rattle.rss_page.specs.Content.{Content as Entry, Empty, Here, Forward}
 use Rattle.rss_page.specs.Slotted.{IsHeapKey}
@@ -27,12 +31,11 @@ use Rattle.rss_model.specs.Items.{name_cmp}
 use Rattle.rss_model.specs.Images.{entry_cmp, entry_of, image_list}
 use Rattle.rss_model.specs.Tables.{ImageDef, LinkDef, Definitions, Contents, Tables, content, tuple_count}
 use Rattle.rss_model.specs.Defining.{with_definitions}
-use Rattle.rss_model.specs.Store.{Defines, DefinesPaths, HasNumber, IsListedImage, IsStorePage, SpellsImage, SpellsImages, SpellsTables, definition_of, image_definition, pair_spelled}
+use Rattle.rss_model.specs.Store.{AreEnds, Defines, DefinesPaths, HasNumber, IsChainItem, IsListedImage, IsListedLink, IsStorePage, SpellsContents, SpellsImage, SpellsImages, SpellsTables, definition_of, image_definition, link_definition, listed_block, pair_spelled, prefix_of, relation_name}
 use Rattle.rss_model.proofs.Counts.{none_counted, count_of_none}
 use Rattle.rss_model.proofs.Heap.{empty_entry}
 use Rattle.rss_model.proofs.Listed.{at_place, listed}
 use Rattle.rss_model.proofs.Named.{made, made_here, made_other, made_still, gone, gone_other}
-use Rattle.rss_model.proofs.PlainStores.{PlainContents, no_link_at, no_link_named, spelled_contents, contents_spelled}
 use Rattle.rss_model.proofs.LogLists.{some_of}
 use Rattle.rss_model.proofs.Redefining.{same_fields}
 use Rattle.rss_model.proofs.Spelled.{name_numbered, named_relation}
@@ -85,17 +88,87 @@ no_relation_at listing number free = by (relation_at listing number) refl
 abbrev pub IsTupleThere : Contents → RelationEntry → Tid → Type 0
 IsTupleThere contents relation tid = is_some (content contents (Tuple relation.name tid)) ≡ true
 
-module _ (a b : Listing) (bodies : Bodies) (contents : Contents) where
-  pub contents_relisted : ((k : ℕ) (relation : RelationEntry) (tid : Tid) → relation_at a k ≡ Some relation → IsTupleThere contents relation tid → relation_at b k ≡ Some relation) → ((k : ℕ) (relation : RelationEntry) (tid : Tid) → relation_at b k ≡ Some relation → IsTupleThere contents relation tid → relation_at a k ≡ Some relation) → PlainContents a bodies contents → PlainContents b bodies contents
-  contents_relisted into back old = record {
-    stands = λ number relation tid values at holds. old.stands number relation tid values (back number relation tid at (ap is_some holds)) holds;
+-- a relation that has tuples keeps its number
+abbrev pub KeepsRelations : Listing → Listing → Contents → Type 0
+KeepsRelations a b contents =
+    (number : ℕ) (relation : RelationEntry) (tid : Tid) → relation_at a number ≡ Some relation
+    → IsTupleThere contents relation tid → relation_at b number ≡ Some relation
+
+-- and its tuples keep their prefixes
+abbrev pub KeepsPrefixes : Listing → Listing → Contents → Type 0
+KeepsPrefixes a b contents =
+    (number : ℕ) (relation : RelationEntry) (tid : Tid) → relation_at a number ≡ Some relation
+    → IsTupleThere contents relation tid → prefix_of b contents number tid ≡ prefix_of a contents number tid
+
+-- a chain that holds tuples keeps its link
+abbrev pub KeepsChains : Listing → Listing → Contents → Type 0
+KeepsChains a b contents =
+    (item : Item) → is_some (content contents item) ≡ true → IsChainItem a item → IsChainItem b item
+
+module _ (a b : Listing) (bodies : Bodies) (contents : Contents) (into : KeepsRelations a b contents) (back : KeepsRelations b a contents) where
+  -- the bodies are those of the same contents
+  pub contents_renumbered : KeepsPrefixes a b contents → KeepsChains a b contents → AreEnds b contents → SpellsContents a bodies contents → SpellsContents b bodies contents
+  contents_renumbered prefixes chains ends old = record {
+    stands = λ number relation tid values at holds.
+        let was = back number relation tid at (ap is_some holds) in
+        old.stands number relation tid values was holds ∙ ap Some (same_body number tid values (sym (prefixes number relation tid was (ap is_some holds))));
     bodies_are = λ segment tid body is.
         let of = old.bodies_are segment tid body is in
-        record { number = of.number; relation = of.relation; values = of.values; at = into of.number of.relation tid of.at (ap is_some of.holds); within = of.within; is = of.is; storable = of.storable; holds = of.holds };
-    only = λ item is.
-        let on = old.only item is in
-        record { number = on.number; relation = on.relation; tid = on.tid; at = into on.number on.relation on.tid on.at (ap (λ i. is_some (content contents i)) (sym on.is) ∙ is); is = on.is };
+        record {
+          number = of.number;
+          relation = of.relation;
+          values = of.values;
+          at = into of.number of.relation tid of.at (ap is_some of.holds);
+          within = of.within;
+          is = of.is ∙ same_body of.number tid of.values (sym (prefixes of.number of.relation tid of.at (ap is_some of.holds)));
+          storable = of.storable;
+          holds = of.holds;
+        };
+    only = λ item is. ⊎_elim (λ on. inl (record { number = on.number; relation = on.relation; tid = on.tid; at = into on.number on.relation on.tid on.at (ap (λ i. is_some (content contents i)) (sym on.is) ∙ is); is = on.is })) (λ on. inr (chains item is on)) (old.only item is);
+    ends = ends;
   }
+    where
+      same_body : {x y : List ℕ} (number : ℕ) (tid : Tid) (values : List Value) → x ≡ y → number ∷ (x ++ tuple_bytes values) ≡ number ∷ (y ++ tuple_bytes values)
+      same_body number tid values same = ap (λ (prefix : List ℕ). number ∷ (prefix ++ tuple_bytes values)) same
+
+  -- where the links stay
+  pub contents_relisted : b.links ≡ a.links → SpellsContents a bodies contents → SpellsContents b bodies contents
+  contents_relisted links old = contents_renumbered
+      (λ number relation tid at there. ap (flat_map (listed_block contents number tid)) links)
+      (λ item is on. record { number = on.number; link = on.link; parent = on.parent; at = link_kept on.number on.link on.at; is = on.is })
+      (λ number link at. old.ends number link (link_was number link at)) old
+    where
+      link_kept : (number : ℕ) (link : LinkEntry) → link_at a number ≡ Some link → link_at b number ≡ Some link
+      link_kept number link at = ap (λ (l : List (Option LinkEntry)). numbered l number) links ∙ at
+
+      link_was : (number : ℕ) (link : LinkEntry) → link_at b number ≡ Some link → link_at a number ≡ Some link
+      link_was number link at = ap (λ (l : List (Option LinkEntry)). numbered l number) (sym links) ∙ at
+
+-- ---- links that keep their relations
+
+-- each link that the second listing has, the first one has, and it is defined so by both
+abbrev pub KeepsLinks : Listing → Listing → Type 0
+KeepsLinks a b =
+    (number : ℕ) (link : LinkEntry) (child : RelationEntry) → IsListedLink b number link child
+    → IsListedLink a number link child × (link_definition b link child ≡ link_definition a link child)
+
+if_some_map : {A : Type 0} {P Q : A → Type 0} (o : Option A) → ((x : A) → P x → Q x) → IfSome o P → IfSome o Q
+if_some_map None f is = tt
+if_some_map (Some x) f is = f x is
+
+parents_same : (a b : Listing) (parent : Option ℕ) → IfSome parent (λ number. relation_at b number ≡ relation_at a number) → option_and_then (relation_name b) parent ≡ option_and_then (relation_name a) parent
+parents_same a b None same = refl
+parents_same a b (Some number) same = ap (option_map (λ (r : RelationEntry). r.name)) same
+
+-- the links are the same, and the numbers of their relations, which some listing has, have what they had
+module _ (a b has : Listing) (links : b.links ≡ a.links) (fit : (number : ℕ) (link : LinkEntry) → link_at b number ≡ Some link → LinkFits has link) (same : (number : ℕ) → is_some (relation_at has number) ≡ true → relation_at b number ≡ relation_at a number) where
+  pub links_kept : KeepsLinks a b
+  links_kept number link child l =
+      let its = fit number link l.at in
+      let parents = parents_same a b link.parent (if_some_map link.parent (λ n is. same n is.0) its.parent) in (
+        record { at = ap (λ (l : List (Option LinkEntry)). numbered l number) (sym links) ∙ l.at; within = sym (same link.child its.child) ∙ l.within },
+        (λ i. record { parent = parents i; child = child.name }),
+      )
 
 -- ---- images that keep their relations
 
@@ -125,16 +198,18 @@ module _ {a b : Listing} (into : KeepsImages a b) (back : KeepsImages b a) where
       still {number = number} {image = image} {relation = relation} l is = record { pairs = is.pairs; tree = is.tree; once = is.once; list = is.list ∙ ap (list_map (pair_spelled image relation)) (sym (same number image relation l)) }
 
   -- and they are defined as they were
-  paths_kept : {one two : Definitions} → b.images ≡ a.images → HasNoLinks a → HasNoLinks b → two.images ≡ one.images → two.links ≡ one.links → DefinesPaths a one → DefinesPaths b two
-  paths_kept {one = one} {two = two} listed none none_now images links paths = record {
+  paths_kept : {one two : Definitions} → b.images ≡ a.images → b.links ≡ a.links → KeepsLinks a b → two.images ≡ one.images → two.links ≡ one.links → DefinesPaths a one → DefinesPaths b two
+  paths_kept {one = one} {two = two} listed linked keeps images links paths = record {
     images = λ number image relation l. ap (λ (m : FinMap name_cmp ImageDef). map.get m image.name) images ∙ paths.images number image relation (back number image relation l);
     only_images = λ name there.
         let had = paths.only_images name (ap (λ (m : FinMap name_cmp ImageDef). is_some (map.get m name)) (sym images) ∙ there) in
         (had.0, ap (λ (l : List (Option ImageEntry)). numbered (list_map (option_map (λ (i : ImageEntry). i.name)) l) had.0) listed ∙ had.1);
-    links = λ number link child l. absurd (no_link_at b none_now number link l.at);
+    links = λ number link child l.
+        let was = keeps number link child l in
+        ap (λ (m : FinMap name_cmp LinkDef). map.get m link.name) links ∙ paths.links number link child was.0 ∙ ap Some (sym was.1);
     only_links = λ name there.
         let had = paths.only_links name (ap (λ (m : FinMap name_cmp LinkDef). is_some (map.get m name)) (sym links) ∙ there) in
-        absurd (no_link_named a none name had.0 had.1);
+        (had.0, ap (λ (l : List (Option LinkEntry)). numbered (list_map (option_map (λ (i : LinkEntry). i.name)) l) had.0) linked ∙ had.1);
   }
 
 -- a segment comes or goes
@@ -143,6 +218,9 @@ segment_into listing number segment k image relation l = record { at = l.at; wit
 
 segment_back : (listing : Listing) (number : ℕ) (segment : Option Name) → KeepsImages (with_segment listing number segment) listing
 segment_back listing number segment k image relation l = record { at = l.at; within = l.within }
+
+segment_links : (listing : Listing) (number : ℕ) (segment : Option Name) → KeepsLinks listing (with_segment listing number segment)
+segment_links listing number segment k link child l = (record { at = l.at; within = l.within }, refl)
 
 -- ---- a segment is made
 
@@ -161,7 +239,7 @@ module _ {held : Held} {listing : Listing} {tables : Tables} (spells : SpellsTab
     segments = λ q. (to q, from q);
     relations = λ k relation segment l. spells.defines.relations k relation segment (record { at = l.at; within = sym (still relation.segment (spells.listed.relations k relation l.at).segment) ∙ l.within });
     only_relations = spells.defines.only_relations;
-    paths = paths_kept (segment_into listing number (Some name)) (segment_back listing number (Some name)) refl spells.listed.no_links fits.no_links refl refl spells.defines.paths;
+    paths = paths_kept (segment_into listing number (Some name)) (segment_back listing number (Some name)) refl refl (segment_links listing number (Some name)) refl refl spells.defines.paths;
   }
     where
       to : (q : Name) → is_some (map.get (map.insert tables.definitions.segments name tt) q) ≡ true → HasNumber SegmentKind listed_now q
@@ -189,8 +267,9 @@ module _ {held : Held} {listing : Listing} {tables : Tables} (spells : SpellsTab
     listed = fits;
     defines = segment_made_defines;
     counts = spells.counts;
-    contents = spelled_contents fits.no_links (contents_relisted listing listed_now (bodies_of held) tables.contents (λ k relation tid at there. at) (λ k relation tid at there. at) (contents_spelled spells));
+    contents = contents_relisted listing listed_now (bodies_of held) tables.contents (λ k relation tid at there. at) (λ k relation tid at there. at) refl spells.contents;
     images = images_kept (segment_into listing number (Some name)) (segment_back listing number (Some name)) (λ k image relation l. refl) spells.images;
+    no_links = spells.no_links;
   }
 
 -- ---- a segment is dropped
@@ -216,7 +295,7 @@ module _ {held : Held} {listing : Listing} {tables : Tables} (spells : SpellsTab
   -- it has no pages
   no_body : (tid : Tid) (body : Option (List ℕ)) → bodies_of held number tid ≡ body → body ≡ None
   no_body tid None is = refl
-  no_body tid (Some body) is = let of = (contents_spelled spells).bodies_are number tid body is in absurd (none of.number of.relation of.at of.within)
+  no_body tid (Some body) is = let of = spells.contents.bodies_are number tid body is in absurd (none of.number of.relation of.at of.within)
 
   no_home : (page : ℕ) (bytes : List ℕ) → held (page_key number Home page) ≡ Some bytes → ⊥
   no_home page bytes is = (spells.formed (page_key number Home page) bytes (inl refl) is).some (λ slot.
@@ -260,7 +339,7 @@ module _ {held : Held} {listing : Listing} {tables : Tables} (spells : SpellsTab
     segments = λ q. (to q, from q);
     relations = λ k relation segment l. spells.defines.relations k relation segment (record { at = l.at; within = sym (others relation.segment (none k relation l.at)) ∙ l.within });
     only_relations = spells.defines.only_relations;
-    paths = paths_kept (segment_into listing number None) (segment_back listing number None) refl spells.listed.no_links fits.no_links refl refl spells.defines.paths;
+    paths = paths_kept (segment_into listing number None) (segment_back listing number None) refl refl (segment_links listing number None) refl refl spells.defines.paths;
   }
     where
       to : (q : Name) → is_some (map.get (map.remove tables.definitions.segments name) q) ≡ true → HasNumber SegmentKind listed_less q
@@ -296,8 +375,9 @@ module _ {held : Held} {listing : Listing} {tables : Tables} (spells : SpellsTab
     listed = fits;
     defines = segment_gone_defines;
     counts = spells.counts;
-    contents = spelled_contents fits.no_links (contents_relisted listing listed_less (bodies_of held) tables.contents (λ k relation tid at there. at) (λ k relation tid at there. at) (contents_spelled spells));
+    contents = contents_relisted listing listed_less (bodies_of held) tables.contents (λ k relation tid at there. at) (λ k relation tid at there. at) refl spells.contents;
     images = images_kept (segment_into listing number None) (segment_back listing number None) (λ k image relation l. refl) spells.images;
+    no_links = spells.no_links;
   }
 
 -- ---- a relation is made
@@ -342,6 +422,9 @@ module _ {held : Held} {listing : Listing} {tables : Tables} (spells : SpellsTab
       let fit = spells.listed.paths.images k image l.at in
       record { at = l.at; within = sym (other_kept image.relation (was_another image.relation fit.relation fit.listed)) ∙ l.within }
 
+  made_links : KeepsLinks listing listed_more
+  made_links = links_kept listing listed_more listing refl spells.listed.paths.links (λ k is. let some = some_of (relation_at listing k) is in other_kept k (was_another k some.0 some.1))
+
   relation_made_defines : Defines listed_more (record tables.definitions { relations = map.insert tables.definitions.relations new.name (definition_of segment new) })
   relation_made_defines = record {
     segments = spells.defines.segments;
@@ -354,7 +437,7 @@ module _ {held : Held} {listing : Listing} {tables : Tables} (spells : SpellsTab
           made_other tables.definitions.relations new.name (definition_of segment new) relation.name (other_name k relation was) ∙ spells.defines.relations k relation stood (record { at = was; within = l.within })
     ];
     only_relations = only;
-    paths = paths_kept made_into made_back refl spells.listed.no_links fits.no_links refl refl spells.defines.paths;
+    paths = paths_kept made_into made_back refl refl made_links refl refl spells.defines.paths;
   }
     where
       only : (q : Name) → is_some (map.get (map.insert tables.definitions.relations new.name (definition_of segment new)) q) ≡ true → HasNumber RelationKind listed_more q
@@ -376,12 +459,13 @@ module _ {held : Held} {listing : Listing} {tables : Tables} (spells : SpellsTab
       | inl same ↦ ap (λ (r : RelationEntry). tuple_count tables.contents r.name) (sym same) ∙ count_of_none tables.contents new.name (λ tid. none_from _ (no_tuple tid)) ∙ sym empty ∙ ap (λ (r : RelationEntry). r.live) same
       | inr was ↦ spells.counts k relation was
     ];
-    contents = spelled_contents fits.no_links (contents_relisted listing listed_more (bodies_of held) tables.contents (λ k relation tid at there. other_kept k (was_another k relation at) ∙ at) (λ k relation tid at there. elim (now_or_old k relation at) [
+    contents = contents_relisted listing listed_more (bodies_of held) tables.contents (λ k relation tid at there. other_kept k (was_another k relation at) ∙ at) (λ k relation tid at there. elim (now_or_old k relation at) [
       | inl same ↦ absurd (no_tuple tid (ap (λ (r : RelationEntry). is_some (content tables.contents (Tuple r.name tid))) same ∙ there))
       | inr was ↦ was
-    ]) (contents_spelled spells));
+    ]) refl spells.contents;
     images = images_kept made_into made_back (λ k image relation l. same_list tables (record tables.definitions { relations = map.insert tables.definitions.relations new.name (definition_of segment new) }) (image_definition image relation)
         (made_other tables.definitions.relations new.name (definition_of segment new) relation.name (other_name image.relation relation l.within))) spells.images;
+    no_links = spells.no_links;
   }
     where
       none_from : {A : Type 0} (o : Option A) → (is_some o ≡ true → ⊥) → o ≡ None
@@ -416,6 +500,9 @@ module _ {held : Held} {listing : Listing} {tables : Tables} (spells : SpellsTab
   gone_back : KeepsImages listed_fewer listing
   gone_back k image relation l = record { at = l.at; within = (had_it image.relation relation l.within).1 }
 
+  gone_links : KeepsLinks listing listed_fewer
+  gone_links = links_kept listing listed_fewer listed_fewer refl fits.paths.links (λ k is. let some = some_of (relation_at listed_fewer k) is in rest_kept k (had_it k some.0 some.1).0)
+
   relation_gone_defines : Defines listed_fewer (record tables.definitions { relations = map.remove tables.definitions.relations old.name })
   relation_gone_defines = record {
     segments = spells.defines.segments;
@@ -428,7 +515,7 @@ module _ {held : Held} {listing : Listing} {tables : Tables} (spells : SpellsTab
         let had = named_relation listing q (spells.defines.only_relations q (ap is_some (sym was.1) ∙ there)) in
         let other : had.number ≢ number = λ same. was.0 (sym had.named ∙ ap (λ (r : RelationEntry). r.name) (same_Some _ _ (sym had.at ∙ ap (relation_at listing) same ∙ at))) in
         (had.number, number_of listed_fewer had.number had.relation (rest_kept had.number other ∙ had.at) ∙ ap Some had.named);
-    paths = paths_kept gone_into gone_back refl spells.listed.no_links fits.no_links refl refl spells.defines.paths;
+    paths = paths_kept gone_into gone_back refl refl gone_links refl refl spells.defines.paths;
   }
 
   pub relation_gone_spells : SpellsTables held listed_fewer (with_definitions (record tables.definitions { relations = map.remove tables.definitions.relations old.name }) tables)
@@ -439,9 +526,10 @@ module _ {held : Held} {listing : Listing} {tables : Tables} (spells : SpellsTab
     listed = fits;
     defines = relation_gone_defines;
     counts = λ k relation is. spells.counts k relation (had_it k relation is).1;
-    contents = spelled_contents fits.no_links (contents_relisted listing listed_fewer (bodies_of held) tables.contents (λ k relation tid is there.
+    contents = contents_relisted listing listed_fewer (bodies_of held) tables.contents (λ k relation tid is there.
         let other : k ≢ number = λ same. let one : relation ≡ old = same_Some _ _ (sym is ∙ ap (relation_at listing) same ∙ at) in true≢false (sym there ∙ ap (λ (r : RelationEntry). is_some (content tables.contents (Tuple r.name tid))) one ∙ ap is_some (none_counted tables.contents old.name empty tid)) in
-        rest_kept k other ∙ is) (λ k relation tid is there. (had_it k relation is).1) (contents_spelled spells));
+        rest_kept k other ∙ is) (λ k relation tid is there. (had_it k relation is).1) refl spells.contents;
     images = images_kept gone_into gone_back (λ k image relation l. same_list tables (record tables.definitions { relations = map.remove tables.definitions.relations old.name }) (image_definition image relation)
         (gone_other tables.definitions.relations old.name relation.name (other_named image.relation relation (none_of k image l.at) l.within))) spells.images;
+    no_links = spells.no_links;
   }

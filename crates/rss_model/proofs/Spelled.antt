@@ -6,7 +6,7 @@ use Rattle.std.specs.FinMap.{same_map}
 use Rattle.std.proofs.lemmas.Option.{none-some, same_Some}
 use Rattle.rss_base.specs.Paged.{Held}
 use Rattle.rss_base.specs.TupleTypes.{kinds, misfit, misfit_from, fits, tuple_bytes, value_bytes, int_bytes, IsStorable}
-use Rattle.rss_base.specs.Listings.{Listing, ListingFits, HasNoLinks, numbered, relation_at, image_at}
+use Rattle.rss_base.specs.Listings.{Listing, ListingFits, numbered, relation_at, image_at, link_at}
 use Rattle.rss_base.specs.declared.name.Name.{Name}
 use Rattle.rss_base.specs.declared.tid.Tid.{Tid}
 use Rattle.rss_base.specs.declared.item.Item.{Item}
@@ -17,17 +17,18 @@ use Rattle.rss_base.specs.declared.value.FieldKind.{FieldKind}
 use Rattle.rss_base.specs.declared.value.FieldKind.TheVariants.{Int as IntField, Text as TextField}
 use Rattle.rss_base.specs.declared.relation.RelationEntry.{RelationEntry}
 use Rattle.rss_base.specs.declared.image.ImageEntry.{ImageEntry}
-use Rattle.rss_base.specs.declared.refusal.Kind.TheVariants.{Relation as RelationKind, Image as ImageKind}
+use Rattle.rss_base.specs.declared.link.LinkEntry.{LinkEntry}
+use Rattle.rss_base.specs.declared.refusal.Kind.TheVariants.{Relation as RelationKind, Image as ImageKind, Link as LinkKind}
 use Rattle.rss_base.proofs.Numbers.{int_bytes_same}
 use Rattle.rss_tuple.specs.Directory.{bodies_of}
 use Rattle.rss_model.specs.Items.{Content, Values}
-use Rattle.rss_model.specs.Tables.{RelationDef, ImageDef, Definitions, Tables, content, fields_of}
+use Rattle.rss_model.specs.Tables.{RelationDef, ImageDef, LinkDef, Definitions, Tables, content, fields_of}
 use Rattle.rss_model.specs.Fits.{Fits}
-use Rattle.rss_model.specs.Store.{plain_body as body_of, Defines, HasNumber, IsListedImage, SpellsTables, definition_of, image_definition}
+use Rattle.rss_model.specs.Store.{plain_body as body_of, Defines, HasNumber, IsListedImage, IsListedLink, SpellsTables, definition_of, image_definition, link_definition}
 use Rattle.rss_model.proofs.Codes.{item_total, item_apart, name_total, name_apart}
 use Rattle.rss_model.proofs.Lengths.{first_fits}
 use Rattle.rss_model.proofs.Listed.{at_place, listed}
-use Rattle.rss_model.proofs.PlainStores.{contents_spelled, no_links_defined}
+use Rattle.rss_model.proofs.PlainStores.{contents_spelled}
 use Rattle.rss_model.proofs.LogLists.{some_of}
 
 -- ---- the bytes of tuples
@@ -125,6 +126,18 @@ named_image listing name has =
     let some = named_at (λ (i : ImageEntry). i.name) listing.images has.0 name has.1 in
     record { number = has.0; image = some.0; at = some.1; named = some.2 }
 
+-- the link of a number
+pub record IsLinkNamed (listing : Listing) (name : Name) : Type 0 where
+  pub number : ℕ
+  pub link : LinkEntry
+  pub at : link_at listing number ≡ Some link
+  pub named : link.name ≡ name
+
+pub named_link : (listing : Listing) (name : Name) → HasNumber LinkKind listing name → IsLinkNamed listing name
+named_link listing name has =
+    let some = named_at (λ (l : LinkEntry). l.name) listing.links has.0 name has.1 in
+    record { number = has.0; link = some.0; at = some.1; named = some.2 }
+
 -- ---- definitions
 
 same_options : {A : Type 0} (a b : Option A) → ((x : A) → a ≡ Some x → b ≡ Some x) → ((x : A) → b ≡ Some x → a ≡ Some x) → a ≡ b
@@ -155,13 +168,28 @@ module _ {listing : Listing} (fits : ListingFits listing) where
       let same : image_definition has.image fit.relation ≡ x = same_Some _ _ (sym mine ∙ ap (map.get a.images) has.named ∙ is) in
       ap (map.get b.images) (sym has.named) ∙ theirs ∙ ap Some same
 
+  -- a link that is listed, with the relation of its children
+  pub listed_link : (number : ℕ) (link : LinkEntry) → link_at listing number ≡ Some link → (child : RelationEntry) × IsListedLink listing number link child
+  listed_link number link at =
+      let some = some_of (relation_at listing link.child) (fits.paths.links number link at).child in
+      (some.0, record { at = at; within = some.1 })
+
+  links_too : {a b : Definitions} → Defines listing a → Defines listing b → (name : Name) (x : LinkDef) → map.get a.links name ≡ Some x → map.get b.links name ≡ Some x
+  links_too {a = a} {b = b} one other name x is =
+      let has = named_link listing name (one.paths.only_links name (ap is_some is)) in
+      let so = listed_link has.number has.link has.at in
+      let mine = one.paths.links has.number has.link so.0 so.1 in
+      let theirs = other.paths.links has.number has.link so.0 so.1 in
+      let same : link_definition listing has.link so.0 ≡ x = same_Some _ _ (sym mine ∙ ap (map.get a.links) has.named ∙ is) in
+      ap (map.get b.links) (sym has.named) ∙ theirs ∙ ap Some same
+
   -- what is listed is defined in one way
-  pub defines_once : HasNoLinks listing → {a b : Definitions} → Defines listing a → Defines listing b → a ≡ b
-  defines_once none {a = a} {b = b} one other =
+  pub defines_once : {a b : Definitions} → Defines listing a → Defines listing b → a ≡ b
+  defines_once {a = a} {b = b} one other =
       let segments : a.segments ≡ b.segments = same_map name_total name_apart _ _ (λ q. same_options _ _ (segments_too one other q) (segments_too other one q)) in
       let relations : a.relations ≡ b.relations = same_map name_total name_apart _ _ (λ q. same_options _ _ (relations_too one other q) (relations_too other one q)) in
       let images : a.images ≡ b.images = same_map name_total name_apart _ _ (λ q. same_options _ _ (images_too one other q) (images_too other one q)) in
-      let links : a.links ≡ b.links = no_links_defined none one ∙ sym (no_links_defined none other) in
+      let links : a.links ≡ b.links = same_map name_total name_apart _ _ (λ q. same_options _ _ (links_too one other q) (links_too other one q)) in
       λ i. record { segments = segments i; relations = relations i; images = images i; links = links i }
 
 -- ---- tuples
@@ -221,7 +249,7 @@ module _ {held : Held} {listing : Listing} {a b : Tables} {m n : ℕ} (one : Spe
       let relation : body.relation ≡ mine.relation = same_Some _ _ (sym body.at ∙ ap (relation_at listing) (sym parts.0) ∙ mine.at) in
       let holds : content b.contents (Tuple mine.relation.name mine.tid) ≡ Some (Values body.values) = ap (λ (r : RelationEntry). content b.contents (Tuple r.name mine.tid)) (sym relation) ∙ body.holds in
       let of = fits.tuples mine.relation.name mine.tid (Values body.values) holds in
-      let definitions : a.definitions ≡ b.definitions = defines_once one.listed one.listed.no_links one.defines other.defines in
+      let definitions : a.definitions ≡ b.definitions = defines_once one.listed one.defines other.defines in
       let fields : of.fields ≡ mine.fields = same_Some _ _ (sym of.defined ∙ ap (λ (d : Definitions). option_map (λ (r : RelationDef). kinds r.fields) (map.get d.relations mine.relation.name)) (sym definitions) ∙ mine.defined) in
       let theirs : misfit mine.fields body.values ≡ None = ap (λ (f : List FieldKind). misfit f body.values) (sym fields) ∙ ap (misfit of.fields) (same_values _ _ of.tuple) ∙ of.fit in
       let values = tuple_bytes_same 1 mine.fields mine.values body.values mine.fit theirs mine.storable body.storable parts.1 in
@@ -234,6 +262,6 @@ module _ {held : Held} {listing : Listing} {a b : Tables} {m n : ℕ} (one : Spe
   -- no two tables are spelled alike
   pub spells_once : a ≡ b
   spells_once =
-      let definitions : a.definitions ≡ b.definitions = defines_once one.listed one.listed.no_links one.defines other.defines in
+      let definitions : a.definitions ≡ b.definitions = defines_once one.listed one.defines other.defines in
       let contents : a.contents ≡ b.contents = same_map item_total item_apart _ _ (λ q. same_options _ _ (content_too one other fit fits q) (content_too other one fits fit q)) in
       λ i. record { definitions = definitions i; contents = contents i }

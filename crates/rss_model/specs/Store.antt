@@ -24,7 +24,7 @@ use Rattle.rss_base.specs.LogPages.{log_bytes}
 use Rattle.rss_base.specs.PageMap.{IsMap, IsMapFault, page_count}
 use Rattle.rss_base.specs.Paged.{Held, mapped_of}
 use Rattle.rss_base.specs.StoredPages.{mapped_by, held_at}
-use Rattle.rss_base.specs.Listings.{Listing, ListingFits, HoldsListing, IsNumberOf, AreDifferent, field_numbers, segment_at, relation_at, image_at, link_at}
+use Rattle.rss_base.specs.Listings.{Listing, ListingFits, HasNoLinks, HoldsListing, IsNumberOf, AreDifferent, field_numbers, segment_at, relation_at, image_at, link_at}
 use Rattle.rss_base.specs.Nodes.{Node, NodesOf}
 use Rattle.rss_base.specs.Trees.{Pair, IsNodeAt, IsImage}
 use Rattle.rss_base.specs.Prefixes.{ChildPlace, Part, Outside, Member, Child, Parent, part_in, neighbours_in, ends_of, first_of, last_of, member_block, child_block, parent_block}
@@ -274,6 +274,8 @@ pub record SpellsTables (held : Held) (listing : Listing) (tables : Tables) : Ty
   pub counts : AreCounts listing tables.contents
   pub contents : SpellsContents listing (bodies_of held) tables.contents
   pub images : SpellsImages held listing tables
+  -- as yet there are no links
+  pub no_links : HasNoLinks listing
 
 -- ---- a store
 
