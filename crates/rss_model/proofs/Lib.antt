@@ -31,6 +31,8 @@ pub mod Frees
 pub mod HeapPages
 pub mod Listed
 pub mod Spelled
+pub mod Blocks
+pub mod ChainsOnce
 pub mod ByNumber
 pub mod Relisted
 pub mod ImageMade

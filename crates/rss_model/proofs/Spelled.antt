@@ -1,4 +1,4 @@
--- Pages whose listing is known spell one tables, and no others.
+-- What a listing defines, and what the bytes of tuples say.
 use Rattle.std.proofs.Common.{◌≡◌, ℕ, zero, suc, ◌+◌, true, List, [], ◌∷◌, ◌++◌, length, get_or, refl, sym, ◌∙◌, ap, subst, arith}
 use Rattle.std.specs.Prelude.{Option, Some, None, is_some, option_map, All, map as list_map}
 use Rattle.std.specs.FinMap as map
@@ -24,11 +24,10 @@ use Rattle.rss_tuple.specs.Directory.{bodies_of}
 use Rattle.rss_model.specs.Items.{Content, Values}
 use Rattle.rss_model.specs.Tables.{RelationDef, ImageDef, LinkDef, Definitions, Tables, content, fields_of}
 use Rattle.rss_model.specs.Fits.{Fits}
-use Rattle.rss_model.specs.Store.{plain_body as body_of, Defines, HasNumber, IsListedImage, IsListedLink, SpellsTables, definition_of, image_definition, link_definition}
+use Rattle.rss_model.specs.Store.{body_of, Defines, HasNumber, IsListedImage, IsListedLink, IsTupleItem, SpellsTables, definition_of, image_definition, link_definition}
 use Rattle.rss_model.proofs.Codes.{item_total, item_apart, name_total, name_apart}
 use Rattle.rss_model.proofs.Lengths.{first_fits}
 use Rattle.rss_model.proofs.Listed.{at_place, listed}
-use Rattle.rss_model.proofs.PlainStores.{contents_spelled}
 use Rattle.rss_model.proofs.LogLists.{some_of}
 
 -- ---- the bytes of tuples
@@ -140,7 +139,7 @@ named_link listing name has =
 
 -- ---- definitions
 
-same_options : {A : Type 0} (a b : Option A) → ((x : A) → a ≡ Some x → b ≡ Some x) → ((x : A) → b ≡ Some x → a ≡ Some x) → a ≡ b
+pub same_options : {A : Type 0} (a b : Option A) → ((x : A) → a ≡ Some x → b ≡ Some x) → ((x : A) → b ≡ Some x → a ≡ Some x) → a ≡ b
 same_options None None to from = refl
 same_options None (Some x) to from = from x refl
 same_options (Some x) b to from = sym (to x refl)
@@ -207,19 +206,18 @@ pub record IsSpelled (held : Held) (listing : Listing) (tables : Tables) (item :
   pub defined : fields_of tables relation.name ≡ Some fields
   pub fit : misfit fields values ≡ None
   pub storable : All IsStorable values
-  pub stands : bodies_of held relation.segment tid ≡ Some (body_of number values)
+  pub stands : bodies_of held relation.segment tid ≡ Some (body_of listing tables.contents number tid values)
 
-same_values : (a b : List Value) → Values a ≡ Values b → a ≡ b
+pub same_values : (a b : List Value) → Values a ≡ Values b → a ≡ b
 same_values a b same = cc
 
-pub spelled : {held : Held} {listing : Listing} {tables : Tables} {slots : ℕ} → SpellsTables held listing tables → Fits slots tables → (item : Item) (c : Content) → content tables.contents item ≡ Some c → IsSpelled held listing tables item c
-spelled {held = held} {listing = listing} {tables = tables} spells fit item c is =
-    let on = (contents_spelled spells).only item (ap is_some is) in
+pub spelled : {held : Held} {listing : Listing} {tables : Tables} {slots : ℕ} → SpellsTables held listing tables → Fits slots tables → (item : Item) → IsTupleItem listing item → (c : Content) → content tables.contents item ≡ Some c → IsSpelled held listing tables item c
+spelled {held = held} {listing = listing} {tables = tables} spells fit item on c is =
     let here : content tables.contents (Tuple on.relation.name on.tid) ≡ Some c = ap (content tables.contents) (sym on.is) ∙ is in
     let of = fit.tuples on.relation.name on.tid c here in
-    let stands = (contents_spelled spells).stands on.number on.relation on.tid of.values on.at (here ∙ ap Some of.tuple) in
-    let body = (contents_spelled spells).bodies_are on.relation.segment on.tid (body_of on.number of.values) stands in
-    let number : on.number ≡ body.number = first_same on.number body.number (tuple_bytes of.values) (tuple_bytes body.values) body.is in
+    let stands = spells.contents.stands on.number on.relation on.tid of.values on.at (here ∙ ap Some of.tuple) in
+    let body = spells.contents.bodies_are on.relation.segment on.tid (body_of listing tables.contents on.number on.tid of.values) stands in
+    let number : on.number ≡ body.number = first_same on.number body.number _ _ body.is in
     let relation : body.relation ≡ on.relation = same_Some _ _ (sym body.at ∙ ap (relation_at listing) (sym number) ∙ on.at) in
     let values : body.values ≡ of.values = same_values _ _ (same_Some _ _ (sym body.holds ∙ ap (λ (r : RelationEntry). content tables.contents (Tuple r.name on.tid)) relation ∙ here ∙ ap Some of.tuple)) in
     record {
@@ -239,29 +237,3 @@ spelled {held = held} {listing = listing} {tables = tables} spells fit item c is
   where
     first_same : (a b : ℕ) (x y : List ℕ) → a ∷ x ≡ b ∷ y → a ≡ b
     first_same a b x y same = cc
-
-module _ {held : Held} {listing : Listing} {a b : Tables} {m n : ℕ} (one : SpellsTables held listing a) (other : SpellsTables held listing b) (fit : Fits m a) (fits : Fits n b) where
-  content_too : (item : Item) (c : Content) → content a.contents item ≡ Some c → content b.contents item ≡ Some c
-  content_too item c is =
-      let mine = spelled one fit item c is in
-      let body = (contents_spelled other).bodies_are mine.relation.segment mine.tid (body_of mine.number mine.values) mine.stands in
-      let parts = parts_of mine.number body.number (tuple_bytes mine.values) (tuple_bytes body.values) body.is in
-      let relation : body.relation ≡ mine.relation = same_Some _ _ (sym body.at ∙ ap (relation_at listing) (sym parts.0) ∙ mine.at) in
-      let holds : content b.contents (Tuple mine.relation.name mine.tid) ≡ Some (Values body.values) = ap (λ (r : RelationEntry). content b.contents (Tuple r.name mine.tid)) (sym relation) ∙ body.holds in
-      let of = fits.tuples mine.relation.name mine.tid (Values body.values) holds in
-      let definitions : a.definitions ≡ b.definitions = defines_once one.listed one.defines other.defines in
-      let fields : of.fields ≡ mine.fields = same_Some _ _ (sym of.defined ∙ ap (λ (d : Definitions). option_map (λ (r : RelationDef). kinds r.fields) (map.get d.relations mine.relation.name)) (sym definitions) ∙ mine.defined) in
-      let theirs : misfit mine.fields body.values ≡ None = ap (λ (f : List FieldKind). misfit f body.values) (sym fields) ∙ ap (misfit of.fields) (same_values _ _ of.tuple) ∙ of.fit in
-      let values = tuple_bytes_same 1 mine.fields mine.values body.values mine.fit theirs mine.storable body.storable parts.1 in
-      ap (content b.contents) mine.is ∙ holds ∙ ap Some (ap Values (sym values) ∙ sym mine.tuple)
-    where
-      parts_of : (k j : ℕ) (x y : List ℕ) → k ∷ x ≡ j ∷ y → (k ≡ j) × (x ≡ y)
-      parts_of k j x y same = (cc, cc)
-
-module _ {held : Held} {listing : Listing} {a b : Tables} {m n : ℕ} (one : SpellsTables held listing a) (other : SpellsTables held listing b) (fit : Fits m a) (fits : Fits n b) where
-  -- no two tables are spelled alike
-  pub spells_once : a ≡ b
-  spells_once =
-      let definitions : a.definitions ≡ b.definitions = defines_once one.listed one.defines other.defines in
-      let contents : a.contents ≡ b.contents = same_map item_total item_apart _ _ (λ q. same_options _ _ (content_too one other fit fits q) (content_too other one fits fit q)) in
-      λ i. record { definitions = definitions i; contents = contents i }

@@ -1,5 +1,5 @@
 -- Pages are one store at most, or out of form at one place.
-use Rattle.std.proofs.Common.{◌≡◌, ℕ, List, ◌++◌, Option, sym, ◌∙◌, ap, subst, arith}
+use Rattle.std.proofs.Common.{◌≡◌, ℕ, ◌^◌, ◌≤◌, List, ◌++◌, Option, sym, ◌∙◌, ap, subst, arith}
 use Rattle.std.specs.Prelude.{count_by, is_some}
 use Rattle.rss_base.specs.DiskRule.{Pages}
 use Rattle.rss_base.specs.Layout.{map_at, slots_at, IsWellFormed, HasRoot, root_of}
@@ -22,10 +22,10 @@ use Rattle.rss_model.specs.Machine.{StoreSize}
 use Rattle.rss_model.specs.Meanings.{as_bytes, as_entries}
 use Rattle.rss_model.specs.Restart.{restarted}
 use Rattle.rss_model.specs.Store.{SpellsTables, Stored, size_of, held_in, listed_at, overflow_pages, IsStore, OpensTo, OpensOnce, IsBrokenAt, IsOverfull, at_root, at_map}
+use Rattle.rss_model.proofs.ChainsOnce.{spells_once}
 use Rattle.rss_model.proofs.ListedOnce.{listing_once}
 use Rattle.rss_model.proofs.LogOnce.{Reading, restarts_once}
 use Rattle.rss_model.proofs.LogPlaced.{bytes_append, restarts_log}
-use Rattle.rss_model.proofs.Spelled.{spells_once}
 use Rattle.rss_model.proofs.StorePages.{store_room}
 
 -- one root is selected
@@ -37,6 +37,10 @@ pub one_map : {pages : Pages} {root : Root} {a b : List (Option PageKey)} → Is
 one_map formed first second = same_map formed.slots_most first second
 
 -- ---- stores of the same pages
+
+-- numbers of slots stay below the bound of a tuple's page
+few_slots : {pages : Pages} {stored : Stored} → IsStore pages stored → stored.root.slots ≤ 2 ^ 32
+few_slots store = let most = store.root_there.there.formed.slots_most in omega (arith, most)
 
 module _ {pages : Pages} {one two : Stored} (first : IsStore pages one) (second : IsStore pages two) where
   pub same_roots : one.root ≡ two.root
@@ -56,7 +60,7 @@ module _ {pages : Pages} {one two : Stored} (first : IsStore pages one) (second 
   same_saved : one.saved ≡ two.saved
   same_saved = spells_once first.spells
       (subst (λ (l : Listing). SpellsTables (held_in pages one) l two.saved) same_listing (subst (λ (h : Held). SpellsTables h two.listing two.saved) held_same second.spells))
-      first.fit second.fit
+      first.fit second.fit (few_slots first) (few_slots second)
 
   -- the records are the same, and the checkpoint parts them in one way
   same_records : (as_bytes one.older ≡ as_bytes two.older) × (as_bytes one.newer ≡ as_bytes two.newer)
