@@ -36,6 +36,7 @@ pub mod ChainsOnce
 pub mod ByNumber
 pub mod Relisted
 pub mod ImageMade
+pub mod LinkMade
 pub mod RelationLists
 pub mod Scanning
 pub mod ListedOnce

@@ -42,7 +42,7 @@ use Rattle.rss_model.proofs.Spelled.{name_numbered, named_relation}
 
 -- ---- one number of a listing
 
-number_at : {A : Type 0} (items : List (Option A)) (number : ℕ) → 1 ≤ number → numbered items number ≡ get_or items (number - 1) None
+pub number_at : {A : Type 0} (items : List (Option A)) (number : ℕ) → 1 ≤ number → numbered items number ≡ get_or items (number - 1) None
 number_at items zero low = absurd (omega (arith, low))
 number_at items (suc k) low = at_place items k ∙ ap (λ (j : ℕ). get_or items j None) (less k)
   where
@@ -173,7 +173,7 @@ module _ (a b has : Listing) (links : b.links ≡ a.links) (fit : (number : ℕ)
 -- ---- images that keep their relations
 
 -- each image that the first listing has, the second one has, with the same relation
-abbrev KeepsImages : Listing → Listing → Type 0
+abbrev pub KeepsImages : Listing → Listing → Type 0
 KeepsImages a b =
     (number : ℕ) (image : ImageEntry) (relation : RelationEntry)
     → IsListedImage a number image relation → IsListedImage b number image relation
@@ -186,7 +186,7 @@ same_list tables definitions image same =
 
 module _ {a b : Listing} (into : KeepsImages a b) (back : KeepsImages b a) where
   -- the pages that spell them do so still, where their lists are the same
-  images_kept : {held : Held} {one two : Tables} → ((number : ℕ) (image : ImageEntry) (relation : RelationEntry) → IsListedImage a number image relation → image_list two (image_definition image relation) ≡ image_list one (image_definition image relation)) → SpellsImages held a one → SpellsImages held b two
+  pub images_kept : {held : Held} {one two : Tables} → ((number : ℕ) (image : ImageEntry) (relation : RelationEntry) → IsListedImage a number image relation → image_list two (image_definition image relation) ≡ image_list one (image_definition image relation)) → SpellsImages held a one → SpellsImages held b two
   images_kept {held = held} {one = one} {two = two} same images = record {
     each = λ number image relation l. let shown = images.each number image relation (back number image relation l) in (shown.0, still (back number image relation l) shown.1);
     reached = λ key is there.
