@@ -1,6 +1,6 @@
 -- Bodies spell one contents under a listing: the same tuples, and the same chains.
-use Rattle.std.proofs.Common.{◌≡◌, ◌≢◌, ◌⊎◌, inl, inr, ⊎_elim, ℕ, zero, suc, ◌^◌, ◌<◌, ◌≤◌, Bool, true, false, List, [], ◌∷◌, ◌++◌, length, get_or, refl, sym, ◌∙◌, ap, subst, arith}
-use Rattle.std.specs.Prelude.{Option, Some, None, IfSome, is_some, option_map, option_and_then, ◌==◌, All}
+use Rattle.std.proofs.Common.{◌≡◌, ◌≢◌, ◌⊎◌, inl, inr, ℕ, zero, suc, ◌^◌, ◌≤◌, true, List, [], ◌∷◌, ◌++◌, length, refl, sym, ◌∙◌, ap, subst, arith}
+use Rattle.std.specs.Prelude.{Option, Some, None, IfSome, is_some, option_map, option_and_then, All}
 use Rattle.std.specs.FinMap as map
 use Rattle.std.specs.FinMap.{same_map}
 use Rattle.std.proofs.lemmas.Bool.{eq-eqb, ne_eqb}
@@ -17,17 +17,17 @@ use Rattle.rss_base.specs.declared.value.Value.{Value}
 use Rattle.rss_base.specs.declared.value.FieldKind.{FieldKind}
 use Rattle.rss_base.specs.declared.relation.RelationEntry.{RelationEntry}
 use Rattle.rss_base.specs.declared.link.LinkEntry.{LinkEntry}
-use Rattle.rss_tuple.specs.Directory.{Bodies, bodies_of}
+use Rattle.rss_tuple.specs.Directory.{Bodies}
 use Rattle.rss_model.specs.Items.{Content, Values, parent_of}
 use Rattle.rss_model.specs.Tables.{RelationDef, LinkDef, Definitions, Contents, Tables, content, fields_of}
-use Rattle.rss_model.specs.Chains.{tuples_in, chain_content, chain, chain_with, stands_in, is_there, HasParent}
+use Rattle.rss_model.specs.Chains.{chain_content, chain, chain_with, stands_in, is_there, HasParent}
 use Rattle.rss_model.specs.Fits.{Fits}
 use Rattle.rss_model.specs.Store.{Defines, IsListedLink, IsTupleItem, IsChainItem, SpellsContents, SpellsTables, body_of, block_of, link_definition, place_below, place_of, prefix_of, relation_name}
 use Rattle.rss_model.proofs.Blocks.{Leads, IsNextSpelled, IsPlaceSpelled, block_same, child_says, first_is, leads_in, leads_too, member_says, next_among, next_at, next_is, parent_says, prefix_long, walk_same}
 use Rattle.rss_model.proofs.ChainKeeping.{chain_back, chain_found, chain_once, in_chain}
 use Rattle.rss_model.proofs.ChangeKeeping.{in_no_chain}
 use Rattle.rss_model.proofs.Codes.{item_total, item_apart}
-use Rattle.rss_model.proofs.Listed.{at_place, tuple_item}
+use Rattle.rss_model.proofs.Listed.{at_place}
 use Rattle.rss_model.proofs.LogLists.{by_test, false_true, some_of}
 use Rattle.rss_model.proofs.Mixing.{In}
 use Rattle.rss_model.proofs.Spelled.{defines_once, front_parts, listed_link, same_options, same_values, tuple_bytes_same}
@@ -36,7 +36,7 @@ use Rattle.rss_model.proofs.Standing.{stands_of}
 -- ---- tuples
 
 -- the values of a tuple that is there
-record HasTuple (listing : Listing) (bodies : Bodies) (tables : Tables) (number : ℕ) (relation : RelationEntry) (tid : Tid) : Type 0 where
+record TupleHeld (listing : Listing) (bodies : Bodies) (tables : Tables) (number : ℕ) (relation : RelationEntry) (tid : Tid) : Type 0 where
   fields : List FieldKind
   values : List Value
   defined : fields_of tables relation.name ≡ Some fields
@@ -45,8 +45,8 @@ record HasTuple (listing : Listing) (bodies : Bodies) (tables : Tables) (number 
   stands : bodies relation.segment tid ≡ Some (body_of listing tables.contents number tid values)
 
 module _ {listing : Listing} {bodies : Bodies} {tables : Tables} {slots : ℕ} (spells : SpellsContents listing bodies tables.contents) (fit : Fits slots tables) where
-  has_tuple : (number : ℕ) (relation : RelationEntry) (tid : Tid) (held : Content) → relation_at listing number ≡ Some relation → content tables.contents (Tuple relation.name tid) ≡ Some held → HasTuple listing bodies tables number relation tid
-  has_tuple number relation tid held at is =
+  tuple_held : (number : ℕ) (relation : RelationEntry) (tid : Tid) (held : Content) → relation_at listing number ≡ Some relation → content tables.contents (Tuple relation.name tid) ≡ Some held → TupleHeld listing bodies tables number relation tid
+  tuple_held number relation tid held at is =
       let of = fit.tuples relation.name tid held is in
       let holds = is ∙ ap Some of.tuple in
       record { fields = of.fields; values = of.values; defined = of.defined; fit = of.fit; holds = holds; stands = spells.stands number relation tid of.values at holds }
@@ -63,7 +63,7 @@ module _ {listing : Listing} {bodies : Bodies} {tables : Tables} {slots : ℕ} (
       heads x y same = cc
 
 -- of two bodies, the number, the prefixes and the values
-body_parts : (listing : Listing) (a b : Contents) (j k : ℕ) (tid : Tid) (v w : List Value) → body_of listing a j tid v ≡ body_of listing b k tid w → (j ≡ k) × (prefix_of listing a j tid ≡ prefix_of listing b k tid) × (tuple_bytes v ≡ tuple_bytes w)
+pub body_parts : (listing : Listing) (a b : Contents) (j k : ℕ) (tid : Tid) (v w : List Value) → body_of listing a j tid v ≡ body_of listing b k tid w → (j ≡ k) × (prefix_of listing a j tid ≡ prefix_of listing b k tid) × (tuple_bytes v ≡ tuple_bytes w)
 body_parts listing a b j k tid v w same =
     let parts = split j k (prefix_of listing a j tid ++ tuple_bytes v) (prefix_of listing b k tid ++ tuple_bytes w) same in
     let long : length (prefix_of listing a j tid) ≡ length (prefix_of listing b k tid) = prefix_long listing a j tid ∙ ap (prefix_size listing.links) parts.0 ∙ sym (prefix_long listing b k tid) in
@@ -76,7 +76,7 @@ body_parts listing a b j k tid v w same =
 module _ {listing : Listing} {bodies : Bodies} {a b : Tables} {m n : ℕ} (one : SpellsContents listing bodies a.contents) (other : SpellsContents listing bodies b.contents) (defined : a.definitions ≡ b.definitions) (fit : Fits m a) (fits : Fits n b) where
   tuple_too : (number : ℕ) (relation : RelationEntry) (tid : Tid) (held : Content) → relation_at listing number ≡ Some relation → content a.contents (Tuple relation.name tid) ≡ Some held → content b.contents (Tuple relation.name tid) ≡ Some held
   tuple_too number relation tid held at is =
-      let mine = has_tuple one fit number relation tid held at is in
+      let mine = tuple_held one fit number relation tid held at is in
       let body = other.bodies_are relation.segment tid _ mine.stands in
       let parts = body_parts listing a.contents b.contents number body.number tid mine.values body.values body.is in
       let relations : body.relation ≡ relation = same_Some _ _ (sym body.at ∙ ap (relation_at listing) (sym parts.0) ∙ at) in
@@ -181,7 +181,7 @@ module _ {listing : Listing} {bodies : Bodies} {a b : Tables} {m n : ℕ} (fits_
   blocks_alike number relation tid at there zero link is = absurd (none-some link is)
   blocks_alike number relation tid at there (suc k) link is =
       let some = some_of (content a.contents (Tuple relation.name tid)) there in
-      let mine = has_tuple one fit number relation tid some.0 at some.1 in
+      let mine = tuple_held one fit number relation tid some.0 at some.1 in
       let theirs = other.stands number relation tid mine.values at (sym (tuple_same number relation tid at) ∙ mine.holds) in
       let parts = body_parts listing a.contents b.contents number number tid mine.values mine.values (same_Some _ _ (sym mine.stands ∙ theirs)) in
       block_same listing a.contents b.contents number tid parts.1 k link (sym (at_place listing.links k) ∙ is)

@@ -1,6 +1,6 @@
 -- Pages that spell tables, where a link comes or goes whose relations have no tuples: they spell what the call makes of the tables, by the listing with that link or without it.
 use Rattle.std.proofs.Common.{◌≡◌, ◌≢◌, ◌⊎◌, inl, inr, ℕ, zero, suc, ◌-◌, ◌≤◌, true, false, List, [], ◌∷◌, ◌++◌, length, get_or, refl, sym, ◌∙◌, ap, subst, arith}
-use Rattle.std.specs.Prelude.{Option, Some, None, is_some, option_map, option_and_then, slice_set, flat_map, ◌==◌, All}
+use Rattle.std.specs.Prelude.{Option, Some, None, is_some, option_and_then, slice_set, flat_map, ◌==◌, All}
 use Rattle.std.specs.FinMap as map
 use Rattle.std.proofs.lemmas.Bool.{cases_eq, eq-eqb, true≢false}
 use Rattle.std.proofs.lemmas.Option.{none-some, same_Some}
@@ -11,10 +11,8 @@ use Rattle.rss_base.specs.Prefixes.{first_of, last_of}
 use Rattle.rss_base.specs.declared.call.Call.TheVariants.{MakeLink}
 use Rattle.rss_base.specs.declared.name.Name.{Name}
 use Rattle.rss_base.specs.declared.tid.Tid.{Tid}
-use Rattle.rss_base.specs.declared.item.Item.{Item}
 use Rattle.rss_base.specs.declared.item.Item.TheVariants.{Tuple, Chain}
 use Rattle.rss_base.specs.declared.relation.RelationEntry.{RelationEntry}
-use Rattle.rss_base.specs.declared.image.ImageEntry.{ImageEntry}
 use Rattle.rss_base.specs.declared.link.LinkEntry.{LinkEntry}
 use Rattle.rss_base.specs.declared.refusal.Kind.TheVariants.{Link as LinkKind}
 use Rattle.rss_tuple.specs.Directory.{bodies_of}
@@ -22,9 +20,9 @@ use Rattle.rss_model.specs.Items.{Content, name_cmp}
 use Rattle.rss_model.specs.Tables.{LinkDef, Definitions, Contents, Tables, content, tuple_count}
 use Rattle.rss_model.specs.Chains.{chain, tuples_in, is_there, LinksFit}
 use Rattle.rss_model.specs.Defining.{defined, with_definitions}
-use Rattle.rss_model.specs.Store.{AreEnds, Defines, DefinesPaths, IsListedImage, IsListedLink, IsChainItem, IsTupleItem, SpellsContents, SpellsTables, link_definition, listed_block, prefix_of, relation_name}
+use Rattle.rss_model.specs.Store.{AreEnds, DefinesPaths, IsChainItem, IsTupleItem, SpellsContents, SpellsTables, link_definition, listed_block, prefix_of, relation_name}
 use Rattle.rss_model.proofs.Counts.{none_counted}
-use Rattle.rss_model.proofs.LogLists.{by_test, none_some, some_of}
+use Rattle.rss_model.proofs.LogLists.{by_test, some_of}
 use Rattle.rss_model.proofs.Named.{made, made_here, made_other, gone, gone_other}
 use Rattle.rss_model.proofs.Refitting.{chain_parts}
 use Rattle.rss_model.proofs.Relisted.{IsTupleThere, KeepsChains, KeepsImages, KeepsPrefixes, contents_renumbered, images_kept, number_at, number_set, number_kept, number_within_list}
@@ -70,13 +68,13 @@ prefix_kept listing contents at link low number tid none none_before = flat_map_
 
 -- ---- a link comes or goes
 
--- an item that is a chain of a listed link
-chain_item : {listing : Listing} (link : Name) (parent : Option Tid) → IsTupleItem listing (Chain link parent) ⊎ IsChainItem listing (Chain link parent) → IsChainItem listing (Chain link parent)
-chain_item link parent (inl tuple) = absurd (none tuple.is)
+-- a chain that holds something is one of a listed link
+chain_listed : {listing : Listing} (link : Name) (parent : Option Tid) → IsTupleItem listing (Chain link parent) ⊎ IsChainItem listing (Chain link parent) → IsChainItem listing (Chain link parent)
+chain_listed link parent (inl tuple) = absurd (none tuple.is)
   where
     none : {relation : Name} {tid : Tid} → Chain link parent ≡ Tuple relation tid → ⊥
     none is = cc (is)
-chain_item link parent (inr is) = is
+chain_listed link parent (inr is) = is
 
 module _ {held : Held} {listing : Listing} {tables : Tables} (spells : SpellsTables held listing tables) (number : ℕ) (link : Option LinkEntry) (fits : ListingFits (with_link listing number link)) (none : HasNoLinks (with_link listing number link)) where
   abbrev listed_now : Listing
@@ -177,7 +175,7 @@ module _ {held : Held} {listing : Listing} {tables : Tables} (spells : SpellsTab
       by : (held : Option Content) → content tables.contents (Chain link.name None) ≡ held → chain tables.contents link.name None ≡ []
       by None is = ap tuples_in is
       by (Some held) is =
-          let on = chain_item link.name None (spells.contents.only (Chain link.name None) (ap is_some is)) in
+          let on = chain_listed link.name None (spells.contents.only (Chain link.name None) (ap is_some is)) in
           let apart = was_other on.number on.link on.at in
           absurd (other_name on.number on.link apart (else_kept on.number apart ∙ on.at) (sym (chain_parts on.is).0))
 

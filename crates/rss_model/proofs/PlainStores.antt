@@ -1,13 +1,12 @@
 -- Stores without links, as all are as yet: what their listings, definitions and contents come to. And the pages of those without images.
-use Rattle.std.proofs.Common.{◌≡◌, ◌⊎◌, inl, inr, ℕ, zero, suc, ◌+◌, ◌-◌, ◌*◌, true, false, List, [], ◌∷◌, ◌++◌, replicate, refl, sym, ◌∙◌, ap, arith}
-use Rattle.std.specs.List.{list_any}
-use Rattle.std.specs.Prelude.{Option, Some, None, is_some, option_map, option_and_then, slice_get, sum_by, count_by, nat_le, filter, find, ◌&&◌, flat_map, map as list_map, All, ◌==◌}
+use Rattle.std.proofs.Common.{◌≡◌, ◌⊎◌, inl, inr, ℕ, zero, suc, ◌-◌, true, false, List, [], ◌∷◌, ◌++◌, replicate, refl, sym, ◌∙◌, ap, arith}
+use Rattle.std.specs.Prelude.{Option, Some, None, is_some, option_map, option_and_then, slice_get, sum_by, count_by, nat_le, find, flat_map, map as list_map, All, ◌==◌}
 use Rattle.std.specs.FinMap as map
 use Rattle.std.specs.FinMap.{FinMap, get-empty, len-empty, len-entries, same_map}
 use Rattle.std.proofs.lemmas.Bool.{cond-false, ne_eqb}
 use Rattle.std.proofs.lemmas.List.{length-map}
 use Rattle.std.proofs.lemmas.Option.{none-some}
-use Rattle.rss_base.specs.Sizes.{images_most, links_most, system_pages}
+use Rattle.rss_base.specs.Sizes.{images_most, links_most}
 use Rattle.rss_base.specs.Paged.{Held}
 use Rattle.rss_base.specs.TupleTypes.{tuple_bytes, IsStorable}
 use Rattle.rss_base.specs.Listings.{Listing, IsPlain, HasNoLinks, numbered, relation_at, image_at, link_at, IsNumberOf}
@@ -23,18 +22,16 @@ use Rattle.rss_base.specs.declared.image.ImageEntry.{ImageEntry}
 use Rattle.rss_base.specs.declared.link.LinkEntry.{LinkEntry}
 use Rattle.rss_base.specs.declared.refusal.Kind.TheVariants.{Image as ImageKind, Link as LinkKind}
 use Rattle.rss_tuple.specs.Directory.{Bodies, bodies_of}
-use Rattle.rss_model.specs.Items.{Values, name_cmp, is_name}
-use Rattle.rss_model.specs.Tables.{ImageDef, LinkDef, Definitions, Contents, Tables, content}
+use Rattle.rss_model.specs.Items.{Values, name_cmp}
+use Rattle.rss_model.specs.Tables.{LinkDef, Definitions, Contents, Tables, content}
 use Rattle.rss_base.specs.declared.refusal.Refusal.TheVariants.{Connected}
 use Rattle.rss_model.specs.Machine.{State, now}
-use Rattle.rss_model.specs.Refusals.{first_of, if_owned, if_duplicate, if_connected}
+use Rattle.rss_model.specs.Refusals.{if_connected}
 use Rattle.rss_model.specs.Chains.{has_part, parts_of, is_connected}
-use Rattle.rss_model.specs.Defining.{is_image_of}
-use Rattle.rss_model.specs.Meter.{Meter, block_of_link, blocks_size, pages_of_image, room_number}
-use Rattle.rss_model.specs.Store.{Defines, DefinesPaths, SpellsContents, SpellsImages, SpellsTables, IsTupleItem, IsChainItem, AreNodesWithin, plain_body, body_of, listed_block}
+use Rattle.rss_model.specs.Meter.{block_of_link, blocks_size}
+use Rattle.rss_model.specs.Store.{Defines, SpellsContents, SpellsImages, SpellsTables, IsTupleItem, IsChainItem, AreNodesWithin, plain_body, body_of, listed_block}
 use Rattle.rss_model.proofs.Codes.{name_total, name_apart}
 use Rattle.rss_model.proofs.Heap.{nothing}
-use Rattle.rss_model.proofs.Plain.{none_some}
 
 -- ---- listings
 

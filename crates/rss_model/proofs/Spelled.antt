@@ -5,7 +5,7 @@ use Rattle.std.specs.FinMap as map
 use Rattle.std.specs.FinMap.{same_map}
 use Rattle.std.proofs.lemmas.Option.{none-some, same_Some}
 use Rattle.rss_base.specs.Paged.{Held}
-use Rattle.rss_base.specs.TupleTypes.{kinds, misfit, misfit_from, fits, tuple_bytes, value_bytes, int_bytes, IsStorable}
+use Rattle.rss_base.specs.TupleTypes.{misfit, misfit_from, fits, tuple_bytes, value_bytes, int_bytes, IsStorable}
 use Rattle.rss_base.specs.Listings.{Listing, ListingFits, numbered, relation_at, image_at, link_at}
 use Rattle.rss_base.specs.declared.name.Name.{Name}
 use Rattle.rss_base.specs.declared.tid.Tid.{Tid}
@@ -25,7 +25,7 @@ use Rattle.rss_model.specs.Items.{Content, Values}
 use Rattle.rss_model.specs.Tables.{RelationDef, ImageDef, LinkDef, Definitions, Tables, content, fields_of}
 use Rattle.rss_model.specs.Fits.{Fits}
 use Rattle.rss_model.specs.Store.{body_of, Defines, HasNumber, IsListedImage, IsListedLink, IsTupleItem, SpellsTables, definition_of, image_definition, link_definition}
-use Rattle.rss_model.proofs.Codes.{item_total, item_apart, name_total, name_apart}
+use Rattle.rss_model.proofs.Codes.{name_total, name_apart}
 use Rattle.rss_model.proofs.Lengths.{first_fits}
 use Rattle.rss_model.proofs.Listed.{at_place, listed}
 use Rattle.rss_model.proofs.LogLists.{some_of}

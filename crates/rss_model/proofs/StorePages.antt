@@ -1,18 +1,18 @@
 -- The pages of a store: how many there are, and that each has room in two slots.
-use Rattle.std.proofs.Common.{◌≡◌, ◌⊎◌, inl, inr, ⊎_elim, ℕ, zero, suc, ◌+◌, ◌*◌, ◌<◌, ◌≤◌, Bool, true, false, cond, List, [], ◌∷◌, length, Option, Some, None, refl, sym, ◌∙◌, ap, subst, arith}
+use Rattle.std.proofs.Common.{◌≡◌, inl, inr, ℕ, zero, suc, ◌+◌, ◌*◌, ◌<◌, ◌≤◌, Bool, true, cond, List, [], ◌∷◌, length, Option, Some, None, refl, sym, ◌∙◌, ap, subst, arith}
 use Rattle.std.specs.Prelude.{IfSome, is_some, option_map, count_by, sum_by, map as list_map}
 use Rattle.std.specs.FinMap as finite
 use Rattle.std.specs.FinMap.{FinMap}
 use Rattle.std.specs.List.{range_with_len}
-use Rattle.std.proofs.lemmas.Bool.{cases_lt, false_from_ne_true}
+use Rattle.std.proofs.lemmas.Bool.{cases_lt}
 use Rattle.std.proofs.lemmas.List.{get_or_past}
 use Rattle.std.proofs.lemmas.List.Sums.{sum_by-cons, sum_by-le-sum_by}
 use Rattle.std.proofs.lemmas.Option.{none-some}
 use Rattle.rss_base.specs.DiskRule.{Pages, page}
 use Rattle.rss_base.specs.Layout.{map_at, slots_at, log_free}
-use Rattle.rss_base.specs.Listings.{Listing, HoldsListing, IsPlain, segment_at}
+use Rattle.rss_base.specs.Listings.{Listing, HoldsListing}
 use Rattle.rss_base.specs.PageMap.{IsKey, IsMap, owner_of, page_count}
-use Rattle.rss_base.specs.Paged.{Mapped, Held, page_key, mapped_in, mapped_of, mapped_pages}
+use Rattle.rss_base.specs.Paged.{Mapped, page_key, mapped_in, mapped_of, mapped_pages}
 use Rattle.rss_base.specs.Sizes.{system_pages}
 use Rattle.rss_base.specs.StoredPages.{slot_of, mapped_by, held_at}
 use Rattle.rss_base.specs.declared.key.PageKey.{PageKey}
@@ -20,7 +20,6 @@ use Rattle.rss_base.specs.declared.key.Space.TheVariants.{Home, Overflow, Image,
 use Rattle.rss_base.specs.declared.name.Name.{Name}
 use Rattle.rss_base.specs.declared.root.Root.{Root}
 use Rattle.rss_base.proofs.Counts.{mapped_pages-owners}
-use Rattle.rss_page.specs.Slotted.{IsHeapKey}
 use Rattle.rss_model.specs.Items.{name_cmp}
 use Rattle.rss_model.specs.Tables.{ImageDef, Definitions, Tables, tuple_count}
 use Rattle.rss_model.specs.Changes.{Change, maker}
@@ -31,12 +30,10 @@ use Rattle.rss_model.specs.Meanings.{Logged, as_entries, is_change}
 use Rattle.rss_model.specs.Meter.{Meter, heap_pages, changes_of, entries_most, pages_of_image, room_number, owed, log_room, free_between}
 use Rattle.rss_model.specs.Spares.{change_counts}
 use Rattle.rss_model.specs.Recovers.{lists_at}
-use Rattle.rss_model.specs.Store.{IsStorePage, SpellsTables, Stored, first_record, meter_of, overflow_pages, pages_of_space, IsStore, StoresHaveRoom, OpeningsHaveRoom, OpeningsAreMetered}
+use Rattle.rss_model.specs.Store.{Stored, first_record, meter_of, overflow_pages, pages_of_space, IsStore, StoresHaveRoom, OpeningsHaveRoom, OpeningsAreMetered}
 use Rattle.rss_model.proofs.Heap.{no_entries}
 use Rattle.rss_model.proofs.Listed.{heap_is}
 use Rattle.rss_model.proofs.ImageRooms.{images_allowed}
-use Rattle.rss_model.proofs.PlainStores.{no_image_pages}
-use Rattle.rss_model.proofs.Relisted.{page_kind}
 use Rattle.rss_model.proofs.Restarted.{recovered_pages, recovered_count}
 use Rattle.rss_model.proofs.Saving.{more_pages}
 
