@@ -1,8 +1,9 @@
 -- Pages that spell tables, where a link comes or goes whose relations have no tuples: they spell what the call makes of the tables, by the listing with that link or without it.
 use Rattle.std.proofs.Common.{◌≡◌, ◌≢◌, ◌⊎◌, inl, inr, ℕ, zero, suc, ◌-◌, ◌≤◌, true, false, List, [], ◌∷◌, ◌++◌, length, get_or, refl, sym, ◌∙◌, ap, subst, arith}
-use Rattle.std.specs.Prelude.{Option, Some, None, is_some, option_and_then, slice_set, flat_map, ◌==◌, All}
+use Rattle.std.specs.Prelude.{Option, Some, None, is_some, option_map, option_and_then, slice_set, flat_map, ◌==◌, All}
 use Rattle.std.specs.FinMap as map
-use Rattle.std.proofs.lemmas.Bool.{cases_eq, eq-eqb, true≢false}
+use Rattle.std.specs.List.{list_any}
+use Rattle.std.proofs.lemmas.Bool.{cases_eq, eq-eqb, eqb-true, leb-false, true≢false}
 use Rattle.std.proofs.lemmas.Option.{none-some, same_Some}
 use Rattle.rss_base.specs.Paged.{Held}
 use Rattle.rss_base.specs.Sizes.{links_most}
@@ -19,7 +20,8 @@ use Rattle.rss_tuple.specs.Directory.{bodies_of}
 use Rattle.rss_model.specs.Items.{Content, name_cmp}
 use Rattle.rss_model.specs.Tables.{LinkDef, Definitions, Contents, Tables, content, tuple_count}
 use Rattle.rss_model.specs.Chains.{chain, tuples_in, is_there, LinksFit}
-use Rattle.rss_model.specs.Defining.{defined, with_definitions}
+use Rattle.rss_model.specs.Defining.{defined, with_definitions, relations_of_link, holds_tuples}
+use Rattle.rss_model.specs.Machine.{State}
 use Rattle.rss_model.specs.Store.{AreEnds, DefinesPaths, IsChainItem, IsTupleItem, SpellsContents, SpellsTables, link_definition, listed_block, prefix_of, relation_name}
 use Rattle.rss_model.proofs.Counts.{none_counted}
 use Rattle.rss_model.proofs.LogLists.{by_test, some_of}
@@ -42,6 +44,29 @@ abbrev pub HasNoTuples : Listing → Contents → LinkEntry → Type 0
 HasNoTuples listing contents link =
     (number : ℕ) (relation : RelationEntry) → has_role number (Some link) ≡ true
     → relation_at listing number ≡ Some relation → tuple_count contents relation.name ≡ 0
+
+-- so it is where the call finds none, by the names of the relations
+module _ (state : State) (listing : Listing) (link : LinkEntry) (child : RelationEntry) (at : relation_at listing link.child ≡ Some child) where
+  none_held : (name : Name) → holds_tuples state name ≡ false → tuple_count state.base.contents name ≡ 0
+  none_held name none = let few = leb-false 1 (tuple_count state.base.contents name) none in omega (arith, few)
+
+  child_held : (parent : Option Name) → list_any (holds_tuples state) (relations_of_link parent child.name) ≡ false → holds_tuples state child.name ≡ false
+  child_held None none = (or_none (holds_tuples state child.name) false none).0
+  child_held (Some parent) none = (or_none (holds_tuples state child.name) false (or_none (holds_tuples state parent) _ none).1).0
+
+  pub none_hold : list_any (holds_tuples state) (relations_of_link (option_and_then (relation_name listing) link.parent) child.name) ≡ false → HasNoTuples listing state.base.contents link
+  none_hold none number relation role is = by_test (link.child == number)
+      (λ same.
+      let one : child ≡ relation = same_Some _ _ (sym at ∙ ap (relation_at listing) (eqb-true link.child number same) ∙ is) in
+      none_held relation.name (subst (λ (r : RelationEntry). holds_tuples state r.name ≡ false) one (child_held (option_and_then (relation_name listing) link.parent) none)))
+      (λ other. upper link.parent (rw other at role) none)
+    where
+      upper : (parent : Option ℕ) → is_parent_in parent number ≡ true → list_any (holds_tuples state) (relations_of_link (option_and_then (relation_name listing) parent) child.name) ≡ false → tuple_count state.base.contents relation.name ≡ 0
+      upper None role none = absurd (cc)
+      upper (Some parent) role none =
+          let named : relation_name listing parent ≡ Some relation.name = ap (relation_name listing) (eqb-true parent number role) ∙ ap (option_map (λ (r : RelationEntry). r.name)) is in
+          let names = subst (λ (o : Option Name). list_any (holds_tuples state) (relations_of_link o child.name) ≡ false) named none in
+          none_held relation.name (or_none (holds_tuples state relation.name) _ names).0
 
 -- a relation that has tuples is in no such link
 no_role : (listing : Listing) (contents : Contents) (link : LinkEntry) → HasNoTuples listing contents link → (number : ℕ) (relation : RelationEntry) (tid : Tid) → relation_at listing number ≡ Some relation → IsTupleThere contents relation tid → has_role number (Some link) ≡ false
