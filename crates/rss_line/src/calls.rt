@@ -33,8 +33,10 @@ pub(crate) fn is_built(call: &Call) -> bool
             | Call::Checkpoint
             | Call::MakeSegment(_)
             | Call::MakeRelation(..)
+            | Call::MakeImage(..)
             | Call::DropSegment(_)
             | Call::DropRelation(_)
+            | Call::DropImage(_)
     )
 }
 

@@ -10,12 +10,9 @@ use Rattle.rss_base.specs.declared.item.Item.TheVariants.{Tuple, Chain}
 use Rattle.rss_model.specs.Items.{item_cmp, name_cmp}
 use Rattle.rss_model.specs.Tables.{RelationDef, content}
 use Rattle.rss_model.specs.Store.{no_tables}
-use Rattle.rss_model.specs.Fits.{ArePlain, DefinitionsFit, IsLive, Fits}
+use Rattle.rss_model.specs.Fits.{DefinitionsFit, IsLive, Fits}
 use Rattle.rss_model.proofs.Plain.{plain_paths, plain_keys, plain_links}
 use Rattle.rss_model.proofs.Counts.{counts_none}
-
-pub no_tables_plain : ArePlain no_tables.definitions
-no_tables_plain = record { no_images = refl; no_links = refl }
 
 pub no_definitions_fit : DefinitionsFit no_tables.definitions
 no_definitions_fit = record {
@@ -24,7 +21,7 @@ no_definitions_fit = record {
   relation_names = λ name is. absurd (true≢false (sym is ∙ ap is_some (get-empty name_cmp name)));
   few_relations = omega (arith, len-empty name_cmp RelationDef);
   relations = λ name relation is. absurd (none-some relation (sym (get-empty name_cmp name) ∙ is));
-  paths = plain_paths no_tables.definitions no_tables_plain;
+  paths = plain_paths no_tables.definitions refl refl;
 }
 
 -- ---- no tuples
@@ -42,7 +39,7 @@ no_tables_fit slots = record {
   tids = λ relation tid lives. absurd (none_live relation tid lives);
   alone = λ one other tid first second segment. absurd (none_live one tid first);
   few = λ relation. omega (arith, counts_none relation);
-  keys = plain_keys no_tables no_tables_plain;
+  keys = plain_keys no_tables refl;
   links = plain_links no_tables (λ link parent. get-empty item_cmp (Chain link parent));
   only = λ item is. absurd (true≢false (sym is ∙ ap is_some (get-empty item_cmp item)));
 }

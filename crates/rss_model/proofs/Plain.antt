@@ -13,7 +13,7 @@ use Rattle.rss_model.specs.Items.{Content, name_cmp}
 use Rattle.rss_model.specs.Tables.{LinkDef, Definitions, Tables, content}
 use Rattle.rss_model.specs.Chains.{has_part, stands_in, tuples_in, LinksFit}
 use Rattle.rss_model.specs.Images.{KeysFit}
-use Rattle.rss_model.specs.Fits.{ArePlain, PathsFit, Fits}
+use Rattle.rss_model.specs.Fits.{PathsFit, Fits}
 
 -- nothing is found in an empty map
 pub none_found : {X : Type 0} (m : FinMap name_cmp X) (name : Name) (x : X) → m ≡ finite.empty → finite.get m name ≡ Some x → ⊥
@@ -29,22 +29,22 @@ nothing_counted : {X : Type 0} (p : X → Bool) (xs : List X) → length xs ≡ 
 nothing_counted p [] none = refl
 nothing_counted p (x ∷ xs) none = absurd (omega (arith, none))
 
-pub plain_paths : (definitions : Definitions) → ArePlain definitions → PathsFit definitions
-plain_paths definitions plain = record {
-  image_names = λ name is. absurd (none_some definitions.images name plain.no_images is);
-  few_images = let none = none_long definitions.images plain.no_images in omega (arith, none);
-  images = λ name image is. absurd (none_found definitions.images name image plain.no_images is);
-  link_names = λ name is. absurd (none_some definitions.links name plain.no_links is);
-  few_links = let none = none_long definitions.links plain.no_links in omega (arith, none);
-  links = λ name link is. absurd (none_found definitions.links name link plain.no_links is);
+pub plain_paths : (definitions : Definitions) → definitions.images ≡ finite.empty → definitions.links ≡ finite.empty → PathsFit definitions
+plain_paths definitions no_images no_links = record {
+  image_names = λ name is. absurd (none_some definitions.images name no_images is);
+  few_images = let none = none_long definitions.images no_images in omega (arith, none);
+  images = λ name image is. absurd (none_found definitions.images name image no_images is);
+  link_names = λ name is. absurd (none_some definitions.links name no_links is);
+  few_links = let none = none_long definitions.links no_links in omega (arith, none);
+  links = λ name link is. absurd (none_found definitions.links name link no_links is);
   few_parts = λ relation.
-      let long : length (finite.values definitions.links) ≡ 0 = length-map (finite.entries definitions.links) (λ (e : Name × LinkDef). e.1) ∙ (sym (len-entries definitions.links) ∙ none_long definitions.links plain.no_links) in
+      let long : length (finite.values definitions.links) ≡ 0 = length-map (finite.entries definitions.links) (λ (e : Name × LinkDef). e.1) ∙ (sym (len-entries definitions.links) ∙ none_long definitions.links no_links) in
       let none = nothing_counted (has_part relation) (finite.values definitions.links) long in
       omega (arith, none);
 }
 
-pub plain_keys : (tables : Tables) → ArePlain tables.definitions → KeysFit tables
-plain_keys tables plain name image one other key there unique first second = absurd (none_found tables.definitions.images name image plain.no_images there)
+pub plain_keys : (tables : Tables) → tables.definitions.images ≡ finite.empty → KeysFit tables
+plain_keys tables none name image one other key there unique first second = absurd (none_found tables.definitions.images name image none there)
 
 -- no chain holds anything
 abbrev pub NoChains : Tables → Type 0

@@ -1,4 +1,4 @@
--- Stores without links, as all are as yet: what their listings, definitions and contents come to. And what those without images come to.
+-- Stores without links, as all are as yet: what their listings, definitions and contents come to. And the pages of those without images.
 use Rattle.std.proofs.Common.{◌≡◌, ◌⊎◌, inl, inr, ℕ, zero, suc, ◌+◌, ◌-◌, ◌*◌, true, false, List, [], ◌∷◌, ◌++◌, replicate, refl, sym, ◌∙◌, ap, arith}
 use Rattle.std.specs.List.{list_any}
 use Rattle.std.specs.Prelude.{Option, Some, None, is_some, option_map, option_and_then, slice_get, sum_by, count_by, nat_le, filter, find, ◌&&◌, flat_map, map as list_map, All, ◌==◌}
@@ -25,7 +25,6 @@ use Rattle.rss_base.specs.declared.refusal.Kind.TheVariants.{Image as ImageKind,
 use Rattle.rss_tuple.specs.Directory.{Bodies, bodies_of}
 use Rattle.rss_model.specs.Items.{Values, name_cmp, is_name}
 use Rattle.rss_model.specs.Tables.{ImageDef, LinkDef, Definitions, Contents, Tables, content}
-use Rattle.rss_model.specs.Fits.{ArePlain}
 use Rattle.rss_base.specs.declared.refusal.Refusal.TheVariants.{Connected}
 use Rattle.rss_model.specs.Machine.{State, now}
 use Rattle.rss_model.specs.Refusals.{first_of, if_owned, if_duplicate, if_connected}
@@ -79,21 +78,6 @@ empty_map {X = X} m none = same_map name_total name_apart m map.empty (λ q. abs
 pub no_links_defined : {listing : Listing} {definitions : Definitions} → HasNoLinks listing → Defines listing definitions → definitions.links ≡ map.empty
 no_links_defined {listing = listing} {definitions = definitions} none defines = empty_map definitions.links (λ name there. let has = defines.paths.only_links name there in no_link_named listing none name has.0 has.1)
 
--- nor an image
-pub plain_defined : {listing : Listing} {definitions : Definitions} → IsPlain listing → Defines listing definitions → ArePlain definitions
-plain_defined {definitions = definitions} plain defines = record {
-  no_images = empty_map definitions.images (λ name there. let has = defines.paths.only_images name there in no_image_named plain name has.0 has.1);
-  no_links = no_links_defined plain.no_links defines;
-}
-
-pub plain_defines : {listing : Listing} {definitions : Definitions} → IsPlain listing → ArePlain definitions → DefinesPaths listing definitions
-plain_defines {listing = listing} {definitions = definitions} plain are = record {
-  images = λ number image relation l. absurd (no_image_at plain number image l.at);
-  only_images = λ name there. absurd (none_some definitions.images name are.no_images there);
-  links = λ number link child l. absurd (no_link_at listing plain.no_links number link l.at);
-  only_links = λ name there. absurd (none_some definitions.links name are.no_links there);
-}
-
 no_values : {X : Type 0} (m : FinMap name_cmp X) → m ≡ map.empty → map.values m ≡ []
 no_values {X = X} m none = nothing (map.values m) (length-map (map.entries m) (λ (e : Name × X). e.1) ∙ (sym (len-entries m) ∙ (ap map.len none ∙ len-empty name_cmp X)))
 
@@ -101,27 +85,14 @@ no_values {X = X} m none = nothing (map.values m) (length-map (map.entries m) (�
 pub no_blocks : (definitions : Definitions) → definitions.links ≡ map.empty → (relation : Name) → blocks_size definitions relation ≡ 0
 no_blocks definitions none relation = ap (λ (links : List LinkDef). sum_by (block_of_link relation) links) (no_values definitions.links none)
 
--- only the heap and the catalog need room
-pub plain_room : {definitions : Definitions} → ArePlain definitions → (meter : Meter) → room_number definitions meter ≡ 2 * (meter.heap + 2 * meter.surviving + 4 * meter.since + system_pages)
-plain_room {definitions = definitions} are meter =
-    let none = ap (sum_by (pages_of_image definitions meter)) (no_values definitions.images are.no_images) in
-    omega (arith, none)
-
--- and no relation has an image or is in a link
-pub no_image_of : {definitions : Definitions} → ArePlain definitions → (relation : Name) → list_any (is_image_of relation) (map.values definitions.images) ≡ false
-no_image_of {definitions = definitions} are relation = ap (list_any (is_image_of relation)) (no_values definitions.images are.no_images)
-
+-- and no relation is in a link
 pub no_link_of : (definitions : Definitions) → definitions.links ≡ map.empty → (relation : Name) → nat_le 1 (parts_of definitions relation) ≡ false
 no_link_of definitions none relation = ap (λ (links : List LinkDef). nat_le 1 (count_by (has_part relation) links)) (no_values definitions.links none)
 
 pub no_entries : {X : Type 0} (m : FinMap name_cmp X) → m ≡ map.empty → map.entries m ≡ []
 no_entries {X = X} m none = nothing (map.entries m) (sym (len-entries m) ∙ (ap map.len none ∙ len-empty name_cmp X))
 
--- no key is another tuple's, and no tuple is connected
-pub none_duplicate : (state : State) → ArePlain state.base.definitions → (relation : Name) (but : Option Tid) (values : List Value) → if_duplicate state relation but values ≡ None
-none_duplicate state are relation but values =
-    ap (λ (images : List (Name × ImageDef)). first_of (list_map (if_owned state but values) (filter (λ image. image.1.is_unique && is_name relation image.1.relation) images))) (no_entries state.base.definitions.images are.no_images)
-
+-- and no tuple is connected
 pub none_connected : (state : State) → state.base.definitions.links ≡ map.empty → (relation : Name) (tid : Tid) → if_connected state relation tid ≡ None
 none_connected state none relation tid =
     ap (λ (links : List (Name × LinkDef)). option_map Connected (option_map (λ (link : Name × LinkDef). link.0) (find (is_connected (now state).contents relation tid) links))) (no_entries state.base.definitions.links none)

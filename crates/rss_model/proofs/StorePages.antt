@@ -24,7 +24,6 @@ use Rattle.rss_page.specs.Slotted.{IsHeapKey}
 use Rattle.rss_model.specs.Items.{name_cmp}
 use Rattle.rss_model.specs.Tables.{ImageDef, Definitions, Tables, tuple_count}
 use Rattle.rss_model.specs.Changes.{Change, maker}
-use Rattle.rss_model.specs.Fits.{ArePlain}
 use Rattle.rss_model.specs.Kept.{AreStamps, IsMetered}
 use Rattle.rss_model.specs.Steps.{stamp_by}
 use Rattle.rss_model.specs.Machine.{StoreSize, State, IsAtRest, with_changes, now}
@@ -61,20 +60,6 @@ pages_split mapped slots system =
     let systems : mapped_in mapped System 10 0 ≡ 10 = all_one (λ n. count_of (mapped (page_key 0 System n))) 0 10 (λ n lt. ap count_of (system n lt)) in
     omega (arith, systems)
 
-module _ (mapped : Mapped) (only : (key : PageKey) → mapped key ≡ true → (key.space ≡ System) ⊎ IsHeapKey key) where
-  no_image : (segment number : ℕ) → mapped (page_key segment Image number) ≡ false
-  no_image segment number = false_from_ne_true (mapped (page_key segment Image number)) (λ is. elim (only (page_key segment Image number) is) [
-    | inl system ↦ absurd (cc)
-    | inr heap ↦ ⊎_elim (λ home. absurd (cc)) (λ over. absurd (cc)) heap
-  ])
-
-  no_images : (slots : ℕ) → mapped_of mapped Image slots ≡ 0
-  no_images slots = all_zero (mapped_in mapped Image slots) 1 8 (λ segment. all_zero (λ n. count_of (mapped (page_key segment Image n))) 0 slots (λ n. ap count_of (no_image segment n)))
-
-  -- those of the system space, and the home and overflow pages
-  pub pages_are : (slots : ℕ) → ((number : ℕ) → number < system_pages → mapped (page_key 0 System number) ≡ true) → mapped_pages slots mapped ≡ mapped_of mapped Home slots + mapped_of mapped Overflow slots + system_pages
-  pages_are slots system = omega (arith, pages_split mapped slots system, no_images slots)
-
 is_some_mapped : (f : ℕ → List ℕ) (o : Option ℕ) → is_some (option_map f o) ≡ is_some o
 is_some_mapped f None = refl
 is_some_mapped f (Some slot) = refl
@@ -84,20 +69,6 @@ pub held_mapped : (first : ℕ) (pages : Pages) (owners : List (Option PageKey))
 held_mapped first pages owners key = is_some_mapped (λ slot. page pages (first + slot)) (slot_of owners key)
 
 -- ---- the pages of a store
-
--- a page of a store without images
-pub plain_page : {held : Held} {listing : Listing} {tables : Tables} → IsPlain listing → SpellsTables held listing tables → (key : PageKey) → is_some (held key) ≡ true → (key.space ≡ System) ⊎ ((is_some (segment_at listing key.segment) ≡ true) × IsHeapKey key)
-plain_page {held = held} {listing = listing} plain spells key there = by (page_kind key key.space refl) (spells.only key there)
-  where
-    by : (key.space ≡ System) ⊎ ((key.space ≡ Image) ⊎ IsHeapKey key) → IsStorePage listing key → (key.space ≡ System) ⊎ ((is_some (segment_at listing key.segment) ≡ true) × IsHeapKey key)
-    by (inl system) on = inl system
-    by (inr (inl image)) on = absurd (no_image_pages plain spells.images key image there)
-    by (inr (inr heap)) (inl system) = inl system
-    by (inr (inr heap)) (inr segment) = inr (segment, heap)
-
-plain_kind : (listing : Listing) (key : PageKey) → (key.space ≡ System) ⊎ ((is_some (segment_at listing key.segment) ≡ true) × IsHeapKey key) → (key.space ≡ System) ⊎ IsHeapKey key
-plain_kind listing key (inl system) = inl system
-plain_kind listing key (inr heap) = inr heap.1
 
 -- a map has only pages that there may be
 pub map_allowed : {slots : ℕ} {pages : Pages} {first : ℕ} {owners : List (Option PageKey)} → IsMap slots pages first owners → (s : ℕ) (key : PageKey) → owner_of owners s ≡ Some key → IsKey slots key
@@ -112,15 +83,6 @@ pub owners_split : (root : Root) (owners : List (Option PageKey)) (pages : Pages
 owners_split root owners pages map listing listed =
     sym (mapped_pages-owners root.slots owners (mapped_by owners) (λ slot key owned. map_allowed map slot key owned) map.begins.distinct (λ key. refl))
     ∙ pages_split (mapped_by owners) root.slots (λ n low. sym (held_mapped first pages owners (page_key 0 System n)) ∙ ap is_some (listed n low))
-  where
-    first : ℕ
-    first = slots_at root.slots root.log_pages
-
--- without images they are the home and overflow pages, and those of the system space
-pub pages_counted : (root : Root) (owners : List (Option PageKey)) (pages : Pages) → IsMap root.slots pages (map_at root.slots root.area) owners → {listing : Listing} {tables : Tables} → IsPlain listing → HoldsListing (held_at (slots_at root.slots root.log_pages) pages owners) listing → SpellsTables (held_at (slots_at root.slots root.log_pages) pages owners) listing tables
-    → page_count owners ≡ mapped_of (mapped_by owners) Home root.slots + mapped_of (mapped_by owners) Overflow root.slots + system_pages
-pages_counted root owners pages map {listing = listing} {tables = tables} plain listed spells =
-    omega (arith, owners_split root owners pages map listing listed, no_images (mapped_by owners) (λ key is. plain_kind listing key (plain_page plain spells key (held_mapped first pages owners key ∙ is))) root.slots)
   where
     first : ℕ
     first = slots_at root.slots root.log_pages
@@ -142,9 +104,6 @@ module _ (is : Stored) (none : is.saved.definitions.images ≡ finite.empty) (ol
 
   pub first_room : 2 * page_count is.owners ≤ is.root.slots → pages_beside is ≤ page_count is.owners → room_number is.saved.definitions (meter_of is) ≤ is.root.slots
   first_room room few = omega (arith, meter_is, room, few)
-
-pub room_least : (is : Stored) → ArePlain is.saved.definitions → is.older ≡ [] → is.newer ≡ first_record ∷ [] → 2 * page_count is.owners ≤ is.root.slots → page_count is.owners ≡ pages_beside is → room_number is.saved.definitions (meter_of is) ≤ is.root.slots
-room_least is plain older newer room count = first_room is plain.no_images older newer room (omega (arith, count))
 
 -- the images of a store have no more pages than the meter of its checkpoint allows them
 pub saved_few : {pages : Pages} {is : Stored} → IsStore pages is → pages_of_space Image is ≤ (change_counts is.saved.definitions (meter_of is)).images

@@ -6,7 +6,7 @@ use Rattle.rss_base.specs.DiskRule.{Disk, Passes}
 use Rattle.rss_base.specs.declared.item.Item.{Item}
 use Rattle.rss_base.specs.declared.item.Item.TheVariants.{Tuple}
 use Rattle.rss_base.specs.declared.call.Call.{Call}
-use Rattle.rss_base.specs.declared.call.Call.TheVariants.{Begin, Save, Restore, End, Abort, Insert, Fetch, Update, Delete, OpenRelation, OpenImage, Next, CloseScan, Lock, Checkpoint, MakeSegment, MakeRelation, DropSegment, DropRelation}
+use Rattle.rss_base.specs.declared.call.Call.TheVariants.{Begin, Save, Restore, End, Abort, Insert, Fetch, Update, Delete, OpenRelation, OpenImage, Next, CloseScan, Lock, Checkpoint, MakeSegment, MakeRelation, MakeImage, DropSegment, DropRelation, DropImage}
 use Rattle.rss_base.specs.declared.answer.Reply.TheVariants.{Ok as Done, Tid as Identifier, Number, Tuple as TupleReply, Row, End as AtEnd}
 use Rattle.rss_base.specs.declared.refusal.Refusal.{Refusal}
 use Rattle.rss_base.proofs.Moments.{widened}
@@ -161,8 +161,10 @@ module _ {state : State} (kept : Kept state) where
       record { answer = Ok Done; next = locked (Lock t item exclusive) state; step = locks t item exclusive is granule; same_base = λ not. refl }
   passes (MakeSegment name) built names granule is = has_definition state (MakeSegment name) _ names is refl
   passes (MakeRelation name segment fields) built names granule is = has_definition state (MakeRelation name segment fields) _ names is refl
+  passes (MakeImage name relation is_unique fields) built names granule is = has_definition state (MakeImage name relation is_unique fields) _ names is refl
   passes (DropSegment name) built names granule is = has_definition state (DropSegment name) _ names is refl
   passes (DropRelation name) built names granule is = has_definition state (DropRelation name) _ names is refl
+  passes (DropImage name) built names granule is = has_definition state (DropImage name) _ names is refl
   passes call built names granule is = absurd (cc)
 
   pub each_answers : (call : Call) → is_built call ≡ true → DefinesNames call → LocksGranule call → HasStep state call

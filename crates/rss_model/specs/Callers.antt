@@ -54,7 +54,7 @@ is_definition call = by (class_of call)
     by Defines = true
     by class = false
 
--- the calls that the engine makes as yet: of scans those of relations and of images can be opened
+-- the calls that the engine makes as yet: all but those on links
 abbrev pub is_built : Call → Bool
 is_built (Begin t) = true
 is_built (Save t) = true
@@ -73,6 +73,8 @@ is_built (Lock t item exclusive) = true
 is_built Checkpoint = true
 is_built (MakeSegment name) = true
 is_built (MakeRelation name segment fields) = true
+is_built (MakeImage name relation is_unique fields) = true
 is_built (DropSegment name) = true
 is_built (DropRelation name) = true
+is_built (DropImage name) = true
 is_built call = false

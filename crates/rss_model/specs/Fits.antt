@@ -72,11 +72,6 @@ pub record DefinitionsFit (definitions : Definitions) : Type 0 where
       → finite.get definitions.relations name ≡ Some relation → RelationFits definitions relation
   pub paths : PathsFit definitions
 
--- as yet there are neither images nor links
-pub record ArePlain (definitions : Definitions) : Type 0 where
-  pub no_images : definitions.images ≡ finite.empty
-  pub no_links : definitions.links ≡ finite.empty
-
 -- ---- tuples
 
 -- what an item holds is a tuple that fits these fields

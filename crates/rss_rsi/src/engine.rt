@@ -130,8 +130,12 @@ impl<S: Saving> Engine for Rss<S> {
             Call::Checkpoint => self.checkpoint(),
             Call::MakeSegment(name) => self.make_segment(name),
             Call::MakeRelation(name, segment, fields) => self.make_relation(name, segment, fields),
+            Call::MakeImage(name, relation, is_unique, fields) => {
+                self.make_image(name, relation, *is_unique, fields.as_slice())
+            }
             Call::DropSegment(name) => self.drop_segment(name),
             Call::DropRelation(name) => self.drop_relation(name),
+            Call::DropImage(name) => self.drop_image(name),
             _ => unreachable!(),
         }
     }

@@ -40,15 +40,13 @@ module _ {old mid : CatalogView} {number : ℕ} {image : ImageEntry} (least : Is
 pub set_again : {entry : ImageEntry} {old mid new : CatalogView} (number root levels first_root first_levels : ℕ) → IsLeastUnused ImageKind old.listing number
     → Lists (with_image old.listing number (Some (with_root first_root first_levels entry))) (page_of ImageKind number) old mid
     → Lists (with_image mid.listing number (Some (with_root root levels entry))) (page_of ImageKind number) mid new
-    → ((image : Option ImageEntry) (k : ℕ) → k ≢ page_of ImageKind number → catalog_page (with_image old.listing number image) k ≡ catalog_page old.listing k)
     → (ListingFits old.listing → ListingFits new.listing) → ListsImage entry old new
-set_again {entry = entry} {old = old} {mid = mid} {new = new} number root levels first_root first_levels least first second others fits = record {
+set_again {entry = entry} {old = old} {mid = mid} {new = new} number root levels first_root first_levels least first second fits = record {
   number = number;
   root = root;
   levels = levels;
   least = least;
   lists = record { is = is; pending = pending };
-  others = λ k other. ap (λ (l : Listing). catalog_page l k) is ∙ others (Some (with_root root levels entry)) k other;
   fits = fits;
 }
   where

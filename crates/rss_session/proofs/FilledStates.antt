@@ -28,39 +28,20 @@ use Rattle.rss_session.specs.Shown.{Shows}
 use Rattle.rss_session.proofs.FilledRooms.{planned_fits}
 use Rattle.rss_session.proofs.Redefined.{may_redefine}
 use Rattle.rss_session.proofs.Saved.{saves_ready}
-use Rattle.rss_session.proofs.Touched.{system_same, redefined_touched}
+use Rattle.rss_session.proofs.Touched.{redefined_touched}
 use Rattle.rss_session.proofs.Weighed.{has_saved_room}
-
--- a page of the catalog that isn't to be written is spelled as it was
-written_but : (held : Held) {listing : Listing} {old new : CatalogView} (page : ℕ) → Lists listing page old new → ((k : ℕ) → k ≢ page → catalog_page new.listing k ≡ catalog_page old.listing k) → length old.pending ≡ system_pages
-    → AreWritten held old → AreWritten held new
-written_but held {old = old} {new = new} page lists others places written k low not = elim (cases_eq k page) [
-  | inl here ↦ absurd (not (
-      ap (λ (pending : List Bool). get_or pending k false) lists.pending
-      ∙ ap (λ (q : ℕ). get_or (slice_set old.pending page true) q false) here
-      ∙ get_or-set_same old.pending page true false (omega (arith, here, low, places))
-      ))
-  | inr other ↦
-      let was = written k low (λ pending. not (ap (λ (l : List Bool). get_or l k false) lists.pending ∙ get_or-set_other old.pending page k true false other ∙ pending)) in
-      was ∙ ap Some (sym (others k other))
-]
 
 -- where nothing is open, images have no more pages than they may, in each state in which the session may be
 pub few_pages : {view : SessionView} {state : State} → IsReady view → view.opened.transactions ≡ empty → Shows view state → ((key : PageKey) → is_some (view.store.pages.held key) ≡ view.store.pages.mapped key) → HasFewPages view
 few_pages ready closed shows held_are = (has_saved_room ready shows held_are (may_redefine (saves_ready ready) closed)).images
 
-module _ {old new : SessionView} (ready : IsReady old) (touches : TouchesImages old new) (told : IsTold old.store.pages.disk) {entry : ImageEntry} {state : State} (closed : old.opened.transactions ≡ empty) (lists : ListsImage entry old.store.catalog new.store.catalog) (kept : Kept state) (shows : Shows old state)
+module _ {old new : SessionView} (ready : IsReady old) (touches : TouchesImages old new) (told : IsTold old.store.pages.disk) {entry : ImageEntry} {state : State} (closed : old.opened.transactions ≡ empty) (written : AreWritten new.store.pages.held new.store.catalog) (kept : Kept state) (shows : Shows old state)
     (may : MayMakeImage old.store.catalog.listing state entry) where
   abbrev call : Call
   call = MakeImage may.name may.relation may.is_unique may.fields
 
   abbrev definitions : Definitions
   definitions = with_image state.base.definitions may.name (image_def may.relation may.is_unique may.fields)
-
-  written : AreWritten new.store.pages.held new.store.catalog
-  written page low not =
-      system_same ready touches told page
-      ∙ written_but old.store.pages.held _ lists.lists lists.others ready.store.pending_places shows.store.written page low not
 
   named : IsName may.name
   named = subst IsName may.plans.named (planned_fits may.plans).name

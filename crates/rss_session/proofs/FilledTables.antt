@@ -19,9 +19,8 @@ use Rattle.rss_entries.specs.Building.{pair_list}
 use Rattle.rss_access.specs.Changes.{both, CanAlter}
 use Rattle.rss_access.specs.Filling.{AreEntries}
 use Rattle.rss_access.specs.Trees.{FillsImage as FillsTree}
-use Rattle.rss_access.proofs.ImageTables.{Filled, AreBytes, entries_bytes, filled_tables, filled_shows}
+use Rattle.rss_access.proofs.ImageTables.{Filled, AreBytes, entries_bytes, filled_tables, filled_written, filled_shows}
 use Rattle.rss_access.proofs.ImageTouched.{AreLawful, heaps_stay}
-use Rattle.rss_access.proofs.Rooted.{page_same}
 use Rattle.rss_session.specs.Filling.{ListsImage, FillsImage, MakesImage}
 use Rattle.rss_session.specs.Sessions.{SessionView, IsReady, CanSave}
 use Rattle.rss_session.proofs.FilledLists.{image_free, image_listed, number_high, set_again}
@@ -54,7 +53,7 @@ module _ {old : SessionView} {entry : ImageEntry} {entries : List (List ℕ × T
   builds_lists : ListsImage entry old.store.catalog catalog
   builds_lists =
       let second = builds.fills.lists (with_root 0 1 entry) (image_listed builds.least builds.lists) in
-      set_again builds.number builds.fills.root builds.fills.levels 0 1 builds.least builds.lists second (λ image k other. page_same listing builds.number image k other) (λ fit. builds.fills.fits (builds.fits fit))
+      set_again builds.number builds.fills.root builds.fills.levels 0 1 builds.least builds.lists second (λ fit. builds.fills.fits (builds.fits fit))
 
   filled : ListingFits listing → Filled (both old.store.pages old.store.catalog) builds.mid (both pages catalog) builds.number (with_root 0 1 entry) builds.relation (pair_list entries)
   filled fit = record {
@@ -95,7 +94,7 @@ module _ {old : SessionView} {entry : ImageEntry} {entries : List (List ℕ × T
         let touches = touches_images old builds.step catalog in
         let spelled = base_spelled closed shows in
         let same : builds.relation ≡ may.plans.within = same_Some _ _ (sym builds.within ∙ may.plans.at) in
-        image_redefined ready touches told closed builds_lists kept shows may
+        image_redefined ready touches told closed (filled_written (filled spelled.listed) told ready.store.pending_places shows.store.written) kept shows may
         (subst (λ (r : RelationEntry). SpellsTables pages.held catalog.listing (with_definitions (with_image state.base.definitions entry.name (image_definition entry r)) state.base)) same
         (filled_shows (filled spelled.listed) told (bytes told) spelled (base_shown closed shows ready kept)))
 

@@ -139,9 +139,6 @@ module _ {old new : SessionView} (ready : IsReady old) (touches : TouchesImages 
       over = spaces_same touches Overflow (λ same. absurd (cc (same)));
     }
 
-    pub system_same : (page : ℕ) → new.store.pages.held (page_key 0 System page) ≡ old.store.pages.held (page_key 0 System page)
-    system_same page = touches.step.held_off told (page_key 0 System page) (λ same. absurd (cc (same)))
-
     module _ {state : State} (closed : old.opened.transactions ≡ empty) (kept : Kept state) (shows : Shows old state) where
       size_same : state.size ≡ size_of old.store.root
       size_same = shows.store.tied.size ∙ ap size_of shows.store.disk.root_is

@@ -1,7 +1,7 @@
 -- The room that an image needs which is to be made, what it is built of, and what it is then.
-use Rattle.std.specs.Prelude.{◌≡◌, ◌≢◌, ℕ, ◌+◌, ◌≤◌, Bool, List, length, All, Option, Some, None, Result, Ok, Err}
+use Rattle.std.specs.Prelude.{◌≡◌, ℕ, ◌+◌, ◌≤◌, Bool, List, length, All, Option, Some, None, Result, Ok, Err}
 use Rattle.rss_base.specs.DiskRule.{IsTold}
-use Rattle.rss_base.specs.Listings.{Listing, ListingFits, IsLeastUnused, catalog_page, field_numbers, relation_at, with_image as with_listed, with_root}
+use Rattle.rss_base.specs.Listings.{Listing, ListingFits, IsLeastUnused, field_numbers, relation_at, with_image as with_listed, with_root}
 use Rattle.rss_base.specs.Paged.{mapped_of}
 use Rattle.rss_base.specs.Steps.{Keys, PagesStep}
 use Rattle.rss_base.specs.declared.call.Call.TheVariants.{MakeImage}
@@ -110,7 +110,7 @@ pub record TouchesImages (old new : SessionView) : Type 0 where
   pub opened : new.opened ≡ old.opened
   pub counts : CountsStill old new
 
--- The entry is listed, by the least number that is not in use, with where its tree begins. One page of the catalog alone spells another listing.
+-- The entry is listed, by the least number that is not in use, with where its tree begins.
 pub record ListsImage (entry : ImageEntry) (old new : CatalogView) : Type 0 where
   pub number : ℕ
   pub root : ℕ
@@ -118,8 +118,6 @@ pub record ListsImage (entry : ImageEntry) (old new : CatalogView) : Type 0 wher
   pub least : IsLeastUnused ImageKind old.listing number
   pub lists : Lists (with_listed old.listing number (Some (with_root root levels entry)))
       (page_of ImageKind number) old new
-  pub others : (k : ℕ) → k ≢ page_of ImageKind number
-      → catalog_page new.listing k ≡ catalog_page old.listing k
   pub fits : ListingFits old.listing → ListingFits new.listing
 
 -- A call makes the image that the entry plans, and isn't refused in this state.

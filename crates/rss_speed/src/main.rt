@@ -1,12 +1,15 @@
 //! How fast the engine's calls are, made in-process over a file: commits of one insert, inserts in
-//! transactions of a batch with their commits, and fetches. `examples/peers.sh` runs it beside other
-//! engines.
+//! transactions of a batch with their commits, and fetches; and, over a relation with an image, inserts,
+//! look-ups and a scan. `examples/peers.sh` runs it beside other engines.
 #![tactic(auto)]
+
+mod images;
 
 ghost use Rattle.std.specs.Prelude.{◌≡◌, true};
 ghost use Rattle.rss_model.specs.Callers.{is_built};
 ghost use Rattle.rss_model.specs.Defining.{DefinesNames, LocksGranule};
 
+use crate::images::{Order, measure_image};
 use anyhow::{Result, bail, ensure};
 use rss_base::{Call, FieldDef, FieldKind, Fields, Name, Reply, Tid, Tuple, Value};
 use rss_device::FileDevice;
@@ -23,32 +26,39 @@ const SLOTS: u32 = 65_536;
 const LOG_PAGES: u32 = 160;
 
 /// What is defined: a segment, and in it a relation of one INT.
-const SEGMENT: Name = Name {
+pub(crate) const SEGMENT: Name = Name {
     bytes: *b"s\0\0\0\0\0\0\0\0\0\0\0\0\0\0\0",
 };
 
-const RELATION: Name = Name {
+pub(crate) const RELATION: Name = Name {
     bytes: *b"r\0\0\0\0\0\0\0\0\0\0\0\0\0\0\0",
 };
 
-const FIELD: Name = Name {
+pub(crate) const FIELD: Name = Name {
     bytes: *b"a\0\0\0\0\0\0\0\0\0\0\0\0\0\0\0",
 };
 
 /// How many fetches are made.
 const FETCHES: u32 = 1_000_000;
 
-/// What is to be done: how many commits of one insert, how many tuples in all, and how many inserts a
-/// transaction.
+/// How many tuples there are to be, and how many inserts a transaction.
 #[derive(Clone, Copy)]
-struct Work {
-    commits: u32,
-    tuples: u32,
-    batch: u32,
+pub(crate) struct Work {
+    pub(crate) tuples: u32,
+    pub(crate) batch: u32,
+}
+
+/// What is measured.
+#[derive(Clone, Copy)]
+enum Measure {
+    /// Tuples alone, with so many commits of one insert first.
+    Tuples(u32),
+    /// A relation with an image, whose values come in this order.
+    Image(Order),
 }
 
 /// Makes a call, where the engine may be asked for one more.
-fn ask<E: Engine>(engine: &mut E, call: &Call) -> Result<Reply>
+pub(crate) fn ask<E: Engine>(engine: &mut E, call: &Call) -> Result<Reply>
     requires names { DefinesNames call.now }
     requires granule { LocksGranule call.now }
     requires built { is_built call.now ≡ true }
@@ -61,7 +71,7 @@ fn ask<E: Engine>(engine: &mut E, call: &Call) -> Result<Reply>
 }
 
 /// Defines the segment and its relation.
-fn define<E: Engine>(engine: &mut E, alloc: Global) -> Result<()> {
+pub(crate) fn define<E: Engine>(engine: &mut E, alloc: Global) -> Result<()> {
     let mut fields = Fields::new(alloc);
     fields.push(FieldDef {
         name: FIELD,
@@ -72,17 +82,17 @@ fn define<E: Engine>(engine: &mut E, alloc: Global) -> Result<()> {
     Ok(())
 }
 
-fn begin<E: Engine>(engine: &mut E) -> Result<()> {
+pub(crate) fn begin<E: Engine>(engine: &mut E) -> Result<()> {
     ask(engine, &Call::Begin(1))?;
     Ok(())
 }
 
-fn end<E: Engine>(engine: &mut E) -> Result<()> {
+pub(crate) fn end<E: Engine>(engine: &mut E) -> Result<()> {
     ask(engine, &Call::End(1))?;
     Ok(())
 }
 
-fn insert<E: Engine>(engine: &mut E, alloc: Global, value: u32) -> Result<Tid> {
+pub(crate) fn insert<E: Engine>(engine: &mut E, alloc: Global, value: u32) -> Result<Tid> {
     let tuple = Tuple::single(alloc, Value::Int(i64::from(value)))?;
     match ask(engine, &Call::Insert(1, RELATION, tuple))? {
         Reply::Tid(tid) => Ok(tid),
@@ -104,10 +114,10 @@ fn fetch<E: Engine>(engine: &mut E, tid: Tid) -> Result<i64> {
 fn commit_each<E: Engine>(
     engine: &mut E,
     alloc: Global,
-    work: Work,
+    commits: u32,
     tids: &mut Vec<Tid>,
 ) -> Result<()> {
-    for value in 0..work.commits {
+    for value in 0..commits {
         begin(engine)?;
         tids.push(insert(engine, alloc, value)?)?;
         end(engine)?;
@@ -119,11 +129,12 @@ fn commit_each<E: Engine>(
 fn commit_batches<E: Engine>(
     engine: &mut E,
     alloc: Global,
+    commits: u32,
     work: Work,
     tids: &mut Vec<Tid>,
 ) -> Result<()> {
     begin(engine)?;
-    for value in work.commits..work.tuples {
+    for value in commits..work.tuples {
         tids.push(insert(engine, alloc, value)?)?;
         if (value + 1) % work.batch.max(1) == 0 {
             end(engine)?;
@@ -148,27 +159,32 @@ fn fetch_some<E: Engine>(engine: &mut E, tids: &[Tid]) -> Result<()> {
 }
 
 /// How many a second.
-fn rate(count: u32, time: Duration) -> u128 {
+pub(crate) fn rate(count: u32, time: Duration) -> u128 {
     u128::from(count) * 1_000_000_000 / time.as_nanos().max(1)
 }
 
 /// Does the work over an engine, and prints how many commits, inserts and fetches a second it makes.
-fn measure<E: Engine>(rt: &HostRuntime, engine: &mut E, work: Work) -> Result<()> {
+fn measure_tuples<E: Engine>(
+    rt: &HostRuntime,
+    engine: &mut E,
+    commits: u32,
+    work: Work,
+) -> Result<()> {
     let alloc = rt.alloc();
     define(engine, alloc)?;
     let mut tids = Vec::new(alloc);
     let start = Instant::now(rt)?;
-    commit_each(engine, alloc, work, &mut tids)?;
+    commit_each(engine, alloc, commits, &mut tids)?;
     let committed = Instant::now(rt)?;
-    commit_batches(engine, alloc, work, &mut tids)?;
+    commit_batches(engine, alloc, commits, work, &mut tids)?;
     let inserted = Instant::now(rt)?;
     fetch_some(engine, tids.as_slice())?;
     let fetched = Instant::now(rt)?;
     println!(rt;
         "rss {} {} {}",
-        rate(work.commits, committed.duration_since(start)),
+        rate(commits, committed.duration_since(start)),
         rate(
-            work.tuples.saturating_sub(work.commits),
+            work.tuples.saturating_sub(commits),
             inserted.duration_since(committed)
         ),
         rate(FETCHES, fetched.duration_since(inserted))
@@ -177,34 +193,40 @@ fn measure<E: Engine>(rt: &HostRuntime, engine: &mut E, work: Work) -> Result<()
 }
 
 /// The file and the work that the words of the command line name.
-fn read_words(words: &[String]) -> Option<(&str, Work)> {
-    let [_, file, commits, tuples, batch] = words else {
+fn read_words(words: &[String]) -> Option<(&str, Measure, Work)> {
+    let [_, file, first, tuples, batch] = words else {
         return None;
     };
     let work = Work {
-        commits: commits.parse().ok()?,
         tuples: tuples.parse().ok()?,
         batch: batch.parse().ok()?,
     };
-    (work.commits <= work.tuples).then_some((file.as_str(), work))
+    let measure = match Order::named(first.as_str()) {
+        Some(order) => Measure::Image(order),
+        None => Measure::Tuples(first.parse().ok()?),
+    };
+    Some((file.as_str(), measure, work))
 }
 
 /// Makes the file a store, and does the work over it.
-fn run(rt: &HostRuntime, file: &str, work: Work) -> Result<()> {
+fn run(rt: &HostRuntime, file: &str, measure: Measure, work: Work) -> Result<()> {
     let mut device = FileDevice::new(rt, file);
     format(rt.alloc(), &mut device, SLOTS, LOG_PAGES)?;
     let mut store = open(rt.alloc(), device, MOST_FRAMES).map_err(|unopened| unopened.fault)?;
-    let measured = measure(rt, &mut store, work);
+    let measured = match measure {
+        Measure::Tuples(commits) => measure_tuples(rt, &mut store, commits, work),
+        Measure::Image(order) => measure_image(rt, &mut store, work, order),
+    };
     let _ = store.into_pages().into_device();
     measured
 }
 
 fn main(rt: HostRuntime) -> Result<ExitCode> {
     let words: Vec<String> = env::args(&rt)?.collect(rt.alloc())?;
-    let Some((file, work)) = read_words(words.as_slice()) else {
-        eprintln!(&rt; "usage: rss_speed FILE COMMITS TUPLES BATCH")?;
+    let Some((file, measure, work)) = read_words(words.as_slice()) else {
+        eprintln!(&rt; "usage: rss_speed FILE COMMITS|rising|scattered TUPLES BATCH")?;
         return Ok(ExitCode::from(1));
     };
-    run(&rt, file, work)?;
+    run(&rt, file, measure, work)?;
     Ok(ExitCode::SUCCESS)
 }

@@ -33,12 +33,12 @@ use Rattle.rss_model.specs.Store.{no_tables, SpellsTables, first_stored as store
 use Rattle.rss_catalog.proofs.Plain.{plain_paths, zeros_past}
 use Rattle.rss_model.proofs.FirstLog.{first_log}
 use Rattle.rss_model.proofs.Fitting.{no_tables_fit}
-use Rattle.rss_model.proofs.PlainStores.{spelled_contents, plain_images, plain_nodes, plain_defined}
+use Rattle.rss_model.proofs.PlainStores.{spelled_contents, plain_images, plain_nodes}
 use Rattle.rss_model.proofs.Listed.{at_place}
 use Rattle.rss_store.specs.Formatted.{first_root, first_owners, IsFormatted}
 use Rattle.rss_store.proofs.FirstOwners.{owner_first, owner_is}
 use Rattle.rss_store.proofs.Empties.{entry_none, linked_none}
-use Rattle.rss_model.proofs.StorePages.{held_mapped, pages_counted, room_least}
+use Rattle.rss_model.proofs.StorePages.{held_mapped, owners_split, first_room}
 use Rattle.rss_store.proofs.Looked.{times, times_most}
 use Rattle.rss_store.proofs.Made.{listing_defines}
 use Rattle.rss_store.proofs.Rows.{Each, each_drop, each_take}
@@ -202,7 +202,7 @@ opens_empty slots log_pages pages made =
         root_there = made.root_there;
         log = first_log pages 1 (first_root slots log_pages) (first_owners slots) no_listing no_tables (record { head = refl; checkpoint = refl; end = refl; tail = refl }) (no_tables_fit slots);
         map = made.map;
-        room = room_least is (plain_defined no_listing_plain spells.defines) refl refl twice (pages_counted (first_root slots log_pages) (first_owners slots) pages made.map no_listing_plain system spells);
+        room = first_room is refl refl refl twice (omega (arith, owners_split (first_root slots log_pages) (first_owners slots) pages made.map no_listing system));
         system = system;
         spells = spells;
         nodes = plain_nodes slots no_listing_plain;

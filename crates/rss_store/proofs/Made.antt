@@ -246,7 +246,7 @@ module _ {listing : Listing} (fits : ListingFits listing) where
     paths_fit : PathsFit definitions
     paths_fit =
         let none = no_links_defined fits.no_links defines in
-        let links_alone = plain_paths (record definitions { images = map.empty }) (record { no_images = refl; no_links = none }) in
+        let links_alone = plain_paths (record definitions { images = map.empty }) refl none in
         record {
           image_names = λ name there.
               let has = named_image listing name (defines.paths.only_images name there) in
