@@ -778,15 +778,21 @@ ok 0.3 10
 end
 ",
     },
-    // As many fields as there may be, of the most bytes that a key has, and one byte more.
+    // As many fields as there may be, of the most bytes that a key has; and one byte more, which is refused
+    // before it is seen that a key is there twice.
     Row {
         script: b"\
 relation q s a:int b:int c:int d:int e:int f:int g:int h:int i:int j:int k:int l:int m:int n:int o:text4 p:text4
 relation w s a:int b:int c:int d:int e:int f:int g:int h:int i:int j:int k:int l:int m:int n:int o:text4 p:text5
 image i q a b c d e f g h i j k l m n o p
-image j w a b c d e f g h i j k l m n o p
-image j w p o n m l k j i h g f e d c b a
 unique j q p o n m l k j i h g f e d c b a
+begin 1
+insert 1 w 1 2 3 4 5 6 7 8 9 10 11 12 13 14 \"o\" \"p\"
+insert 1 w 1 2 3 4 5 6 7 8 9 10 11 12 13 14 \"o\" \"p\"
+end 1
+image k w a b c d e f g h i j k l m n o p
+unique k w p o n m l k j i h g f e d c b a
+unique k w p o n m l k j i h g f e d c b
 begin 1
 insert 1 q 1 2 3 4 5 6 7 8 9 10 11 12 13 14 \"o\" \"q\"
 insert 1 q 1 2 3 4 5 6 7 8 9 10 11 12 13 14 \"o\" \"p\"
@@ -806,22 +812,27 @@ next 1 1
 ok
 ok
 ok
-refused 7 limit key
-refused 7 limit key
 ok
 ok
 ok 0.0
 ok 0.1
+ok
+refused 7 limit key
+refused 7 limit key
+refused 10 duplicate k 0.1
+ok
 ok 0.2
-refused 10 duplicate j 0.1
+ok 0.3
+ok 0.4
+refused 10 duplicate j 0.3
 ok 0
 ok 1
-ok 0.2 1 2 3 4 5 6 7 8 9 10 11 12 13 13 \"o\" \"r\"
-ok 0.1 1 2 3 4 5 6 7 8 9 10 11 12 13 14 \"o\" \"p\"
-ok 0.0 1 2 3 4 5 6 7 8 9 10 11 12 13 14 \"o\" \"q\"
+ok 0.4 1 2 3 4 5 6 7 8 9 10 11 12 13 13 \"o\" \"r\"
+ok 0.3 1 2 3 4 5 6 7 8 9 10 11 12 13 14 \"o\" \"p\"
+ok 0.2 1 2 3 4 5 6 7 8 9 10 11 12 13 14 \"o\" \"q\"
 end
-ok 0.0 1 2 3 4 5 6 7 8 9 10 11 12 13 14 \"o\" \"q\"
-ok 0.2 1 2 3 4 5 6 7 8 9 10 11 12 13 13 \"o\" \"r\"
+ok 0.2 1 2 3 4 5 6 7 8 9 10 11 12 13 14 \"o\" \"q\"
+ok 0.4 1 2 3 4 5 6 7 8 9 10 11 12 13 13 \"o\" \"r\"
 end
 ",
     },
@@ -937,16 +948,17 @@ const RELATIONS: u32 = 48;
 
 const IMAGES: u32 = 128;
 
-/// Behind as many images as there may be: one more, until one is taken away. Its relation may go then, and
-/// the one of another image may not.
+/// Behind as many images as there may be: one more, also one with keys that are too long, until one is
+/// taken away. A relation goes with its last image.
 const BEHIND_IMAGES: Row<'static> = Row {
     script: b"\
 image more r0 x
 image i0 r0 a a
-image more r0 a
+image more r0 b
 unique more r0 a a
 drop image i127
 drop relation r31
+image more r0 b
 image more r0 a
 image i127 r47 a
 drop image i40
@@ -954,9 +966,9 @@ drop relation r40
 drop image i88
 drop relation r40
 begin 1
-insert 1 r0 5
-insert 1 r0 -5
-insert 1 r0 0
+insert 1 r0 5 \"\"
+insert 1 r0 -5 \"\"
+insert 1 r0 0 \"\"
 open 1 image i0
 open 1 image i96
 open 1 image more
@@ -978,6 +990,7 @@ refused 7 limit images
 refused 6 name taken
 ok
 refused 13 not empty
+refused 7 limit key
 ok
 refused 7 limit images
 ok
@@ -991,15 +1004,15 @@ ok 0.2
 ok 0
 ok 1
 ok 2
-ok 0.1 -5
-ok 0.1 -5
-ok 0.1 -5
-ok 0.2 0
-ok 0.2 0
-ok 0.2 0
-ok 0.0 5
-ok 0.0 5
-ok 0.0 5
+ok 0.1 -5 \"\"
+ok 0.1 -5 \"\"
+ok 0.1 -5 \"\"
+ok 0.2 0 \"\"
+ok 0.2 0 \"\"
+ok 0.2 0 \"\"
+ok 0.0 5 \"\"
+ok 0.0 5 \"\"
+ok 0.0 5 \"\"
 end
 ",
 };
@@ -1007,7 +1020,7 @@ end
 /// Writes the lines that define as many relations as there may be, and their replies.
 fn write_relations(script: &mut String, replies: &mut String) -> Result<(), Fail> {
     for number in 0..RELATIONS {
-        writeln!(script, "relation r{number} s a:int")?;
+        writeln!(script, "relation r{number} s a:int b:text121")?;
         write_lines(replies, "ok\n")?;
     }
     Ok(())
