@@ -1,4 +1,4 @@
-// Lines that define segments and relations, and that take them away, as they are read.
+// Lines that define segments, relations and images, and that take them away, as they are read.
 use rss_asserts::{assert_same, assert_same_slices};
 use rss_base::{Call, FieldDef, FieldKind, Name};
 use rss_line::{LINE_LIMIT, Line, LineFault, Names, read_line};
@@ -6,7 +6,7 @@ use std::alloc::Global;
 use std::test::Fail;
 
 /// Lines that are words.
-static WORDS: [&[u8]; 44] = [
+static WORDS: [&[u8]; 58] = [
     b"segment",
     b"segment S",
     b"segment 1s",
@@ -43,6 +43,17 @@ static WORDS: [&[u8]; 44] = [
     b"relation t s a:int,b:int",
     b"relation t s a:int b",
     b"relation t s a:int b:int c:int d:int e:int f:int g:int h:int i:int j:int k:int l:int m:int n:int o:int p:int q:int",
+    b"image",
+    b"image i",
+    b"image i t",
+    b"image I t a",
+    b"image i T a",
+    b"image i t A",
+    b"image i t a:int",
+    b"image i t a,b",
+    b"image i t a\t",
+    b"image i t names_of_17_bytes",
+    b"unique i t",
     b"drop",
     b"drop s",
     b"drop segment",
@@ -51,6 +62,9 @@ static WORDS: [&[u8]; 44] = [
     b"drop relation",
     b"drop table t",
     b"drop \"relation\" t",
+    b"drop image",
+    b"drop image i i",
+    b"drop unique i",
 ];
 
 const S: Name = Name {

@@ -27,6 +27,9 @@ const COMMIT: &[u8] = b"begin 1\ninsert 1 r 8\nend 1\n";
 /// The commit with a checkpoint behind it, which brings the tuple from the log to the pages.
 const SAVED: &[u8] = b"begin 1\ninsert 1 r 8\nend 1\ncheckpoint\n";
 
+/// Two commits and a checkpoint: an image, and two tuples of one key.
+const IMAGED: &[u8] = b"image i r a\nbegin 1\ninsert 1 r 8\ninsert 1 r 8\nend 1\ncheckpoint\n";
+
 pub(crate) const PROBE: &[u8] = b"begin 1\nfetch 1 r 0.0\n";
 
 /// What the probe gets where nothing is defined, where no commit of a tuple was made, and where one
@@ -135,6 +138,12 @@ pub(crate) fn store_with_tuple(alloc: Global) -> Result<Vec<Page>, Fail> {
 /// The same where the log alone has the tuple.
 pub(crate) fn store_with_log(alloc: Global) -> Result<Vec<Page>, Fail> {
     let device = store_after(alloc, store_with_r(alloc, SMALL)?, COMMIT)?;
+    Ok(copy_of_pages(alloc, &device)?)
+}
+
+/// The pages of a small store at rest with an image and two tuples, whose value is 8.
+pub(crate) fn store_with_image(alloc: Global) -> Result<Vec<Page>, Fail> {
+    let device = store_after(alloc, store_with_r(alloc, SMALL)?, IMAGED)?;
     Ok(copy_of_pages(alloc, &device)?)
 }
 

@@ -22,6 +22,12 @@ mod harness;
 #[cfg(test)]
 mod holders;
 #[cfg(test)]
+mod image_stops;
+#[cfg(test)]
+mod imaging;
+#[cfg(test)]
+mod levels;
+#[cfg(test)]
 mod lines;
 #[cfg(test)]
 mod locking;

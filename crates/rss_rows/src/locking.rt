@@ -2,6 +2,7 @@
 use crate::harness::{Row, SMALL, WHOLE, assert_script, store_with_r};
 use crate::lines::{write_absent, write_fetches, write_lines};
 use rss_base::PAGE_ENTRIES;
+use rss_device::MemDevice;
 use std::alloc::Global;
 use std::fmt::Write;
 use std::test::Fail;
@@ -245,14 +246,19 @@ fn going_on(
     Ok((whole, got))
 }
 
-/// Runs a script that goes on with another, over a store without tuples.
-pub(crate) fn assert_going_on(alloc: Global, texts: (&str, &str), rest: &Row) -> Result<(), Fail> {
+/// Runs a script that goes on with another.
+pub(crate) fn assert_going_on(
+    alloc: Global,
+    device: MemDevice,
+    texts: (&str, &str),
+    rest: &Row,
+) -> Result<(), Fail> {
     let (script, replies) = going_on(alloc, texts, rest)?;
     let row = Row {
         script: script.as_slice(),
         replies: replies.as_slice(),
     };
-    assert_script(alloc, store_with_r(alloc, SMALL)?, &row, WHOLE, rest.script)?;
+    assert_script(alloc, device, &row, WHOLE, rest.script)?;
     Ok(())
 }
 
@@ -279,8 +285,9 @@ fn one_transaction_too_many_is_refused(rt: HostRuntime) -> Result<(), Fail> {
     let mut script = String::new(rt.alloc());
     let mut replies = String::new(rt.alloc());
     write_begins(&mut script, &mut replies)?;
+    let device = store_with_r(rt.alloc(), SMALL)?;
     let texts = (script.as_str(), replies.as_str());
-    assert_going_on(rt.alloc(), texts, &BEHIND_BEGINS)
+    assert_going_on(rt.alloc(), device, texts, &BEHIND_BEGINS)
 }
 
 #[test]
@@ -291,6 +298,7 @@ fn no_identifier_is_left_where_another_holds_each(rt: HostRuntime) -> Result<(),
     let mut replies = String::new(rt.alloc());
     write_lines(&mut replies, "ok\nok\n")?;
     write_absent(&mut replies, 0, IDENTIFIERS)?;
+    let device = store_with_r(rt.alloc(), SMALL)?;
     let texts = (script.as_str(), replies.as_str());
-    assert_going_on(rt.alloc(), texts, &BEHIND_FETCHES)
+    assert_going_on(rt.alloc(), device, texts, &BEHIND_FETCHES)
 }

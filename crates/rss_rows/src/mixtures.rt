@@ -59,8 +59,41 @@ ok
 ",
 };
 
-/// Fetches each tuple that was inserted.
-const FETCHES: &[u8] = b"\
+/// A script that tells how many commits were made: what it gets behind none of them, behind the first,
+/// and so on.
+#[derive(Clone, Copy)]
+pub(crate) struct Told<'a> {
+    pub(crate) script: &'a [u8],
+    pub(crate) found: &'a [&'a [u8]],
+}
+
+impl Told<'_> {
+    /// How many are made in all.
+    fn all(&self) -> usize {
+        self.found.len().saturating_sub(1)
+    }
+
+    /// How many are made in what a stop at a moment leaves, if that is a store.
+    fn commits_at(
+        &self,
+        alloc: Global,
+        device: &MemDevice,
+        moment: usize,
+        unsynced: Unsynced,
+    ) -> Result<Option<usize>, Fail> {
+        let left = image_at(alloc, device, moment, unsynced)?;
+        let (_, replies, _) = run_script(alloc, MemDevice::new(alloc, left)?, self.script, WHOLE)?;
+        Ok(
+            self.found
+                .iter()
+                .position(|found| *found == replies.as_slice()),
+        )
+    }
+}
+
+/// Fetches each tuple that was inserted. None is committed; 1; 1 and 2; and 1, 2 and 4.
+const FETCHES: Told<'static> = Told {
+    script: b"\
 begin 1
 fetch 1 r 0.0
 fetch 1 r 0.1
@@ -69,11 +102,9 @@ fetch 1 r 0.3
 fetch 1 r 0.4
 fetch 1 r 0.5
 fetch 1 r 0.6
-";
-
-/// What they get where none is committed; 1; 1 and 2; and 1, 2 and 4.
-static FETCHED: [&[u8]; 4] = [
-    b"\
+",
+    found: &[
+        b"\
 ok
 refused 9 no tuple r 0.0
 refused 9 no tuple r 0.1
@@ -83,7 +114,7 @@ refused 9 no tuple r 0.4
 refused 9 no tuple r 0.5
 refused 9 no tuple r 0.6
 ",
-    b"\
+        b"\
 ok
 ok 1
 refused 9 no tuple r 0.1
@@ -93,7 +124,7 @@ refused 9 no tuple r 0.4
 refused 9 no tuple r 0.5
 refused 9 no tuple r 0.6
 ",
-    b"\
+        b"\
 ok
 ok 1
 ok 2
@@ -103,7 +134,7 @@ refused 9 no tuple r 0.4
 refused 9 no tuple r 0.5
 refused 9 no tuple r 0.6
 ",
-    b"\
+        b"\
 ok
 ok 1
 ok 2
@@ -113,10 +144,8 @@ ok 4
 refused 9 no tuple r 0.5
 refused 9 no tuple r 0.6
 ",
-];
-
-/// How many are committed in the end.
-const COMMITS: usize = 3;
+    ],
+};
 
 /// With the tuples of those deleted the relation has none.
 const EMPTIED: Row<'static> = Row {
@@ -132,34 +161,19 @@ drop relation r
     replies: b"ok\nok\nok\nok\nok\nok\nok\n",
 };
 
-/// How many transactions are committed in what a stop at a moment leaves, if that is a store.
-fn commits_at(
-    alloc: Global,
-    device: &MemDevice,
-    moment: usize,
-    unsynced: Unsynced,
-) -> Result<Option<usize>, Fail> {
-    let left = image_at(alloc, device, moment, unsynced)?;
-    let (_, replies, _) = run_script(alloc, MemDevice::new(alloc, left)?, FETCHES, WHOLE)?;
-    Ok(
-        FETCHED
-            .iter()
-            .position(|found| *found == replies.as_slice()),
-    )
-}
-
-/// Where so many are committed whatever a stop at the moment before leaves, this one leaves as many, or
-/// one more. Answers how many are committed whatever it leaves.
+/// Where so many commits are made whatever a stop at the moment before leaves, this one leaves as many,
+/// or one more. Answers how many are made whatever it leaves.
 fn assert_stop(
     alloc: Global,
     device: &MemDevice,
+    told: &Told,
     moment: usize,
     committed: usize,
 ) -> Result<usize, Fail> {
     let next = committed.saturating_add(1);
     let mut fewest = next;
     for unsynced in &UNSYNCED {
-        let found = commits_at(alloc, device, moment, *unsynced)?;
+        let found = told.commits_at(alloc, device, moment, *unsynced)?;
         if found == Some(committed) {
             fewest = committed;
         } else {
@@ -169,30 +183,36 @@ fn assert_stop(
     Ok(fewest)
 }
 
-/// A run of the script, stopped at each of its moments.
-fn assert_stops(alloc: Global, device: &MemDevice) -> Result<(), Fail> {
+/// A run that made all commits, stopped at each of its moments.
+pub(crate) fn assert_stops(alloc: Global, device: &MemDevice, told: &Told) -> Result<(), Fail> {
     let mut committed = 0;
     for moment in 0..=device.moment() {
-        committed = assert_stop(alloc, device, moment, committed)?;
+        committed = assert_stop(alloc, device, told, moment, committed)?;
     }
-    assert_same(&committed, &COMMITS, "the commits")
+    assert_same(&committed, &told.all(), "the commits")
 }
 
 /// An opening of these pages, stopped at a moment, is made again.
-fn assert_opening(alloc: Global, opened: &MemDevice, moment: usize) -> Result<(), Fail> {
+fn assert_opening(
+    alloc: Global,
+    opened: &MemDevice,
+    told: &Told,
+    moment: usize,
+) -> Result<(), Fail> {
     for unsynced in &UNSYNCED {
-        let found = commits_at(alloc, opened, moment, *unsynced)?;
-        assert_same(&found, &Some(COMMITS), ("the opening", moment, *unsynced))?;
+        let found = told.commits_at(alloc, opened, moment, *unsynced)?;
+        let case = ("the opening", moment, *unsynced);
+        assert_same(&found, &Some(told.all()), case)?;
     }
     Ok(())
 }
 
-/// An opening of these pages writes, and is stopped at each of its moments.
-fn assert_openings(alloc: Global, pages: Vec<Page>) -> Result<(), Fail> {
+/// An opening of these pages, which have all commits, writes, and is stopped at each of its moments.
+pub(crate) fn assert_openings(alloc: Global, pages: Vec<Page>, told: &Told) -> Result<(), Fail> {
     let (_, _, opened) = run_script(alloc, MemDevice::new(alloc, pages)?, b"", WHOLE)?;
     assert_same(&has_writes(&opened, 0), &false, "the opening")?;
     for moment in 0..=opened.moment() {
-        assert_opening(alloc, &opened, moment)?;
+        assert_opening(alloc, &opened, told, moment)?;
     }
     Ok(())
 }
@@ -204,13 +224,13 @@ fn mixed(alloc: Global) -> Result<MemDevice, Fail> {
 
 #[test]
 fn a_stop_leaves_the_transactions_that_had_ended(rt: HostRuntime) -> Result<(), Fail> {
-    assert_stops(rt.alloc(), &mixed(rt.alloc())?)
+    assert_stops(rt.alloc(), &mixed(rt.alloc())?, &FETCHES)
 }
 
 #[test]
 fn an_opening_that_is_stopped_is_made_again(rt: HostRuntime) -> Result<(), Fail> {
     let device = mixed(rt.alloc())?;
-    assert_openings(rt.alloc(), copy_of_pages(rt.alloc(), &device)?)
+    assert_openings(rt.alloc(), copy_of_pages(rt.alloc(), &device)?, &FETCHES)
 }
 
 #[test]

@@ -1,7 +1,7 @@
 // Devices that hold no store, and the places that are named.
 use crate::harness::{
-    ABSENT, PRESENT, PROBE, SMALL, UNDEFINED, empty_store, has_writes, store_with_log,
-    store_with_tuple,
+    ABSENT, PRESENT, PROBE, SMALL, UNDEFINED, empty_store, has_writes, store_with_image,
+    store_with_log, store_with_tuple,
 };
 use rss_asserts::assert_same;
 use rss_base::{Page, PageKey, Place, Source, Space, Tid};
@@ -112,6 +112,26 @@ const NOT_OVERFLOW_0: Ending = Ending::Damaged(
     }),
     b"damaged page 1 overflow 0\n",
 );
+
+const NOT_IMAGE_PAGE_0: Ending = Ending::Damaged(
+    Place::Page(PageKey {
+        segment: 1,
+        space: Space::Image,
+        number: 0,
+    }),
+    b"damaged page 1 image 0\n",
+);
+
+const NOT_IMAGE_PAGE_5: Ending = Ending::Damaged(
+    Place::Page(PageKey {
+        segment: 2,
+        space: Space::Image,
+        number: 5,
+    }),
+    b"damaged page 2 image 5\n",
+);
+
+const NOT_IMAGE_1: Ending = Ending::Damaged(Place::Image(1), b"damaged image 1\n");
 
 const NOT_TUPLE: Ending = Ending::Damaged(
     Place::Tuple(1, Tid { page: 0, slot: 0 }),
@@ -286,6 +306,89 @@ static LOGGED: [(usize, u8, Ending); 12] = [
     (129, 1, NOT_ROOT_2),
 ];
 
+/// Where the pages of a store with an image stand: the home page, the one of the catalog, and the root.
+const IMAGED_TUPLES: usize = 20;
+
+const IMAGED_CATALOG: usize = 24;
+
+const IMAGE_ROOT: usize = 25;
+
+/// Bytes of a store of 64 slots at rest with an image and two tuples of value 8, in root 2 and map 0:
+/// page, offset, the bits that are turned, and how the probe ends then.
+static IMAGED: [(usize, usize, u8, Ending); 50] = [
+    // The root's space, its segment, the image's number, its level, its own number, how many entries it
+    // has, zeros, the next leaf, and more zeros.
+    (IMAGE_ROOT, 0, 1, NOT_IMAGE_1),
+    (IMAGE_ROOT, 1, 3, NOT_IMAGE_1),
+    (IMAGE_ROOT, 2, 3, NOT_IMAGE_1),
+    (IMAGE_ROOT, 3, 1, NOT_IMAGE_1),
+    (IMAGE_ROOT, 7, 1, NOT_IMAGE_1),
+    (IMAGE_ROOT, 8, 1, NOT_IMAGE_1),
+    (IMAGE_ROOT, 9, 1, NOT_IMAGE_1),
+    (IMAGE_ROOT, 9, 3, NOT_IMAGE_1),
+    (IMAGE_ROOT, 10, 1, NOT_IMAGE_1),
+    (IMAGE_ROOT, 15, 255, NOT_IMAGE_1),
+    (IMAGE_ROOT, 16, 1, NOT_IMAGE_1),
+    (IMAGE_ROOT, 31, 1, NOT_IMAGE_1),
+    // The key of the first entry, which would still be below the second one; its tuple, and zeros.
+    (IMAGE_ROOT, 32, 128, NOT_IMAGE_1),
+    (IMAGE_ROOT, 39, 1, NOT_IMAGE_1),
+    (IMAGE_ROOT, 39, 8, NOT_IMAGE_1),
+    (IMAGE_ROOT, 43, 1, NOT_IMAGE_1),
+    (IMAGE_ROOT, 45, 1, NOT_IMAGE_1),
+    (IMAGE_ROOT, 46, 1, NOT_IMAGE_1),
+    (IMAGE_ROOT, 49, 1, NOT_IMAGE_1),
+    // The same of the second entry, and the bytes behind it.
+    (IMAGE_ROOT, 57, 1, NOT_IMAGE_1),
+    (IMAGE_ROOT, 61, 1, NOT_IMAGE_1),
+    (IMAGE_ROOT, 63, 1, NOT_IMAGE_1),
+    (IMAGE_ROOT, 63, 2, NOT_IMAGE_1),
+    (IMAGE_ROOT, 67, 1, NOT_IMAGE_1),
+    (IMAGE_ROOT, 68, 1, OPENS),
+    (IMAGE_ROOT, 4095, 1, OPENS),
+    // The values of the tuples.
+    (IMAGED_TUPLES, 1048, 1, NOT_IMAGE_1),
+    (IMAGED_TUPLES, 1057, 1, NOT_IMAGE_1),
+    // In the catalog the image's name, which may be another one, or none; its relation, and whether it
+    // is unique, which it isn't with two equal keys.
+    (IMAGED_CATALOG, 0, 1, OPENS),
+    (IMAGED_CATALOG, 0, 128, NOT_CATALOG_7),
+    (IMAGED_CATALOG, 1, 1, NOT_CATALOG_7),
+    (IMAGED_CATALOG, 16, 1, NOT_CATALOG_7),
+    (IMAGED_CATALOG, 16, 3, NOT_CATALOG_7),
+    (IMAGED_CATALOG, 17, 1, NOT_IMAGE_1),
+    (IMAGED_CATALOG, 17, 2, NOT_CATALOG_7),
+    // How many fields its keys have, how many levels it has, its root, and its fields.
+    (IMAGED_CATALOG, 18, 1, NOT_CATALOG_7),
+    (IMAGED_CATALOG, 18, 3, NOT_CATALOG_7),
+    (IMAGED_CATALOG, 19, 1, NOT_CATALOG_7),
+    (IMAGED_CATALOG, 19, 3, NOT_IMAGE_1),
+    (IMAGED_CATALOG, 20, 1, NOT_IMAGE_1),
+    (IMAGED_CATALOG, 23, 1, NOT_IMAGE_1),
+    (IMAGED_CATALOG, 24, 1, NOT_CATALOG_7),
+    (IMAGED_CATALOG, 24, 3, NOT_CATALOG_7),
+    (IMAGED_CATALOG, 25, 2, NOT_CATALOG_7),
+    (IMAGED_CATALOG, 39, 1, NOT_CATALOG_7),
+    // Zeros behind it; a second image, of no relation; and the end of the page.
+    (IMAGED_CATALOG, 40, 1, NOT_CATALOG_7),
+    (IMAGED_CATALOG, 63, 1, NOT_CATALOG_7),
+    (IMAGED_CATALOG, 64, b'j', NOT_CATALOG_7),
+    (IMAGED_CATALOG, 4095, 1, NOT_CATALOG_7),
+    // The number of its root in the map.
+    (MAP_0, 103, 1, NOT_IMAGE_1),
+];
+
+/// What the map of that store says of a slot that is free, and of that of the image's root, and how the
+/// probe ends then.
+static IMAGE_SLOTS: [(u8, EntryBytes, Ending); 4] = [
+    // A page that no image has, in the segment of the image's relation, where the first image page is
+    // named, and in one that isn't there.
+    (0, [3, 1, 0, 0, 0, 0, 0, 1], NOT_IMAGE_PAGE_0),
+    (0, [3, 1, 0, 0, 0, 0, 0, 5], NOT_IMAGE_PAGE_0),
+    (0, [3, 2, 0, 0, 0, 0, 0, 5], NOT_IMAGE_PAGE_5),
+    (12, [0; 8], NOT_IMAGE_1),
+];
+
 /// The bytes of an entry of a page.
 type EntryBytes = [u8; 8];
 
@@ -372,6 +475,30 @@ fn turned(alloc: Global, at: usize, offset: usize, bits: u8) -> Result<Vec<Page>
 fn turned_log(alloc: Global, offset: usize, bits: u8) -> Result<Vec<Page>, Fail> {
     let mut pages = store_with_log(alloc)?;
     turn(pages.as_mut_slice(), ROOT_2, offset, bits)?;
+    Ok(pages)
+}
+
+/// The pages of a store, with bits of a byte turned.
+fn turned_in(
+    alloc: Global,
+    store: &[Page],
+    (at, offset, bits): (usize, usize, u8),
+) -> Result<Vec<Page>, Fail> {
+    let mut pages = Vec::from_slice(alloc, store)?;
+    turn(pages.as_mut_slice(), at, offset, bits)?;
+    Ok(pages)
+}
+
+/// The pages of a store in map 0, which says this of a slot.
+fn mapped_in(
+    alloc: Global,
+    store: &[Page],
+    slot: u8,
+    entry: &EntryBytes,
+) -> Result<Vec<Page>, Fail> {
+    let mut pages = Vec::from_slice(alloc, store)?;
+    let at = 8 * usize::from(slot);
+    page_at(pages.as_mut_slice(), MAP_0)?[at..at + 8].copy_from_slice(entry);
     Ok(pages)
 }
 
@@ -512,6 +639,27 @@ fn a_byte_of_the_log_that_is_turned_is_found_where_it_matters(rt: HostRuntime) -
     for (offset, bits, ending) in &LOGGED {
         let pages = turned_log(rt.alloc(), *offset, *bits)?;
         assert_end(rt.alloc(), pages, ending, ("byte, bits", *offset, *bits))?;
+    }
+    Ok(())
+}
+
+#[test]
+fn an_image_is_the_list_of_its_tuples(rt: HostRuntime) -> Result<(), Fail> {
+    let store = store_with_image(rt.alloc())?;
+    for (at, offset, bits, ending) in &IMAGED {
+        let turned = (*at, *offset, *bits);
+        let pages = turned_in(rt.alloc(), store.as_slice(), turned)?;
+        assert_ending(rt.alloc(), pages, ending, ("page, byte, bits", turned))?;
+    }
+    Ok(())
+}
+
+#[test]
+fn an_image_page_belongs_to_an_image(rt: HostRuntime) -> Result<(), Fail> {
+    let store = store_with_image(rt.alloc())?;
+    for (slot, entry, ending) in &IMAGE_SLOTS {
+        let pages = mapped_in(rt.alloc(), store.as_slice(), *slot, entry)?;
+        assert_ending(rt.alloc(), pages, ending, ("slot, entry", *slot, *entry))?;
     }
     Ok(())
 }

@@ -485,10 +485,14 @@ ok 0
 ",
 };
 
-/// Writes the lines that open as many scans as may be, and their replies.
-fn write_opens(script: &mut String, replies: &mut String) -> Result<(), Fail> {
+/// Writes the lines that open as many scans of this as may be, and their replies.
+pub(crate) fn write_opens(
+    what: &str,
+    script: &mut String,
+    replies: &mut String,
+) -> Result<(), Fail> {
     for number in 0..SCANS {
-        write_lines(script, "open 1 relation r\n")?;
+        writeln!(script, "open 1 {what}")?;
         writeln!(replies, "ok {number}")?;
     }
     Ok(())
@@ -600,9 +604,10 @@ fn one_scan_too_many_is_refused(rt: HostRuntime) -> Result<(), Fail> {
     let mut replies = String::new(rt.alloc());
     write_lines(&mut script, BEFORE_SCANS.0)?;
     write_lines(&mut replies, BEFORE_SCANS.1)?;
-    write_opens(&mut script, &mut replies)?;
+    write_opens("relation r", &mut script, &mut replies)?;
+    let device = store_with_r(rt.alloc(), SMALL)?;
     let texts = (script.as_str(), replies.as_str());
-    assert_going_on(rt.alloc(), texts, &BEHIND_SCANS)
+    assert_going_on(rt.alloc(), device, texts, &BEHIND_SCANS)
 }
 
 #[test]

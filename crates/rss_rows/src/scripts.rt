@@ -11,7 +11,7 @@ use std::test::Fail;
 /// Scripts, each over the store that the one before it left, and how many writes of the device they
 /// make. A commit writes the root and the selector, and a checkpoint what is named, the map, the root
 /// and the selector. Where the log isn't at rest the opening takes one.
-static WRITES: [(&[u8], usize); 19] = [
+static WRITES: [(&[u8], usize); 23] = [
     (b"", 0),
     (b"begin 1\nend 1\n", 0),
     (
@@ -41,6 +41,12 @@ static WRITES: [(&[u8], usize); 19] = [
     (b"drop relation q\n", 4),
     (b"drop segment t\n", 4),
     (b"begin 1\nsegment t\n", 0),
+    // The root of an image, and a page of the catalog.
+    (b"image i r a\n", 5),
+    (b"begin 1\ninsert 1 r 1\nend 1\n", 2),
+    // The opening: the home page, that of the count, and the image's. Then a page of the catalog.
+    (b"drop image i\n", 6 + 4),
+    (b"unique i r x\ndrop image i\n", 0),
 ];
 
 /// Lines that are words.

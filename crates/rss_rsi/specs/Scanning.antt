@@ -95,6 +95,14 @@ pub record GoesAlongImage (parts : RssParts) (t scan number : ℕ) : Type 0 wher
   pub named : IsNumberOf ImageKind parts.session.store.catalog.listing image number
   pub first : HasNoLesser ImageKind parts.session.store.catalog.listing image number
 
+-- an image of this name is listed, with so many levels
+pub record IsOfLevels (listing : Listing) (image : Name) (levels : ℕ) : Type 0 where
+  pub number : ℕ
+  pub listed : ImageEntry
+  pub at : image_at listing number ≡ Some listed
+  pub named : listed.name ≡ image
+  pub levels : listed.levels ≡ levels
+
 -- each image of this name has at most so many levels
 abbrev pub HasLevels : Listing → Name → ℕ → Type 0
 HasLevels listing image most =

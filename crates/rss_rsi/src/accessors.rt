@@ -1,15 +1,19 @@
 // What is counted of a store.
-ghost use Rattle.std.specs.Prelude.{◌≡◌, ◌-◌, ◌^◌, min};
+ghost use Rattle.std.specs.Prelude.{◌≡◌, ◌-◌, ◌^◌, min, is_some, IfSome, IfNone};
+ghost use Rattle.std.specs.FinMap.{get};
+ghost use Rattle.rss_base.specs.Listings.{IsUnlisted};
 ghost use Rattle.rss_base.specs.Paged.{mapped_pages};
+ghost use Rattle.rss_base.specs.declared.refusal.Kind.TheVariants.{Image as ImageKind};
 ghost use Rattle.rss_access.specs.Written.{heap_now};
 ghost use Rattle.rss_log.specs.Logs.{free_of};
 ghost use Rattle.rss_model.specs.Machine.{State};
 ghost use Rattle.rss_model.specs.Meter.{room_number, log_room};
 ghost use Rattle.rss_session.specs.Sessions.{counts};
 ghost use Rattle.rss_session.specs.Weighing.{room_of};
+ghost use Rattle.rss_rsi.specs.Scanning.{IsOfLevels};
 
 use crate::Rss;
-use rss_base::SYSTEM_PAGES;
+use rss_base::{Kind, Name, SYSTEM_PAGES};
 use rss_buffer::Saving;
 
 impl<S: Saving> Rss<S> {
@@ -37,6 +41,20 @@ impl<S: Saving> Rss<S> {
         self.mapped()
             .saturating_sub(self.session.image_pages())
             .saturating_sub(SYSTEM_PAGES)
+    }
+
+    /// How many levels of nodes the image of this name has, where it is defined.
+    pub fn levels(&self, image: &Name) -> Option<u8>
+        ensures some { IfSome result
+            (IsOfLevels (session_of self.now).store.catalog.listing image.now) }
+        ensures none { IfNone result
+            (IsUnlisted ImageKind (session_of self.now).store.catalog.listing image.now) }
+        ensures states { (state : State) → (view self.now).shows state
+            → is_some result ≡ is_some (get state.base.definitions.images image.now) }
+    {
+        let catalog = &self.session.store.catalog;
+        let number = catalog.find(Kind::Image, image)?;
+        Some(catalog.image(number).levels)
     }
 
     /// How many slots may be needed, by the rule of room: a change is refused where one more might
