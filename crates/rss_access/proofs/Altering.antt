@@ -149,7 +149,8 @@ module _ {cost : ℕ} {old new : AccessView} {told_change : told.Change} (step :
       listed = alters.counts.fits spells.listed;
       defines = defines_still alters.counts alters.listed spells.defines;
       counts = counts_are;
-      contents = spelled_contents (alters.counts.fits spells.listed).no_links (contents_by recounts);
+      contents = spelled_contents (alters.counts.links ∙ spells.no_links) (contents_by recounts);
+      no_links = alters.counts.links ∙ spells.no_links;
       images = alters.images told move tables (record {
         tells = record { number = refl; tid = refl; before = before; after = after };
         can = can;
@@ -172,7 +173,7 @@ module _ {cost : ℕ} {old new : AccessView} {told_change : told.Change} (step :
 
         size_of : (w : Option (List Value)) → size_of_body (option_map (body_of number) w) ≡ held_size tables.definitions relation.name (option_map Values w)
         size_of None = refl
-        size_of (Some values) = sym (values_size tables.definitions (no_links_defined spells.listed.no_links spells.defines) relation.name number values)
+        size_of (Some values) = sym (values_size tables.definitions (no_links_defined spells.no_links spells.defines) relation.name number values)
 
         -- what the tuple held, by its body
         size_was : size_of_body (body_at old.pages relation.segment tid) ≡ held_size tables.definitions relation.name (option_map Values was)

@@ -63,7 +63,7 @@ module _ {at : AccessView} (small : at.pages.slots < 2 ^ 32) {tables : Tables} (
   listing = at.catalog.listing
 
   plain : PlainContents listing (bodies_of at.pages.held) tables.contents
-  plain = plain_contents shows.listed.no_links shows.contents
+  plain = plain_contents shows.no_links shows.contents
 
   -- the tuple that a body is of
   pub record IsTupleWith (number : ℕ) (relation : RelationEntry) (tid : Tid) (bytes : List ℕ) : Type 0 where

@@ -111,7 +111,7 @@ module _ {at : AccessView} (small : at.pages.slots < 2 ^ 32) {tables : Tables} (
     pub in_gathered : (pair : List ℕ × Tid) → In pair (kept small shows number its image within) → In pair entries
     in_gathered pair is =
         let of = kept_tuple small shows number its image within pair is in
-        let stands : body_at at.pages relation.segment pair.1 ≡ Some (number ∷ tuple_bytes of.0) = (plain_contents shows.listed.no_links shows.contents).stands number relation pair.1 of.0 its of.1 in
+        let stands : body_at at.pages relation.segment pair.1 ≡ Some (number ∷ tuple_bytes of.0) = (plain_contents shows.no_links shows.contents).stands number relation pair.1 of.0 its of.1 in
         let found = of_map (λ (p : List ℕ × Tid). p.1) entries pair.1 (so.all pair.1 (record { bytes = tuple_bytes of.0; there = stands })) in
         let key = each_in (λ (p : List ℕ × Tid). IsKeyAt at.pages number relation (field_numbers image) p.1 p.0) entries so.each found.0 found.1 in
         let fits = (shown small shows number its image within).tuples pair.1 of.0 of.1 in

@@ -109,6 +109,7 @@ spelled_shown spells tuples tids = record {
   contents = spells.contents;
   tuples = tuples;
   tids = tids;
+  no_links = spells.no_links;
 }
 
 -- the tables with other images

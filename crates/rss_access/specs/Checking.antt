@@ -8,7 +8,7 @@ use Rattle.rss_base.specs.declared.fault.PageFault.{PageFault}
 use Rattle.rss_base.specs.declared.fault.PageFault.TheVariants.{Device as DeviceFailed, NoMemory}
 use Rattle.rss_base.specs.Trees.{IsNodeAt}
 use Rattle.rss_base.specs.TupleTypes.{Spells, SpellsSome}
-use Rattle.rss_base.specs.Listings.{ListingFits}
+use Rattle.rss_base.specs.Listings.{ListingFits, HasNoLinks}
 use Rattle.rss_base.specs.declared.name.Name.{Name}
 use Rattle.rss_base.specs.declared.tid.Tid.{Tid}
 use Rattle.rss_base.specs.declared.value.Value.{Value}
@@ -38,6 +38,7 @@ pub record ShowsTuples (at : AccessView) (tables : Tables) : Type 0 where
   pub contents : SpellsContents at.catalog.listing (bodies_of at.pages.held) tables.contents
   pub tuples : AreTuples tables
   pub tids : (relation : Name) (tid : Tid) → IsLive tables relation tid → IsIdentifier at.pages.slots tid
+  pub no_links : HasNoLinks at.catalog.listing
 
 -- the identifiers in the nodes of an image that stand in these pages have pages below the number of slots
 abbrev pub AreWithin : ℕ → Held → ℕ → ImageEntry → RelationEntry → List ℕ → Type 0

@@ -47,4 +47,4 @@ no_links_defined listing {definitions = definitions} none defines =
 pub none_connected : {session : SessionView} {state : State} → Shows session state → (relation : Name) (tid : Tid) → if_connected state relation tid ≡ None
 none_connected {session = session} {state = state} shows relation tid =
     ap (λ (links : List (Name × LinkDef)). option_map Connected (option_map (λ (link : Name × LinkDef). link.0) (find (is_connected (now state).contents relation tid) links)))
-    (no_entries state.base.definitions.links (no_links_defined session.store.catalog.listing shows.store.spells.listed.no_links shows.store.spells.defines))
+    (no_entries state.base.definitions.links (no_links_defined session.store.catalog.listing shows.store.spells.no_links shows.store.spells.defines))

@@ -163,7 +163,7 @@ module _ {view : SessionView} {state : State} (shows : Shows view state) (closed
     relation_drops empty none =
         let imaged : has_image state name ≡ false = subst (λ (n : Name). has_image state n ≡ false) named (none_named spells.listed spells.defines number entry at none) in
         let tuples : holds_tuples state name ≡ false = lt-leb 1 (tuple_count state.base.contents name) (omega (arith, as_many, empty)) in
-        let linked : has_link state name ≡ false = no_link_of state.base.definitions (no_links_defined spells.listed.no_links spells.defines) name in
+        let linked : has_link state name ≡ false = no_link_of state.base.definitions (no_links_defined spells.no_links spells.defines) name in
         goes_on _ none_is_open ∙ goes_on _ (passes_unless (NoSuch RelationKind) there)
         ∙ goes_on _ (passes_if NotEmpty (λ i. tuples i || imaged i || linked i))
 

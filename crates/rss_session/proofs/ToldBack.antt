@@ -65,5 +65,5 @@ tells_back view state t n position own way =
       by = t;
       rest = _;
       begins = begins_there (record { at = position; told = records.Change t back.told_change; is = Changed back.change }) shown.logged back.there;
-      tuple = meant_tuple shown.stored.listing back.told_change back.change (links_too shown.definitions shown.spells.listed.no_links) back.told.means;
+      tuple = meant_tuple shown.stored.listing back.told_change back.change (links_too shown.definitions shown.spells.no_links) back.told.means;
     }

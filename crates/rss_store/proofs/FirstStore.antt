@@ -120,7 +120,6 @@ no_listing_fits = record {
   relations_once = λ one other name is too. absurd (none-some name (sym (none_numbered {A = Name} 48 one) ∙ is));
   relations = λ number relation is. absurd (no_relation number relation is);
   paths = plain_paths no_listing no_listing_plain;
-  no_links = refl;
 }
 
 -- ---- its pages of the catalog are zeros
@@ -171,9 +170,9 @@ spells_none slots log_pages pages made =
       formed = λ key bytes is there. absurd (none-some bytes (sym (none key is) ∙ there));
       linked = none_linked held none;
       listed = no_listing_fits;
-      defines = listing_defines no_listing_fits;
+      defines = listing_defines no_listing_fits refl;
       counts = λ number relation at. absurd (no_relation number relation at);
-      contents = spelled_contents no_listing_fits.no_links (record {
+      contents = spelled_contents refl (record {
         stands = λ number relation tid values at is. absurd (no_relation number relation at);
         bodies_are = λ segment tid body is. absurd (none-some body (sym (no_body held none segment tid) ∙ is));
         only = λ item there. absurd (true≢false (sym there ∙ ap is_some (absent item)));
@@ -181,6 +180,7 @@ spells_none slots log_pages pages made =
       images = plain_images no_listing_plain (λ key image there.
           let both : Image ≡ System = sym image ∙ first_page slots key (sym (held_mapped first pages (first_owners slots) key) ∙ there) in
           absurd (cc));
+      no_links = refl;
     }
 
 holds_none : (slots log_pages : ℕ) (pages : Pages) → IsFormatted slots log_pages pages → HoldsListing (held_at (slots_at slots log_pages) pages (first_owners slots)) no_listing

@@ -10,7 +10,7 @@ use Rattle.rss_base.specs.PageMap.{IsKey, number_limit}
 use Rattle.rss_base.specs.Paged.{Held, page_key}
 use Rattle.rss_base.specs.Sizes.{segments}
 use Rattle.rss_base.specs.TupleTypes.{kinds, misfit, tuple_bytes, Spells}
-use Rattle.rss_base.specs.Listings.{Listing, ListingFits, HoldsListing, segment_at, relation_at}
+use Rattle.rss_base.specs.Listings.{Listing, ListingFits, HasNoLinks, HoldsListing, segment_at, relation_at}
 use Rattle.rss_base.specs.declared.key.PageKey.{PageKey}
 use Rattle.rss_base.specs.declared.key.Space.{Space}
 use Rattle.rss_base.specs.declared.key.Space.TheVariants.{Home, Overflow, Image, System}
@@ -110,7 +110,7 @@ unlisted_linked held listing only segment none = linked_none (homes held segment
 
 -- ---- pages that are found sound
 
-module _ (held : Held) (slots : ℕ) (listing : Listing) (fits : ListingFits listing) (only : (key : PageKey) → is_some (held key) ≡ true → IsStorePage listing key) (allowed : (key : PageKey) → is_some (held key) ≡ true → IsKey slots key)
+module _ (held : Held) (slots : ℕ) (listing : Listing) (fits : ListingFits listing) (no_links : HasNoLinks listing) (only : (key : PageKey) → is_some (held key) ≡ true → IsStorePage listing key) (allowed : (key : PageKey) → is_some (held key) ≡ true → IsKey slots key)
     (sound : (segment : ℕ) → is_some (segment_at listing segment) ≡ true → IsSegmentOf held slots listing segment) where
   body_listed : (segment : ℕ) (tid : Tid) (body : List ℕ) → bodies_of held segment tid ≡ Some body → is_some (segment_at listing segment) ≡ true
   body_listed segment tid body is = heap_listed held listing only (page_key segment Home tid.page) (inl refl) (there (held (page_key segment Home tid.page)) refl is)
@@ -130,7 +130,7 @@ module _ (held : Held) (slots : ℕ) (listing : Listing) (fits : ListingFits lis
   found_tables = record { definitions = definitions_of listing; contents = contents_of listing (spots_of held slots) }
 
   defines : Defines listing (definitions_of listing)
-  defines = listing_defines fits
+  defines = listing_defines fits no_links
 
   -- the fields of a listed relation
   fields_found : (number : ℕ) (relation : RelationEntry) → relation_at listing number ≡ Some relation → fields_of found_tables relation.name ≡ Some (kinds relation.fields)
@@ -184,7 +184,7 @@ module _ (held : Held) (slots : ℕ) (listing : Listing) (fits : ListingFits lis
   ]
 
   found_contents : SpellsContents listing (bodies_of held) found_tables.contents
-  found_contents = spelled_contents fits.no_links (record { stands = stands_found; bodies_are = body_found; only = item_found })
+  found_contents = spelled_contents no_links (record { stands = stands_found; bodies_are = body_found; only = item_found })
 
   formed_found : (key : PageKey) (bytes : List ℕ) → IsHeapKey key → held key ≡ Some bytes → IsHeap key bytes None
   formed_found key bytes heap is = (sound key.segment (heap_listed held listing only key heap (ap is_some is))).sound.formed key bytes (refl, heap) is
@@ -289,19 +289,20 @@ keys_single {listing = listing} {tables = tables} fits defines single name image
 
 -- ---- pages whose images are found sound
 
-module _ (at : AccessView) (small : at.pages.slots < 4294967296) (fits : ListingFits at.catalog.listing) (only : (key : PageKey) → is_some (at.pages.held key) ≡ true → IsStorePage at.catalog.listing key) (allowed : (key : PageKey) → is_some (at.pages.held key) ≡ true → IsKey at.pages.slots key)
+module _ (at : AccessView) (small : at.pages.slots < 4294967296) (fits : ListingFits at.catalog.listing) (no_links : HasNoLinks at.catalog.listing) (only : (key : PageKey) → is_some (at.pages.held key) ≡ true → IsStorePage at.catalog.listing key) (allowed : (key : PageKey) → is_some (at.pages.held key) ≡ true → IsKey at.pages.slots key)
     (sound : (segment : ℕ) → is_some (segment_at at.catalog.listing segment) ≡ true → IsSegmentOf at.pages.held at.pages.slots at.catalog.listing segment) (images : ChecksImages at) where
   abbrev tables : Tables
-  tables = found_tables at.pages.held at.pages.slots at.catalog.listing fits only allowed sound
+  tables = found_tables at.pages.held at.pages.slots at.catalog.listing fits no_links only allowed sound
 
   found_shows : ShowsTuples at tables
   found_shows = record {
     listed = fits;
-    defines = listing_defines fits;
-    counts = found_counts at.pages.held at.pages.slots at.catalog.listing fits only allowed sound;
-    contents = found_contents at.pages.held at.pages.slots at.catalog.listing fits only allowed sound;
-    tuples = tuple_found at.pages.held at.pages.slots at.catalog.listing fits only allowed sound;
-    tids = tids_found at.pages.held at.pages.slots at.catalog.listing fits only allowed sound;
+    defines = listing_defines fits no_links;
+    counts = found_counts at.pages.held at.pages.slots at.catalog.listing fits no_links only allowed sound;
+    contents = found_contents at.pages.held at.pages.slots at.catalog.listing fits no_links only allowed sound;
+    tuples = tuple_found at.pages.held at.pages.slots at.catalog.listing fits no_links only allowed sound;
+    tids = tids_found at.pages.held at.pages.slots at.catalog.listing fits no_links only allowed sound;
+    no_links = no_links;
   }
 
   found_sound : AreSound at tables
@@ -316,13 +317,14 @@ module _ (at : AccessView) (small : at.pages.slots < 4294967296) (fits : Listing
   found_spells : SpellsTables at.pages.held at.catalog.listing tables
   found_spells = record {
     only = only;
-    formed = formed_found at.pages.held at.pages.slots at.catalog.listing fits only allowed sound;
-    linked = linked_found at.pages.held at.pages.slots at.catalog.listing fits only allowed sound;
+    formed = formed_found at.pages.held at.pages.slots at.catalog.listing fits no_links only allowed sound;
+    linked = linked_found at.pages.held at.pages.slots at.catalog.listing fits no_links only allowed sound;
     listed = fits;
     defines = found_shows.defines;
     counts = found_shows.counts;
     contents = found_shows.contents;
     images = found_images;
+    no_links = no_links;
   }
 
   found_nodes : AreNodesWithin at.pages.slots at.pages.held at.catalog.listing
@@ -337,14 +339,14 @@ module _ (at : AccessView) (small : at.pages.slots < 4294967296) (fits : Listing
 
   found_fit : Fits at.pages.slots tables
   found_fit = record {
-    definitions = listing_fits fits found_shows.defines;
+    definitions = listing_fits fits no_links found_shows.defines;
     tuples = found_shows.tuples;
     tids = found_shows.tids;
-    alone = alone_found at.pages.held at.pages.slots at.catalog.listing fits only allowed sound;
-    few = few_found at.pages.held at.pages.slots at.catalog.listing fits only allowed sound;
+    alone = alone_found at.pages.held at.pages.slots at.catalog.listing fits no_links only allowed sound;
+    few = few_found at.pages.held at.pages.slots at.catalog.listing fits no_links only allowed sound;
     keys = keys_single fits found_shows.defines (λ number image relation listed. (found_sound.each number image relation listed).single);
-    links = links_found at.pages.held at.pages.slots at.catalog.listing fits only allowed sound;
-    only = only_found at.pages.held at.pages.slots at.catalog.listing fits only allowed sound;
+    links = links_found at.pages.held at.pages.slots at.catalog.listing fits no_links only allowed sound;
+    only = only_found at.pages.held at.pages.slots at.catalog.listing fits no_links only allowed sound;
   }
 
   pub holds_found : HoldsListing at.pages.held at.catalog.listing → HoldsTables at.pages.held at.pages.slots at.catalog.listing
@@ -444,6 +446,7 @@ module _ {at : AccessView} {tables : Tables} (spells : SpellsTables at.pages.hel
     contents = spells.contents;
     tuples = fit.tuples;
     tids = fit.tids;
+    no_links = spells.no_links;
   }
 
   pub sound_spelled : AreNodesWithin at.pages.slots at.pages.held at.catalog.listing → AreSound at tables

@@ -8,7 +8,7 @@ use Rattle.rss_base.specs.Paged.{Held, Mapped, page_key}
 use Rattle.rss_base.specs.Sizes.{segments, system_pages}
 use Rattle.rss_base.specs.Steps.{PagesView, no_page}
 use Rattle.rss_base.specs.Looking.{ChecksPages}
-use Rattle.rss_base.specs.Listings.{Listing, ListingFits, HoldsListing, segment_at}
+use Rattle.rss_base.specs.Listings.{Listing, ListingFits, HasNoLinks, HoldsListing, segment_at}
 use Rattle.rss_base.specs.declared.place.Place.{Place}
 use Rattle.rss_base.specs.declared.place.Place.TheVariants.{Room}
 use Rattle.rss_base.specs.declared.fault.PageFault.{PageFault}
@@ -21,14 +21,14 @@ use Rattle.rss_page.specs.Slotted.{IsHeapKey}
 use Rattle.rss_tuple.specs.Directory.{homes, overflows}
 use Rattle.rss_tuple.specs.Heaps.{AreLinked, AreHeaps}
 use Rattle.rss_tuple.specs.Checked.{pages_of, IsNoted, AreNoted}
-use Rattle.rss_catalog.specs.Catalogs.{CatalogView, Loads, IsCatalogPlace}
+use Rattle.rss_catalog.specs.Catalogs.{CatalogView, IsCatalogPlace}
 use Rattle.rss_access.specs.Changes.{both}
 use Rattle.rss_access.proofs.Looking.{heaps_looked}
 use Rattle.rss_model.specs.Store.{IsStorePage}
 use Rattle.rss_model.proofs.LogLists.{some_of}
 use Rattle.rss_model.proofs.Relisted.{number_within_list}
 use Rattle.rss_store.specs.Checks.{IsSegmentOf, ChecksSegment, MissesSegment, ChecksSegments, MissesOne, ChecksImages, MissesImages}
-use Rattle.rss_store.specs.Looks.{FindsTables, FindsNone, AreAllNoted}
+use Rattle.rss_store.specs.Looks.{LoadsPlain, FindsTables, FindsNone, AreAllNoted}
 use Rattle.rss_store.proofs.Found.{heap_listed, linked_found, holds_found, spelled_segment, none_by, shows_spelled, sound_spelled}
 use Rattle.rss_store.proofs.LookedImages.{tuples_same, all_same}
 
@@ -168,13 +168,13 @@ looked_all {listing = listing} fits all so segment there =
 -- ---- all pages
 
 -- the pages of the system space spell no listing
-pub none_listed : {old : PagesView} {place : Place} → (IsTold old.disk → (listing : Listing) → ListingFits listing → HoldsListing old.held listing → ⊥) → IsCatalogPlace place → FindsNone old place
+pub none_listed : {old : PagesView} {place : Place} → (IsTold old.disk → (listing : Listing) → ListingFits listing → HasNoLinks listing → HoldsListing old.held listing → ⊥) → IsCatalogPlace place → FindsNone old place
 none_listed flawed named = record {
-  none = λ told listing tables system spells nodes fit. flawed told listing spells.listed system;
+  none = λ told listing tables system spells nodes fit. flawed told listing spells.listed spells.no_links system;
   elsewhere = λ told room. let at = named.is in absurd (cc);
 }
 
-module _ {T : Type 0} {old mid : PagesView} {catalog : CatalogView} {first : Result T PageFault} (holds : IsTold old.disk → (key : PageKey) → is_some (old.held key) ≡ old.mapped key) (allowed : (key : PageKey) → old.mapped key ≡ true → IsKey old.slots key) (loads : Loads old catalog) (did : ChecksPages no_page system_pages old mid first) where
+module _ {T : Type 0} {old mid : PagesView} {catalog : CatalogView} {first : Result T PageFault} (holds : IsTold old.disk → (key : PageKey) → is_some (old.held key) ≡ old.mapped key) (allowed : (key : PageKey) → old.mapped key ≡ true → IsKey old.slots key) (loads : LoadsPlain old catalog) (did : ChecksPages no_page system_pages old mid first) where
   told_then : IsTold old.disk → IsTold mid.disk
   told_then told = did.looks.step.passes.leaves.told.0 told
 
@@ -184,7 +184,7 @@ module _ {T : Type 0} {old mid : PagesView} {catalog : CatalogView} {first : Res
   -- there is a page that no store with these definitions has
   pub none_foreign : {place : Place} (key : PageKey) → mid.mapped key ≡ true → (IsStorePage catalog.listing key → ⊥) → (place ≡ Room → ⊥) → FindsNone old place
   none_foreign key is foreign elsewhere = record {
-    none = λ told. none_by old.held old.slots catalog.listing loads.fits (loads.holds told) (λ tables spells nodes fit. foreign (spells.only key (holds told key ∙ was_mapped key is)));
+    none = λ told. none_by old.held old.slots catalog.listing loads.loaded.fits (loads.loaded.holds told) (λ tables spells nodes fit. foreign (spells.only key (holds told key ∙ was_mapped key is)));
     elsewhere = λ told. elsewhere;
   }
 
@@ -194,7 +194,7 @@ module _ {T : Type 0} {old mid : PagesView} {catalog : CatalogView} {first : Res
   -- a segment isn't in form
   pub none_sound : {place : Place} → MissesOne catalog.listing mid place → FindsNone old place
   none_sound one = record {
-    none = λ told. none_by old.held old.slots catalog.listing loads.fits (loads.holds told) (λ tables spells nodes fit.
+    none = λ told. none_by old.held old.slots catalog.listing loads.loaded.fits (loads.loaded.holds told) (λ tables spells nodes fit.
         one.misses.is_not (told_then told) (subst (λ (h : Held). IsSegmentOf h mid.slots catalog.listing one.segment) (sym (did.looks.held told))
         (subst (λ (n : ℕ). IsSegmentOf old.held n catalog.listing one.segment) (sym did.looks.step.passes.slots) (spelled_segment (key_held told) spells fit one.segment))));
     elsewhere = λ told. one.misses.elsewhere;
@@ -230,7 +230,7 @@ module _ {T : Type 0} {old mid : PagesView} {catalog : CatalogView} {first : Res
     -- an image isn't in form
     pub none_imaged : {place : Place} → (IsTold seen.disk → MissesImages (both seen catalog) place) → FindsNone old place
     none_imaged misses = record {
-      none = λ told. none_by old.held old.slots catalog.listing loads.fits (loads.holds told) (λ tables spells nodes fit.
+      none = λ told. none_by old.held old.slots catalog.listing loads.loaded.fits (loads.loaded.holds told) (λ tables spells nodes fit.
           (misses (told_seen told)).is_not tables (tuples_same {old = old} {new = seen} catalog slots_seen (held_seen told) (shows_spelled {at = both old catalog} spells fit))
           (all_same {old = old} {new = seen} catalog slots_seen (held_seen told) (sound_spelled {at = both old catalog} spells fit nodes)));
       elsewhere = λ told. (misses (told_seen told)).elsewhere;
@@ -257,7 +257,7 @@ module _ {T : Type 0} {old mid : PagesView} {catalog : CatalogView} {first : Res
             let was : old.held key ≡ Some bytes = ap (λ (h : Held). h key) (sym (held_seen told)) ∙ is in
             (noted_seen told key.segment (heap_listed old.held catalog.listing (only_held told) key heap (ap is_some was)) key bytes (refl, heap) is).heap;
         linked = λ segment. subst (λ (h : Held). AreLinked (homes h segment) (overflows h segment)) (sym (held_seen told))
-            (linked_found old.held old.slots catalog.listing loads.fits (only_held told) (key_held told) (sound_old told) segment);
+            (linked_found old.held old.slots catalog.listing loads.loaded.fits loads.no_links (only_held told) (key_held told) (sound_old told) segment);
       }
 
       pub heaps_seen : IsTold seen.disk → AreHeaps seen
@@ -278,7 +278,7 @@ module _ {T : Type 0} {old mid : PagesView} {catalog : CatalogView} {first : Res
         finds_tables = record {
           loaded = loads;
           only = only_mapped;
-          holds = λ told. holds_found (both old catalog) small loads.fits (only_held told) (key_held told) (sound_old told) (images_old told) (loads.holds told);
+          holds = λ told. holds_found (both old catalog) small loads.loaded.fits loads.no_links (only_held told) (key_held told) (sound_old told) (images_old told) (loads.loaded.holds told);
           heaps = λ told. heaps_looked did_last.looks.step (told_seen told) (heaps_old told);
           noted = noted_now;
         }

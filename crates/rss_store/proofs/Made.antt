@@ -10,7 +10,7 @@ use Rattle.std.proofs.lemmas.List.Sums.{count_by-le-length}
 use Rattle.std.proofs.lemmas.Option.{none-some, same_Some}
 use Rattle.rss_base.specs.Names.{IsName}
 use Rattle.rss_base.specs.Sizes.{segments, relations_most, images_most}
-use Rattle.rss_base.specs.Listings.{Listing, ListingFits, ImageFits as ImageEntryFits, numbered, names_of, field_numbers, segment_at, relation_at, image_at}
+use Rattle.rss_base.specs.Listings.{Listing, ListingFits, HasNoLinks, ImageFits as ImageEntryFits, numbered, names_of, field_numbers, segment_at, relation_at, image_at}
 use Rattle.rss_base.specs.TupleTypes.{field_names, chosen, most_key_width}
 use Rattle.rss_base.specs.declared.name.Name.{Name}
 use Rattle.rss_base.specs.declared.field.FieldDef.{FieldDef}
@@ -135,7 +135,7 @@ definitions_of listing = record {
   links = map.empty;
 }
 
-module _ {listing : Listing} (fits : ListingFits listing) where
+module _ {listing : Listing} (fits : ListingFits listing) (no_links : HasNoLinks listing) where
   segments_apart : AreOnce {X = Unit {0}} (λ (name : Name). name) (λ name. tt) listing.segments
   segments_apart j k a b one other same = less_one (λ (name : Name). name) (λ name. tt {0}) j k
       (fits.segments_once (suc j) (suc k) a (at_place listing.segments j ∙ one) (at_place listing.segments k ∙ other ∙ ap Some (sym same)))
@@ -163,7 +163,7 @@ module _ {listing : Listing} (fits : ListingFits listing) where
     only_images = λ name there.
         let at = made_only image_name (image_def listing) listing.images name there in
         (suc at.0, name_numbered image_name listing.images (suc at.0) at.1 (at_place listing.images at.0 ∙ at.2) ∙ ap Some at.3);
-    links = λ number link child is. absurd (no_link_at listing fits.no_links number link is.at);
+    links = λ number link child is. absurd (no_link_at listing no_links number link is.at);
     only_links = λ name there. absurd (none_some (definitions_of listing).links name refl there);
   }
 
@@ -245,7 +245,7 @@ module _ {listing : Listing} (fits : ListingFits listing) where
 
     paths_fit : PathsFit definitions
     paths_fit =
-        let none = no_links_defined fits.no_links defines in
+        let none = no_links_defined no_links defines in
         let links_alone = plain_paths (record definitions { images = map.empty }) refl none in
         record {
           image_names = λ name there.

@@ -170,10 +170,10 @@ module _ {root : Root} {number frames writes : ℕ} {owners : List (Option PageK
         log_pages = ap (λ (b : Backing). b.log_pages) did.looks.step.passes.backing ∙ log_is;
         area = ap (λ (b : Backing). b.area) did.looks.step.passes.backing ∙ ap (λ (b : Backing). b.area) fresh.backing;
         log = read.behind;
-        system = λ n low. same_mapped (page_key 0 System n) ∙ finds.loaded.mapped n low;
-        pending_places = ap (λ (l : List Bool). length l) finds.loaded.written;
+        system = λ n low. same_mapped (page_key 0 System n) ∙ finds.loaded.loaded.mapped n low;
+        pending_places = ap (λ (l : List Bool). length l) finds.loaded.loaded.written;
         settled_now = did.looks.step.passes.leaves.stays_settled fresh.settled;
-        no_links = finds.loaded.fits.no_links;
+        no_links = finds.loaded.no_links;
         heaps = λ told. finds.heaps (did.looks.step.passes.leaves.told.1 told);
         tables = λ told. ∣ tables_read (finds.holds (did.looks.step.passes.leaves.told.1 told)) (did.looks.held (did.looks.step.passes.leaves.told.1 told)) did.looks.step.passes.slots ∣₁;
       }
@@ -204,12 +204,12 @@ module _ {root : Root} {number frames writes : ℕ} {owners : List (Option PageK
               shadow = new_shadow;
               slots = new_size;
               counted = counted;
-              listing = listing_once old.held finds.loaded.fits is.spells.listed (finds.loaded.holds told) (listing_here told stored store);
+              listing = listing_once old.held finds.loaded.loaded.fits is.spells.listed (finds.loaded.loaded.holds told) (listing_here told stored store);
               head = read.behind.head;
               end = read.end;
               kept = bytes told.pages told.is;
             };
-            written = λ page low off. ap (λ (h : Held). h (page_key 0 System page)) (did.looks.held told) ∙ finds.loaded.holds told page low;
+            written = λ page low off. ap (λ (h : Held). h (page_key 0 System page)) (did.looks.held told) ∙ finds.loaded.loaded.holds told page low;
             fixes = λ image fixed. store_fixed is (subst (λ (f : Fixed). HasFixed f image) (fixed_now told) fixed);
           })
 

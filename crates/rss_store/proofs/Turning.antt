@@ -84,7 +84,7 @@ module _ {old : StoreView} (turns : ChangesTurnBack) (ready : IsReady old) (stat
   begins = begins_there (record { at = position; told = records.Change t back.told_change; is = Changed back.change }) shown.logged back.there
 
   tuple : IsTupleRecord back.told_change
-  tuple = meant_tuple old.catalog.listing back.told_change back.change shown.spells.listed.no_links told_now.means
+  tuple = meant_tuple old.catalog.listing back.told_change back.change shown.spells.no_links told_now.means
 
   tells : TellsAt old.log position back.told_change
   tells = record { by = t; rest = _; begins = begins; tuple = tuple }

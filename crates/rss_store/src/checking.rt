@@ -1,11 +1,11 @@
 // What the pages of a store hold, as an opening finds it.
-ghost use Rattle.std.specs.Prelude.{◌≡◌, ◌≢◌, ◌+◌, ◌*◌, ◌<◌, ◌≤◌, ℕ, length, true, is_some, IfSome, IfNone, IfOk, IfErr, OnOk, Err};
+ghost use Rattle.std.specs.Prelude.{◌≡◌, ◌≢◌, ◌+◌, ◌*◌, ◌<◌, ◌≤◌, ℕ, length, true, false, is_some, IsTrue, IfSome, IfNone, IfOk, IfErr, OnOk, Err};
 ghost use Rattle.rss_base.specs.DiskRule.{IsTold};
 ghost use Rattle.rss_base.specs.Looking.{ChecksPages};
 ghost use Rattle.rss_base.specs.PageMap.{IsTable, page_count};
-ghost use Rattle.rss_base.specs.Sizes.{relations_most, segments as segments_most};
+ghost use Rattle.rss_base.specs.Sizes.{relations_most, segments as segments_most, system_pages};
 ghost use Rattle.rss_base.specs.Steps.{no_page};
-ghost use Rattle.rss_base.specs.Listings.{ListingFits, segment_at};
+ghost use Rattle.rss_base.specs.Listings.{Listing, ListingFits, HasNoLinks, HoldsListing, segment_at};
 ghost use Rattle.rss_base.specs.declared.fault.PageFault.TheVariants.{Damaged as PageDamaged};
 ghost use Rattle.rss_base.specs.declared.place.Place.{Place as AnyPlace};
 ghost use Rattle.rss_base.specs.declared.place.Place.TheVariants.{Count as CountPlace, Room as RoomPlace};
@@ -15,14 +15,17 @@ ghost use Rattle.rss_page.specs.Slotted.{IsHeapKey};
 ghost use Rattle.rss_tuple.specs.Checked.{pages_of};
 ghost use Rattle.rss_tuple.specs.Heaps.{AreHeaps};
 ghost use Rattle.rss_model.specs.Store.{IsStorePage};
+ghost use Rattle.rss_catalog.specs.Catalogs.{IsCatalogPlace};
 ghost use Rattle.rss_access.specs.Bodies.{is_body};
 ghost use Rattle.rss_access.specs.Changes.{both};
 ghost use Rattle.rss_store.specs.Checks.{AreSeen, ChecksSegment, MissesSegment, IsCountOf};
 ghost use Rattle.rss_store.specs.Checks.{ChecksSegments, MissesOne, ChecksImages, MissesImages};
-ghost use Rattle.rss_store.specs.Looks.{FindsTables, FindsNone};
+ghost use Rattle.rss_store.specs.Looks.{LoadsPlain, FindsTables, FindsNone};
 
 use rss_access::{TUPLES_MOST, check_image};
-use rss_base::{Kind, PageFault, PageKey, Pages, Place, RELATIONS_MOST, SEGMENTS, Space, Tid};
+use rss_base::{
+    Kind, LINKS_MOST, PageFault, PageKey, Pages, Place, RELATIONS_MOST, SEGMENTS, Space, Tid,
+};
 use rss_catalog::Catalog;
 use rss_pagemap::SlotTable;
 use rss_tuple::{Store, Visitor, check};
@@ -31,6 +34,9 @@ use std::alloc::Global;
 
 /// How many places there are for the numbers of relations.
 pub const RELATIONS: usize = RELATIONS_MOST as usize;
+
+/// The page of the catalog that has the links.
+const LINK_PAGE: u8 = 9;
 
 /// How many pages a map has.
 pub fn pages_in(table: &SlotTable) -> u32
@@ -56,13 +62,44 @@ pub fn look_through<P: Pages>(alloc: Global, tuples: &mut Store<P>) -> Result<Ca
 {
     // Numbers of pages are below this, so none of them is the one that stands for no page.
     let _slots = tuples.pages.slots();
-    let catalog = Catalog::load(alloc, &mut tuples.pages)?;
+    let catalog = load_catalog(alloc, &mut tuples.pages)?;
     if let Some(key) = first_foreign(&tuples.pages, &catalog) {
         return Err(PageFault::Damaged(Place::Page(key)));
     }
     look_at_segments(alloc, &mut tuples.pages, &catalog)?;
     look_at_images(tuples, &catalog)?;
     Ok(catalog)
+}
+
+/// The catalog, in which a link is damage as yet.
+fn load_catalog<P: Pages>(alloc: Global, pages: &mut P) -> Result<Catalog, PageFault>
+    ensures loaded { IfOk result (LoadsPlain (P.view pages.old)) }
+    ensures flawed { (place : AnyPlace) → result ≡ Err (PageDamaged place)
+        → IsTold (P.view pages.old).disk → (listing : Listing) → ListingFits listing
+        → HasNoLinks listing → HoldsListing (P.view pages.old).held listing → ⊥ }
+    ensures named { (place : AnyPlace) → result ≡ Err (PageDamaged place)
+        → IsCatalogPlace place }
+    ensures did { ChecksPages no_page system_pages
+        (P.view pages.old) (P.view pages.new) result }
+{
+    let catalog = Catalog::load(alloc, pages)?;
+    if has_links(&catalog) {
+        return Err(PageFault::Damaged(Place::Catalog(LINK_PAGE)));
+    }
+    Ok(catalog)
+}
+
+fn has_links(catalog: &Catalog) -> bool
+    ensures some { IsTrue result → HasNoLinks catalog.now.listing → ⊥ }
+    ensures none { result ≡ false → ListingFits catalog.now.listing
+        → HasNoLinks catalog.now.listing }
+{
+    for number in 1..=LINKS_MOST {
+        if catalog.used(Kind::Link, number) {
+            return true;
+        }
+    }
+    false
 }
 
 /// A page that no store with these definitions has: one of a segment that isn't defined.
