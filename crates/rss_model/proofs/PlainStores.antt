@@ -116,7 +116,7 @@ pub record PlainContents (listing : Listing) (bodies : Bodies) (contents : Conte
       → PlainBody listing contents segment tid body
   pub only : (item : Item) → is_some (content contents item) ≡ true → IsTupleItem listing item
 
-same_body : (listing : Listing) (contents : Contents) → HasNoLinks listing → (number : ℕ) (tid : Tid) (values : List Value) → body_of listing contents number tid values ≡ plain_body number values
+pub same_body : (listing : Listing) (contents : Contents) → HasNoLinks listing → (number : ℕ) (tid : Tid) (values : List Value) → body_of listing contents number tid values ≡ plain_body number values
 same_body listing contents none number tid values = ap (λ (links : List (Option LinkEntry)). number ∷ (flat_map (listed_block contents number tid) links ++ tuple_bytes values)) none
 
 tuple_alone : {listing : Listing} {item : Item} → HasNoLinks listing → IsTupleItem listing item ⊎ IsChainItem listing item → IsTupleItem listing item

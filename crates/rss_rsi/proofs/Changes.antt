@@ -244,7 +244,7 @@ module _ {first : RssParts} {mid : SessionView} {after : Locks} {t : ℕ} {told_
               keeps_all new change told state is_in.kept is_in.shows,
             ))
         by Device change = record {
-          stopped = λ told state is_in. stops is_in.kept call by_change.may.stop.built by_change.may.stop.names by_change.may.stop.granule (keeps_all new change told state is_in.kept is_in.shows);
+          stopped = λ told state is_in. stops is_in.kept call by_change.may.stop.names by_change.may.stop.granule (keeps_all new change told state is_in.kept is_in.shows);
           down = change.ends.0;
           cause = rises_since looks.goes.later change.ends.1;
         }

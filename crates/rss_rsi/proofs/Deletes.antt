@@ -41,7 +41,7 @@ module _ (parts : RssParts) (t : ℕ) (relation : Name) (tid : Tid) (admitted : 
   -- it looks for its tuple first
   pub delete_looks : LooksFor parts t relation tid Change [] (Delete t relation tid)
   delete_looks = record {
-    may = record { stop = record { built = refl; names = tt; granule = tt; memory = refl }; asks = tt; writes = tt };
+    may = record { stop = record { names = tt; granule = tt; memory = refl }; asks = tt; writes = tt };
     by = refl;
     needs_are = λ state is_in. refl;
     busy_so = λ told state is_in bar. delete_busy state t relation tid (admitted told state is_in.shows) bar;

@@ -27,7 +27,7 @@ module _ (parts : RssParts) (t : ℕ) (relation : Name) (tid : Tid) (admitted : 
   -- it looks for its tuple first
   pub fetch_looks : LooksFor parts t relation tid Read [] (Fetch t relation tid)
   fetch_looks = record {
-    may = record { stop = record { built = refl; names = tt; granule = tt; memory = refl }; asks = omega arith; writes = omega arith };
+    may = record { stop = record { names = tt; granule = tt; memory = refl }; asks = omega arith; writes = omega arith };
     by = refl;
     needs_are = λ state is_in. refl;
     busy_so = λ told state is_in bar. fetch_busy state t relation tid (admitted told state is_in.shows) bar;

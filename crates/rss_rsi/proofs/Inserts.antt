@@ -126,7 +126,7 @@ module _ (parts : RssParts) {t : ℕ} {relation : Name} {values : List Value} {n
   few_so state is = ap (if_used_up state) (sym named) ∙ is
 
   pub may_insert : MayCost (Insert t relation values)
-  may_insert = record { stop = record { built = refl; names = tt; granule = tt; memory = refl }; asks = refl; writes = refl }
+  may_insert = record { stop = record { names = tt; granule = tt; memory = refl }; asks = refl; writes = refl }
 
   -- it looks for an identifier
   pub insert_places : PlacesTuple parts t number (Insert t relation values)

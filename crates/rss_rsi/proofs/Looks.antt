@@ -107,7 +107,7 @@ pub costly_fails : {T : Type 0} (old new : RssParts) {why : CallError} → Fails
 costly_fails old new {why = why} fails n m same was_up is_down = λ calls call counted may.
     failed_within (Err why) fails.is was_up is_down fails.looks.goes (goes_costly old new fails.looks (omega (arith, counted, same)) may)
     (λ place damaged told state is_in. fails.looks.sound place damaged told)
-    (λ told state is_in. stops is_in.kept call may.stop.built may.stop.names may.stop.granule (fails.looks.moments told state is_in.kept is_in.shows))
+    (λ told state is_in. stops is_in.kept call may.stop.names may.stop.granule (fails.looks.moments told state is_in.kept is_in.shows))
 
 -- what is there is no tuple
 pub costly_damaged : {T : Type 0} (old new : RssParts) {found : T} → LooksOn old.session new.session (Ok found) → (n m : ℕ) → m ≡ n → {up up_now : Type 0} → up → (up_now → ⊥) → {why : CallError} (place : Place) → why ≡ Damaged place
@@ -138,7 +138,7 @@ pub look_fails : {T U : Type 0} (old new : RssParts) {fault : PageFault} → Loo
 look_fails old new {fault = fault} looks costs n result is was_up is_down =
     passed_on result is (λ calls call counted may. failed_within (Err (page_error fault)) refl was_up is_down looks.goes (goes_looked looks costs may counted)
     (λ place same told state is_in. looks.sound place same told)
-    (λ told state is_in. stops is_in.kept call may.stop.built may.stop.names may.stop.granule (looks.moments told state is_in.kept is_in.shows)))
+    (λ told state is_in. stops is_in.kept call may.stop.names may.stop.granule (looks.moments told state is_in.kept is_in.shows)))
 
 -- what is there is no tuple
 pub reads_none : {T U : Type 0} (old new : RssParts) {found : Result T PageFault} → LooksOn old.session new.session found → CostsTwo old.session new.session → (n : ℕ) {up up_now : Type 0} (result : Result U CallError) {why : CallError} (place : Place) → IsErrAnd result (λ e. e ≡ why) → why ≡ Damaged place → up → (up_now → ⊥)

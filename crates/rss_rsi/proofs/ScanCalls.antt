@@ -78,7 +78,7 @@ next_passes {parts = parts} {t = t} {number = number} {state = state} {scan = sc
     ∙ none_lost state.base.definitions parts.session.store.catalog.listing state scan.path scan.last (spelled_in in_it has) long)
 
 pub next_may : (t number : ℕ) → MayCost (Next t number)
-next_may t number = record { stop = record { built = refl; names = tt; granule = tt; memory = refl }; asks = refl; writes = refl }
+next_may t number = record { stop = record { names = tt; granule = tt; memory = refl }; asks = refl; writes = refl }
 
 -- what is answered by a number has no place
 number_placed : (view : EngineView) (state : State) (call : Call) (number : ℕ) → GetsPlace view state call (Ok (Number number))

@@ -40,7 +40,7 @@ module _ (parts : RssParts) (t : ℕ) (relation : Name) (tid : Tid) (values : Li
   -- it looks for its tuple first
   pub update_looks : LooksFor parts t relation tid Change (values ∷ []) (Update t relation tid values)
   update_looks = record {
-    may = record { stop = record { built = refl; names = tt; granule = tt; memory = refl }; asks = tt; writes = tt };
+    may = record { stop = record { names = tt; granule = tt; memory = refl }; asks = tt; writes = tt };
     by = refl;
     needs_are = λ state is_in. refl;
     busy_so = λ told state is_in bar. update_busy state t relation tid values (admitted told state is_in.shows) bar;

@@ -17,7 +17,7 @@ use Rattle.rss_base.specs.declared.refusal.Refusal.TheVariants.{NoTuple}
 use Rattle.rss_base.specs.declared.relation.RelationEntry.{RelationEntry}
 use Rattle.rss_base.specs.declared.tid.Tid.{Tid}
 use Rattle.rss_base.specs.declared.value.Value.{Value}
-use Rattle.rss_model.specs.Callers.{caller, is_built}
+use Rattle.rss_model.specs.Callers.{caller}
 use Rattle.rss_model.specs.Calls.{EngineView, IsCallOf}
 use Rattle.rss_model.specs.Costs.{most_asks, most_writes, may_lack_memory}
 use Rattle.rss_model.specs.Defining.{DefinesNames, LocksGranule}
@@ -48,7 +48,6 @@ EndsEach Is old new result =
 
 -- a call that a fault of the pages or want of memory may end
 pub record MayStop (call : Call) : Type 0 where
-  pub built : is_built call ≡ true
   pub names : DefinesNames call
   pub granule : LocksGranule call
   pub memory : may_lack_memory call ≡ true

@@ -37,7 +37,7 @@ use Rattle.rss_model.specs.Images.{HasKey, KeysFit}
 use Rattle.rss_model.specs.Chains.{LinksFit}
 use Rattle.rss_model.proofs.Plain.{plain_links}
 use Rattle.rss_model.specs.Store.{IsStorePage, IsTupleItem, IsListedImage, AreCounts, AreNodesWithin, Defines, SpellsContents, SpellsImages, SpellsTables, image_definition, plain_body as body_of}
-use Rattle.rss_model.proofs.PlainStores.{spelled_contents, contents_spelled, PlainBody as IsTupleBody}
+use Rattle.rss_model.proofs.PlainStores.{spelled_contents, contents_spelled, same_body, PlainBody as IsTupleBody}
 use Rattle.rss_model.proofs.Codes.{item_total, item_apart, name_total, name_apart}
 use Rattle.rss_model.proofs.Contents.{not_tied}
 use Rattle.rss_model.proofs.Listed.{listed, stands_within, number_within}
@@ -401,11 +401,12 @@ module _ {held : Held} {slots : ℕ} {listing : Listing} {tables : Tables} (allo
   -- and what is there is found
   found_spelled : (item : Item) (c : Content) → content tables.contents item ≡ Some c → content (contents_of listing (spots_of held slots)) item ≡ Some c
   found_spelled item c is =
-      let so = spelled spells fit item c is in
+      let so = spelled spells fit item ((contents_spelled spells).only item (ap is_some is)) c is in
       let body = body_of so.number so.values in
+      let stands : bodies_of held so.relation.segment so.tid ≡ Some body = so.stands ∙ ap Some (same_body listing tables.contents spells.no_links so.number so.tid so.values) in
       let of : IsTupleBody listing tables.contents so.relation.segment so.tid body = record { number = so.number; relation = so.relation; values = so.values; at = so.at; within = refl; is = refl; storable = so.storable; holds = ap (content tables.contents) (sym so.is) ∙ is ∙ ap Some so.tuple } in
-      let read = same_read so.relation.segment so.tid body of (good_body so.relation.segment so.tid body so.stands) in
-      ap (content (contents_of listing (spots_of held slots))) (so.is ∙ ap (λ (n : Name). TupleItem n so.tid) (sym read.0)) ∙ found_at spelled_good so.relation.segment so.tid body so.stands ∙ ap Some (read.1 ∙ sym so.tuple)
+      let read = same_read so.relation.segment so.tid body of (good_body so.relation.segment so.tid body stands) in
+      ap (content (contents_of listing (spots_of held slots))) (so.is ∙ ap (λ (n : Name). TupleItem n so.tid) (sym read.0)) ∙ found_at spelled_good so.relation.segment so.tid body stands ∙ ap Some (read.1 ∙ sym so.tuple)
 
   same_contents : tables.contents ≡ contents_of listing (spots_of held slots)
   same_contents = same_map item_total item_apart tables.contents (contents_of listing (spots_of held slots)) (λ item. same item (content tables.contents item) refl)
