@@ -4,7 +4,8 @@ use Rattle.std.specs.Prelude.{◌==◌, IfSome}
 use Rattle.std.specs.Int.{w16, w32, to_be_bytes, from_be_bytes}
 use Rattle.std.proofs.lemmas.Nat.{from_be_bytes-to_be_bytes_2, from_be_bytes-to_be_bytes_4}
 use Rattle.std.proofs.lemmas.Bool.{cond-false, ne_eqb}
-use Rattle.std.proofs.lemmas.List.{take_at, drop_at, append_assoc, length-replicate, get_or_append_left, take_all}
+use Rattle.std.proofs.lemmas.List.{take_at, drop_at, append_assoc, length-replicate, get_or_append_left, get_or-append-add}
+use Rattle.std.proofs.Math.Seq.{drop-append-add}
 use Rattle.rss_base.specs.Names.{IsName}
 use Rattle.rss_base.specs.LogRecords.{place_bytes}
 use Rattle.rss_base.specs.Listings.{Listing, LinkFits, IsSpelled, link_spelled, parent_spelled}
@@ -45,12 +46,10 @@ parent_back (Some number) rest = refl
 
 -- what stands behind the parent
 past_parent : (parent : Option ℕ) (rest : List ℕ) (k : ℕ) → get_or (parent_spelled parent ++ rest) (2 + k) 0 ≡ get_or rest k 0
-past_parent None rest k = refl
-past_parent (Some number) rest k = refl
+past_parent parent rest k = ap (λ (n : ℕ). get_or (parent_spelled parent ++ rest) n 0) (omega (arith, parent_long parent)) ∙ get_or-append-add (parent_spelled parent) rest k 0
 
 drop_parent : (parent : Option ℕ) (rest : List ℕ) (k : ℕ) → drop (2 + k) (parent_spelled parent ++ rest) ≡ drop k rest
-drop_parent None rest k = refl
-drop_parent (Some number) rest k = refl
+drop_parent parent rest k = ap (λ (n : ℕ). drop n (parent_spelled parent ++ rest)) (omega (arith, parent_long parent)) ∙ drop-append-add (parent_spelled parent) rest k
 
 -- ---- a link
 

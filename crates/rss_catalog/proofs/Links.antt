@@ -12,10 +12,10 @@ use Rattle.rss_base.specs.declared.relation.RelationEntry.{RelationEntry}
 use Rattle.rss_base.specs.declared.link.LinkEntry.{LinkEntry}
 use Rattle.rss_base.specs.declared.refusal.Kind.{Kind}
 use Rattle.rss_base.specs.declared.refusal.Kind.TheVariants.{Link}
-use Rattle.rss_catalog.specs.Catalogs.{HasLinkOf, HasRoleLeft, with_ends}
-use Rattle.rss_catalog.specs.Checking.{AreOnce, AreLinksIn, HaveFewRoles, link_names}
+use Rattle.rss_catalog.specs.Catalogs.{HasLinkOf, HasRoleLeft, IsSafeLink, with_ends}
+use Rattle.rss_catalog.specs.Checking.{AreOnce, AreSafeLinks, HaveFewRoles, link_names}
 use Rattle.rss_catalog.proofs.Numbered.{numbered_within, numbered_map, with_cases}
-use Rattle.rss_catalog.proofs.Roles.{link_moves, link_stays, role_listed, roles_added, roles_dropped, roles_kept}
+use Rattle.rss_catalog.proofs.Roles.{link_stays, safe_link_moves, role_listed, roles_added, roles_dropped, roles_kept}
 use Rattle.rss_catalog.proofs.Listed.{once_put, once_dropped, names_put, fits_again, image_stays, some_with, some_off, used_within}
 
 -- ---- names
@@ -24,11 +24,12 @@ pub link_named : (listing : Listing) (number : ℕ) (link : LinkEntry) → link_
 link_named listing number link is = numbered_map (λ (entry : LinkEntry). entry.name) listing.links number ∙ ap (option_map (λ (entry : LinkEntry). entry.name)) is
 
 -- no link has a number that has no name
+none_where : (o : Option LinkEntry) → ((link : LinkEntry) → o ≡ Some link → ⊥) → o ≡ None
+none_where None not = refl
+none_where (Some link) not = absurd (not link refl)
+
 free_link : (listing : Listing) (number : ℕ) → numbered (names_of Link listing) number ≡ None → link_at listing number ≡ None
-free_link listing number free = elim (link_at listing number) with (λ (o : Option LinkEntry). link_at listing number ≡ o → o ≡ None) [
-  | None ↦ λ is. refl
-  | Some link ↦ λ is. absurd (none-some link.name (sym free ∙ link_named listing number link is))
-] refl
+free_link listing number free = none_where (link_at listing number) (λ link is. none-some link.name (sym free ∙ link_named listing number link is))
 
 -- ---- a listing with other links
 
@@ -66,14 +67,15 @@ fits_without_link listing number fits low high =
       | inr off ↦ fits.paths.links k found off.1
     ]) (roles_dropped listing.links number low high fits.paths.few_roles)
 
--- a link fits with other ends, too
-pub ends_fit : (listing : Listing) (first last : Option Tid) (link : LinkEntry) → LinkFits listing link → IfSome first IsSpelled → IfSome last IsSpelled → LinkFits listing (with_ends first last link)
-ends_fit listing first last link fit is_first is_last = record { name = fit.name; child = fit.child; parent = fit.parent; first = is_first; last = is_last }
+-- a link is safe with other ends, too
+pub safe_ends : (listing : Listing) (first last : Option Tid) (link : LinkEntry) → IsSafeLink listing link → IfSome first IsSpelled → IfSome last IsSpelled → IsSafeLink listing (with_ends first last link)
+safe_ends listing first last link safe is_first is_last = record { child = safe.child; parent = safe.parent; first = is_first; last = is_last }
 
 pub fits_with_ends : (listing : Listing) (number : ℕ) (first last : Option Tid) (link : LinkEntry) → ListingFits listing → link_at listing number ≡ Some link → IfSome first IsSpelled → IfSome last IsSpelled → ListingFits (with_link listing number (Some (with_ends first last link)))
 fits_with_ends listing number first last link fits is is_first is_last =
     let within = numbered_within listing.links number link is in
-    fits_with_link listing number (with_ends first last link) fits within.0 within.1 (ends_fit listing first last link (fits.paths.links number link is) is_first is_last)
+    let fit = fits.paths.links number link is in
+    fits_with_link listing number (with_ends first last link) fits within.0 within.1 (record { name = fit.name; child = fit.child; parent = fit.parent; first = is_first; last = is_last })
     (λ k named. fits.paths.links_once k number link.name named (link_named listing number link is))
     (roles_kept listing.links number (with_ends first last link) link is (λ relation. refl) fits.paths.few_roles)
 
@@ -93,36 +95,39 @@ removed_link old new kind number is used now fits =
 
 -- ---- links that are kept beside their relations
 
--- each link of a listing fits
-abbrev pub AreFitLinks : Listing → Type 0
-AreFitLinks listing = (number : ℕ) (link : LinkEntry) → link_at listing number ≡ Some link → LinkFits listing link
+-- each link of a listing is safe
+abbrev pub HasSafeLinks : Listing → Type 0
+HasSafeLinks listing = (number : ℕ) (link : LinkEntry) → link_at listing number ≡ Some link → IsSafeLink listing link
 
-pub fit_all : (listing : Listing) → AreLinksIn listing.relations listing.links → AreFitLinks listing
-fit_all listing each number link is = link_stays _ listing link refl (each number link is)
+safe_stays : (old new : Listing) (link : LinkEntry) → new.relations ≡ old.relations → IsSafeLink old link → IsSafeLink new link
+safe_stays old new link same safe = safe_link_moves old new link safe (λ number has listed. ap (λ (l : List (Option RelationEntry)). is_some (numbered l number)) same ∙ listed)
 
-pub fit_kept : (listing : Listing) → AreFitLinks listing → AreLinksIn listing.relations listing.links
-fit_kept listing fit number link is = link_stays listing _ link refl (fit number link is)
+pub safe_links_all : (listing : Listing) → AreSafeLinks listing.relations listing.links → HasSafeLinks listing
+safe_links_all listing each number link is = safe_stays _ listing link refl (each number link is)
 
-pub fit_off_relation : (listing : Listing) (number : ℕ) (item : Option RelationEntry) → 1 ≤ number → (HasLinkOf listing number → ⊥) → AreFitLinks listing → AreFitLinks (with_relation listing number item)
-fit_off_relation listing number item low none fit k link is = link_moves listing (with_relation listing number item) link (fit k link is) (some_off listing number item low none k link is)
+pub safe_links_kept : (listing : Listing) → HasSafeLinks listing → AreSafeLinks listing.relations listing.links
+safe_links_kept listing safe number link is = safe_stays listing _ link refl (safe number link is)
 
-pub fit_with_count : (listing : Listing) (number live : ℕ) (relation : RelationEntry) → relation_at listing number ≡ Some relation → AreFitLinks listing → AreFitLinks (with_relation listing number (Some (with_count live relation)))
-fit_with_count listing number live relation is fit k link at =
+pub safe_links_off : (listing : Listing) (number : ℕ) (item : Option RelationEntry) → 1 ≤ number → (HasLinkOf listing number → ⊥) → HasSafeLinks listing → HasSafeLinks (with_relation listing number item)
+safe_links_off listing number item low none safe k link is = safe_link_moves listing (with_relation listing number item) link (safe k link is) (some_off listing number item low none k link is)
+
+pub safe_links_counted : (listing : Listing) (number live : ℕ) (relation : RelationEntry) → relation_at listing number ≡ Some relation → HasSafeLinks listing → HasSafeLinks (with_relation listing number (Some (with_count live relation)))
+safe_links_counted listing number live relation is safe k link at =
     let within = numbered_within listing.relations number relation is in
-    link_moves listing (with_relation listing number (Some (with_count live relation))) link (fit k link at) (λ other has. some_with listing number (with_count live relation) within.0 within.1 other)
+    safe_link_moves listing (with_relation listing number (Some (with_count live relation))) link (safe k link at) (λ other has. some_with listing number (with_count live relation) within.0 within.1 other)
 
-pub fit_with_link : (listing : Listing) (number : ℕ) (item : Option LinkEntry) → 1 ≤ number → number ≤ length listing.links → IfSome item (LinkFits listing) → AreFitLinks listing → AreFitLinks (with_link listing number item)
-fit_with_link listing number item low high fine fit k link is =
-    let was : LinkFits listing link = elim (with_cases listing.links number k item link low high is) [
-      | inl here ↦ subst (λ (o : Option LinkEntry). IfSome o (LinkFits listing)) here.1 fine
-      | inr off ↦ fit k link off.1
+pub safe_links_put : (listing : Listing) (number : ℕ) (item : Option LinkEntry) → 1 ≤ number → number ≤ length listing.links → IfSome item (IsSafeLink listing) → HasSafeLinks listing → HasSafeLinks (with_link listing number item)
+safe_links_put listing number item low high fine safe k link is =
+    let was : IsSafeLink listing link = elim (with_cases listing.links number k item link low high is) [
+      | inl here ↦ subst (λ (o : Option LinkEntry). IfSome o (IsSafeLink listing)) here.1 fine
+      | inr off ↦ safe k link off.1
     ] in
-    link_stays listing (with_link listing number item) link refl was
+    safe_stays listing (with_link listing number item) link refl was
 
 -- no link has a relation that isn't listed
-pub no_link_of : (listing now : Listing) (number n : ℕ) → listing ≡ now → n ≡ number → AreFitLinks listing → (is_some (relation_at now number) ≡ true → HasLinkOf now number → ⊥) → HasLinkOf listing n → ⊥
-no_link_of listing now number n same same_number fit none has =
+pub no_link_of : (listing now : Listing) (number n : ℕ) → listing ≡ now → n ≡ number → HasSafeLinks listing → (is_some (relation_at now number) ≡ true → HasLinkOf now number → ⊥) → HasLinkOf listing n → ⊥
+no_link_of listing now number n same same_number safe none has =
     let of : has_role number (Some has.link) ≡ true = ap (λ (k : ℕ). has_role k (Some has.link)) (sym same_number) ∙ has.of in
-    let listed = role_listed listing has.link number (fit has.number has.link has.at) of in
+    let listed = role_listed listing has.link number (safe has.number has.link has.at) of in
     none (ap (λ (l : Listing). is_some (relation_at l number)) (sym same) ∙ listed)
     (record { number = has.number; link = has.link; at = ap (λ (l : Listing). link_at l has.number) (sym same) ∙ has.at; of = of })

@@ -2,12 +2,12 @@
 use Rattle.std.proofs.Common.{◌≡◌, ◌⊎◌, ℕ, ◌+◌, ◌-◌, ◌<◌, ◌≤◌, Bool, true, false, cond, List, [], ◌∷◌, length, get_or, Option, Some, None, All, refl, sym, ◌∙◌, ap, subst, inl, inr, arith}
 use Rattle.std.specs.Prelude.{count_by, IfSome, is_some, ◌==◌, ◌||◌}
 use Rattle.std.proofs.lemmas.Bool.{cases_Bool, eq-eqb, eqb-true, or_left, or_right, or_cases, false_from_ne_true}
-use Rattle.std.proofs.lemmas.List.Sums.{sum_by-set}
+use Rattle.std.proofs.lemmas.List.Sums.{sum_by-cons, sum_by-set}
 use Rattle.std.proofs.lemmas.List.Elements.{All-head, All-tail}
 use Rattle.rss_base.specs.Listings.{Listing, LinkFits, numbered, with_number, relation_at, link_at, has_role, is_parent_in, roles_of}
 use Rattle.rss_base.specs.declared.link.LinkEntry.{LinkEntry}
 use Rattle.rss_base.specs.declared.relation.RelationEntry.{RelationEntry}
-use Rattle.rss_catalog.specs.Catalogs.{HasLinkOf, HasRoleLeft}
+use Rattle.rss_catalog.specs.Catalogs.{HasRoleLeft, IsSafeLink}
 use Rattle.rss_catalog.specs.Checking.{AreLinksIn, HaveFewRoles, LinkFitsIn, listing_of}
 use Rattle.rss_catalog.proofs.Numbered.{numbered_at, numbered_within, has_number, used_has}
 
@@ -33,10 +33,10 @@ role_cases link number has = elim (or_cases (link.child == number) (is_parent_in
 ]
 
 -- each of them is listed
-pub role_listed : (listing : Listing) (link : LinkEntry) (number : ℕ) → LinkFits listing link → has_role number (Some link) ≡ true → is_some (relation_at listing number) ≡ true
-role_listed listing link number fit has = elim (role_cases link number has) [
-  | inl child ↦ ap (λ (n : ℕ). is_some (relation_at listing n)) (sym child) ∙ fit.child
-  | inr parent ↦ (subst (λ (o : Option ℕ). IfSome o (λ n. (is_some (relation_at listing n) ≡ true) × (n ≡ link.child → ⊥))) parent fit.parent).0
+pub role_listed : (listing : Listing) (link : LinkEntry) (number : ℕ) → IsSafeLink listing link → has_role number (Some link) ≡ true → is_some (relation_at listing number) ≡ true
+role_listed listing link number safe has = elim (role_cases link number has) [
+  | inl child ↦ ap (λ (n : ℕ). is_some (relation_at listing n)) (sym child) ∙ safe.child
+  | inr parent ↦ (subst (λ (o : Option ℕ). IfSome o (λ n. (is_some (relation_at listing n) ≡ true) × (n ≡ link.child → ⊥))) parent safe.parent).0
 ]
 
 -- what is said of the value that there is, with what it is
@@ -44,15 +44,24 @@ pub some_then : {X : Type 0} {P Q : X → Type 0} (o : Option X) → IfSome o P 
 some_then None is then = is
 some_then (Some x) is then = then x refl is
 
--- a link fits where its relations are listed
-pub link_moves : (old new : Listing) (link : LinkEntry) → LinkFits old link → ((number : ℕ) → has_role number (Some link) ≡ true → is_some (relation_at old number) ≡ true → is_some (relation_at new number) ≡ true) → LinkFits new link
-link_moves old new link fit listed = record {
-  name = fit.name;
-  child = listed link.child (child_role link) fit.child;
-  parent = some_then link.parent fit.parent (λ number is has. (listed number (parent_role link number is) has.0, has.1));
-  first = fit.first;
-  last = fit.last;
+-- a link that fits is safe
+pub safe_link : (listing : Listing) (link : LinkEntry) → LinkFits listing link → IsSafeLink listing link
+safe_link listing link fit = record { child = fit.child; parent = fit.parent; first = fit.first; last = fit.last }
+
+-- a link is safe where its relations are listed
+pub safe_link_moves : (old new : Listing) (link : LinkEntry) → IsSafeLink old link → ((number : ℕ) → has_role number (Some link) ≡ true → is_some (relation_at old number) ≡ true → is_some (relation_at new number) ≡ true) → IsSafeLink new link
+safe_link_moves old new link safe listed = record {
+  child = listed link.child (child_role link) safe.child;
+  parent = some_then link.parent safe.parent (λ number is has. (listed number (parent_role link number is) has.0, has.1));
+  first = safe.first;
+  last = safe.last;
 }
+
+-- and fits there
+pub link_moves : (old new : Listing) (link : LinkEntry) → LinkFits old link → ((number : ℕ) → has_role number (Some link) ≡ true → is_some (relation_at old number) ≡ true → is_some (relation_at new number) ≡ true) → LinkFits new link
+link_moves old new link fit listed =
+    let safe = safe_link_moves old new link (safe_link old link fit) listed in
+    record { name = fit.name; child = safe.child; parent = safe.parent; first = safe.first; last = safe.last }
 
 -- and so where the relations are the same
 pub link_stays : (old new : Listing) (link : LinkEntry) → new.relations ≡ old.relations → LinkFits old link → LinkFits new link
@@ -60,18 +69,22 @@ link_stays old new link same fit = link_moves old new link fit (λ number has li
 
 -- ---- in how many links a relation is
 
+-- a part or none
+abbrev bit : ℕ → Option LinkEntry → ℕ
+bit number link = cond (has_role number link) 1 0
+
 -- in none that has no part for it
 no_roles : (number : ℕ) (links : List (Option LinkEntry)) → All (λ link. has_role number link ≡ false) links → count_by (has_role number) links ≡ 0
 no_roles number [] all = refl
 no_roles number (link ∷ links) all =
     let here = All-head (λ (o : Option LinkEntry). has_role number o ≡ false) link links all in
     let rest = no_roles number links (All-tail (λ (o : Option LinkEntry). has_role number o ≡ false) link links all) in
-    (λ i. cond (here i) 1 0 + rest i)
+    sum_by-cons (bit number) link links ∙ (λ i. cond (here i) 1 0 + rest i)
 
 -- what is no relation is in no link
 part_off : (entries : List (Option RelationEntry)) (number : ℕ) (link : Option LinkEntry) → ((entry : LinkEntry) → link ≡ Some entry → LinkFitsIn entries entry) → (is_some (numbered entries number) ≡ true → ⊥) → has_role number link ≡ false
 part_off entries number None fit none = refl
-part_off entries number (Some link) fit none = false_from_ne_true _ (λ has. none (role_listed (listing_of [] entries [] []) link number (fit link refl) has))
+part_off entries number (Some link) fit none = false_from_ne_true _ (λ has. none (role_listed (listing_of [] entries [] []) link number (safe_link _ link (fit link refl)) has))
 
 pub roles_off : (entries : List (Option RelationEntry)) (links : List (Option LinkEntry)) (number : ℕ) → AreLinksIn entries links → (is_some (numbered entries number) ≡ true → ⊥) → count_by (has_role number) links ≡ 0
 roles_off entries links number each none = no_roles number links (λ k d low. part_off entries number (get_or links k d) (λ entry is. each (k + 1) entry (has_number links k d entry low is)) none)
@@ -88,10 +101,6 @@ few_all entries links count each all few number = elim (cases_Bool (is_some (num
 ]
 
 -- ---- where a link is put at a place
-
--- a part or none
-abbrev bit : ℕ → Option LinkEntry → ℕ
-bit number link = cond (has_role number link) 1 0
 
 -- the count of the others stays
 roles_put : (links : List (Option LinkEntry)) (number : ℕ) (item was : Option LinkEntry) (relation : ℕ) → 1 ≤ number → number ≤ length links → get_or links (number - 1) None ≡ was

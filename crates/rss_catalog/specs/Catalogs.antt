@@ -1,11 +1,11 @@
 -- What there is to see of a catalog, and what the calls on it do.
-use Rattle.std.specs.Prelude.{◌≡◌, ℕ, ◌+◌, ◌-◌, ◌/◌, ◌<◌, ◌≤◌, Bool, true, false, List, length, All, replicate, slice_set, slice_index_or, Option, Some, None, IfSome}
+use Rattle.std.specs.Prelude.{◌≡◌, ◌≢◌, ℕ, ◌+◌, ◌-◌, ◌/◌, ◌<◌, ◌≤◌, Bool, true, false, List, length, All, replicate, slice_set, slice_index_or, Option, Some, None, is_some, IfSome}
 use Rattle.rss_base.specs.Sizes.{segments, roles_most, system_pages}
 use Rattle.rss_base.specs.DiskRule.{IsTold}
 use Rattle.rss_base.specs.Paged.{Mapped, page_key}
 use Rattle.rss_base.specs.Steps.{PagesView}
 use Rattle.rss_base.specs.TupleTypes.{kinds, width, key_width, chosen, most_fields, most_width, most_key_width, are_kinds}
-use Rattle.rss_base.specs.Listings.{Listing, ListingFits, IsNumberOf, IsFieldNumber, HoldsListing, catalog_page, relation_at, image_at, link_at, field_numbers, has_role, roles_of, with_segment, with_relation, with_image, with_link, relations_of_page, relation_pages, images_of_page, image_pages}
+use Rattle.rss_base.specs.Listings.{Listing, ListingFits, IsNumberOf, IsFieldNumber, HoldsListing, catalog_page, relation_at, image_at, link_at, field_numbers, IsSpelled, has_role, roles_of, with_segment, with_relation, with_image, with_link, relations_of_page, relation_pages, images_of_page, image_pages}
 use Rattle.rss_base.specs.declared.relation.RelationEntry.{RelationEntry}
 use Rattle.rss_base.specs.declared.image.ImageEntry.{ImageEntry}
 use Rattle.rss_base.specs.declared.link.LinkEntry.{LinkEntry}
@@ -116,6 +116,13 @@ pub record HasLinkOf (listing : Listing) (relation : ℕ) : Type 0 where
 pub record HasRoleLeft (listing : Listing) (link : LinkEntry) : Type 0 where
   pub child : roles_of listing link.child < roles_most
   pub parent : IfSome link.parent (λ number. roles_of listing number < roles_most)
+
+-- a link that a listing may have, as far as its numbers go
+pub record IsSafeLink (listing : Listing) (link : LinkEntry) : Type 0 where
+  pub child : is_some (relation_at listing link.child) ≡ true
+  pub parent : IfSome link.parent (λ number. (is_some (relation_at listing number) ≡ true) × (number ≢ link.child))
+  pub first : IfSome link.first IsSpelled
+  pub last : IfSome link.last IsSpelled
 
 -- the link with other ends of its chain
 abbrev pub with_ends : Option Tid → Option Tid → LinkEntry → LinkEntry

@@ -9,6 +9,7 @@ use Rattle.rss_base.specs.declared.field.FieldDef.{FieldDef}
 use Rattle.rss_base.specs.declared.relation.RelationEntry.{RelationEntry}
 use Rattle.rss_base.specs.declared.image.ImageEntry.{ImageEntry}
 use Rattle.rss_base.specs.declared.link.LinkEntry.{LinkEntry}
+use Rattle.rss_catalog.specs.Catalogs.{IsSafeLink}
 
 -- these are listed
 abbrev pub listing_of : List (Option Name) → List (Option RelationEntry) → List (Option ImageEntry) → List (Option LinkEntry) → Listing
@@ -92,6 +93,10 @@ pub record TablesFit (names : List (Option Name)) (entries : List (Option Relati
 pub record ImagesFit (entries : List (Option RelationEntry)) (images : List (Option ImageEntry)) : Type 0 where
   pub once : AreOnce (image_names images)
   pub each : (number : ℕ) (image : ImageEntry) → numbered images number ≡ Some image → ImageFitsIn entries image
+
+-- each of these links is safe beside these relations
+abbrev pub AreSafeLinks : List (Option RelationEntry) → List (Option LinkEntry) → Type 0
+AreSafeLinks entries links = (number : ℕ) (link : LinkEntry) → numbered links number ≡ Some link → IsSafeLink (listing_of [] entries [] []) link
 
 -- no relation has a part in too many of these links
 abbrev pub HaveFewRoles : List (Option LinkEntry) → Type 0

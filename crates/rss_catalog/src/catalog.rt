@@ -17,8 +17,9 @@ ghost use Rattle.rss_base.specs.declared.link.LinkEntry.{LinkEntry as ALink};
 ghost use Rattle.rss_base.specs.declared.refusal.Kind.TheVariants.{Segment, Relation, Image, Link};
 ghost use Rattle.rss_catalog.specs.Catalogs.{none_pending, pending_pages, page_of, Loads, IsCatalogPlace};
 ghost use Rattle.rss_catalog.specs.Catalogs.{StoresListing, HasSystemPages, Lists, without, HasNoLesser, HasRelationIn, HasImageOf, IsNamedIn};
-ghost use Rattle.rss_catalog.specs.Catalogs.{IsSafe, IsSafeImage, HasLinkOf, HasRoleLeft, with_ends};
-ghost use Rattle.rss_catalog.specs.Checking.{AreSafeIn, AreLinksIn};
+ghost use Rattle.rss_catalog.specs.Catalogs.{IsSafe, IsSafeImage, IsSafeLink, HasLinkOf, HasRoleLeft, with_ends};
+ghost use Rattle.rss_catalog.specs.Checking.{AreSafeIn, AreSafeLinks};
+ghost use Rattle.std.proofs.Props.{props};
 
 use crate::checking::flaw;
 use crate::encoding::{
@@ -120,7 +121,7 @@ pub struct Catalog {
         → numbered images.items number ≡ None },
     ghost few_images: { last_image ≤ images_most },
     ghost link_places: { length links.items ≡ links_most },
-    ghost fit_links: { AreLinksIn relations.items links.items },
+    ghost safe_links: { AreSafeLinks relations.items links.items } by { Prim.hlevel props },
     ghost no_link_behind: { (number : ℕ) → last_link < number
         → numbered links.items number ≡ None },
     ghost few_links: { last_link ≤ links_most },
@@ -282,7 +283,7 @@ impl Catalog {
     pub fn link(&self, number: u8) -> &LinkEntry
         requires { is_some (link_at self.now.listing number) ≡ true }
         ensures is { link_at self.now.listing number ≡ Some result.now }
-        ensures safe { LinkFits self.now.listing result.now }
+        ensures safe { IsSafeLink self.now.listing result.now }
     {
         match at(&self.links, number) {
             Some(link) => link,
@@ -583,7 +584,7 @@ impl Catalog {
     fn set_link(&mut self, number: u8, link: Option<LinkEntry>)
         requires low { 1 ≤ number }
         requires high { number ≤ length self.old.listing.links }
-        requires fits { IfSome link (LinkFits self.old.listing) }
+        requires safe { IfSome link (IsSafeLink self.old.listing) }
         ensures { Lists (with_link self.old.listing number link) (page_of Link number)
             self.old self.new }
     {

@@ -12,5 +12,5 @@ returns c =
     let belongs = λ (image : ImageEntry) (number : ℕ). image.relation == number in
     let same = c.deref.ensures.value ∙ ap (λ (v : CatalogView). v.listing.images) c.self.view_is in (
       λ yes. let has = subst (λ (l : List (Option ImageEntry)). HasEntryOf belongs l c.args.relation) same (c.has_entry_of.ensures.0 yes) in record { number = has.place; image = has.entry; at = has.at; of = eqb-true has.entry.relation c.args.relation has.of },
-      λ has. c.has_entry_of.ensures.1 (subst (λ (l : List (Option ImageEntry)). HasEntryOf belongs l c.args.relation) (sym same) (record { place = has.number; entry = has.image; at = has.at; of = eqb-true has.entry.relation c.args.relation has.of })),
+      λ has. c.has_entry_of.ensures.1 (subst (λ (l : List (Option ImageEntry)). HasEntryOf belongs l c.args.relation) (sym same) (record { place = has.number; entry = has.image; at = has.at; of = eq-eqb has.image.relation c.args.relation has.of })),
     )

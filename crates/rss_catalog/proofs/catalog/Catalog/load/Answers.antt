@@ -6,7 +6,8 @@ use Rattle.rss_base.specs.declared.link.LinkEntry.{LinkEntry}
 use Rattle.rss_base.proofs.Looking.{passed_on, checks_then}
 use Rattle.rss_catalog.specs.Checking.{listing_of}
 use Rattle.rss_catalog.proofs.Listed.{safe_fit, safe_image, safe_kept}
-use Rattle.rss_catalog.proofs.Links.{fit_kept}
+use Rattle.rss_catalog.proofs.Roles.{safe_link}
+use Rattle.rss_catalog.proofs.Links.{safe_links_kept}
 use Rattle.rss_catalog.proofs.Tested.{if_none}
 use Rattle.rss_catalog.proofs.Read.{has_relations, has_images, has_links}
 use Rattle.rss_catalog.proofs.Loaded.{looked, looked_back, spells_after, all_after, checks_ends, no_device, no_fault, loads_all, no_listing_fits}
@@ -71,7 +72,7 @@ invariant_of-result g c =
                   omega (arith, ap length c.deref-5.ensures.value, fits.paths.image_places),
                   (
                     fits.paths.link_places,
-                    (fit_kept listing fits.paths.links, (last_link, (omega (arith, ap length c.deref-6.ensures.value, fits.paths.link_places), tt))),
+                    (safe_links_kept listing (λ number link is. safe_link listing link (fits.paths.links number link is)), (last_link, (omega (arith, ap length c.deref-6.ensures.value, fits.paths.link_places), tt))),
                   ),
                 ),
               ),

@@ -24,5 +24,5 @@ returns-then-number c =
 pub returns : goal.returns
 returns c =
     c.links_page.ensures
-    ∙ ap (λ (l : List (Option LinkEntry)). page_with link_form l) (c.deref.ensures.value ∙ ap (λ (v : CatalogView). v.listing.links) c.self.view_is)
+    ∙ ap (λ (l : List (Option LinkEntry)). page_with link_form l) (c.deref-2.ensures.value ∙ ap (λ (v : CatalogView). v.listing.links) c.self.view_is)
     ∙ sym (links_page_is c.args.self.now.listing c.args.number (omega arith))

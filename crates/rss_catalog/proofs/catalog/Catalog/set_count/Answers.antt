@@ -5,7 +5,7 @@ use Rattle.rss_base.specs.Listings.{Listing, with_count, with_relation, ListingF
 use Rattle.rss_catalog.specs.Catalogs.{CatalogView}
 use Rattle.rss_catalog.specs.Checking.{listing_of}
 use Rattle.rss_catalog.proofs.Listed.{safe_put, counted_in_place, fits_with_count, is_listed, within_listed, safe_count, safe_all, safe_kept, safe_with_count}
-use Rattle.rss_catalog.proofs.Links.{fit_all, fit_kept, fit_with_count}
+use Rattle.rss_catalog.proofs.Links.{safe_links_all, safe_links_kept, safe_links_counted}
 use Rattle.rss_catalog.proofs.catalog.Catalog.set_count.Goals as goal
 
 pub invariant_of-self-inside : goal.invariant_of-self-inside
@@ -30,7 +30,7 @@ invariant_of-self-inside c =
                   (
                     c.self.inside.link_places,
                     (
-                      fit_kept (with_relation listing c.from.result (Some (with_count c.args.live c.in-Some.relation))) (fit_with_count listing c.from.result c.args.live c.in-Some.relation here (fit_all listing c.self.inside.fit_links)),
+                      safe_links_kept (with_relation listing c.from.result (Some (with_count c.args.live c.in-Some.relation))) (safe_links_counted listing c.from.result c.args.live c.in-Some.relation here (safe_links_all listing c.self.inside.safe_links)),
                       (c.self.inside.no_link_behind, (c.self.inside.few_links, tt)),
                     ),
                   ),

@@ -1,12 +1,12 @@
--- The link that is put fits, and no link stands behind the last one.
+-- The link that is put is safe, and no link stands behind the last one.
 use Rattle.std.proofs.Common.{◌∙◌, ap, sym, length, subst, arith}
 use Rattle.std.specs.Prelude.{IfSome}
 use Rattle.std.proofs.lemmas.List.{length-set}
-use Rattle.rss_base.specs.Listings.{Listing, LinkFits, with_link}
-use Rattle.rss_catalog.specs.Catalogs.{CatalogView}
+use Rattle.rss_base.specs.Listings.{Listing, with_link}
+use Rattle.rss_catalog.specs.Catalogs.{CatalogView, IsSafeLink}
 use Rattle.rss_catalog.specs.Checking.{listing_of}
 use Rattle.rss_catalog.proofs.Listed.{none_behind_put}
-use Rattle.rss_catalog.proofs.Links.{fit_all, fit_kept, fit_with_link}
+use Rattle.rss_catalog.proofs.Links.{safe_links_all, safe_links_kept, safe_links_put}
 use Rattle.rss_catalog.proofs.catalog.Catalog.set_link.Goals as goal
 
 pub invariant_of-self-inside : goal.invariant_of-self-inside
@@ -14,7 +14,7 @@ invariant_of-self-inside c =
     let items = c.self.inside.links.items in
     let listing : Listing = listing_of c.self.inside.segments.items c.self.inside.relations.items c.self.inside.images.items items in
     let within = ap (λ (v : CatalogView). length v.listing.links) c.self.view_is in
-    let fits = subst (λ (l : Listing). IfSome c.args.link (LinkFits l)) (ap (λ (v : CatalogView). v.listing) (sym c.self.view_is)) c.requires.fits in (
+    let safe = subst (λ (l : Listing). IfSome c.args.link (IsSafeLink l)) (ap (λ (v : CatalogView). v.listing) (sym c.self.view_is)) c.requires.safe in (
       c.self.inside.segment_places,
       (
         c.self.inside.relation_places,
@@ -31,7 +31,7 @@ invariant_of-self-inside c =
                   (
                     length-set items _ c.args.link ∙ c.self.inside.link_places,
                     (
-                      fit_kept (with_link listing c.from.result c.args.link) (fit_with_link listing c.from.result c.args.link (omega arith) (omega (arith, within)) fits (fit_all listing c.self.inside.fit_links)),
+                      safe_links_kept (with_link listing c.from.result c.args.link) (safe_links_put listing c.from.result c.args.link (omega arith) (omega (arith, within)) safe (safe_links_all listing c.self.inside.safe_links)),
                       ((λ k past. none_behind_put items c.self.inside.last_link c.from.result c.args.link (omega arith) c.self.inside.no_link_behind k (omega (arith, past))), (omega (arith, c.self.inside.link_places, within), tt)),
                     ),
                   ),
