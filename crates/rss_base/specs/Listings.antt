@@ -159,11 +159,11 @@ pub record PathsFit (listing : Listing) : Type 0 where
   pub links : (number : ℕ) (link : LinkEntry) → link_at listing number ≡ Some link → LinkFits listing link
   pub few_roles : (number : ℕ) → roles_of listing number ≤ roles_most
 
--- as yet there are no links
+-- there are no links
 abbrev pub HasNoLinks : Listing → Type 0
 HasNoLinks listing = listing.links ≡ replicate links_most None
 
--- nor images in a store
+-- nor images
 pub record IsPlain (listing : Listing) : Type 0 where
   pub no_images : listing.images ≡ replicate images_most None
   pub no_links : HasNoLinks listing
