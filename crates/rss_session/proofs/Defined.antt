@@ -19,7 +19,7 @@ use Rattle.rss_base.specs.declared.refusal.Kind.TheVariants.{Segment as SegmentK
 use Rattle.rss_base.specs.declared.refusal.LimitKind.TheVariants.{Segments as SegmentLimit, Relations as RelationLimit}
 use Rattle.rss_base.specs.declared.refusal.Refusal.{Refusal}
 use Rattle.rss_base.specs.declared.refusal.Refusal.TheVariants.{NoSuch, NameTaken, Limit, NotEmpty, TransactionsOpen}
-use Rattle.rss_catalog.specs.Catalogs.{HasRelationIn, HasImageOf, Lists, page_of}
+use Rattle.rss_catalog.specs.Catalogs.{HasRelationIn, HasImageOf, HasLinkOf, Lists, page_of}
 use Rattle.rss_catalog.proofs.Numbered.{with_other}
 use Rattle.rss_model.specs.Tables.{tuple_count}
 use Rattle.rss_model.specs.Changes.{Change, after}
@@ -31,7 +31,7 @@ use Rattle.rss_model.specs.ReplyText.{IsShort}
 use Rattle.rss_model.specs.Store.{SpellsTables}
 use Rattle.rss_model.proofs.ByNumber.{segment_named, segment_unnamed, relation_named, relation_unnamed, segments_full, segments_left, relations_full, relations_left, segment_used, segment_unused}
 use Rattle.rss_model.proofs.Heap.{nothing}
-use Rattle.rss_model.proofs.PlainStores.{no_links_defined, no_link_of}
+use Rattle.rss_model.proofs.PlainStores.{no_link_at, no_links_defined, no_link_of}
 use Rattle.rss_model.proofs.Tests.{goes_on, passes_if, passes_unless, refuses_at, refuses_if, make_segment_taken, make_segment_many, make_segment_passes, drop_segment_lacks, drop_segment_full, drop_segment_passes, drop_relation_lacks, drop_relation_full, make_relation_lacks, make_relation_taken, make_relation_many, make_relation_passes}
 use Rattle.rss_trans.specs.Transactions.{Transaction}
 use Rattle.rss_trans.specs.Tables.{told}
@@ -158,6 +158,9 @@ module _ {view : SessionView} {state : State} (shows : Shows view state) (closed
         or_second : {b : Bool} (a c : Bool) → b ≡ true → (a || b || c) ≡ true
         or_second true c on = refl
         or_second false c on = ap (λ (x : Bool). x || c) on
+
+    pub relation_linked : HasLinkOf view.store.catalog.listing number → refusal state (DropRelation name) ≡ Some NotEmpty
+    relation_linked has = absurd (no_link_at view.store.catalog.listing spells.no_links has.number has.link has.at)
 
     pub relation_drops : entry.live ≡ 0 → (HasImageOf view.store.catalog.listing number → ⊥) → refusal state (DropRelation name) ≡ None
     relation_drops empty none =

@@ -85,7 +85,7 @@ impl<S: Saving> Session<S> {
         Ok(())
     }
 
-    /// Takes a relation away that has neither tuples nor images. `redefine` commits it.
+    /// Takes a relation away that has no tuples, no image and no part in a link. `redefine` commits it.
     pub fn drop_relation(&mut self, name: &Name) -> Result<(), Refusal>
         ensures { Defining S.view self.old self.new (DropRelation name.now) result }
     {
@@ -93,7 +93,11 @@ impl<S: Saving> Session<S> {
         let Some(number) = self.store.catalog.find(Kind::Relation, name) else {
             return Err(Refusal::NoSuch(Kind::Relation));
         };
-        if self.store.catalog.relation(number).live > 0 || self.store.catalog.has_image_of(number) {
+        let catalog = &self.store.catalog;
+        if catalog.relation(number).live > 0
+            || catalog.has_image_of(number)
+            || catalog.has_link_of(number)
+        {
             return Err(Refusal::NotEmpty);
         }
         self.store.catalog.remove(Kind::Relation, number);

@@ -12,9 +12,9 @@ use Rattle.rss_session.specs.Definitions.{Relists}
 use Rattle.rss_session.specs.Definitions.Relists.{drop_relation}
 use Rattle.rss_access.proofs.Numbered.{entry_at, name_of}
 use Rattle.rss_access.proofs.Recounting.{page_same}
-use Rattle.rss_session.proofs.Defined.{refused, relation_lacks, relation_full, relation_imaged, relation_drops, redefines, relation_page, imaged_still}
+use Rattle.rss_session.proofs.Defined.{refused, relation_lacks, relation_full, relation_imaged, relation_linked, relation_drops, redefines, relation_page, imaged_still}
 use Rattle.rss_session.proofs.session.Session.drop_relation.Goals as goal
-use Rattle.rss_session.proofs.session.Session.drop_relation.Goals.{then-relation-gt0-via-then-relation-gt0, then-relation-gt0-via-else-relation-gt0+then-has_image_of}
+use Rattle.rss_session.proofs.session.Session.drop_relation.Goals.{then-relation-gt0-via-then-relation-gt0, then-relation-gt0-via-else-relation-gt0+then-has_image_of, then-relation-gt0-via-else-relation-gt0+else-has_image_of+then-has_link_of}
 
 pub returns-in_err-test_rest : goal.returns-in_err-test_rest
 returns-in_err-test_rest g c = refused g.S.Pages.view c.args.self.now (DropRelation c.args.name.now) if_any_open c.from_residual.result c.from_residual.ensures.1 (λ state. refuses_at _) c.in_err-test_rest.ensures.tests
@@ -37,12 +37,16 @@ returns-then-relation-gt0 g c =
         λ told state shows. elim c.then-relation-gt0.branch [
           | then-relation-gt0-via-then-relation-gt0 w ↦ relation_full shows c.in_ok-test_rest.ensures.closed c.args.name.now c.in-Some.number c.in-Some.ensures.some entry c.relation.ensures.is named w.if-relation-gt0.true
           | then-relation-gt0-via-else-relation-gt0+then-has_image_of w ↦ relation_imaged shows c.in_ok-test_rest.ensures.closed c.args.name.now c.in-Some.number c.in-Some.ensures.some entry c.relation.ensures.is named (w.has_image_of.ensures.0 w.if-has_image_of.true)
+          | then-relation-gt0-via-else-relation-gt0+else-has_image_of+then-has_link_of w ↦ relation_linked shows c.in_ok-test_rest.ensures.closed c.args.name.now c.in-Some.number c.in-Some.ensures.some entry c.relation.ensures.is named (w.has_link_of.ensures.0 w.if-has_link_of.true)
         ],
         search rules,
       );
       redefines = tt;
       same = refl;
     }
+
+pub remove-requires-no_link : goal.remove-requires-no_link
+remove-requires-no_link g c = λ relation has. true≢false (sym (c.has_link_of.ensures.1 has) ∙ c.if-has_link_of.false)
 
 pub returns : goal.returns
 returns g c =
