@@ -3,7 +3,6 @@ use Rattle.std.proofs.Common.{◌≡◌, inl, inr, ◌+◌, ℕ, ◌≤◌, refl
 use Rattle.std.specs.Prelude.{Result, Err, IsErrAnd}
 use Rattle.std.proofs.lemmas.Bool.{cases_Bool}
 use Rattle.std.proofs.lemmas.Result.{err_from_is_err_and}
-use Rattle.rss_base.specs.Devices.{OnlyReads}
 use Rattle.rss_base.specs.Paged.{AreAmong}
 use Rattle.rss_base.specs.Steps.{PagesView, Keys, no_page, PagesStep, PagesCall, NoneChanged, device_below}
 use Rattle.rss_base.specs.Looking.{LooksStep, ChecksPages}
@@ -11,7 +10,7 @@ use Rattle.rss_base.specs.declared.fault.PageFault.{PageFault}
 use Rattle.rss_base.specs.declared.fault.PageFault.TheVariants.{Device as DeviceFailed}
 use Rattle.rss_base.specs.declared.key.PageKey.{PageKey}
 use Rattle.rss_base.proofs.Moments.{reads_none, reads_then}
-use Rattle.rss_base.proofs.Steps.{rests, then, within, all_mapped, all_held, none_changed_more}
+use Rattle.rss_base.proofs.Steps.{rests, then, within, all_mapped, all_held, none_changed_more, only_reads}
 
 -- ---- steps
 
@@ -54,8 +53,8 @@ pub looks_more : {more : Keys} {asks : ℕ} {old new : PagesView} → LooksStep 
 looks_more {asks = asks} looks = looks_within (λ key none. absurd none) (omega arith) looks
 
 -- a page was brought into memory
-pub brought : {old new : PagesView} → PagesStep no_page 1 1 old new → (NoneChanged old → OnlyReads (device_below old) (device_below new)) → LooksStep no_page 1 old new
-brought step unwritten = record { step = step; mapped = all_mapped step; held = λ told. all_held step told; changed = none_changed_more step; unwritten = unwritten }
+pub brought : {old new : PagesView} → PagesStep no_page 1 1 old new → LooksStep no_page 1 old new
+brought step = record { step = step; mapped = all_mapped step; held = λ told. all_held step told; changed = none_changed_more step; unwritten = only_reads step }
 
 -- ---- looks by their results
 
@@ -64,8 +63,8 @@ pub checks_none : {T : Type 0} {noted : Keys} {asks : ℕ} (view : PagesView) (r
 checks_none view result sound = record { looks = looks_none view; failed = λ is. absurd (sound is) }
 
 -- a page was brought into memory
-pub checks_load : {T U : Type 0} {noted : Keys} {old new : PagesView} {first : Result T PageFault} (result : Result U PageFault) → PagesCall no_page 1 1 old new first → (NoneChanged old → OnlyReads (device_below old) (device_below new)) → (result ≡ Err DeviceFailed → first ≡ Err DeviceFailed) → ChecksPages noted 1 old new result
-checks_load result call unwritten is = record { looks = looks_more (brought call.step unwritten); failed = λ failed. call.failed (is failed) }
+pub checks_load : {T U : Type 0} {noted : Keys} {old new : PagesView} {first : Result T PageFault} (result : Result U PageFault) → PagesCall no_page 1 1 old new first → (result ≡ Err DeviceFailed → first ≡ Err DeviceFailed) → ChecksPages noted 1 old new result
+checks_load result call is = record { looks = looks_more (brought call.step); failed = λ failed. call.failed (is failed) }
 
 pub checks_then : {T U : Type 0} {noted : Keys} {asks asks_then : ℕ} {old mid new : PagesView} {first : Result T PageFault} {second : Result U PageFault} → ChecksPages noted asks old mid first → ChecksPages noted asks_then mid new second → ChecksPages noted (asks + asks_then) old new second
 checks_then one two = record {

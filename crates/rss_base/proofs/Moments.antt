@@ -3,7 +3,7 @@ use Rattle.std.proofs.Common.{◌≡◌, ◌⊎◌, inl, inr, ⊎_elim, ℕ, ◌
 use Rattle.std.specs.Prelude.{Result, IsErr}
 use Rattle.std.proofs.lemmas.Bool.{cases_lt}
 use Rattle.rss_base.specs.DiskRule.{Disk, Pages, Leaves, LeavesOnly, Places, IsAt, SameOff, TornIn, Passes, Continues, GoesOn, WritesIn}
-use Rattle.rss_base.specs.Devices.{DeviceView, OnlyReads, ReadsPages, WritesPages}
+use Rattle.rss_base.specs.Devices.{DeviceView, OnlyReads, SameDevice, ReadsPages, WritesPages}
 use Rattle.rss_base.specs.Faults.{Rises}
 use Rattle.rss_base.specs.declared.fault.Failed.{Failed}
 
@@ -99,6 +99,35 @@ reads_then first second = record {
   moments = λ told. no_more_then (first.moments told) (second.moments (record { pages = told.pages; is = first.contents ∙ told.is }));
   same_writes = second.same_writes ∙ first.same_writes;
   later = omega (arith, first.later, second.later);
+}
+
+pub same_device : (device : DeviceView) → SameDevice device device
+same_device device = record { contents = refl; moment = refl; images = λ t image. ((λ left. left), (λ left. left)); size = refl; writes = refl; faults = refl }
+
+pub same_then : {old mid new : DeviceView} → SameDevice old mid → SameDevice mid new → SameDevice old new
+same_then first second = record {
+  contents = second.contents ∙ first.contents;
+  moment = second.moment ∙ first.moment;
+  images = λ t image. (
+    (λ left. (first.images t image).0 ((second.images t image).0 left)),
+    (λ left. (second.images t image).1 ((first.images t image).1 left)),
+  );
+  size = second.size ∙ first.size;
+  writes = second.writes ∙ first.writes;
+  faults = second.faults ∙ first.faults;
+}
+
+-- a device that is as it was was only read
+pub same_reads : {old new : DeviceView} → SameDevice old new → OnlyReads old new
+same_reads same = record {
+  contents = same.contents;
+  moments = λ told. record {
+    later = omega (arith, same.moment);
+    past = λ t image le. same.images t image;
+    each = λ t image lt le left. absurd (omega (arith, lt, le, same.moment));
+  };
+  same_writes = same.writes;
+  later = omega (arith, same.faults);
 }
 
 -- after calls that only read a stop leaves what it left before them

@@ -4,17 +4,17 @@ use Rattle.std.specs.Prelude.{Result, Ok, Err, IsErrAnd}
 use Rattle.std.proofs.lemmas.Result.{err_from_is_err_and}
 use Rattle.std.proofs.lemmas.Bool.{cases_Bool, cond-true, cond-false, true≢false}
 use Rattle.rss_base.specs.DiskRule.{IsTold}
-use Rattle.rss_base.specs.Paged.{AreAmong, Mapped, Held, HasPageCause, is_same, with_mapped, with_page, page_key}
+use Rattle.rss_base.specs.Paged.{AreAmong, Mapped, Held, HasPageCause, Backing, is_same, with_mapped, with_page, page_key, mapped_pages}
 use Rattle.rss_base.specs.Notes.{Noted, with_note}
 use Rattle.rss_base.specs.Devices.{OnlyReads}
-use Rattle.rss_base.specs.Steps.{PagesView, Keys, NoneChanged, no_page, only, pages_in, WritesPage, TakesPage, GivesPage, NotesPage, PassesOn, PagesStep, PagesCall, device_below}
+use Rattle.rss_base.specs.Steps.{PagesView, Keys, NoneChanged, AreInMemory, StaysIdle, no_page, only, pages_in, WritesPage, TakesPage, GivesPage, NotesPage, PassesOn, PagesStep, PagesCall, device_below}
 use Rattle.rss_base.specs.declared.fault.PageFault.{PageFault}
 use Rattle.rss_base.specs.declared.fault.PageFault.TheVariants.{Device as DeviceFailed, Damaged, NoMemory}
 use Rattle.rss_base.specs.declared.key.PageKey.{PageKey}
 use Rattle.rss_base.specs.declared.key.Space.{Space}
 use Rattle.rss_base.proofs.Calls.{leaves_then, leaves_rests}
 use Rattle.rss_base.proofs.Keys.{is_same-itself, is_same-other}
-use Rattle.rss_base.proofs.Moments.{reads_none, reads_then}
+use Rattle.rss_base.proofs.Moments.{reads_none, reads_then, same_device, same_then}
 
 -- ---- what is passed on
 
@@ -63,11 +63,29 @@ still_none old new changed off none key = elim (cases_Bool (new.changed key)) [
   | inr not ↦ not
 ]
 
+-- nothing was done to the device, nor to what is in memory
+pub idle_rests : (view : PagesView) → StaysIdle view view
+idle_rests view = record { device = same_device (device_below view); in_memory = refl }
+
+idle_then : {old mid new : PagesView} → StaysIdle old mid → StaysIdle mid new → StaysIdle old new
+idle_then one two = record { device = same_then one.device two.device; in_memory = two.in_memory ∙ one.in_memory }
+
+-- where no page was touched and the same ones are in memory, all of them are there still
+still_in_memory : {touched : Keys} {asks outs : ℕ} {old new : PagesView} → PagesStep touched asks outs old new → ((key : PageKey) → touched key → ⊥) → AreInMemory old → StaysIdle old new → AreInMemory new
+still_in_memory {old = old} {new = new} step off are idle =
+    let same : new.mapped ≡ old.mapped = λ i key. step.mapped_off key (off key) i in
+    let count : mapped_pages new.slots new.mapped ≡ mapped_pages old.slots old.mapped = λ i. mapped_pages (step.passes.slots i) (same i) in
+    record {
+      each = λ key is. ap (λ (m : Mapped). m key) idle.in_memory ∙ are.each key (sym (step.mapped_off key (off key)) ∙ is);
+      room = omega (arith, are.room, count, ap (λ (b : Backing). b.frames) step.passes.backing);
+    }
+
 -- nothing is done
 pub rests : {touched : Keys} {asks outs : ℕ} (view : PagesView) → PagesStep touched asks outs view view
 rests view = record {
   passes = passes_nothing view;
   unwritten = λ off none. reads_none (device_below view);
+  idle = λ off are. idle_rests view;
   changed_off = λ key is. inl is;
   mapped_off = λ key off. refl;
   held_off = λ told key off. refl;
@@ -79,6 +97,7 @@ pub then : {touched : Keys} {asks asks_then outs outs_then : ℕ} {old mid new :
 then {old = old} {mid = mid} one two = record {
   passes = passes_then one.passes two.passes;
   unwritten = λ off none. reads_then (one.unwritten off none) (two.unwritten off (still_none old mid one.changed_off off none));
+  idle = λ off are. let idle = one.idle off are in idle_then idle (two.idle off (still_in_memory one off are idle));
   changed_off = λ key is. ⊎_elim (one.changed_off key) (λ there. inr there) (two.changed_off key is);
   mapped_off = λ key off. two.mapped_off key off ∙ one.mapped_off key off;
   held_off = λ told key off. two.held_off (one.passes.leaves.told.0 told) key off ∙ one.held_off told key off;
@@ -90,6 +109,7 @@ pub within : {touched more : Keys} {asks outs asks_now outs_now : ℕ} {old new 
 within is few_asks few_outs step = record {
   passes = passes_within few_asks few_outs step.passes;
   unwritten = λ off none. step.unwritten (λ key there. off key (is key there)) none;
+  idle = λ off are. step.idle (λ key there. off key (is key there)) are;
   changed_off = λ key there. ⊎_elim (λ before. inl before) (λ touched. inr (is key touched)) (step.changed_off key there);
   mapped_off = λ key off. step.mapped_off key (λ there. off (is key there));
   held_off = λ told key off. step.held_off told key (λ there. off (is key there));
@@ -148,6 +168,7 @@ pub wrote : {T : Type 0} {key : PageKey} {bytes : List ℕ} {asks outs : ℕ} {o
 wrote {key = key} {bytes = bytes} {old = old} {new = new} value passes changed does = done value (record {
   passes = passes;
   unwritten = λ off none. absurd (off key refl);
+  idle = λ off are. absurd (off key refl);
   changed_off = changed;
   mapped_off = λ other off. ap (λ (m : Mapped). m other) does.mapped;
   held_off = λ told. held_off-with key old new (Some bytes) (does.held told);
@@ -158,6 +179,7 @@ pub took : {T : Type 0} {key : PageKey} {asks outs : ℕ} {old new : PagesView} 
 took {key = key} {old = old} {new = new} value passes changed does = done value (record {
   passes = passes;
   unwritten = λ off none. absurd (off key refl);
+  idle = λ off are. absurd (off key refl);
   changed_off = changed;
   mapped_off = mapped_off-with key old new true does.mapped;
   held_off = λ told. held_off-with key old new _ (does.held told);
@@ -168,6 +190,7 @@ pub gave : {T : Type 0} {key : PageKey} {asks outs : ℕ} {old new : PagesView} 
 gave {key = key} {old = old} {new = new} value passes changed does = done value (record {
   passes = passes;
   unwritten = λ off none. absurd (off key refl);
+  idle = λ off are. absurd (off key refl);
   changed_off = changed;
   mapped_off = mapped_off-with key old new false does.mapped;
   held_off = λ told. held_off-with key old new _ (does.held told);
@@ -179,6 +202,7 @@ pub noted : {key : PageKey} {number asks outs : ℕ} {old new : PagesView} → P
 noted {key = key} {number = number} {old = old} {new = new} passes does = record {
   passes = passes;
   unwritten = λ off none. absurd (off key refl);
+  idle = λ off are. absurd (off key refl);
   changed_off = λ other is. inl (sym (ap (λ (m : Mapped). m other) does.changed) ∙ is);
   mapped_off = λ other off. ap (λ (m : Mapped). m other) does.mapped;
   held_off = λ told other off. ap (λ (h : Held). h other) does.held;
@@ -186,10 +210,11 @@ noted {key = key} {number = number} {old = old} {new = new} passes does = record
 }
 
 -- no page was changed
-pub kept_all : {touched : Keys} {asks outs : ℕ} {old new : PagesView} → PassesOn asks outs old new → new.changed ≡ old.changed → new.mapped ≡ old.mapped → (IsTold old.disk → new.held ≡ old.held) → new.notes ≡ old.notes → (NoneChanged old → OnlyReads (device_below old) (device_below new)) → PagesStep touched asks outs old new
-kept_all passes changed mapped held notes unwritten = record {
+pub kept_all : {touched : Keys} {asks outs : ℕ} {old new : PagesView} → PassesOn asks outs old new → new.changed ≡ old.changed → new.mapped ≡ old.mapped → (IsTold old.disk → new.held ≡ old.held) → new.notes ≡ old.notes → (NoneChanged old → OnlyReads (device_below old) (device_below new)) → (AreInMemory old → StaysIdle old new) → PagesStep touched asks outs old new
+kept_all passes changed mapped held notes unwritten idle = record {
   passes = passes;
   unwritten = λ off none. unwritten none;
+  idle = λ off are. idle are;
   changed_off = λ key is. inl (sym (ap (λ (m : Mapped). m key) changed) ∙ is);
   mapped_off = λ key off. ap (λ (m : Mapped). m key) mapped;
   held_off = λ told key off. ap (λ (h : Held). h key) (held told);
@@ -217,6 +242,9 @@ all_notes step = λ i key. step.notes_off key (λ none. none) i
 
 pub none_changed_more : {asks outs : ℕ} {old new : PagesView} → PagesStep no_page asks outs old new → AreAmong new.changed old.changed
 none_changed_more step = λ key is. ⊎_elim (λ there. there) (λ none. absurd none) (step.changed_off key is)
+
+pub only_reads : {asks outs : ℕ} {old new : PagesView} → PagesStep no_page asks outs old new → NoneChanged old → OnlyReads (device_below old) (device_below new)
+only_reads step none = step.unwritten (λ key none. none) none
 
 pub cause_of : {T : Type 0} {touched : Keys} {asks outs : ℕ} {old new : PagesView} {result : Result T PageFault} → PagesCall touched asks outs old new result → HasPageCause old.disk old.faults new.faults result
 cause_of call = record { later = call.step.passes.later; failed = call.failed; sound = call.sound; memory = call.memory }

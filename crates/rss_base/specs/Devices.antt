@@ -1,6 +1,6 @@
 -- What there is to see of a device, and what a call on it passes on, whatever it does.
-use Rattle.std.specs.Prelude.{◌≡◌, ℕ, ◌+◌, ◌≤◌, Result, IsErr, IsErrOf}
-use Rattle.rss_base.specs.DiskRule.{Disk, IsTold, Passes, Leaves, Places, WritesIn}
+use Rattle.std.specs.Prelude.{◌≡◌, ◌↔◌, ℕ, ◌+◌, ◌≤◌, Result, IsErr, IsErrOf}
+use Rattle.rss_base.specs.DiskRule.{Disk, Pages, IsTold, Passes, Leaves, Places, WritesIn}
 use Rattle.rss_base.specs.Faults.{HasCause, Rises}
 use Rattle.rss_base.specs.declared.fault.Failed.{Failed}
 use Rattle.rss_base.specs.declared.fault.OpenFault.{OpenFault}
@@ -24,6 +24,15 @@ pub record OnlyReads (old new : DeviceView) : Type 0 where
   pub moments : IsTold old.disk → Passes old.disk new.disk (Leaves old.disk)
   pub same_writes : new.writes ≡ old.writes
   pub later : old.faults ≤ new.faults
+
+-- The device is as it was.
+pub record SameDevice (old new : DeviceView) : Type 0 where
+  pub contents : new.disk.contents ≡ old.disk.contents
+  pub moment : new.disk.moment ≡ old.disk.moment
+  pub images : (t : ℕ) (image : Pages) → new.disk.images t image ↔ old.disk.images t image
+  pub size : new.size ≡ old.size
+  pub writes : new.writes ≡ old.writes
+  pub faults : new.faults ≡ old.faults
 
 -- A call that reads pages, by its result.
 pub record ReadsPages {T : Type 0} (old new : DeviceView) (result : Result T Failed) : Type 0 where

@@ -1,13 +1,13 @@
 -- What there is to see of pages, and what a call on them passes on, whatever it does.
-use Rattle.std.specs.Prelude.{◌≡◌, ◌⊎◌, ℕ, ◌+◌, ◌*◌, ◌≤◌, Bool, true, false, List, ◌++◌, length, take, drop, slice_range, Some, None, Result, Ok, Err, IsErrOf}
+use Rattle.std.specs.Prelude.{◌≡◌, ◌⊎◌, ℕ, ◌+◌, ◌*◌, ◌<◌, ◌≤◌, Bool, true, false, List, ◌++◌, length, take, drop, slice_range, Some, None, Result, Ok, Err, IsErrOf}
 use Rattle.rss_base.specs.DiskRule.{Disk, IsTold}
-use Rattle.rss_base.specs.Devices.{DeviceView, OnlyReads}
+use Rattle.rss_base.specs.Devices.{DeviceView, OnlyReads, SameDevice}
 use Rattle.rss_base.specs.Sizes.{zero_page}
 use Rattle.rss_base.specs.Faults.{Rises}
 use Rattle.rss_base.specs.Runs.{run_pages}
 use Rattle.rss_base.specs.PageMap.{page_count}
 use Rattle.rss_base.specs.Notes.{Noted, with_note}
-use Rattle.rss_base.specs.Paged.{Mapped, Held, Fixed, Backing, LeavesFixed, page_key, with_mapped, with_page, mapped_pages}
+use Rattle.rss_base.specs.Paged.{Mapped, Held, Fixed, Backing, AreAmong, LeavesFixed, page_key, with_mapped, with_page, mapped_pages}
 use Rattle.rss_base.specs.declared.place.Place.{Place}
 use Rattle.rss_base.specs.declared.fault.PageFault.{PageFault}
 use Rattle.rss_base.specs.declared.fault.PageFault.TheVariants.{Device as DeviceFailed, Damaged, NoMemory}
@@ -51,6 +51,16 @@ NoneChanged view = (key : PageKey) → view.changed key ≡ false
 -- the device under the pages
 abbrev pub device_below : PagesView → DeviceView
 device_below view = record { disk = view.disk; size = view.fixed.size; writes = view.writes; faults = view.faults }
+
+-- each page that is mapped is in memory, and there is room for one more
+pub record AreInMemory (view : PagesView) : Type 0 where
+  pub each : AreAmong view.mapped view.in_memory
+  pub room : mapped_pages view.slots view.mapped < view.backing.frames
+
+-- the device is as it was, and the same pages are in memory
+pub record StaysIdle (old new : PagesView) : Type 0 where
+  pub device : SameDevice (device_below old) (device_below new)
+  pub in_memory : new.in_memory ≡ old.in_memory
 
 -- ---- sets of pages
 
@@ -129,11 +139,13 @@ pub record PassesOn (asks outs : ℕ) (old new : PagesView) : Type 0 where
   pub writes_low : old.writes ≤ new.writes
   pub writes_high : new.writes ≤ old.writes + run_pages * outs
 
--- And no pages were touched but these. Where none was, nor changed before, the device was only read.
+-- And no pages were touched but these. Where none was, nor changed before, the device was only read;
+-- and where none was and all were in memory, the device was asked for nothing, and none left memory.
 pub record PagesStep (touched : Keys) (asks outs : ℕ) (old new : PagesView) : Type 0 where
   pub passes : PassesOn asks outs old new
   pub unwritten : ((key : PageKey) → touched key → ⊥) → NoneChanged old
       → OnlyReads (device_below old) (device_below new)
+  pub idle : ((key : PageKey) → touched key → ⊥) → AreInMemory old → StaysIdle old new
   pub changed_off : (key : PageKey) → new.changed key ≡ true → (old.changed key ≡ true) ⊎ touched key
   pub mapped_off : (key : PageKey) → (touched key → ⊥) → new.mapped key ≡ old.mapped key
   pub held_off : IsTold old.disk → (key : PageKey) → (touched key → ⊥) → new.held key ≡ old.held key

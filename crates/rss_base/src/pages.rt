@@ -6,9 +6,8 @@ ghost use Rattle.rss_base.specs.DiskRule.{Pages as DevicePages, Told, IsTold, Le
 ghost use Rattle.rss_base.specs.PageMap.{IsKey};
 ghost use Rattle.rss_base.specs.Notes.{is_noted_space, note_most, MayDo};
 ghost use Rattle.rss_base.specs.Paged.{page_key, mapped_of, IsLeastUnmapped, IsMappedAt, IsUnmappedAt, IsFirstFrom, NoneFrom, HasFixed};
-ghost use Rattle.rss_base.specs.Devices.{OnlyReads};
 ghost use Rattle.rss_base.specs.Steps.{PagesView, AreCounted, PagesStep, PagesCall, NotesPage, no_page, only, only_on_ok, taken, WritesPage, CopiesBytes, TakesPage, GivesPage};
-ghost use Rattle.rss_base.specs.Steps.{NoneChanged, device_below};
+ghost use Rattle.rss_base.specs.Steps.{StaysIdle};
 ghost use Rattle.rss_base.specs.declared.key.Space.TheVariants.{System, Image};
 ghost use Rattle.rss_base.specs.declared.key.PageKey.{PageKey as Key};
 
@@ -58,14 +57,13 @@ pub trait Pages {
             (IsUnmappedAt (view self.now).slots (view self.now).mapped segment space) from) };
 
     /// Notes a number on a home or an overflow page, in place of what was noted before. The note
-    /// stays until the page is written, taken or given.
+    /// stays until the page is written, taken or given. The device is asked for nothing.
     fn note(&mut self, key: PageKey, number: u16)
         requires mapped { (view self.old).mapped key ≡ true }
         requires space { is_noted_space key.space ≡ true }
         requires most { number ≤ note_most }
         ensures noted { NotesPage key number (view self.old) (view self.new) }
-        ensures unwritten { NoneChanged (view self.old)
-            → OnlyReads (device_below (view self.old)) (device_below (view self.new)) }
+        ensures idle { StaysIdle (view self.old) (view self.new) }
         ensures did { PagesStep (only key) 0 0 (view self.old) (view self.new) };
 
     /// The first number from this one on whose page may do: it is mapped, and has no note or one of
@@ -80,13 +78,13 @@ pub trait Pages {
             (MayDo (view self.now).mapped (view self.now).notes least segment space) from) };
 
     /// Brings a page into memory, where `loaded` lends it. It may leave with the next call that
-    /// changes `self`.
+    /// changes `self`. Of a page that is there the device is asked for nothing, and none leaves.
     fn load(&mut self, key: PageKey) -> Result<(), PageFault>
         requires { (view self.old).mapped key ≡ true }
         ensures there { OnOk result ((view self.new).in_memory key ≡ true) }
         ensures asks { (view self.new).asks ≡ counted (view self.old).asks }
-        ensures unwritten { NoneChanged (view self.old)
-            → OnlyReads (device_below (view self.old)) (device_below (view self.new)) }
+        ensures idle { (view self.old).in_memory key ≡ true
+            → StaysIdle (view self.old) (view self.new) }
         ensures did { PagesCall no_page 1 1 (view self.old) (view self.new) result };
 
     /// Lends a page that is in memory, without a copy of it.
@@ -99,8 +97,8 @@ pub trait Pages {
         ensures page { OnOk result (IsTold (view self.old).disk
             → (view self.old).held key ≡ Some into.new) }
         ensures asks { (view self.new).asks ≡ counted (view self.old).asks }
-        ensures unwritten { NoneChanged (view self.old)
-            → OnlyReads (device_below (view self.old)) (device_below (view self.new)) }
+        ensures idle { (view self.old).in_memory key ≡ true
+            → StaysIdle (view self.old) (view self.new) }
         ensures did { PagesCall no_page 1 1 (view self.old) (view self.new) result };
 
     fn write(&mut self, key: PageKey, from: &Page) -> Result<(), PageFault>

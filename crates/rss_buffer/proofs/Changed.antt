@@ -8,11 +8,11 @@ use Rattle.rss_base.specs.Devices.{OnlyReads}
 use Rattle.rss_base.specs.DiskRule.{Pages, page, Told, IsTold}
 use Rattle.rss_base.specs.Layout.{slots_at}
 use Rattle.rss_base.specs.PageMap.{IsKey, IsTable, owner_of, page_count}
-use Rattle.rss_base.specs.Paged.{Mapped, Held, Fixed, LeavesFixed, is_same, with_mapped, with_page, page_key, IsLeastUnmapped}
+use Rattle.rss_base.specs.Paged.{Mapped, Held, Fixed, LeavesFixed, is_same, with_mapped, with_page, page_key, mapped_pages, IsLeastUnmapped}
 use Rattle.rss_base.specs.Runs.{run_pages}
 use Rattle.rss_base.specs.Sizes.{zero_page}
 use Rattle.rss_base.specs.Notes.{is_noted_space, with_note}
-use Rattle.rss_base.specs.Steps.{NoneChanged, device_below, Keys, no_page, PassesOn, PagesStep, PagesCall, WritesPage, TakesPage, GivesPage}
+use Rattle.rss_base.specs.Steps.{NoneChanged, AreInMemory, StaysIdle, device_below, Keys, no_page, PassesOn, PagesStep, PagesCall, WritesPage, TakesPage, GivesPage}
 use Rattle.rss_base.specs.declared.fault.PageFault.{PageFault}
 use Rattle.rss_base.specs.declared.key.Space.{Space}
 use Rattle.rss_base.specs.declared.key.Space.TheVariants.{Home, Overflow, Image, System}
@@ -26,10 +26,11 @@ use Rattle.rss_buffer.specs.Frames.{Frame, FrameOf, with_frame}
 use Rattle.rss_buffer.specs.declared.stage.Stage.TheVariants.{Changing}
 use Rattle.rss_buffer.specs.Slots.{held_in, held_by, fixed_by, told_pages}
 use Rattle.rss_base.specs.StoredPages.{slot_of, mapped_by}
-use Rattle.rss_buffer.specs.Buffered.{BufferView, AreFrames, StaysFixed, HaveSlots, AreNotesOf, IsBuffer, held_of, KeepsPages, MovesPages}
+use Rattle.rss_buffer.specs.Buffered.{BufferView, AreFrames, StaysFixed, HaveSlots, AreNotesOf, IsBuffer, IsFilled, held_of, KeepsPages, MovesPages}
 use Rattle.rss_buffer.specs.Saving.{changed_by}
 use Rattle.rss_buffer.specs.BufferLaws.{saveable_by}
 use Rattle.rss_buffer.specs.Views.{pages_view}
+use Rattle.rss_base.proofs.Counts.{mapped_pages-owners}
 use Rattle.rss_base.proofs.Steps.{kept_all}
 use Rattle.rss_base.proofs.Keys.{is_same-true, is_same-itself, owner_of-slot_of, the_slot}
 use Rattle.rss_buffer.proofs.Lookups.{with_frame-same, with_frame-other}
@@ -355,19 +356,22 @@ keeps_on keeps few = record {
   writes_high = few;
 }
 
+mapped_count : {view : BufferView} → IsBuffer view → mapped_pages (length view.maps.current) (mapped_by view.maps.current) ≡ page_count view.maps.current
+mapped_count {view = view} buffer = mapped_pages-owners (length view.maps.current) view.maps.current (mapped_by view.maps.current) buffer.laid_out.table.allowed buffer.laid_out.table.distinct (λ key. refl)
+
 -- where no page was changed the device was only read
-pub looks : {old new : BufferView} {asks : ℕ} → IsBuffer old → KeepsPages (record old { asks = asks }) new → NoneChanged (pages_view old) → OnlyReads (device_below (pages_view old)) (device_below (pages_view new))
+looks : {old new : BufferView} {asks : ℕ} → IsBuffer old → KeepsPages (record old { asks = asks }) new → NoneChanged (pages_view old) → OnlyReads (device_below (pages_view old)) (device_below (pages_view new))
 looks {old = old} buffer keeps none =
     let reads = keeps.unwritten (none-among old.frames (saveable_by buffer).waiting none) in
     record { contents = reads.contents; moments = reads.moments; same_writes = reads.same_writes; later = reads.later }
 
--- no page was touched
-pub keeps_step : {old new : BufferView} {touched : Keys} {asks outs : ℕ} → IsBuffer old → KeepsPages old new → new.device.writes ≤ old.device.writes + run_pages * outs → PagesStep touched asks outs (pages_view old) (pages_view new)
-keeps_step {old = old} buffer keeps few = kept_all (keeps_on keeps few) (ap (λ (m : Maps). changed_by m) keeps.maps) (ap (λ (m : Maps). mapped_by m.current) keeps.maps) keeps.held (ap (λ (n : NotesView). n.notes) keeps.notes) (looks {asks = old.asks} buffer keeps)
+-- no page was touched, and as many are mapped as there may be in memory
+pub keeps_step : {old new : BufferView} {touched : Keys} {asks outs : ℕ} → IsBuffer old → IsFilled old → KeepsPages old new → new.device.writes ≤ old.device.writes + run_pages * outs → PagesStep touched asks outs (pages_view old) (pages_view new)
+keeps_step {old = old} buffer full keeps few = kept_all (keeps_on keeps few) (ap (λ (m : Maps). changed_by m) keeps.maps) (ap (λ (m : Maps). mapped_by m.current) keeps.maps) keeps.held (ap (λ (n : NotesView). n.notes) keeps.notes) (looks {asks = old.asks} buffer keeps) (λ are. absurd (omega (arith, full, are.room, mapped_count buffer)))
 
 -- the same of a page that was asked for
-pub asked_step : {old new : BufferView} {asks outs : ℕ} → IsBuffer old → KeepsPages (record old { asks = asks }) new → old.asks ≤ asks → asks ≤ old.asks + 1 → new.device.writes ≤ old.device.writes + run_pages * outs → PagesStep no_page 1 outs (pages_view old) (pages_view new)
-asked_step buffer keeps low high few =
+pub asked_step : {old new : BufferView} {asks outs : ℕ} → IsBuffer old → KeepsPages (record old { asks = asks }) new → old.asks ≤ asks → asks ≤ old.asks + 1 → new.device.writes ≤ old.device.writes + run_pages * outs → (AreInMemory (pages_view old) → StaysIdle (pages_view old) (pages_view new)) → PagesStep no_page 1 outs (pages_view old) (pages_view new)
+asked_step buffer keeps low high few idle =
     let on = keeps_on {asks = 0} keeps few in
     kept_all (record {
       slots = on.slots;
@@ -378,7 +382,7 @@ asked_step buffer keeps low high few =
       asks_high = omega (arith, high, keeps.asks);
       writes_low = on.writes_low;
       writes_high = on.writes_high;
-    }) (ap (λ (m : Maps). changed_by m) keeps.maps) (ap (λ (m : Maps). mapped_by m.current) keeps.maps) keeps.held (ap (λ (n : NotesView). n.notes) keeps.notes) (looks buffer keeps)
+    }) (ap (λ (m : Maps). changed_by m) keeps.maps) (ap (λ (m : Maps). mapped_by m.current) keeps.maps) keeps.held (ap (λ (n : NotesView). n.notes) keeps.notes) (looks buffer keeps) idle
 
-pub asked : {T : Type 0} {old new : BufferView} {asks : ℕ} {result : Result T PageFault} → IsBuffer old → MovesPages (record old { asks = asks }) new result → old.asks ≤ asks → asks ≤ old.asks + 1 → PagesCall no_page 1 1 (pages_view old) (pages_view new) result
-asked buffer call low high = record { step = asked_step buffer call.keeps low high call.few; failed = call.cause.failed; sound = call.cause.sound; memory = call.cause.memory }
+pub asked : {T : Type 0} {old new : BufferView} {asks : ℕ} {result : Result T PageFault} → IsBuffer old → MovesPages (record old { asks = asks }) new result → old.asks ≤ asks → asks ≤ old.asks + 1 → (AreInMemory (pages_view old) → StaysIdle (pages_view old) (pages_view new)) → PagesCall no_page 1 1 (pages_view old) (pages_view new) result
+asked buffer call low high idle = record { step = asked_step buffer call.keeps low high call.few idle; failed = call.cause.failed; sound = call.cause.sound; memory = call.cause.memory }

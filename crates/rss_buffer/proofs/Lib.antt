@@ -1,6 +1,7 @@
 pub mod Cuts
 pub mod Lookups
 pub mod Loose
+pub mod Fitting
 pub mod Turns
 pub mod Runs
 pub mod Waits

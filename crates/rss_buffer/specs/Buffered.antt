@@ -111,6 +111,10 @@ pub record IsBuffer (view : BufferView) : Type 0 where
   pub fixed : view.settled ≡ true → Told view.device.disk (StaysFixed view.device.disk view.first view.maps.shadow)
   pub at_stage : IsAtStage view
 
+-- as many pages are mapped as there may be in memory
+abbrev pub IsFilled : BufferView → Type 0
+IsFilled view = view.room ≤ page_count view.maps.current
+
 -- ---- what is done to the frames
 
 -- the frame of a page that stands in its slot

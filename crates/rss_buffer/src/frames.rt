@@ -5,7 +5,7 @@ ghost use Rattle.rss_base.specs.Devices.{ReadsPages};
 ghost use Rattle.rss_base.specs.PageMap.{IsTable};
 ghost use Rattle.rss_base.specs.Sizes.{page_bytes};
 ghost use Rattle.rss_base.specs.declared.key.PageKey.{PageKey as Key};
-ghost use Rattle.rss_frames.specs.Entries.{entries, room};
+ghost use Rattle.rss_frames.specs.Entries.{AreDistinct, entries, room};
 ghost use Rattle.rss_buffer.specs.Frames.{frame_in, with_frame, HasRoom, IsNewest, ReadsIn, CopiesFrame};
 ghost use Rattle.rss_buffer.specs.Buffered.{with_unchanged};
 ghost use Rattle.rss_buffer.specs.Gathered.{AreSettled, IsInFrame};
@@ -41,8 +41,11 @@ impl Frames {
 
     /// Whether each frame has a page.
     pub(crate) fn is_full(&self) -> bool
-        ensures { IsTrue result ↔ (room self.now.cache ≤ length (entries self.now.cache)) }
+        ensures full { IsTrue result ↔ (room self.now.cache ≤ length (entries self.now.cache)) }
+        ensures distinct { AreDistinct (entries self.now.cache) }
     {
+        // `len` is called for its clause that no page is there twice.
+        let _len = self.cache.len();
         self.cache.is_full()
     }
 

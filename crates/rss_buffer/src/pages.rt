@@ -1,12 +1,12 @@
 // The pages of a buffer, one at a time.
-ghost use Rattle.std.specs.Prelude.{◌≡◌, ◌≢◌, ◌⊎◌, ◌+◌, ◌<◌, ◌≤◌, length, true, None, is_some, IsSome, OnOk};
+ghost use Rattle.std.specs.Prelude.{◌≡◌, ◌≢◌, ◌⊎◌, ◌+◌, ◌<◌, ◌≤◌, length, true, None, is_some, IsSome, OnOk, OnErr};
 ghost use Rattle.rss_base.specs.StoredPages.{mapped_by};
 ghost use Rattle.rss_base.specs.declared.key.PageKey.{PageKey as Key};
 ghost use Rattle.rss_base.specs.Runs.{run_pages};
 ghost use Rattle.rss_base.specs.Sizes.{page_bytes};
-ghost use Rattle.rss_base.specs.Steps.{no_page, only, PagesStep, PagesCall, CopiesBytes};
+ghost use Rattle.rss_base.specs.Steps.{no_page, only, StaysIdle, PagesStep, PagesCall, CopiesBytes};
 ghost use Rattle.rss_buffer.specs.Frames.{HasRoom, IsNewest};
-ghost use Rattle.rss_buffer.specs.Buffered.{asked_for, KeepsPages, MovesPages, WritesPages};
+ghost use Rattle.rss_buffer.specs.Buffered.{asked_for, IsFilled, KeepsPages, MovesPages, WritesPages};
 ghost use Rattle.rss_buffer.specs.Gathered.{IsInFrame, IsUnchanged, IsWritten};
 
 use crate::{Buffer, Stage};
@@ -42,6 +42,7 @@ impl<D: Device> Buffer<D> {
     /// Makes sure that a frame is free. The page that leaves is written to its slot first, where it
     /// was changed. It isn't the one that was used last.
     fn make_room(&mut self) -> Result<(), PageFault>
+        ensures full { OnErr result (IsFilled (buffer_view self.old)) }
         ensures room { OnOk result (HasRoom self.new.frames.cache) }
         ensures none_more { (key : Key) → (buffer_view self.old).frames key ≡ None
             → (buffer_view self.new).frames key ≡ None }
@@ -81,6 +82,7 @@ impl<D: Device> Buffer<D> {
 
     /// Makes sure that a frame is free, where none has the page.
     fn make_room_for(&mut self, key: PageKey) -> Result<(), PageFault>
+        ensures full { OnErr result (IsFilled (buffer_view self.old)) }
         ensures room { OnOk result
             (HasRoom self.new.frames.cache ⊎ IsSome ((buffer_view self.new).frames key)) }
         ensures did { MovesPages (buffer_view self.old) (buffer_view self.new) result }
@@ -98,6 +100,8 @@ impl<D: Device> Buffer<D> {
         ensures stays { (other : Key) → IsNewest other self.old.frames.cache
             → IsSome ((buffer_view self.new).frames other) }
         ensures keeps { KeepsPages (asked_for (buffer_view self.old)) (buffer_view self.new) }
+        ensures idle { IsSome ((buffer_view self.old).frames key)
+            → StaysIdle (pages_view (buffer_view self.old)) (pages_view (buffer_view self.new)) }
         ensures did { PagesCall no_page 1 1
             (pages_view (buffer_view self.old)) (pages_view (buffer_view self.new)) result }
     {
@@ -111,6 +115,8 @@ impl<D: Device> Buffer<D> {
         ensures newest { OnOk result (IsNewest key self.new.frames.cache) }
         ensures stays { (other : Key) → IsNewest other self.old.frames.cache
             → IsSome ((buffer_view self.new).frames other) }
+        ensures idle { IsSome ((buffer_view self.old).frames key)
+            → StaysIdle (pages_view (buffer_view self.old)) (pages_view (buffer_view self.new)) }
         ensures did { MovesPages (buffer_view self.old) (buffer_view self.new) result }
     {
         if self.frames.touch(key) {

@@ -3,27 +3,27 @@ use Rattle.std.proofs.Common.{◌≡◌, ◌+◌, ℕ, ◌≤◌, sym, ◌∙◌
 use Rattle.std.specs.Prelude.{Result, Ok, Err, IsErrAnd, IfErr, OnErr}
 use Rattle.std.proofs.lemmas.Result.{err_from_is_err_and}
 use Rattle.rss_base.specs.DiskRule.{IsTold}
-use Rattle.rss_base.specs.Devices.{OnlyReads}
 use Rattle.rss_base.specs.Paged.{Mapped}
-use Rattle.rss_base.specs.Steps.{PagesView, Keys, only, NotesPage, PagesStep, NoneChanged, device_below}
+use Rattle.rss_base.specs.Steps.{PagesView, Keys, only, NotesPage, StaysIdle, PagesStep}
 use Rattle.rss_base.specs.declared.place.Place.TheVariants.{Room, Page as PagePlace}
 use Rattle.rss_base.specs.declared.fault.PageFault.{PageFault}
 use Rattle.rss_base.specs.declared.fault.PageFault.TheVariants.{Device as DeviceFailed, Damaged}
 use Rattle.rss_base.specs.declared.key.PageKey.{PageKey}
 use Rattle.rss_base.proofs.Looking.{looks_then, looks_within}
+use Rattle.rss_base.proofs.Moments.{same_reads}
 use Rattle.rss_base.specs.Looking.{LooksStep}
 use Rattle.rss_tuple.specs.Looks.{LooksCall, NamesDamage}
 
 -- ---- looks
 
 -- a page was noted
-pub noted_one : {key : PageKey} {number : ℕ} {old new : PagesView} → NotesPage key number old new → (NoneChanged old → OnlyReads (device_below old) (device_below new)) → PagesStep (only key) 0 0 old new → LooksStep (only key) 0 old new
-noted_one notes unwritten step = record {
+pub noted_one : {key : PageKey} {number : ℕ} {old new : PagesView} → NotesPage key number old new → StaysIdle old new → PagesStep (only key) 0 0 old new → LooksStep (only key) 0 old new
+noted_one notes idle step = record {
   step = step;
   mapped = notes.mapped;
   held = λ told. notes.held;
   changed = λ key is. sym (ap (λ (m : Mapped). m key) notes.changed) ∙ is;
-  unwritten = unwritten;
+  unwritten = λ none. same_reads idle.device;
 }
 
 -- ---- calls

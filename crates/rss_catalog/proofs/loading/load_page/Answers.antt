@@ -3,10 +3,10 @@ use Rattle.rss_base.proofs.Looking.{checks_load}
 use Rattle.rss_catalog.proofs.loading.load_page.Goals as goal
 
 pub returns-in-Ok-clause-did : goal.returns-in-Ok-clause-did
-returns-in-Ok-clause-did g c = checks_load _ c.load.ensures.did c.load.ensures.unwritten (λ is. absurd (cc))
+returns-in-Ok-clause-did g c = checks_load _ c.load.ensures.did (λ is. absurd (cc))
 
 pub returns-in-Err-clause-did : goal.returns-in-Err-clause-did
-returns-in-Err-clause-did g c = checks_load _ c.load.ensures.did c.load.ensures.unwritten (λ is. c.in-Err.is ∙ ap Err (c.fault_of.ensures.failed (cc)))
+returns-in-Err-clause-did g c = checks_load _ c.load.ensures.did (λ is. c.in-Err.is ∙ ap Err (c.fault_of.ensures.failed (cc)))
 
 pub returns-in-Err-clause-flawed : goal.returns-in-Err-clause-flawed
 returns-in-Err-clause-flawed g c = λ place is.

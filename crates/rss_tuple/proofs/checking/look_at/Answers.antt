@@ -12,4 +12,4 @@ returns-in_default-clause-did g c =
     (rw c.in_default.is at c.heap_room.ensures.none) (sound _ there))
 
 pub returns-clause-did : goal.returns-clause-did
-returns-clause-did g c = looks_done _ (looks_then (looks_more c.in_ok-bring.ensures.did.looks) (noted_one c.note.ensures.noted c.note.ensures.unwritten c.note.ensures.did))
+returns-clause-did g c = looks_done _ (looks_then (looks_more c.in_ok-bring.ensures.did.looks) (noted_one c.note.ensures.noted c.note.ensures.idle c.note.ensures.did))

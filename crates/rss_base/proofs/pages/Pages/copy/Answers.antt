@@ -8,6 +8,9 @@ use Rattle.rss_base.specs.Steps.{with_bytes}
 use Rattle.rss_base.proofs.Steps.{then, then_call, untouched, fails, all_mapped, all_held, all_notes}
 use Rattle.rss_base.proofs.pages.Pages.copy.Goals as goal
 
+pub returns-in_err-read-clause-did : goal.returns-in_err-read-clause-did
+returns-in_err-read-clause-did g c = fails _ c.from_residual.ensures.1 (λ key none. absurd none) (omega arith) (omega arith) c.in_err-read.ensures.did
+
 pub returns-in_err-read-2-clause-did : goal.returns-in_err-read-2-clause-did
 returns-in_err-read-2-clause-did g c = fails _ c.from_residual-in_err-read-2.ensures.1 (λ key none. absurd none) (omega arith) (omega arith) (then_call c.in_ok-read.ensures.did.step c.in_err-read-2.ensures.did)
 

@@ -1,6 +1,9 @@
 use Rattle.std.proofs.Common.{◌≢◌, ◌∙◌, Some, None, is_some, ap, arith}
 use Rattle.rss_buffer.specs.Frames.{FrameOf, frame_in}
-use Rattle.rss_buffer.proofs.Lookups.{with_frame-other, none_from, newest_there}
+use Rattle.rss_buffer.specs.Buffered.{IsFilled}
+use Rattle.rss_buffer.specs.Devices.{buffer_view}
+use Rattle.rss_buffer.proofs.Fitting.{frames_few}
+use Rattle.rss_buffer.proofs.Lookups.{with_frame-other, none_from, newest_there, on_err}
 use Rattle.rss_buffer.proofs.Turns.{none_more-removed, KeepsPages-rests, KeepsPages-then, KeepsPages-removed, IsBuffer-removed, MovesPages-keeps, cause_fails}
 use Rattle.rss_buffer.proofs.buffer.Buffer.make_room.Goals as goal
 
@@ -13,6 +16,13 @@ returns-in_err-write_out-clause-did g c = record {
   few = c.write_out.ensures.few;
   cause = cause_fails _ c.from_residual.ensures.1 c.in_err-write_out.ensures.did.cause;
 }
+
+pub returns-in_err-write_out-clause-full : goal.returns-in_err-write_out-clause-full
+returns-in_err-write_out-clause-full g c =
+    let self = c.args.self.now in
+    let few = frames_few self.frames.cache self.shadow c.is_full.ensures.distinct self.holds.frames_hold in
+    let filled : IsFilled (buffer_view self) = omega (arith, few, c.is_full.ensures.full.0 c.if-not-is_full.false) in
+    on_err _ filled
 
 pub invariant_of-self : goal.invariant_of-self
 invariant_of-self g c =
@@ -42,7 +52,7 @@ pub returns-clause-stays : goal.returns-clause-stays
 returns-clause-stays g c = λ key newest.
     let self = c.args.self.now in
     let mid = frame_in c.write_out.new.self.frames.cache in
-    let apart : key ≢ c.in-Some.key = λ same. c.in-Some.ensures.not_newest (omega (arith, self.holds.least, c.is_full.ensures.0 c.if-not-is_full.false)) (newest ∙ ap Some same) in
+    let apart : key ≢ c.in-Some.key = λ same. c.in-Some.ensures.not_newest (omega (arith, self.holds.least, c.is_full.ensures.full.0 c.if-not-is_full.false)) (newest ∙ ap Some same) in
     ap (λ (f : FrameOf). is_some (f key)) c.remove.ensures.gone
     ∙ ap (λ o. is_some o) (with_frame-other mid c.in-Some.key None key apart)
     ∙ c.write_out.ensures.same_there key ∙ newest_there _ key newest

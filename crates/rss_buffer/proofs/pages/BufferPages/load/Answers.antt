@@ -1,5 +1,4 @@
 use Rattle.std.proofs.lemmas.Result.{on_ok_weaker}
-use Rattle.rss_buffer.proofs.Changed.{looks}
 use Rattle.rss_buffer.proofs.Lookups.{newest_there}
 use Rattle.rss_buffer.proofs.pages.BufferPages.load.Goals as goal
 
@@ -8,6 +7,3 @@ returns-clause-there g c = on_ok_weaker c.ask.result (λ newest. newest_there _ 
 
 pub returns-clause-asks : goal.returns-clause-asks
 returns-clause-asks g c = c.ask.ensures.keeps.asks
-
-pub returns-clause-unwritten : goal.returns-clause-unwritten
-returns-clause-unwritten g c = looks c.args.self.now.holds c.ask.ensures.keeps

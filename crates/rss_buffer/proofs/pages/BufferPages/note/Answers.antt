@@ -1,5 +1,5 @@
-use Rattle.std.proofs.Common.{rules}
-use Rattle.rss_base.proofs.Moments.{reads_none}
+use Rattle.std.proofs.Common.{rules, refl}
+use Rattle.rss_base.proofs.Moments.{same_device}
 use Rattle.rss_base.proofs.Steps.{noted}
 use Rattle.rss_notes.specs.Marks.{told}
 use Rattle.rss_buffer.specs.Devices.{buffer_view}
@@ -18,8 +18,8 @@ returns-clause-noted g c =
     let self = c.args.self.now in
     notes_page (buffer_view self) (told c.note.new.self) self.holds.noted c.requires.mapped c.requires.space c.note.ensures
 
-pub returns-clause-unwritten : goal.returns-clause-unwritten
-returns-clause-unwritten g c = λ none. reads_none _
+pub returns-clause-idle : goal.returns-clause-idle
+returns-clause-idle g c = record { device = same_device _; in_memory = refl }
 
 pub returns-clause-did : goal.returns-clause-did
 returns-clause-did g c = noted (search rules) (returns-clause-noted g c)

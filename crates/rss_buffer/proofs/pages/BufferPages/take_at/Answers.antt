@@ -16,7 +16,7 @@ take_at-requires-clause-lacking g c =
 pub returns-in_err-make_room-clause-did : goal.returns-in_err-make_room-clause-did
 returns-in_err-make_room-clause-did g c =
     let room = c.in_err-make_room.ensures.did in
-    fails_by _ c.from_residual.ensures.1 room.cause (keeps_step c.args.self.now.holds room.keeps room.few)
+    fails_by _ c.from_residual.ensures.1 room.cause (keeps_step c.args.self.now.holds c.in_err-make_room.ensures.full room.keeps room.few)
 
 -- ---- the page is mapped
 

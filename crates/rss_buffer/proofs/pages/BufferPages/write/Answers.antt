@@ -18,7 +18,7 @@ first_write-requires g c =
 pub returns-in_err-make_room_for-clause-did : goal.returns-in_err-make_room_for-clause-did
 returns-in_err-make_room_for-clause-did g c =
     let room = c.in_err-make_room_for.ensures.did in
-    fails_by _ c.from_residual.ensures.1 room.cause (keeps_step c.args.self.now.holds room.keeps room.few)
+    fails_by _ c.from_residual.ensures.1 room.cause (keeps_step c.args.self.now.holds c.in_err-make_room_for.ensures.full room.keeps room.few)
 
 -- ---- the page is written
 
