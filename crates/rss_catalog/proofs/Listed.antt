@@ -149,8 +149,8 @@ same_relations old new same number image at relation listed = record {
   same = refl;
 }
 
-beside_segments : (listing : Listing) (segments : List (Option Name)) → IsBeside listing (record listing { segments = segments })
-beside_segments listing segments = record { images = refl; links = refl; fields = same_relations listing _ refl; relations = λ number link at relation has listed. listed }
+beside_segments : (listing : Listing) (names : List (Option Name)) → IsBeside listing (record listing { segments = names })
+beside_segments listing names = record { images = refl; links = refl; fields = same_relations listing _ refl; relations = λ number link at relation has listed. listed }
 
 -- ---- segments
 
@@ -418,9 +418,9 @@ safe_kept listing safe number image is =
       low = here.low;
     }
 
--- nothing stands behind the last one, or behind the place of one that was put
-pub none_behind_put : {X : Type 0} (items : List (Option X)) (last number : ℕ) (item : Option X) → 1 ≤ number → ((k : ℕ) → last < k → numbered items k ≡ None) → (k : ℕ) → max last number < k → numbered (with_number items number item) k ≡ None
-none_behind_put items last number item low none k past = with_other items number k item low (λ same. omega (arith, past, same)) ∙ none k (omega (arith, past))
+-- no image stands behind the last one, or behind the place of one that was put
+pub none_behind_put : (images : List (Option ImageEntry)) (last number : ℕ) (item : Option ImageEntry) → 1 ≤ number → ((k : ℕ) → last < k → numbered images k ≡ None) → (k : ℕ) → max last number < k → numbered (with_number images number item) k ≡ None
+none_behind_put images last number item low none k past = with_other images number k item low (λ same. omega (arith, past, same)) ∙ none k (omega (arith, past))
 
 -- ---- what a listed relation is
 

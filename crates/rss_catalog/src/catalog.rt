@@ -87,6 +87,7 @@ pub(crate) fn at<T>(items: &[Option<T>], number: u8) -> Option<&T>
 fn last_used<T>(items: &[Option<T>]) -> u8
     requires { length items.now ≤ images_most }
     ensures none { (number : ℕ) → result < number → numbered items.now number ≡ None }
+    ensures some { 1 ≤ result → is_some (numbered items.now result) ≡ true }
     ensures few { result ≤ length items.now }
 {
     match items.iter().rposition(|item| item.is_some()) {
@@ -107,7 +108,7 @@ pub struct Catalog {
     /// No image has a number above this one.
     last_image: u8,
     links: Vec<Option<LinkEntry>>,
-    /// No link has a number above this one.
+    /// The number of the last link, or 0 where there is none.
     last_link: u8,
     /// Which pages have changed since they were written.
     pending: [bool; PAGES],
@@ -125,6 +126,7 @@ pub struct Catalog {
     ghost no_link_behind: { (number : ℕ) → last_link < number
         → numbered links.items number ≡ None },
     ghost few_links: { last_link ≤ links_most },
+    ghost last_used: { 1 ≤ last_link → is_some (numbered links.items last_link) ≡ true },
 }
 
 impl Model for Catalog {
@@ -291,9 +293,10 @@ impl Catalog {
         }
     }
 
-    /// No link has a number above this one.
+    /// The number of the last link, or 0 where there is none.
     pub fn last_link(&self) -> u8
         ensures none { (number : ℕ) → result < number → link_at self.now.listing number ≡ None }
+        ensures some { 1 ≤ result → is_some (link_at self.now.listing result) ≡ true }
         ensures few { result ≤ links_most }
     {
         self.last_link
@@ -589,7 +592,7 @@ impl Catalog {
             self.old self.new }
     {
         self.links[usize::from(number) - 1] = link;
-        self.last_link = self.last_link.max(number);
+        self.last_link = last_used(&self.links);
         self.pending[usize::from(LINK_PAGE)] = true;
     }
 }

@@ -14,7 +14,7 @@ invariant_of-result c =
         ap length relations,
         (
           (λ number relation is. absurd (none_of _ 48 number relation relations is)),
-          (ap length images, ((λ number image is. absurd (none_of _ 128 number image images is)), ((λ number past. none_at _ 128 number images), (omega arith, (ap length links, ((λ number link is. absurd (none_of _ 64 number link links is)), ((λ number past. none_at _ 64 number links), (omega arith, tt)))))))),
+          (ap length images, ((λ number image is. absurd (none_of _ 128 number image images is)), ((λ number past. none_at _ 128 number images), (omega arith, (ap length links, ((λ number link is. absurd (none_of _ 64 number link links is)), ((λ number past. none_at _ 64 number links), (omega arith, ((λ low. absurd (omega (arith, low))), tt))))))))),
         ),
       ),
     )

@@ -1,5 +1,6 @@
 -- What was read in a row is a listing, or no listing of a store is spelled.
-use Rattle.std.proofs.Common.{◌≡◌, ℕ, ◌<◌, List, Option, None, length, sym, ap, subst, arith}
+use Rattle.std.proofs.Common.{◌≡◌, ℕ, ◌<◌, ◌≤◌, true, List, Option, None, length, sym, ap, subst, arith}
+use Rattle.std.specs.Prelude.{is_some}
 use Rattle.rss_base.specs.Listings.{Listing, ListingFits, numbered}
 use Rattle.rss_base.specs.declared.image.ImageEntry.{ImageEntry}
 use Rattle.rss_base.specs.declared.link.LinkEntry.{LinkEntry}
@@ -56,7 +57,8 @@ invariant_of-result g c =
     let fits = subst ListingFits (λ i. listing_of (c.deref.ensures.value i) (c.deref-2.ensures.value i) (c.deref-3.ensures.value i) (c.deref-4.ensures.value i)) (if_none c.flaw.result c.in_default.not-Some c.flaw.ensures.none) in
     let listing : Listing = listing_of c.in_ok-segments.segments.items c.in_ok-relations.relations.items c.in_ok-images.images.items c.in_ok-links.links.items in
     let last = subst (λ (items : List (Option ImageEntry)). (number : ℕ) → c.last_used-last_image.result < number → numbered items number ≡ None) c.deref-5.ensures.value c.last_used-last_image.ensures.none in
-    let last_link = subst (λ (items : List (Option LinkEntry)). (number : ℕ) → c.last_used-last_link.result < number → numbered items number ≡ None) c.deref-6.ensures.value c.last_used-last_link.ensures.none in (
+    let last_link = subst (λ (items : List (Option LinkEntry)). (number : ℕ) → c.last_used-last_link.result < number → numbered items number ≡ None) c.deref-6.ensures.value c.last_used-last_link.ensures.none in
+    let link_used = subst (λ (items : List (Option LinkEntry)). 1 ≤ c.last_used-last_link.result → is_some (numbered items c.last_used-last_link.result) ≡ true) c.deref-6.ensures.value c.last_used-last_link.ensures.some in (
       fits.segment_places,
       (
         fits.relation_places,
@@ -72,7 +74,7 @@ invariant_of-result g c =
                   omega (arith, ap length c.deref-5.ensures.value, fits.paths.image_places),
                   (
                     fits.paths.link_places,
-                    (safe_links_kept listing (λ number link is. safe_link listing link (fits.paths.links number link is)), (last_link, (omega (arith, ap length c.deref-6.ensures.value, fits.paths.link_places), tt))),
+                    (safe_links_kept listing (λ number link is. safe_link listing link (fits.paths.links number link is)), (last_link, (omega (arith, ap length c.deref-6.ensures.value, fits.paths.link_places), (link_used, tt)))),
                   ),
                 ),
               ),

@@ -31,7 +31,7 @@ invariant_of-self-inside c =
                     c.self.inside.link_places,
                     (
                       safe_links_kept (with_relation listing c.from.result (Some (with_count c.args.live c.in-Some.relation))) (safe_links_counted listing c.from.result c.args.live c.in-Some.relation here (safe_links_all listing c.self.inside.safe_links)),
-                      (c.self.inside.no_link_behind, (c.self.inside.few_links, tt)),
+                      (c.self.inside.no_link_behind, (c.self.inside.few_links, (c.self.inside.last_used, tt))),
                     ),
                   ),
                 ),

@@ -23,7 +23,7 @@ invariant_of-self-inside c =
             length-set items _ c.args.image ∙ c.self.inside.image_places,
             (
               safe_kept (with_image listing c.from.result c.args.image) (safe_with_image listing c.from.result c.args.image (omega arith) (omega (arith, within)) safe (safe_all listing c.self.inside.safe_images)),
-              ((λ k past. none_behind_put items c.self.inside.last_image c.from.result c.args.image (omega arith) c.self.inside.none_behind k (omega (arith, past))), (omega (arith, c.self.inside.image_places, within), (c.self.inside.link_places, (c.self.inside.safe_links, (c.self.inside.no_link_behind, (c.self.inside.few_links, tt)))))),
+              ((λ k past. none_behind_put items c.self.inside.last_image c.from.result c.args.image (omega arith) c.self.inside.none_behind k (omega (arith, past))), (omega (arith, c.self.inside.image_places, within), (c.self.inside.link_places, (c.self.inside.safe_links, (c.self.inside.no_link_behind, (c.self.inside.few_links, (c.self.inside.last_used, tt))))))),
             ),
           ),
         ),

@@ -1,11 +1,11 @@
--- The link that is put is safe, and no link stands behind the last one.
-use Rattle.std.proofs.Common.{◌∙◌, ap, sym, length, subst, arith}
-use Rattle.std.specs.Prelude.{IfSome}
+-- The link that is put is safe, and the last link is found anew.
+use Rattle.std.proofs.Common.{◌≡◌, ◌∙◌, ◌-◌, ◌<◌, ◌≤◌, ℕ, true, List, Option, None, ap, sym, length, subst, arith}
+use Rattle.std.specs.Prelude.{IfSome, is_some}
 use Rattle.std.proofs.lemmas.List.{length-set}
-use Rattle.rss_base.specs.Listings.{Listing, with_link}
+use Rattle.rss_base.specs.Listings.{Listing, numbered, with_link}
+use Rattle.rss_base.specs.declared.link.LinkEntry.{LinkEntry}
 use Rattle.rss_catalog.specs.Catalogs.{CatalogView, IsSafeLink}
 use Rattle.rss_catalog.specs.Checking.{listing_of}
-use Rattle.rss_catalog.proofs.Listed.{none_behind_put}
 use Rattle.rss_catalog.proofs.Links.{safe_links_all, safe_links_kept, safe_links_put}
 use Rattle.rss_catalog.proofs.catalog.Catalog.set_link.Goals as goal
 
@@ -32,7 +32,13 @@ invariant_of-self-inside c =
                     length-set items _ c.args.link ∙ c.self.inside.link_places,
                     (
                       safe_links_kept (with_link listing c.from.result c.args.link) (safe_links_put listing c.from.result c.args.link (omega arith) (omega (arith, within)) safe (safe_links_all listing c.self.inside.safe_links)),
-                      ((λ k past. none_behind_put items c.self.inside.last_link c.from.result c.args.link (omega arith) c.self.inside.no_link_behind k (omega (arith, past))), (omega (arith, c.self.inside.link_places, within), tt)),
+                      (
+                        subst (λ (l : List (Option LinkEntry)). (k : ℕ) → c.last_used-self-inside.result < k → numbered l k ≡ None) c.deref.ensures.value c.last_used-self-inside.ensures.none,
+                        (
+                          omega (arith, c.last_used-self-inside.ensures.few, ap length c.deref.ensures.value, length-set items (c.from.result - 1) c.args.link, c.self.inside.link_places),
+                          (subst (λ (l : List (Option LinkEntry)). 1 ≤ c.last_used-self-inside.result → is_some (numbered l c.last_used-self-inside.result) ≡ true) c.deref.ensures.value c.last_used-self-inside.ensures.some, tt),
+                        ),
+                      ),
                     ),
                   ),
                 ),

@@ -36,7 +36,7 @@ invariant_of-self-inside c =
                     c.self.inside.link_places,
                     (
                       safe_links_kept (with_relation listing c.from.result c.args.relation) (safe_links_off listing c.from.result c.args.relation (omega arith) unlinked links),
-                      (c.self.inside.no_link_behind, (c.self.inside.few_links, tt)),
+                      (c.self.inside.no_link_behind, (c.self.inside.few_links, (c.self.inside.last_used, tt))),
                     ),
                   ),
                 ),
