@@ -67,7 +67,7 @@ still_none old new changed off none key = elim (cases_Bool (new.changed key)) [
 pub idle_rests : (view : PagesView) → StaysIdle view view
 idle_rests view = record { device = same_device (device_below view); in_memory = refl }
 
-idle_then : {old mid new : PagesView} → StaysIdle old mid → StaysIdle mid new → StaysIdle old new
+pub idle_then : {old mid new : PagesView} → StaysIdle old mid → StaysIdle mid new → StaysIdle old new
 idle_then one two = record { device = same_then one.device two.device; in_memory = two.in_memory ∙ one.in_memory }
 
 -- where no page was touched and the same ones are in memory, all of them are there still

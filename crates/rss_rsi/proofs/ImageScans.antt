@@ -47,12 +47,13 @@ use Rattle.rss_scan.specs.declared.cursor.Path.{Path}
 use Rattle.rss_scan.specs.declared.cursor.Scan.{Scan}
 use Rattle.rss_scan.specs.declared.cursor.Path.TheVariants.{Relation, Image, Link}
 use Rattle.rss_session.specs.Imaging.{FindsNextEntry, IsKeyLong, StartsAt}
-use Rattle.rss_session.specs.Looks.{FindsTuple, HasTuple, LooksOn}
+use Rattle.rss_session.specs.Looks.{CostsNothing, FindsTuple, HasTuple, LooksOn}
 use Rattle.rss_session.specs.Looks.{IsRelationIn as IsListedIn}
 use Rattle.rss_session.specs.Sessions.{SessionView, IsReady}
 use Rattle.rss_lock.specs.declared.locks.Locks.{Locks as LockTable}
 use Rattle.rss_session.specs.declared.session.Session.{Session}
 use Rattle.rss_session.specs.Shown.{Shows}
+use Rattle.rss_session.proofs.Behind.{nothing_itself}
 use Rattle.rss_session.proofs.ImagesShown.{image_shown}
 use Rattle.rss_session.proofs.Starts.{image_entry}
 use Rattle.rss_rsi.specs.Locking.{Lists}
@@ -373,6 +374,13 @@ long_last listing image number named first (Some given) long = long number named
 pub costs_asked : {S : Type 0} (pages_view : S → PagesView) {old mid : Session S} {locks now : LockTable} {scans scans_now : ScanTable} → mid ≡ old → now ≡ locks → scans_now ≡ scans → (new : RssParts) (t scan : ℕ)
     → CostsLevels (rss_parts pages_view mid now scans_now) new t scan → CostsLevels (rss_parts pages_view old locks scans) new t scan
 costs_asked pages_view same same_locks same_scans new t scan = subst (λ (parts : RssParts). CostsLevels parts new t scan) (λ i. rss_parts pages_view (same i) (same_locks i) (same_scans i))
+
+pub idle_asked : {S : Type 0} (pages_view : S → PagesView) {old mid : Session S} {new : SessionView} → mid ≡ old → CostsNothing (session_view pages_view mid) new → CostsNothing (session_view pages_view old) new
+idle_asked pages_view {new = new} same = subst (λ (session : Session _). CostsNothing (session_view pages_view session) new) same
+
+-- the session is as it was
+pub idle_same : {S : Type 0} (pages_view : S → PagesView) {old mid : Session S} → mid ≡ old → CostsNothing (session_view pages_view old) (session_view pages_view mid)
+idle_same pages_view {mid = mid} same = idle_asked pages_view same (nothing_itself (session_view pages_view mid))
 
 -- what it gave behind a look, which changed no scan
 pub gave_next : {scans mid later : OpenScans} (number : ℕ) (key : List ℕ) (tid : Tid) → mid ≡ scans → ((was : Scan) → map.get mid number ≡ Some was → later ≡ map.insert mid number (given key tid was))

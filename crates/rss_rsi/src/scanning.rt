@@ -12,6 +12,7 @@ ghost use Rattle.rss_rsi.specs.Looking.{EndsEach};
 ghost use Rattle.rss_rsi.specs.Placing.{MayCost};
 ghost use Rattle.rss_rsi.specs.Scanning.{FindsBehind, LooksBehind, FindsNext, GoesAlongImage, CostsLevels};
 ghost use Rattle.rss_scan.specs.Scans.{cursor_of};
+ghost use Rattle.rss_session.specs.Looks.{CostsNothing};
 
 use crate::Rss;
 use crate::looking::test_read;
@@ -83,12 +84,14 @@ impl<S: Saving> Rss<S> {
 
     /// Gives the next tuple of a scan with its identifier, or tells that there is none, in the tables
     /// as they are now: of a relation, the tuple with the least identifier above the one that was given
-    /// last; of an image, that of the next entry. It locks nothing more.
+    /// last; of an image, that of the next entry. It locks nothing more. Where all pages are in memory
+    /// the device is asked for nothing, and they stay there.
     pub fn next(&mut self, transaction: u32, scan: u32) -> Result<Reply, CallError>
         requires few { (view self.old).calls < calls_most }
         ensures did { IsCallOf (view self.old) (view self.new) (Next transaction scan) result }
         ensures untouched { ((view self.old).is_up → ⊥) → self.new ≡ self.old }
         ensures costs { CostsLevels (parts_of self.old) (parts_of self.new) transaction scan }
+        ensures idle { CostsNothing (session_of self.old) (session_of self.new) }
     {
         self.ask()?;
         self.session.test_open(transaction)?;
@@ -137,6 +140,7 @@ impl<S: Saving> Rss<S> {
         ensures fails { IfErr result (λ why. EndsEach MayCost (view self.old) (view self.new)
             (Err why)) }
         ensures costs { CostsLevels (parts_of self.old) (parts_of self.new) transaction scan }
+        ensures idle { CostsNothing (session_of self.old) (session_of self.new) }
     {
         let Some(cursor) = self.scans.get(transaction, scan) else {
             unreachable!()
@@ -183,6 +187,7 @@ impl<S: Saving> Rss<S> {
         ensures fails { IfErr result (λ why. EndsEach MayCost (view self.old) (view self.new)
             (Err why)) }
         ensures costs { CostsLevels (parts_of self.old) (parts_of self.new) transaction scan }
+        ensures idle { CostsNothing (session_of self.old) (session_of self.new) }
     {
         let Some(cursor) = self.scans.get(transaction, scan) else {
             unreachable!()
@@ -233,6 +238,7 @@ impl<S: Saving> Rss<S> {
         ensures finds { IfOk result (FindsBehind (parts_of self.old) number after) }
         ensures fails { IfErr result (λ why. EndsEach MayCost (view self.old) (view self.new)
             (Err why)) }
+        ensures idle { CostsNothing (session_of self.old) (session_of self.new) }
     {
         let segment = self.session.store.catalog.relation(number).segment;
         let mut body = Body::new();

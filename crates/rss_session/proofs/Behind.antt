@@ -1,10 +1,12 @@
 -- Looks one behind the other, and by other results.
-use Rattle.std.proofs.Common.{◌≡◌, ◌∙◌, refl, sym, ap, subst, arith}
+use Rattle.std.proofs.Common.{◌≡◌, ◌∙◌, ℕ, refl, sym, ap, subst, arith}
 use Rattle.std.specs.Prelude.{Result, Ok, Err, IsErrAnd}
 use Rattle.std.proofs.lemmas.Result.{err_from_is_err_and}
 use Rattle.rss_base.specs.declared.fault.PageFault.{PageFault}
+use Rattle.rss_base.specs.Steps.{PagesStep, no_page}
 use Rattle.rss_base.proofs.Moments.{started, then}
-use Rattle.rss_session.specs.Looks.{LooksOn}
+use Rattle.rss_base.proofs.Steps.{idle_rests, idle_then, still_in_memory}
+use Rattle.rss_session.specs.Looks.{LooksOn, CostsNothing}
 use Rattle.rss_session.specs.Sessions.{SessionView, IsReady}
 use Rattle.rss_session.proofs.Passing.{goes_opened, goes_then}
 
@@ -56,6 +58,25 @@ looks_then one two = record {
   moments = λ told state kept shows. then (one.moments told state kept shows) (two.moments (one.goes.told.0 told) state kept (one.shows told state shows)) (λ image holds. holds);
   goes = goes_then one.goes two.goes;
 }
+
+-- ---- where all pages are in memory
+
+pub costs_nothing : {asks outs : ℕ} {old new : SessionView} → PagesStep no_page asks outs old.store.pages new.store.pages → CostsNothing old new
+costs_nothing step = record {
+  idle = step.idle (λ key none. none);
+  still = λ are. still_in_memory step (λ key none. none) are (step.idle (λ key none. none) are);
+}
+
+pub nothing_itself : (session : SessionView) → CostsNothing session session
+nothing_itself session = record { idle = λ are. idle_rests session.store.pages; still = λ are. are }
+
+pub nothing_then : {old mid new : SessionView} → CostsNothing old mid → CostsNothing mid new → CostsNothing old new
+nothing_then one two = record {
+  idle = λ are. idle_then (one.idle are) (two.idle (one.still are));
+  still = λ are. two.still (one.still are);
+}
+
+-- ---- looks by other results
 
 -- the fault of one is passed on
 fails_as : {T U : Type 0} {old new : SessionView} {fault : PageFault} → LooksOn {T = T} old new (Err fault) → LooksOn {T = U} old new (Err fault)

@@ -2,6 +2,7 @@
 use Rattle.std.specs.Prelude.{◌≡◌, ℕ, Bool, true, false, List, [], Option, Some, None, option_map, IfSome, Result, Ok, Err, OnOk, Contains}
 use Rattle.rss_base.specs.DiskRule.{IsTold}
 use Rattle.rss_base.specs.Listings.{relation_at}
+use Rattle.rss_base.specs.Steps.{AreInMemory, StaysIdle}
 use Rattle.rss_base.specs.TupleTypes.{kinds}
 use Rattle.rss_base.specs.declared.fault.PageFault.{PageFault}
 use Rattle.rss_base.specs.declared.fault.PageFault.TheVariants.{Device as DeviceFailed, Damaged, NoMemory}
@@ -51,6 +52,11 @@ SearchesOn old new result = LooksOn old new (but_memory result)
 pub record KeepsPages (old new : SessionView) : Type 0 where
   pub mapped : new.store.pages.mapped ≡ old.store.pages.mapped
   pub held : IsTold old.store.pages.disk → new.store.pages.held ≡ old.store.pages.held
+
+-- Where all pages are in memory the device is as it was, and all of them are in memory still.
+pub record CostsNothing (old new : SessionView) : Type 0 where
+  pub idle : AreInMemory old.store.pages → StaysIdle old.store.pages new.store.pages
+  pub still : AreInMemory old.store.pages → AreInMemory new.store.pages
 
 -- the relation of this number, and this segment, is listed
 pub record IsRelationIn (view : SessionView) (segment number : ℕ) (relation : RelationEntry) : Type 0 where

@@ -8,7 +8,7 @@ ghost use Rattle.rss_base.specs.declared.relation.RelationEntry.{RelationEntry a
 ghost use Rattle.rss_model.specs.Store.{IsListedImage};
 ghost use Rattle.rss_access.specs.Imaging.{IsKeyLong};
 ghost use Rattle.rss_session.specs.Imaging.{FindsOwner, FindsNextEntry};
-ghost use Rattle.rss_session.specs.Looks.{LooksOn, KeepsPages};
+ghost use Rattle.rss_session.specs.Looks.{LooksOn, CostsNothing, KeepsPages};
 ghost use Rattle.rss_session.specs.Sessions.{IsReady};
 
 use crate::Session;
@@ -69,6 +69,7 @@ impl<S: Saving> Session<S> {
             IsKeyLong (view S.view self.old).store.catalog.listing number pair.0) }
         ensures looks { LooksOn (view S.view self.old) (view S.view self.new) result }
         ensures pages { KeepsPages (view S.view self.old) (view S.view self.new) }
+        ensures idle { CostsNothing (view S.view self.old) (view S.view self.new) }
         ensures costs { (image : AnImage)
             → image_at (view S.view self.old).store.catalog.listing number ≡ Some image
             → ((view S.view self.new).store.pages.asks

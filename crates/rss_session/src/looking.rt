@@ -5,7 +5,7 @@ ghost use Rattle.rss_base.specs.Listings.{relation_at};
 ghost use Rattle.rss_base.specs.Runs.{run_pages};
 ghost use Rattle.rss_base.specs.declared.relation.RelationEntry.{RelationEntry as AnyEntry};
 ghost use Rattle.rss_session.specs.Sessions.{IsReady};
-ghost use Rattle.rss_session.specs.Looks.{LooksOn, KeepsPages, FindsTuple, FindsNextTuple, FindsPlace, HasNoPlace};
+ghost use Rattle.rss_session.specs.Looks.{LooksOn, CostsNothing, KeepsPages, FindsTuple, FindsNextTuple, FindsPlace, HasNoPlace};
 ghost use Rattle.rss_tuple.specs.Calls.{IsSegment, MayPut};
 
 use crate::Session;
@@ -29,6 +29,7 @@ impl<S: Saving> Session<S> {
     ) -> Result<bool, PageFault>
         requires { IsReady (view S.view self.old) }
         ensures looks { LooksOn (view S.view self.old) (view S.view self.new) result }
+        ensures idle { CostsNothing (view S.view self.old) (view S.view self.new) }
         ensures costs { ((view S.view self.new).store.pages.asks
             ≤ (view S.view self.old).store.pages.asks + 2)
             × ((view S.view self.new).store.pages.writes
@@ -51,6 +52,7 @@ impl<S: Saving> Session<S> {
         requires ready { IsReady (view S.view self.old) }
         requires segment { IsSegment segment }
         ensures looks { LooksOn (view S.view self.old) (view S.view self.new) result }
+        ensures idle { CostsNothing (view S.view self.old) (view S.view self.new) }
         ensures finds { IfOk result (λ found. IsTold (view S.view self.old).store.pages.disk
             → FindsNextTuple (view S.view self.old) segment number after found into.new) }
     {

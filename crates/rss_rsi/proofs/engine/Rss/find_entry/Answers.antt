@@ -7,7 +7,7 @@ use Rattle.rss_catalog.specs.Catalogs.{CatalogView}
 use Rattle.rss_model.proofs.Lengths.{row_line}
 use Rattle.rss_scan.specs.Scans.{told as scans_told}
 use Rattle.rss_scan.specs.declared.cursor.Path.{Path}
-use Rattle.rss_session.proofs.Behind.{looks_as, looks_then}
+use Rattle.rss_session.proofs.Behind.{looks_as, looks_then, nothing_then}
 use Rattle.rss_session.proofs.Starts.{image_entry}
 use Rattle.rss_rsi.specs.Parts.{parts_of, session_of}
 use Rattle.rss_rsi.specs.Views.{AreLong}
@@ -69,6 +69,9 @@ returns-in_err-look-clause-fails g c =
     passed_on c.from_residual-in_err-look.result c.from_residual-in_err-look.ensures.1
     (costly_fails _ _ (record { fault = _; is = refl; looks = looks_then c.in_ok-found.ensures.looks c.in_err-look.ensures.looks }) _ _ refl c.requires.up (λ up. absurd (cc (up))))
 
+pub returns-in_err-look-clause-idle : goal.returns-in_err-look-clause-idle
+returns-in_err-look-clause-idle g c = nothing_then c.in_ok-found.ensures.idle c.in_err-look.ensures.idle
+
 pub returns-in_err-look-clause-costs : goal.returns-in_err-look-clause-costs
 returns-in_err-look-clause-costs g c =
     let here = image_entry c.args.self.now.session.store.catalog.listing c.requires.along.image c.args.number c.requires.along.named in
@@ -89,6 +92,9 @@ returns-then-not-branch-clause-fails g c =
     never_lost has c.in-Image.field-0 c.in-Image.start c.in-Image.is c.args.number (record { at = listed; within = within }) (named_as c.args.self.now.session.store.catalog.listing c.args.number listed here.at here.named) (c.args.self.now.ready c.requires.up).session
     (rw c.in-Some-found.is at c.in_ok-found.ensures.next) looks c.in_ok-look.ensures.finds c.if-not-branch.true state of.scan (record { told = told; is_in = is_in; there = of.there }))
 
+pub returns-then-not-branch-clause-idle : goal.returns-then-not-branch-clause-idle
+returns-then-not-branch-clause-idle g c = nothing_then c.in_ok-found.ensures.idle c.in_ok-look.ensures.idle
+
 pub returns-then-not-branch-clause-costs : goal.returns-then-not-branch-clause-costs
 returns-then-not-branch-clause-costs g c =
     let here = image_entry c.args.self.now.session.store.catalog.listing c.requires.along.image c.args.number c.requires.along.named in
@@ -102,6 +108,9 @@ invariant_of-self-in_default-tuple_of g c = record { ready = λ up. ready_looked
 pub returns-in_default-tuple_of-clause-fails : goal.returns-in_default-tuple_of-clause-fails
 returns-in_default-tuple_of-clause-fails g c = λ calls call counted may.
     lacks_costly _ _ {result = Ok c.in_ok-look.field-0} (looks_then c.in_ok-found.ensures.looks c.in_ok-look.ensures.looks) counted may c.requires.up refl (record { locks = refl; scans = refl })
+
+pub returns-in_default-tuple_of-clause-idle : goal.returns-in_default-tuple_of-clause-idle
+returns-in_default-tuple_of-clause-idle g c = nothing_then c.in_ok-found.ensures.idle c.in_ok-look.ensures.idle
 
 pub returns-in_default-tuple_of-clause-costs : goal.returns-in_default-tuple_of-clause-costs
 returns-in_default-tuple_of-clause-costs g c =
@@ -127,6 +136,9 @@ returns-in_err-tuple-clause-fails g c =
     (rw c.in-Some-found.is at c.in_ok-found.ensures.next) looks look.finds c.if-not-branch.false c.in-Ok.read
     (λ values body. c.in-Ok.ensures.exact values (body_as look.looks.catalog c.relation.ensures.is c.relation-entry.ensures.is c.as_slice-fields.ensures c.as_slice.ensures.bytes values body))
     damaged.1 state of.scan (record { told = told; is_in = is_in; there = of.there })))
+
+pub returns-in_err-tuple-clause-idle : goal.returns-in_err-tuple-clause-idle
+returns-in_err-tuple-clause-idle g c = nothing_then c.in_ok-found.ensures.idle c.in_ok-look.ensures.idle
 
 pub returns-in_err-tuple-clause-costs : goal.returns-in_err-tuple-clause-costs
 returns-in_err-tuple-clause-costs g c =
@@ -166,3 +178,6 @@ returns-clause-costs g c =
     let costs = c.in_ok-found.ensures.costs here.entry here.at in
     let more = c.in_ok-look.ensures.costs in
     costs_levels (parts_of c.args.self.now) (rss_parts g.S.Pages.view c.look.new.self c.args.self.now.locks c.args.self.now.scans) c.args.transaction c.args.scan c.args.number c.requires.along here.at (omega (arith, costs.0, more.0)) (omega (arith, costs.1, more.1))
+
+pub returns-clause-idle : goal.returns-clause-idle
+returns-clause-idle g c = nothing_then c.in_ok-found.ensures.idle c.in_ok-look.ensures.idle

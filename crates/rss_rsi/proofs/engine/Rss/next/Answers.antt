@@ -10,7 +10,7 @@ use Rattle.rss_scan.specs.Scans.{told as scans_told}
 use Rattle.rss_scan.specs.declared.cursor.Cursor.{Cursor}
 use Rattle.rss_session.specs.Parts.{view as session_view}
 use Rattle.rss_rsi.specs.Views.{AreLong, AllMayGoOn}
-use Rattle.rss_rsi.proofs.ImageScans.{costs_asked, gave_next}
+use Rattle.rss_rsi.proofs.ImageScans.{costs_asked, gave_next, idle_asked, idle_same}
 use Rattle.rss_rsi.proofs.Looks.{ends_so}
 use Rattle.rss_rsi.proofs.ScanCalls.{next_gives, next_lacks, next_may, next_stops}
 use Rattle.rss_rsi.proofs.Scans.{cursor_long, has_cursor, given_may, lent_none, lent_some, ready_scans}
@@ -84,3 +84,20 @@ pub returns-in-None-clause-costs : goal.returns-in-None-clause-costs
 returns-in-None-clause-costs g c =
     let counted = c.in_ok-ask.ensures in
     costs_asked g.S.Pages.view counted.session counted.locks counted.scans (rss_parts g.S.Pages.view c.find_next.new.self.session c.find_next.new.self.locks c.find_next.new.self.scans) c.args.transaction c.args.scan c.in_ok-key.ensures.costs
+
+-- ---- where all pages are in memory
+
+pub returns-in_err-test_open-clause-idle : goal.returns-in_err-test_open-clause-idle
+returns-in_err-test_open-clause-idle g c = idle_same g.S.Pages.view c.in_ok-ask.ensures.session
+
+pub returns-then-is_none-clause-idle : goal.returns-then-is_none-clause-idle
+returns-then-is_none-clause-idle g c = idle_same g.S.Pages.view c.in_ok-ask.ensures.session
+
+pub returns-in_err-key-clause-idle : goal.returns-in_err-key-clause-idle
+returns-in_err-key-clause-idle g c = idle_asked g.S.Pages.view c.in_ok-ask.ensures.session c.in_err-key.ensures.idle
+
+pub returns-in-Some-clause-idle : goal.returns-in-Some-clause-idle
+returns-in-Some-clause-idle g c = idle_asked g.S.Pages.view c.in_ok-ask.ensures.session c.in_ok-key.ensures.idle
+
+pub returns-in-None-clause-idle : goal.returns-in-None-clause-idle
+returns-in-None-clause-idle g c = idle_asked g.S.Pages.view c.in_ok-ask.ensures.session c.in_ok-key.ensures.idle

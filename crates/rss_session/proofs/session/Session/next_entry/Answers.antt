@@ -5,6 +5,7 @@ use Rattle.rss_model.specs.Machine.{now}
 use Rattle.rss_model.proofs.LogLists.{some_of}
 use Rattle.rss_session.specs.Parts.{view}
 use Rattle.rss_session.proofs.Looked.{fits_shown}
+use Rattle.rss_session.proofs.Behind.{costs_nothing}
 use Rattle.rss_session.proofs.Passing.{looks_on}
 use Rattle.rss_session.proofs.session.Session.next_entry.Goals as goal
 
@@ -22,6 +23,11 @@ returns-clause-pages g c =
     let some = some_of (image_at c.args.self.now.store.catalog.listing c.args.number) c.requires.there in
     let did = c.next_entry.ensures.did some.0 some.1 in
     record { mapped = all_mapped did.step; held = all_held did.step }
+
+pub returns-clause-idle : goal.returns-clause-idle
+returns-clause-idle g c =
+    let some = some_of (image_at c.args.self.now.store.catalog.listing c.args.number) c.requires.there in
+    costs_nothing (c.next_entry.ensures.did some.0 some.1).step
 
 pub returns-clause-costs : goal.returns-clause-costs
 returns-clause-costs g c = λ image at.

@@ -2,6 +2,7 @@ use Rattle.std.proofs.lemmas.Result.{IfOk-weaker}
 use Rattle.rss_base.proofs.Steps.{all_mapped, all_held}
 use Rattle.rss_session.specs.Parts.{view}
 use Rattle.rss_session.proofs.NextTuples.{finds_next}
+use Rattle.rss_session.proofs.Behind.{costs_nothing}
 use Rattle.rss_session.proofs.Passing.{looks_on}
 use Rattle.rss_session.proofs.session.Session.next_tuple.Goals as goal
 
@@ -9,6 +10,9 @@ pub returns-clause-looks : goal.returns-clause-looks
 returns-clause-looks g c =
     let did = c.find_next.ensures.did.1 in
     looks_on (view g.S.Pages.view c.args.self.now) c.requires.ready (g.met.S.Pages.are_counted c.args.self.now.store.tuples.pages) (g.met.S.Pages.are_counted c.find_next.new.tuples.pages) did (all_mapped did.step) (all_held did.step) c.find_next.ensures.heaps
+
+pub returns-clause-idle : goal.returns-clause-idle
+returns-clause-idle g c = costs_nothing c.find_next.ensures.did.1.step
 
 pub returns-clause-finds : goal.returns-clause-finds
 returns-clause-finds g c = IfOk-weaker c.find_next.result _ _ (λ found finds told. finds_next (view g.S.Pages.view c.args.self.now) c.args.segment c.args.number c.args.after found c.find_next.new.into (finds told)) c.find_next.ensures.finds
