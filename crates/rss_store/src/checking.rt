@@ -1,5 +1,5 @@
 // What the pages of a store hold, as an opening finds it.
-ghost use Rattle.std.specs.Prelude.{◌≡◌, ◌≢◌, ◌+◌, ◌*◌, ◌<◌, ◌≤◌, ℕ, length, true, false, is_some, IsTrue, IfSome, IfNone, IfOk, IfErr, OnOk, Err};
+ghost use Rattle.std.specs.Prelude.{◌≡◌, ◌≢◌, ◌+◌, ◌*◌, ◌<◌, ◌≤◌, ℕ, length, true, is_some, IfSome, IfNone, IfOk, IfErr, OnOk, Err};
 ghost use Rattle.rss_base.specs.DiskRule.{IsTold};
 ghost use Rattle.rss_base.specs.Looking.{ChecksPages};
 ghost use Rattle.rss_base.specs.PageMap.{IsTable, page_count};
@@ -23,9 +23,7 @@ ghost use Rattle.rss_store.specs.Checks.{ChecksSegments, MissesOne, ChecksImages
 ghost use Rattle.rss_store.specs.Looks.{LoadsPlain, FindsTables, FindsNone};
 
 use rss_access::{TUPLES_MOST, check_image};
-use rss_base::{
-    Kind, LINKS_MOST, PageFault, PageKey, Pages, Place, RELATIONS_MOST, SEGMENTS, Space, Tid,
-};
+use rss_base::{Kind, PageFault, PageKey, Pages, Place, RELATIONS_MOST, SEGMENTS, Space, Tid};
 use rss_catalog::Catalog;
 use rss_pagemap::SlotTable;
 use rss_tuple::{Store, Visitor, check};
@@ -83,23 +81,10 @@ fn load_catalog<P: Pages>(alloc: Global, pages: &mut P) -> Result<Catalog, PageF
         (P.view pages.old) (P.view pages.new) result }
 {
     let catalog = Catalog::load(alloc, pages)?;
-    if has_links(&catalog) {
+    if catalog.last_link() != 0 {
         return Err(PageFault::Damaged(Place::Catalog(LINK_PAGE)));
     }
     Ok(catalog)
-}
-
-fn has_links(catalog: &Catalog) -> bool
-    ensures some { IsTrue result → HasNoLinks catalog.now.listing → ⊥ }
-    ensures none { result ≡ false → ListingFits catalog.now.listing
-        → HasNoLinks catalog.now.listing }
-{
-    for number in 1..=LINKS_MOST {
-        if catalog.used(Kind::Link, number) {
-            return true;
-        }
-    }
-    false
 }
 
 /// A page that no store with these definitions has: one of a segment that isn't defined.
