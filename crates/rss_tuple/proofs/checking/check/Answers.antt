@@ -8,7 +8,7 @@ use Rattle.rss_tuple.specs.Checked.{pages_of, IsSound, IsNoted}
 use Rattle.rss_tuple.specs.Looks.{LooksCall, IsNotedAt, AreAllMarked, AreSoundOverflows}
 use Rattle.rss_tuple.proofs.Seen.{on_ok, on_ok_then}
 use Rattle.rss_base.proofs.Looking.{looks_within}
-use Rattle.rss_tuple.proofs.Looks.{looks_wider, looks_call}
+use Rattle.rss_tuple.proofs.Looks.{looks_wider, looks_call, looks_fails}
 use Rattle.rss_tuple.proofs.Checked.{in_home, in_overflow, sound_overflows, all_sound, all_noted, without_note, checks, on_ok_two}
 use Rattle.rss_tuple.proofs.checking.check.Goals as goal
 use Rattle.rss_tuple.proofs.checking.check.Goals.{After-look_at_overflows}
@@ -36,6 +36,11 @@ noted : (g : _) (c : After-look_at_overflows g) → IsTold (g.P.Pages.view c.arg
 noted g c told overflows =
     let homes = c.in_ok-look_at_homes.ensures in
     all_noted (g.P.Pages.view c.args.pages.now).held c.args.segment (homes.formed told) (λ k. subst (λ (h : Held). IsNotedAt h (g.P.Pages.view c.look_at_overflows.new.pages) (page_key c.args.segment Overflow k)) (homes.did.looks.held told) (overflows k)) c.look_at_overflows.ensures.did.looks
+
+pub returns-in_err-look_at_homes-clause-did : goal.returns-in_err-look_at_homes-clause-did
+returns-in_err-look_at_homes-clause-did g c =
+    let failed = looks_fails c.from_residual.result c.from_residual.ensures.1 c.in_err-look_at_homes.ensures.did in
+    record { looks = looks_within (in_home c.args.segment) (omega arith) failed.looks; failed = failed.failed }
 
 pub returns-clause-sound : goal.returns-clause-sound
 returns-clause-sound g c = on_ok_two c.look_at_overflows.result (λ overflows led told.

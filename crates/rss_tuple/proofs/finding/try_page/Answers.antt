@@ -1,13 +1,16 @@
-use Rattle.std.proofs.Common.{◌≡◌, ◌∙◌, rules, true, false, sym, ap}
+use Rattle.std.proofs.Common.{◌≡◌, ◌∙◌, rules, arith, true, false, sym, ap}
 use Rattle.rss_base.specs.Paged.{Held, Mapped, is_same}
 use Rattle.rss_base.specs.Notes.{Noted}
 use Rattle.rss_base.proofs.Keys.{is_same-itself}
 use Rattle.std.proofs.lemmas.Bool.{cond-true}
-use Rattle.rss_base.proofs.Steps.{untouched, then, done, all_mapped, all_held, none_changed_more}
+use Rattle.rss_base.proofs.Steps.{untouched, then, done, fails, all_mapped, all_held, none_changed_more}
 use Rattle.rss_tuple.specs.Edits.{IsRead}
 use Rattle.rss_tuple.proofs.Seen.{formed_after, found_damaged, kept_after}
 use Rattle.rss_tuple.proofs.Spots.{noted_heap, covers, noted_kept, passed_by}
 use Rattle.rss_tuple.proofs.finding.try_page.Goals as goal
+
+pub returns-in_err-load-clause-did : goal.returns-in_err-load-clause-did
+returns-in_err-load-clause-did g c = fails _ c.from_residual.ensures.1 (λ key none. absurd none) (omega arith) (omega arith) c.in_err-load.ensures.did
 
 pub returns-in_err-load-clause-kept : goal.returns-in_err-load-clause-kept
 returns-in_err-load-clause-kept g c = kept_after c.in_err-load.ensures.did.step c.requires.formed

@@ -6,6 +6,9 @@ use Rattle.rss_tuple.proofs.Placed.{step_at, taken_away}
 use Rattle.rss_tuple.proofs.Taken.{takes_step}
 use Rattle.rss_tuple.proofs.placing.put_on_new.Goals as goal
 
+pub returns-in_err-number-clause-did : goal.returns-in_err-number-clause-did
+returns-in_err-number-clause-did g c = fails _ c.from_residual.ensures.1 (λ key none. absurd none) (omega arith) (omega arith) c.in_err-number.ensures.did
+
 pub returns-in_err-fill-clause-did : goal.returns-in_err-fill-clause-did
 returns-in_err-fill-clause-did g c =
     let key = page_key c.args.segment Overflow c.in_ok-number.number in
