@@ -153,3 +153,6 @@ join_nodes-requires-clause-right_mapped g c = λ told_two.
     let told_one = c.in_ok-right.ensures.did.step.passes.leaves.told.1 told_two in
     held_is_mapped of two c.args.level c.args.other c.in_ok-right.right.next c.in_ok-right.right.entries (g.met.P.Pages.holds c.read_node-2.new.pages told_two)
     (was_holding of c.args.level c.args.other c.in_ok-right.right.next c.in_ok-right.right.entries two one (sym (keeps_none of one two c.in_ok-right.ensures.did.step told_one)) (c.in_ok-right.ensures.holds told_one))
+
+pub returns-in_err-left-clause-did : goal.returns-in_err-left-clause-did
+returns-in_err-left-clause-did g c = fails _ c.from_residual.ensures.1 (λ key none. absurd none) (omega arith) (omega arith) c.in_err-left.ensures.did

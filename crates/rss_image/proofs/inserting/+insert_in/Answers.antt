@@ -176,3 +176,6 @@ returns-in-Some-clause-spare g t c =
 
 pub returns-in-Some-clause-did : goal.returns-in-Some-clause-did
 returns-in-Some-clause-did g t c = widens (λ key there. there) (omega arith) (omega arith) (then_call (then (untouched c.in_ok-node.ensures.did.step) c.in_ok-below.ensures.did.step) c.grow-in-Some.ensures.did)
+
+pub returns-in_err-node-clause-did : goal.returns-in_err-node-clause-did
+returns-in_err-node-clause-did g t c = fails _ c.from_residual.ensures.1 (λ key none. absurd none) (omega arith) (omega arith) c.in_err-node.ensures.did

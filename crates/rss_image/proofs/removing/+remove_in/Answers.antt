@@ -142,3 +142,6 @@ take_out-requires-clause-node g t c = λ told_one.
     let told = step.passes.leaves.told.1 told_one in
     subst (λ (h : Held). HoldsNode c.args.of h 0 c.args.number node.next node.entries) (sym (all_held step told))
     (subst (λ (l : ℕ). HoldsNode c.args.of (g.P.Pages.view c.args.pages.now).held l c.args.number node.next node.entries) c.if-level-eq0.true (c.in_ok-node.ensures.holds told))
+
+pub returns-in_err-node-clause-did : goal.returns-in_err-node-clause-did
+returns-in_err-node-clause-did g t c = fails _ c.from_residual.ensures.1 (λ key none. absurd none) (omega arith) (omega arith) c.in_err-node.ensures.did

@@ -53,3 +53,6 @@ pub returns-clause-spare : goal.returns-clause-spare
 returns-clause-spare g c =
     let same = spare_rests (g.P.Pages.view c.args.pages.now) (g.P.Pages.view c.read_node.new.pages) c.in_ok-node.ensures.did.step (g.met.P.Pages.are_counted c.args.pages.now) (g.met.P.Pages.are_counted c.read_node.new.pages) in
     omega (arith, same, c.in_ok-give_page.ensures.spare)
+
+pub returns-in_err-node-clause-did : goal.returns-in_err-node-clause-did
+returns-in_err-node-clause-did g c = fails _ c.from_residual.ensures.1 (λ key none. absurd none) (omega arith) (omega arith) c.in_err-node.ensures.did

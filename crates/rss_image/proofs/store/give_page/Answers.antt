@@ -1,7 +1,7 @@
 use Rattle.std.proofs.Common.{◌≡◌, true, sym, arith}
 use Rattle.rss_base.specs.Paged.{page_key}
 use Rattle.rss_base.specs.declared.key.Space.TheVariants.{Image}
-use Rattle.rss_base.proofs.Steps.{done, widens, is_in}
+use Rattle.rss_base.proofs.Steps.{done, fails, widens, is_in}
 use Rattle.rss_image.proofs.Calls.{given_unmapped, given_loses, spare_given}
 use Rattle.rss_image.proofs.store.give_page.Goals as goal
 
@@ -21,3 +21,6 @@ returns-clause-spare g c =
 
 pub returns-clause-did : goal.returns-clause-did
 returns-clause-did g c = widens (is_in c.node_key-key.result c.node_key-key.ensures) (omega arith) (omega arith) (done _ c.in_ok-give.ensures.did.step)
+
+pub returns-in_err-give-clause-did : goal.returns-in_err-give-clause-did
+returns-in_err-give-clause-did g c = fails _ c.from_residual.ensures.1 (λ key none. absurd none) (omega arith) (omega arith) c.in_err-give.ensures.did
