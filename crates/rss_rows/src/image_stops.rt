@@ -59,9 +59,10 @@ insert 1 k \"60\"
 end 1
 ";
 
-/// An image is made over the tuples. Of its leaf that is full come two, which are taken back, and then
-/// come again; a way back behind a checkpoint, and deletes, leave one. It is taken away, and a unique one
-/// is made. 1 is taken back behind a checkpoint, 3 ends, and 2 and 4 are never over.
+/// An image is made over the tuples: one leaf, which is full. An insert that is taken back splits it, and
+/// another one ends. Two are taken back behind a checkpoint, and deletes make the leaves one again. The
+/// image is taken away, and a unique one is made. At last 1 is taken back behind a checkpoint, 3 ends, and
+/// 2 and 4 are never over.
 const CHANGED: Row<'static> = Row {
     script: b"\
 image i k t
@@ -182,7 +183,7 @@ end
 end
 refused 9 no tuple k 0.31
 ",
-        // Its leaf is split.
+        // There are two leaves.
         b"\
 ok
 ok 0
@@ -195,7 +196,7 @@ ok 0.0 \"59\"
 ok 0.30 \"60\"
 ok \"57\"
 ",
-        // Its leaves are one again.
+        // There is one again.
         b"\
 ok
 ok 0
@@ -208,7 +209,7 @@ end
 end
 ok \"57\"
 ",
-        // It is gone.
+        // The image is gone.
         b"\
 ok
 refused 5 no such image

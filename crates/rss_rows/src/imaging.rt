@@ -906,8 +906,8 @@ const BEFORE_SCANS: (&str, &str) = (
     "ok\nok\nok\nok\nok\nok 0.0\n",
 );
 
-/// Behind as many as may be open, all of transaction 1: a further one is refused behind a key that
-/// doesn't fit, and before it is told busy, until one is closed.
+/// Behind as many as may be open, all of transaction 1: until one is closed a further one is refused, before
+/// it is told busy. One from a key that doesn't fit is refused for that first.
 const BEHIND_SCANS: Row<'static> = Row {
     script: b"\
 open 1 image k

@@ -101,7 +101,7 @@ pub record IsOfLevels (listing : Listing) (image : Name) (levels : ℕ) : Type 0
   pub listed : ImageEntry
   pub at : image_at listing number ≡ Some listed
   pub named : listed.name ≡ image
-  pub levels : listed.levels ≡ levels
+  pub many : listed.levels ≡ levels
 
 -- each image of this name has at most so many levels
 abbrev pub HasLevels : Listing → Name → ℕ → Type 0
