@@ -1,7 +1,6 @@
 -- A catalog that lists no link, and pages that spell another one.
 use Rattle.std.proofs.Common.{◌≡◌, ℕ, zero, suc, ◌<◌, true, List, [], ◌∷◌, length, replicate, get_or, refl, sym, ◌∙◌, ap, subst, arith}
 use Rattle.std.specs.Prelude.{Option, None, is_some}
-use Rattle.std.proofs.lemmas.Option.{some_of}
 use Rattle.rss_base.specs.DiskRule.{IsTold}
 use Rattle.rss_base.specs.Listings.{Listing, ListingFits, HasNoLinks, HoldsListing, link_at}
 use Rattle.rss_base.specs.Steps.{PagesView}
@@ -9,6 +8,7 @@ use Rattle.rss_base.specs.declared.link.LinkEntry.{LinkEntry}
 use Rattle.rss_catalog.specs.Catalogs.{CatalogView, Loads}
 use Rattle.rss_model.proofs.Listed.{at_place}
 use Rattle.rss_model.proofs.ListedOnce.{listing_once}
+use Rattle.rss_model.proofs.LogLists.{some_of}
 use Rattle.rss_model.proofs.PlainStores.{no_link_at}
 
 -- a list in which each place has nothing
