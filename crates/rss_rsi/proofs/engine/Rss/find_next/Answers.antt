@@ -3,6 +3,7 @@ use Rattle.std.specs.Prelude.{is_some, option_copied}
 use Rattle.rss_access.proofs.Numbered.{entry_at}
 use Rattle.rss_scan.specs.Scans.{told as scans_told}
 use Rattle.rss_scan.specs.declared.cursor.Path.{Path}
+use Rattle.rss_session.proofs.Behind.{nothing_itself}
 use Rattle.rss_rsi.specs.Parts.{session_of}
 use Rattle.rss_rsi.specs.Views.{AreLong}
 use Rattle.rss_rsi.proofs.ImageScans.{none_listed}
@@ -14,6 +15,9 @@ returns-in_default-find-clause-finds g c =
     let has = sym c.get.ensures ∙ ap option_copied c.in-Some.is in
     unlisted_next has c.in-Relation.relation c.in-Relation.is c.last_of-after.result c.last_of-after.ensures c.in_default-find.ensures.none
 
+pub returns-in_default-find-clause-idle : goal.returns-in_default-find-clause-idle
+returns-in_default-find-clause-idle g c = nothing_itself _
+
 pub find_behind-requires-clause-known : goal.find_behind-requires-clause-known
 find_behind-requires-clause-known g c = ap is_some (entry_at c.args.self.now.session.store.catalog.listing c.in-Relation.relation c.in-Some-find.number c.in-Some-find.ensures.some).at
 
@@ -21,6 +25,9 @@ pub returns-in_default-find-2-clause-finds : goal.returns-in_default-find-2-clau
 returns-in_default-find-2-clause-finds g c =
     let has = sym c.get.ensures ∙ ap option_copied c.in-Some.is in
     none_listed has c.in-Image.image c.in-Image.field-1 c.in-Image.is c.in_default-find-2.ensures.none
+
+pub returns-in_default-find-2-clause-idle : goal.returns-in_default-find-2-clause-idle
+returns-in_default-find-2-clause-idle g c = nothing_itself _
 
 pub unreachable-requires-in-Link : goal.unreachable-requires-in-Link
 unreachable-requires-in-Link g c =

@@ -87,6 +87,9 @@ returns-in-None-clause-costs g c =
 
 -- ---- where all pages are in memory
 
+pub returns-in_err-ask-clause-idle : goal.returns-in_err-ask-clause-idle
+returns-in_err-ask-clause-idle g c = idle_same g.S.Pages.view c.in_err-ask.ensures.session
+
 pub returns-in_err-test_open-clause-idle : goal.returns-in_err-test_open-clause-idle
 returns-in_err-test_open-clause-idle g c = idle_same g.S.Pages.view c.in_ok-ask.ensures.session
 
