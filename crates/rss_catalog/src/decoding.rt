@@ -62,10 +62,7 @@ pub(crate) fn read_images(
 }
 
 /// Puts the links of a page behind those that are there.
-pub(crate) fn read_links(
-    page: &Page,
-    links: &mut Vec<Option<LinkEntry>>,
-) -> Result<(), AllocError>
+pub(crate) fn read_links(page: &Page, links: &mut Vec<Option<LinkEntry>>) -> Result<(), AllocError>
     ensures read { OnOk result (links.new.items ≡ links.old.items
         ++ map link_of (pieces link_bytes links_most page.now)) }
 {
