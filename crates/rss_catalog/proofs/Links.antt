@@ -1,12 +1,10 @@
 -- What changes of a listing leave of its links: it fits a store as before.
-use Rattle.std.proofs.Common.{◌≡◌, ℕ, ◌-◌, ◌<◌, ◌≤◌, true, List, length, Option, Some, None, refl, sym, ◌∙◌, ap, subst, inl, inr, arith}
-use Rattle.std.specs.Prelude.{is_some, map, option_map, IfSome}
-use Rattle.std.proofs.lemmas.Bool.{cases_eq}
+use Rattle.std.proofs.Common.{◌≡◌, ℕ, ◌-◌, ◌≤◌, true, List, length, Option, Some, None, refl, sym, ◌∙◌, ap, subst, inl, inr, arith}
+use Rattle.std.specs.Prelude.{is_some, option_map, IfSome}
 use Rattle.std.proofs.lemmas.Option.{none-some, same_Some}
 use Rattle.std.proofs.lemmas.List.{length-set, length-map}
 use Rattle.rss_base.specs.Sizes.{links_most}
-use Rattle.rss_base.specs.Listings.{Listing, numbered, with_number, relation_at, link_at, has_role, names_of, IsNumberOf, IsUnlisted, IsLeastUnused, LinkFits, IsSpelled, PathsFit, ListingFits, with_relation, with_link, with_count}
-use Rattle.rss_base.specs.declared.name.Name.{Name}
+use Rattle.rss_base.specs.Listings.{Listing, numbered, with_number, relation_at, link_at, has_role, names_of, IsNumberOf, IsUnlisted, IsLeastUnused, LinkFits, IsSpelled, ListingFits, with_relation, with_link, with_count}
 use Rattle.rss_base.specs.declared.tid.Tid.{Tid}
 use Rattle.rss_base.specs.declared.relation.RelationEntry.{RelationEntry}
 use Rattle.rss_base.specs.declared.link.LinkEntry.{LinkEntry}

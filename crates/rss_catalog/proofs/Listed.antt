@@ -10,7 +10,7 @@ use Rattle.rss_base.specs.TupleTypes.{AreFields, kinds, is_kind, most_fields, ch
 use Rattle.std.specs.List.{list_all}
 use Rattle.rss_base.specs.declared.field.FieldDef.{FieldDef}
 use Rattle.rss_base.specs.declared.value.FieldKind.{FieldKind}
-use Rattle.rss_base.specs.Listings.{Listing, numbered, with_number, segment_at, relation_at, image_at, link_at, has_role, names_of, IsNumberOf, IsUnlisted, IsLeastUnused, EntryFits, ImageFits, LinkFits, IsFieldNumber, field_numbers, PathsFit, ListingFits, with_segment, with_relation, with_image, with_count, with_root}
+use Rattle.rss_base.specs.Listings.{Listing, numbered, with_number, segment_at, relation_at, image_at, link_at, has_role, names_of, IsNumberOf, IsUnlisted, IsLeastUnused, EntryFits, ImageFits, IsFieldNumber, field_numbers, PathsFit, ListingFits, with_segment, with_relation, with_image, with_count, with_root}
 use Rattle.rss_base.specs.declared.name.Name.{Name}
 use Rattle.rss_base.specs.declared.relation.RelationEntry.{RelationEntry}
 use Rattle.rss_base.specs.declared.image.ImageEntry.{ImageEntry}

@@ -1,14 +1,14 @@
 -- A listing without images and links, and the pages of a listing behind its relations.
-use Rattle.std.proofs.Common.{◌≡◌, ℕ, zero, suc, ◌+◌, ◌-◌, ◌*◌, ◌<◌, ◌≤◌, List, ◌++◌, length, take, drop, map, replicate, zero-mul, inl, inr, refl, sym, ◌∙◌, ap, arith}
+use Rattle.std.proofs.Common.{◌≡◌, ℕ, zero, suc, ◌+◌, ◌-◌, ◌*◌, ◌<◌, ◌≤◌, List, ◌++◌, length, get_or, take, drop, map, replicate, zero-mul, inl, inr, refl, sym, ◌∙◌, ap, arith}
 use Rattle.std.specs.Prelude.{Option, Some, None, option_map, count_by, flat_map, min, nat_le, ◌==◌, if◌then◌else◌}
-use Rattle.std.proofs.lemmas.List.{length-replicate, take-replicate, drop-replicate, replicate-append-replicate, take_all}
+use Rattle.std.proofs.lemmas.List.{same_lists, get_or_default, get_or-replicate, length-replicate, take-replicate, drop-replicate, replicate-append-replicate, take_all}
 use Rattle.std.proofs.lemmas.Bool.{cases_lt, cond-true, cond-false, ne_eqb, lt-leb, le-leb}
 use Rattle.std.proofs.lemmas.Option.{none-some}
 use Rattle.rss_base.specs.declared.link.LinkEntry.{LinkEntry}
 use Rattle.rss_base.specs.Sizes.{images_most, links_most, page_bytes, zero_page}
 use Rattle.rss_base.specs.declared.image.ImageEntry.{ImageEntry}
 use Rattle.rss_base.specs.Listings.{Listing, PathsFit, IsPlain, HasNoLinks, numbered, has_role, padded, catalog_page, image_spelled, link_spelled, images_on}
-use Rattle.rss_catalog.proofs.Numbered.{numbered_map, none_numbered}
+use Rattle.rss_catalog.proofs.Numbered.{numbered_at, numbered_map, none_numbered}
 
 -- nothing has a number
 pub none_of : {A : Type 0} (items : List (Option A)) (count number : ℕ) (item : A) → items ≡ replicate count None → numbered items number ≡ Some item → ⊥
@@ -17,6 +17,11 @@ none_of {A = A} items count number item none is =
 
 pub none_at : {A : Type 0} (items : List (Option A)) (count number : ℕ) → items ≡ replicate count None → numbered items number ≡ None
 none_at {A = A} items count number none = ap (λ (l : List (Option A)). numbered l number) none ∙ none_numbered count number
+
+-- where no number has anything, nothing stands at any place
+pub none_where : {A : Type 0} (items : List (Option A)) (count : ℕ) → length items ≡ count → ((number : ℕ) → 0 < number → numbered items number ≡ None) → items ≡ replicate count None
+none_where {A = A} items count long none = same_lists items (replicate count None) (long ∙ sym (length-replicate {A = Option A} count None)) (λ k d low.
+    get_or_default items k d None low ∙ ap (λ (n : ℕ). get_or items n None) (omega arith) ∙ sym (numbered_at items (k + 1) (omega arith) (omega (arith, low))) ∙ none (k + 1) (omega arith) ∙ sym (get_or-replicate count k None d (omega (arith, long, low))))
 
 none_named : {A B : Type 0} (f : A → B) (items : List (Option A)) (count number : ℕ) (name : B) → items ≡ replicate count None → numbered (map (option_map f) items) number ≡ Some name → ⊥
 none_named {A = A} f items count number name none is =

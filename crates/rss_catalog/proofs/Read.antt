@@ -1,5 +1,5 @@
 -- What the pages of a listing read as.
-use Rattle.std.proofs.Common.{◌≡◌, ℕ, ◌+◌, ◌-◌, ◌*◌, ◌<◌, ◌≤◌, suc, List, [], ◌∷◌, length, take, drop, get_or, replicate, Option, Some, None, refl, sym, ◌∙◌, ap, arith, mul-zero}
+use Rattle.std.proofs.Common.{◌≡◌, ℕ, ◌+◌, ◌-◌, ◌*◌, ◌<◌, ◌≤◌, suc, List, [], ◌∷◌, length, take, drop, get_or, replicate, Option, None, refl, sym, ◌∙◌, ap, arith, mul-zero}
 use Rattle.std.specs.Prelude.{map, flat_map, ◌==◌, nat_le}
 use Rattle.std.proofs.lemmas.Bool.{cond-true, cond-false, ne_eqb, le-leb}
 use Rattle.std.proofs.lemmas.List.{length-map, length-take, length-drop, take_all, get_or-take, get_or-drop}

@@ -11,9 +11,6 @@ use Rattle.rss_base.specs.TupleTypes.{AreFields, field_names, kinds, is_kind, wi
 use Rattle.rss_base.specs.declared.value.FieldKind.TheVariants.{Int}
 use Rattle.rss_base.specs.Sizes.{segments, relations_most, images_most, links_most}
 use Rattle.rss_base.specs.Listings.{Listing, numbered, ListingFits}
-use Rattle.rss_base.specs.declared.relation.RelationEntry.{RelationEntry}
-use Rattle.rss_base.specs.declared.image.ImageEntry.{ImageEntry}
-use Rattle.rss_base.specs.declared.link.LinkEntry.{LinkEntry}
 use Rattle.rss_base.specs.declared.name.Name.{Name}
 use Rattle.rss_base.specs.declared.field.FieldDef.{FieldDef}
 use Rattle.rss_catalog.specs.Checking.{AreNames, AreOnce, IsTaken, TablesFit, ImagesFit, LinksFit, HasEntryOf, listing_of}

@@ -1,5 +1,5 @@
 -- What is asked of a listing, by parts.
-use Rattle.std.specs.Prelude.{◌≡◌, ℕ, ◌-◌, ◌≤◌, ◌++◌, List, [], length, Contains, All, map, replicate, option_map, count_by, Option, Some, None, is_some, true, Bool}
+use Rattle.std.specs.Prelude.{◌≡◌, ℕ, ◌-◌, ◌≤◌, ◌++◌, List, [], length, Contains, All, map, replicate, option_map, count_by, Option, Some, is_some, true, Bool}
 use Rattle.rss_base.specs.Sizes.{roles_most}
 use Rattle.rss_base.specs.Names.{IsName}
 use Rattle.rss_base.specs.TupleTypes.{kinds, chosen, key_width, most_key_width, most_fields}

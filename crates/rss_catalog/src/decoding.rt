@@ -4,7 +4,7 @@ ghost use Rattle.rss_base.specs.Sizes.{page_bytes, segments, links_most};
 ghost use Rattle.rss_base.specs.Names.{name_bytes};
 ghost use Rattle.rss_base.specs.TupleTypes.{most_fields};
 ghost use Rattle.rss_base.specs.Listings.{field_bytes, relation_bytes, relations_of_page, image_bytes, images_of_page, link_bytes};
-ghost use Rattle.std.specs.Int.{w16, w32, from_be_bytes};
+ghost use Rattle.std.specs.Int.{w32, from_be_bytes};
 ghost use Rattle.rss_catalog.specs.Reading.{pieces, segment_of, kind_of, field_of, fields_of};
 ghost use Rattle.rss_catalog.specs.Reading.{relation_of, image_of, link_of, parent_of, place_of};
 
@@ -62,10 +62,7 @@ pub(crate) fn read_images(
 }
 
 /// Puts the links of a page behind those that are there.
-pub(crate) fn read_links(
-    page: &Page,
-    links: &mut Vec<Option<LinkEntry>>,
-) -> Result<(), AllocError>
+pub(crate) fn read_links(page: &Page, links: &mut Vec<Option<LinkEntry>>) -> Result<(), AllocError>
     ensures read { OnOk result (links.new.items ≡ links.old.items
         ++ map link_of (pieces link_bytes links_most page.now)) }
 {
