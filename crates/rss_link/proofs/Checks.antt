@@ -1,0 +1,154 @@
+-- What the loops of a check keep.
+use Rattle.std.proofs.Common.{◌≡◌, ◌⊎◌, inl, inr, ℕ, ◌+◌, ◌^◌, ◌≤◌, Bool, true, false, List, [], ◌∷◌, ◌++◌, length, Option, Some, None, refl, sym, ◌∙◌, ap, subst, arith, length-append}
+use Rattle.std.specs.Prelude.{if◌then◌else◌, IfSome, MatchOption}
+use Rattle.std.proofs.lemmas.Bool.{cases_Bool}
+use Rattle.rss_base.specs.DiskRule.{IsTold}
+use Rattle.rss_base.specs.Prefixes.{Ends, last_of}
+use Rattle.rss_base.specs.Steps.{no_page}
+use Rattle.rss_base.specs.declared.tid.Tid.{Tid}
+use Rattle.rss_base.proofs.Steps.{rests}
+use Rattle.rss_tuple.specs.Directory.{Bodies, bodies_of}
+use Rattle.rss_tuple.specs.Finding.{IsAfter, IsNext}
+use Rattle.rss_tuple.specs.Heaps.{AreHeaps}
+use Rattle.rss_tuple.specs.TupleSteps.{TuplesView, IsLive, IsLeast, NoneIs, no_tuple}
+use Rattle.rss_link.specs.declared.link.Chains.{Chains}
+use Rattle.rss_link.specs.declared.link.Relations.{Relations}
+use Rattle.rss_link.specs.Blocks.{IsNamed}
+use Rattle.rss_link.specs.Chains.{IsParent}
+use Rattle.rss_link.specs.Calls.{seen_with}
+use Rattle.rss_link.specs.Checking.{children_of, parents_of, IsParentOf, HasChains, IsCounted, AreCounted, IsCount, IsChain, IsWalked, NoneIsWalked, IsFollowed, NotFollowed, HasChain, IsTaken, IsNotTaken, AreWalked, AllWalked, NoneAreWalked}
+use Rattle.rss_link.proofs.TupleSteps.{TuplesStep, then, same_bodies}
+use Rattle.rss_link.proofs.Lists.{false_true, last_behind}
+use Rattle.rss_link.proofs.Ordered.{HasWidth, room_behind, less_room, IsSeen, seen_here, seen_still, seen_more, seen_all, begins_live, live_named}
+use Rattle.rss_link.proofs.Chained.{IsFront, front_none, front_more, front_refused, front_full, front_done, front_open}
+use Rattle.rss_link.proofs.Counted.{counted_none, counted_more, counted_all}
+use Rattle.rss_link.proofs.Walked.{walked_none, walked_other, walked_more, walked_few, never_too_long, never_fewer}
+
+-- nothing was done
+pub rested : (view : TuplesView) → (IsTold view.pages.disk → AreHeaps view.pages) → TuplesStep no_page no_tuple 0 view view
+rested view heaps = record { below = rests view.pages; heaps = heaps; others = λ told segment tid off. refl }
+
+-- what is so of bodies is so of those before
+pub so_before : (P : Bodies → Type 0) {cost : ℕ} {old new : TuplesView} → TuplesStep no_page no_tuple cost old new → IsTold old.pages.disk → P new.bodies → P old.bodies
+so_before P step told is = subst P (same_bodies step told) is
+
+-- ---- the children are counted
+
+pub record Counting (link : Chains) (relations : Relations) (start now : TuplesView) (last : Option Tid) (count : ℕ) : Type 0 where
+  pub cost : ℕ
+  pub step : TuplesStep no_page no_tuple cost start now
+  pub within : IfSome last HasWidth
+  pub room : count + room_behind last ≤ 2 ^ 48 + 1
+  pub are : IsTold start.pages.disk → (list : List Tid) × AreCounted link relations start.bodies (IsSeen last) list × (length list ≡ count)
+
+pub counting_none : (link : Chains) (relations : Relations) (start : TuplesView) → (IsTold start.pages.disk → AreHeaps start.pages) → Counting link relations start start None 0
+counting_none link relations start heaps = record {
+  cost = 0;
+  step = rested start heaps;
+  within = tt;
+  room = omega arith;
+  are = λ told. ([], counted_none (λ t seen. seen tt), refl);
+}
+
+module _ {link : Chains} {relations : Relations} {start now : TuplesView} {last : Option Tid} {count : ℕ} (so : Counting link relations start now last count) where
+  -- a child is a tuple that is there
+  child_live : IsTold start.pages.disk → (t : Tid) → children_of link relations start.bodies t ≡ true → IsLive now link.child_segment t
+  child_live told t child = begins_live relations.child (now.bodies link.child_segment t) (subst (λ (b : Bodies). children_of link relations b t ≡ true) (sym (same_bodies so.step told)) child)
+
+  pub counting_more : {cost cost_then : ℕ} (mid new : TuplesView) → TuplesStep no_page no_tuple cost now mid → TuplesStep no_page no_tuple cost_then mid new → (tid : Tid) → HasWidth tid → IsAfter last tid
+      → now.bodies ≡ bodies_of now.pages.held → (IsTold now.pages.disk → IsLeast (IsNext now link.child_segment last) tid)
+      → (stands : Bool) → (IsTold mid.pages.disk → IsCounted link relations mid.bodies tid stands) → (count_now : ℕ) → count_now ≡ count + (if stands then 1 else 0) → Counting link relations start new (Some tid) count_now
+  counting_more mid new on after tid width behind bodies first stands looked count_now is = record {
+    cost = _;
+    step = (then) so.step ((then) on after);
+    within = width;
+    room = counted_room stands is;
+    are = λ told.
+        let was = so.are told in
+        let told_now = so.step.below.passes.leaves.told.0 told in
+        let at = first told_now in
+        let list = counted_more was.1 tid (λ seen. seen behind) (seen_here tid) (λ t seen. seen_still last tid t behind seen)
+            (λ t child seen. seen_more tid t at (child_live told t child) seen)
+            (λ child. live_named now link.child_segment tid bodies width at.has.live)
+            stands (so_before (λ b. IsCounted link relations b tid stands) ((then) so.step on) told (looked (on.below.passes.leaves.told.0 told_now))) in
+        (list.0, list.1, list.2 ∙ ap (λ (n : ℕ). n + (if stands then 1 else 0)) was.2 ∙ sym is);
+  }
+    where
+      counted_room : (s : Bool) → count_now ≡ count + (if s then 1 else 0) → count_now + room_behind (Some tid) ≤ 2 ^ 48 + 1
+      counted_room true e = omega (arith, e, so.room, less_room last tid so.within width behind)
+      counted_room false e = omega (arith, e, so.room, less_room last tid so.within width behind)
+
+  pub counting_done : IsTold start.pages.disk → NoneIs (IsNext now link.child_segment last) → IsCount link relations start.bodies count
+  counting_done told none =
+      let was = so.are told in
+      record { standing = was.0; are = counted_all was.1 (λ t child. seen_all t none (child_live told t child)); long = was.2 }
+
+-- ---- a chain is walked
+
+pub record Walking (link : Chains) (relations : Relations) (parent : Option Tid) (ends : Ends) (most : ℕ) (start now : TuplesView) (previous next : Option Tid) (count : ℕ) : Type 0 where
+  pub cost : ℕ
+  pub step : TuplesStep no_page no_tuple cost start now
+  pub few : count ≤ most
+  pub are : IsTold start.pages.disk → (front : List Tid) × IsFront link relations start.bodies parent ends front next × (previous ≡ last_of front) × (length front ≡ count)
+
+pub walking_none : (link : Chains) (relations : Relations) (parent : Option Tid) (ends : Ends) (most : ℕ) (start : TuplesView) → (IsTold start.pages.disk → AreHeaps start.pages) → Walking link relations parent ends most start start None ends.first 0
+walking_none link relations parent ends most start heaps = record { cost = 0; step = rested start heaps; few = omega arith; are = λ told. ([], front_none, refl, refl) }
+
+module _ {link : Chains} {relations : Relations} {parent : Option Tid} {ends : Ends} {most : ℕ} {start now : TuplesView} {previous next : Option Tid} {count : ℕ} (so : Walking link relations parent ends most start now previous next count) where
+  module _ (tid : Tid) (is : next ≡ Some tid) where
+    pub walking_more : {cost : ℕ} (new : TuplesView) → TuplesStep no_page no_tuple cost now new → (behind : Option Tid) → (IsTold now.pages.disk → IsFollowed link relations now.bodies parent previous tid behind)
+        → (count_now : ℕ) → count_now ≡ count + 1 → count_now ≤ most → Walking link relations parent ends most start new (Some tid) behind count_now
+    walking_more new after behind followed count_now long few = record {
+      cost = _;
+      step = (then) so.step after;
+      few = few;
+      are = λ told.
+          let was = so.are told in
+          let said = so_before (λ b. IsFollowed link relations b parent previous tid behind) so.step told (followed (so.step.below.passes.leaves.told.0 told)) in
+          (was.0 ++ tid ∷ [], front_more was.1 tid is behind (subst (λ (p : Option Tid). IsFollowed link relations start.bodies parent p tid behind) was.2 said),
+          sym (last_behind was.0 [] tid), omega (arith, long, was.3, length-append was.0 (tid ∷ [])));
+    }
+
+    pub walking_full : count ≡ most → IsTold start.pages.disk → NoneIsWalked link relations start.bodies parent ends most
+    walking_full full told = let was = so.are told in front_full was.1 tid is most (was.3 ∙ full)
+
+    pub walking_refused : (IsTold now.pages.disk → NotFollowed link relations now.bodies parent previous tid) → IsTold start.pages.disk → NoneIsWalked link relations start.bodies parent ends most
+    walking_refused never told =
+        let was = so.are told in
+        let said = so_before (λ b. NotFollowed link relations b parent previous tid) so.step told (never (so.step.below.passes.leaves.told.0 told)) in
+        λ list chain low. front_refused was.1 tid is (subst (λ (p : Option Tid). NotFollowed link relations start.bodies parent p tid) was.2 said) list chain
+
+  pub walking_done : next ≡ None → previous ≡ ends.last → IsTold start.pages.disk → IsWalked link relations start.bodies parent ends count
+  walking_done none last told = let was = so.are told in record { list = was.0; chain = front_done was.1 none (sym was.2 ∙ last); long = was.3 }
+
+  pub walking_open : next ≡ None → (previous ≡ ends.last → ⊥) → IsTold start.pages.disk → NoneIsWalked link relations start.bodies parent ends most
+  walking_open none differ told = let was = so.are told in λ list chain low. front_open was.1 none (λ last. differ (was.2 ∙ last)) list chain
+
+-- ---- all chains are walked
+
+-- the parents that don't stand behind the last one
+abbrev pub IsSeenParent : Option Tid → Option Tid → Type 0
+IsSeenParent last parent = (t : Tid) → parent ≡ Some t → IsSeen last t
+
+pub record WalkingAll (link : Chains) (relations : Relations) (kept : Ends) (standing : ℕ) (start now : TuplesView) (last : Option Tid) (left : ℕ) : Type 0 where
+  pub cost : ℕ
+  pub step : TuplesStep no_page no_tuple cost start now
+  pub within : IfSome last HasWidth
+  pub few : left ≤ standing
+  pub are : IsTold start.pages.disk → (walked : List Tid) × AreWalked link relations (seen_with kept start) (IsSeenParent last) walked × (left + length walked ≡ standing)
+
+no_upper : (unary : Bool) (parents : Tid → Bool) (parent : Option Tid) → unary ≡ false → IsParent unary parents parent → (t : Tid) × (parent ≡ Some t) × (parents t ≡ true)
+no_upper true parents parent kind is = absurd (false_true true kind refl)
+no_upper false parents None kind is = absurd is
+no_upper false parents (Some t) kind is = (t, refl, is)
+
+pub walking_all_none : (link : Chains) (relations : Relations) (kept : Ends) (standing : ℕ) (start : TuplesView) → link.unary ≡ false → (IsTold start.pages.disk → AreHeaps start.pages) → WalkingAll link relations kept standing start start None standing
+walking_all_none link relations kept standing start kind heaps = record {
+  cost = 0;
+  step = rested start heaps;
+  within = tt;
+  few = omega arith;
+  are = λ told. ([], walked_none
+      (λ parent is seen. let its = no_upper link.unary (parents_of link relations start.bodies) parent kind is in seen its.0 its.1 tt)
+      (λ t is seen. seen t refl tt), omega arith);
+}
