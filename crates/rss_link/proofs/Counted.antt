@@ -1,6 +1,6 @@
 -- The children that say that they stand in chains.
-use Rattle.std.proofs.Common.{◌≡◌, ◌⊎◌, inl, inr, ℕ, ◌+◌, Bool, true, false, List, [], ◌∷◌, length, refl, sym, ◌∙◌, ap, subst, arith}
-use Rattle.std.specs.Prelude.{if◌then◌else◌}
+use Rattle.std.proofs.Common.{◌≡◌, ◌⊎◌, inl, inr, ℕ, ◌+◌, Bool, true, false, List, [], ◌∷◌, length, Option, Some, refl, sym, ◌∙◌, ap, subst, arith}
+use Rattle.std.specs.Prelude.{from_bool}
 use Rattle.rss_base.specs.declared.tid.Tid.{Tid}
 use Rattle.rss_tuple.specs.Directory.{Bodies}
 use Rattle.rss_model.specs.Chains.{stands_in}
@@ -8,13 +8,16 @@ use Rattle.rss_link.specs.declared.link.Chains.{Chains}
 use Rattle.rss_link.specs.declared.link.Relations.{Relations}
 use Rattle.rss_link.specs.declared.blocks.Standing.{Standing}
 use Rattle.rss_link.specs.declared.blocks.Standing.TheVariants.{Outside, Within}
-use Rattle.rss_link.specs.Blocks.{IsNamed}
+use Rattle.rss_link.specs.Blocks.{IsNamed, HasStanding}
 use Rattle.rss_link.specs.Links.{Says}
 use Rattle.rss_link.specs.Edits.{SaysSome}
-use Rattle.rss_link.specs.Checking.{children_of, AreDistinct, SaysPlace, IsCounted, AreCounted}
-use Rattle.rss_link.proofs.Lists.{false_true, false_where}
+use Rattle.rss_link.specs.Checking.{children_of, AreDistinct, SaysPlace, IsCounted, AreCounted, IsFollowed, NotFollowed}
+use Rattle.rss_link.proofs.Lists.{false_true, false_where, some_one}
 use Rattle.rss_link.proofs.Meaning.{says_one}
 use Rattle.rss_link.proofs.Once.{stands_first, stands_more, stands_cases}
+
+place_one : {p q l r m s : Option Tid} → Within p l r ≡ Within q m s → (p ≡ q) × (l ≡ m)
+place_one same = (cc, cc)
 
 -- it says one of the two
 pub never_both : {link : Chains} {bodies : Bodies} {t : Tid} → SaysPlace link bodies t → (says : Standing) → says ≡ Outside → Says link bodies t says → ⊥
@@ -43,7 +46,7 @@ module _ {link : Chains} {relations : Relations} {bodies : Bodies} where
       | inr was ↦ old t was child
     ]
 
-    pub counted_more : (stands : Bool) → IsCounted link relations bodies tid stands → (list : List Tid) × AreCounted link relations bodies now list × (length list ≡ length standing + (if stands then 1 else 0))
+    pub counted_more : (stands : Bool) → IsCounted link relations bodies tid stands → (list : List Tid) × AreCounted link relations bodies now list × (length list ≡ length standing + from_bool stands)
     counted_more true looked = (tid ∷ standing, record {
       says = each (SaysSome link bodies) looked.says so.says;
       named = each IsNamed named so.named;
@@ -80,3 +83,49 @@ module _ {link : Chains} {relations : Relations} {bodies : Bodies} where
     all = λ t there child place. so.all t (all t child) child place;
     once = so.once;
   }
+
+-- ---- what was read of a child
+
+module _ {link : Chains} {bodies : Bodies} {t : Tid} {read slice : List ℕ} {at : ℕ} (body : bodies link.child_segment t ≡ Some read) (bytes : slice ≡ read) (place : at ≡ link.child_at) where
+  pub says_read : (standing : Standing) → HasStanding link.unary slice at standing → Says link bodies t standing
+  says_read standing has = record { body = slice; there = body ∙ ap Some (sym bytes); block = subst (λ (n : ℕ). HasStanding link.unary slice n standing) place has }
+
+  pub block_read : (standing : Standing) → Says link bodies t standing → HasStanding link.unary slice at standing
+  block_read standing says =
+      let same : says.body ≡ slice = some_one _ _ (sym says.there ∙ body ∙ ap Some (sym bytes)) in
+      subst (λ (n : ℕ). HasStanding link.unary slice n standing) (sym place) (subst (λ (l : List ℕ). HasStanding link.unary l link.child_at standing) same says.block)
+
+module _ {link : Chains} {relations : Relations} {bodies : Bodies} {t : Tid} where
+  pub counted_within : children_of link relations bodies t ≡ true → AreDistinct link relations → {parent previous next : Option Tid} → Says link bodies t (Within parent previous next) → IsCounted link relations bodies t true
+  counted_within child distinct says = record {
+    says = λ is. record { standing = _; says = says };
+    distinct = λ is. distinct;
+    within = λ is. (child, record { parent = _; previous = _; next = _; says = says });
+    outside = λ never. absurd (false_true true never refl);
+  }
+
+  pub counted_outside : AreDistinct link relations → Says link bodies t Outside → IsCounted link relations bodies t false
+  counted_outside distinct says = record {
+    says = λ is. record { standing = Outside; says = says };
+    distinct = λ is. distinct;
+    within = λ never. absurd (false_true false refl never);
+    outside = λ is child. says;
+  }
+
+  pub counted_other : children_of link relations bodies t ≡ false → IsCounted link relations bodies t false
+  counted_other other = record {
+    says = λ is. absurd (false_true _ other is);
+    distinct = λ is. absurd (false_true _ other is);
+    within = λ never. absurd (false_true false refl never);
+    outside = λ is child. absurd (false_true _ other child);
+  }
+
+  -- it stands in the chain of this parent, behind this one, or it doesn't say so
+  pub followed : children_of link relations bodies t ≡ true → {other before parent previous next : Option Tid} → Says link bodies t (Within other before next) → other ≡ parent → before ≡ previous → IsFollowed link relations bodies parent previous t next
+  followed child {next = next} says parents previouses = record { is_child = child; says = subst (λ (s : Standing). Says link bodies t s) (λ i. Within (parents i) (previouses i) next) says }
+
+  pub other_place : {other before parent previous next : Option Tid} → Says link bodies t (Within other before next) → ((other ≡ parent) × (before ≡ previous) → ⊥) → NotFollowed link relations bodies parent previous t
+  other_place says differ = λ found it. differ (place_one (says_one link bodies t _ _ says it.says))
+
+  pub not_placed : (standing : Standing) → standing ≡ Outside → Says link bodies t standing → {parent previous : Option Tid} → NotFollowed link relations bodies parent previous t
+  not_placed standing is says = λ found it. never_both (record { parent = _; previous = _; next = found; says = it.says }) standing is says

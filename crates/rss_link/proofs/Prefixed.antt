@@ -86,12 +86,12 @@ one_place t (x ∷ xs) (y ∷ b) a (z ∷ b_too) a_too once is is_too = ap suc (
 
 -- ---- from chains to blocks
 
-only_none : (unary : Bool) (parents : Tid → Bool) (parent : Option Tid) → unary ≡ true → IsParent unary parents parent → parent ≡ None
+pub only_none : (unary : Bool) (parents : Tid → Bool) (parent : Option Tid) → unary ≡ true → IsParent unary parents parent → parent ≡ None
 only_none true parents None kind is = refl
 only_none true parents (Some parent) kind is = absurd is
 only_none false parents parent kind is = absurd (false_true false refl kind)
 
-none_parent : (unary : Bool) (parents : Tid → Bool) → unary ≡ true → IsParent unary parents None
+pub none_parent : (unary : Bool) (parents : Tid → Bool) → unary ≡ true → IsParent unary parents None
 none_parent true parents kind = tt
 none_parent false parents kind = absurd (false_true false refl kind)
 
