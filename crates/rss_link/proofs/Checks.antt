@@ -1,6 +1,7 @@
 -- What the loops of a check keep.
 use Rattle.std.proofs.Common.{◌≡◌, ◌⊎◌, inl, inr, ℕ, ◌+◌, ◌^◌, ◌≤◌, Bool, true, false, List, [], ◌∷◌, ◌++◌, length, Option, Some, None, refl, sym, ◌∙◌, ap, subst, arith, length-append}
-use Rattle.std.specs.Prelude.{from_bool, IfSome}
+use Rattle.std.specs.Int.{from_bool}
+use Rattle.std.specs.Prelude.{IfSome, MatchOption}
 use Rattle.std.proofs.lemmas.Bool.{cond-true, cond-false}
 use Rattle.rss_base.specs.DiskRule.{IsTold}
 use Rattle.rss_base.specs.Prefixes.{Ends, last_of}
@@ -13,18 +14,20 @@ use Rattle.rss_tuple.specs.Heaps.{AreHeaps}
 use Rattle.rss_tuple.specs.TupleSteps.{TuplesView, IsLive, IsLeast, NoneIs, no_tuple}
 use Rattle.rss_link.specs.declared.link.Chains.{Chains}
 use Rattle.rss_link.specs.declared.link.Relations.{Relations}
-use Rattle.rss_link.specs.Blocks.{IsNamed}
+use Rattle.rss_link.specs.Blocks.{IsNamed, HasEnds}
 use Rattle.rss_link.specs.Chains.{IsParent}
+use Rattle.rss_link.specs.Links.{BodySaysEnds}
 use Rattle.rss_link.specs.Calls.{seen_with}
 use Rattle.rss_link.specs.Checking.{begins_with, children_of, parents_of, IsParentOf, HasChains, IsCounted, AreCounted, IsCount, IsChain, IsWalked, NoneIsWalked, IsFollowed, NotFollowed, HasChain, IsTaken, IsNotTaken, AreWalked, AllWalked, NoneAreWalked}
 use Rattle.rss_link.proofs.TupleSteps.{TuplesStep, then, same_bodies}
 use Rattle.rss_link.proofs.Lists.{false_true, last_behind, some_one}
+use Rattle.rss_link.proofs.Meaning.{ends_one}
 use Rattle.rss_link.proofs.Ordered.{HasWidth, room_behind, less_room, IsSeen, seen_here, seen_still, seen_more, seen_all, begins_live, live_named}
 use Rattle.rss_link.proofs.Chained.{IsFront, front_none, front_more, front_refused, front_full, front_done, front_open}
 use Rattle.rss_link.proofs.Coming.{as_parent_of}
 use Rattle.rss_link.proofs.Prefixed.{none_parent, only_none}
 use Rattle.rss_link.proofs.Counted.{counted_none, counted_more, counted_all}
-use Rattle.rss_link.proofs.Walked.{walked_none, walked_other, walked_more, walked_few, never_too_long, never_fewer}
+use Rattle.rss_link.proofs.Walked.{walked_none, walked_other, walked_more, walked_few, never_too_long, never_fewer, all_spelled}
 
 -- nothing was done
 pub rested : (view : TuplesView) → (IsTold view.pages.disk → AreHeaps view.pages) → TuplesStep no_page no_tuple 0 view view
@@ -255,22 +258,22 @@ module _ {link : Chains} {relations : Relations} {kept : Ends} {standing : ℕ} 
 
 -- ---- the one chain of a unary link
 
+no_parent : (link : Chains) (relations : Relations) (bodies : Bodies) (t : Tid) → link.unary ≡ true → parents_of link relations bodies t ≡ true → ⊥
+no_parent link relations bodies t kind is = false_true false refl (sym (cond-true link.unary false (begins_with relations.parent (bodies link.parent_segment t)) kind) ∙ is)
+
 none_yet : {link : Chains} {relations : Relations} {kept : Ends} {start : TuplesView} → AreWalked link relations (seen_with kept start) (λ parent. ⊥) []
 none_yet = walked_none (λ parent is seen. seen) (λ t is seen. seen)
 
 module _ {link : Chains} {relations : Relations} {kept : Ends} {start : TuplesView} (kind : link.unary ≡ true) where
-  no_parent : {link : Chains} {relations : Relations} {bodies : Bodies} (t : Tid) → link.unary ≡ true → parents_of link relations bodies t ≡ true → ⊥
-  no_parent {link = l} {relations = r} {bodies = b} t unary is = false_true false refl (sym (cond-true l.unary false (begins_with r.parent (b l.parent_segment t)) unary) ∙ is)
-
   module _ {count : ℕ} (walked : IsWalked link relations start.bodies None kept count) where
     alone_all : (list : List Tid) × AreWalked link relations (seen_with kept start) (λ parent. Unit {0}) list × (length list ≡ count)
     alone_all = (walked.list ++ [], walked_more none_yet (λ parent seen. tt) None (none_parent link.unary (parents_of link relations start.bodies) kind) (λ seen. seen) tt walked.list
         (record { ends = kept; says = refl; chain = walked.chain })
-        (λ parent is seen. inl (only_none link.unary (parents_of link relations start.bodies) parent kind is)) (λ t is seen. absurd (no_parent t kind is)),
+        (λ parent is seen. inl (only_none link.unary (parents_of link relations start.bodies) parent kind is)) (λ t is seen. absurd (no_parent link relations start.bodies t kind is)),
         omega (arith, length-append walked.list [], walked.long))
 
-    pub alone_done : AllWalked link relations (seen_with kept start) count
-    alone_done = record { walked = alone_all.0; are = alone_all.1; long = alone_all.2 }
+    pub alone_done : {standing : ℕ} → count ≡ standing → AllWalked link relations (seen_with kept start) standing
+    alone_done is = record { walked = alone_all.0; are = alone_all.1; long = alone_all.2 ∙ is }
 
     pub alone_left : {standing : ℕ} → (count ≡ standing → ⊥) → NoneAreWalked link relations (seen_with kept start) standing
     alone_left differ = λ counted has. never_fewer alone_all.1 counted.are (λ same. differ (omega (arith, same, alone_all.2, counted.long))) has
@@ -278,3 +281,49 @@ module _ {link : Chains} {relations : Relations} {kept : Ends} {start : TuplesVi
   pub alone_refused : {standing : ℕ} → NoneIsWalked link relations start.bodies None kept standing → NoneAreWalked link relations (seen_with kept start) standing
   alone_refused {standing = standing} never = λ counted has. never_too_long none_yet counted.are None (none_parent link.unary (parents_of link relations start.bodies) kind) (λ seen. seen) standing (omega (arith, counted.long))
       (λ ends says list chain low. never list (subst (λ (e : Ends). IsChain link relations start.bodies None e list) (sym says) chain) low) has
+
+-- ---- the chain below one parent
+
+module _ {link : Chains} {bodies : Bodies} {t : Tid} {read slice : List ℕ} {at : ℕ} (body : bodies link.parent_segment t ≡ Some read) (bytes : slice ≡ read) (place : at ≡ link.parent_at) where
+  pub ends_said : (ends : Ends) → HasEnds slice at ends → BodySaysEnds link bodies t ends
+  ends_said ends has = record { body = slice; there = body ∙ ap Some (sym bytes); block = subst (λ (n : ℕ). HasEnds slice n ends) place has }
+
+  pub ends_had : (ends : Ends) → BodySaysEnds link bodies t ends → HasEnds slice at ends
+  ends_had ends says =
+      let same : says.body ≡ slice = some_one _ _ (sym says.there ∙ body ∙ ap Some (sym bytes)) in
+      subst (λ (n : ℕ). HasEnds slice n ends) (sym place) (subst (λ (l : List ℕ). HasEnds l link.parent_at ends) same says.block)
+
+pub is_upper : {link : Chains} {relations : Relations} {bodies : Bodies} {t : Tid} → link.unary ≡ false → begins_with relations.parent (bodies link.parent_segment t) ≡ true → parents_of link relations bodies t ≡ true
+is_upper {link = link} {relations = relations} {bodies = bodies} {t = t} kind begins = cond-false link.unary false (begins_with relations.parent (bodies link.parent_segment t)) kind ∙ begins
+
+module _ {link : Chains} {relations : Relations} {kept : Ends} {old mid : TuplesView} {cost : ℕ} (step : TuplesStep no_page no_tuple cost old mid) (told : IsTold old.pages.disk) where
+  module _ {t : Tid} {most : ℕ} (upper : parents_of link relations old.bodies t ≡ true) (ends : Ends) (says : BodySaysEnds link old.bodies t ends) where
+    pub taken_below : (found : Option ℕ) → MatchOption found (NoneIsWalked link relations mid.bodies (Some t) ends most) (IsWalked link relations mid.bodies (Some t) ends)
+        → MatchOption found (IsNotTaken link relations (seen_with kept old) t most) (IsTaken link relations (seen_with kept old) t)
+    taken_below None never =
+        let said = so_before (λ b. NoneIsWalked link relations b (Some t) ends most) step told never in
+        record {
+          is_parent = upper;
+          never = λ others says_too list chain low. said list
+              (subst (λ (e : Ends). IsChain link relations old.bodies (Some t) e list) (ends_one link kept old.bodies (Some t) others ends says_too says) chain) low;
+        }
+    taken_below (Some count) walked =
+        let said = so_before (λ b. IsWalked link relations b (Some t) ends count) step told walked in
+        record {
+          of_parent = λ is. (said.list, record { ends = ends; says = says; chain = said.chain }, said.long);
+          none = λ other. absurd (false_true _ other upper);
+        }
+
+  -- ---- the answer
+
+  module _ {standing : ℕ} (counted : IsCount link relations old.bodies standing) where
+    pub checked_yes : AllWalked link relations (seen_with kept mid) standing → HasChains link relations (seen_with kept old)
+    checked_yes all =
+        let said = so_before (λ b. AllWalked link relations (record { ends = kept; tuples = record { pages = mid.pages; bodies = b } }) standing) step told all in
+        let has = all_spelled said.are counted.are (said.long ∙ sym counted.long) in
+        record { lists = has.lists; spells = has.spells }
+
+    pub checked_no : NoneAreWalked link relations (seen_with kept mid) standing → HasChains link relations (seen_with kept old) → ⊥
+    checked_no none has =
+        let said = so_before (λ b. NoneAreWalked link relations (record { ends = kept; tuples = record { pages = mid.pages; bodies = b } }) standing) step told none in
+        said counted (record { lists = has.lists; spells = has.spells })

@@ -126,8 +126,10 @@ impl Chains {
         ensures did { (most : ℕ) × TuplesCall no_page no_tuple most
             (T.view tuples.old) (T.view tuples.new) result }
     {
-        let walked = self.walk(tuples, relations, None, *ends, standing)?;
-        Ok(walked == Some(standing))
+        let Some(walked) = self.walk(tuples, relations, None, *ends, standing)? else {
+            return Ok(false);
+        };
+        Ok(walked == standing)
     }
 
     /// Walks the chains of all parents, and answers whether they have so many members together.

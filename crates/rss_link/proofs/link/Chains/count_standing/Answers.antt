@@ -28,7 +28,7 @@ returns-in_default-2-clause-did g c = (_, done _ (then (then c.loop-tid.invarian
 pub loop-tid-preserved : goal.loop-tid-preserved
 loop-tid-preserved g c =
     counting_more c.loop-tid.invariant _ _ (stepped c.in_ok-tid.ensures.did) (stepped c.in_ok-stands.ensures.did) c.in-Some.tid (record { page = omega arith; slot = omega arith })
-    (rw c.in-Some.is at c.in_ok-tid.ensures.behind) (g.T.Tuples.are_in_pages c.loop-tid.tuples) (rw c.in-Some.is at c.in_ok-tid.ensures.next)
+    (rw c.in-Some.is at c.in_ok-tid.ensures.behind) (g.met.T.Tuples.are_in_pages c.loop-tid.tuples) (rw c.in-Some.is at c.in_ok-tid.ensures.next)
     c.in-Some-2.stands (rw c.in-Some-2.is at c.in_ok-stands.ensures.says) _ (ap (λ (n : ℕ). c.loop-tid.count + n) c.from-count.ensures)
 
 pub returns-clause-counts : goal.returns-clause-counts
