@@ -293,11 +293,11 @@ module _ {link : Chains} {bodies : Bodies} {t : Tid} {read slice : List ℕ} {at
       let same : says.body ≡ slice = some_one _ _ (sym says.there ∙ body ∙ ap Some (sym bytes)) in
       subst (λ (n : ℕ). HasEnds slice n ends) (sym place) (subst (λ (l : List ℕ). HasEnds l link.parent_at ends) same says.block)
 
-pub is_upper : {link : Chains} {relations : Relations} {bodies : Bodies} {t : Tid} → link.unary ≡ false → begins_with relations.parent (bodies link.parent_segment t) ≡ true → parents_of link relations bodies t ≡ true
-is_upper {link = link} {relations = relations} {bodies = bodies} {t = t} kind begins = cond-false link.unary false (begins_with relations.parent (bodies link.parent_segment t)) kind ∙ begins
+pub is_upper : (link : Chains) (relations : Relations) (bodies : Bodies) (t : Tid) → link.unary ≡ false → begins_with relations.parent (bodies link.parent_segment t) ≡ true → parents_of link relations bodies t ≡ true
+is_upper link relations bodies t kind begins = cond-false link.unary false (begins_with relations.parent (bodies link.parent_segment t)) kind ∙ begins
 
-module _ {link : Chains} {relations : Relations} {kept : Ends} {old mid : TuplesView} {cost : ℕ} (step : TuplesStep no_page no_tuple cost old mid) (told : IsTold old.pages.disk) where
-  module _ {t : Tid} {most : ℕ} (upper : parents_of link relations old.bodies t ≡ true) (ends : Ends) (says : BodySaysEnds link old.bodies t ends) where
+module _ (link : Chains) (relations : Relations) (kept : Ends) {old mid : TuplesView} {cost : ℕ} (step : TuplesStep no_page no_tuple cost old mid) (told : IsTold old.pages.disk) where
+  module _ {t : Tid} (most : ℕ) (upper : parents_of link relations old.bodies t ≡ true) (ends : Ends) (says : BodySaysEnds link old.bodies t ends) where
     pub taken_below : (found : Option ℕ) → MatchOption found (NoneIsWalked link relations mid.bodies (Some t) ends most) (IsWalked link relations mid.bodies (Some t) ends)
         → MatchOption found (IsNotTaken link relations (seen_with kept old) t most) (IsTaken link relations (seen_with kept old) t)
     taken_below None never =

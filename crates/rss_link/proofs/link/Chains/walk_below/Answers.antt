@@ -9,7 +9,7 @@ pub returns-in-Some-clause-takes : goal.returns-in-Some-clause-takes
 returns-in-Some-clause-takes g c = IfOk-weaker c.walk.result _ _ (λ found walks told.
     let finds = (rw c.if-not-branch.false at c.in_ok-find.ensures.finds) told in
     let step = stepped c.in_ok-find.ensures.did in
-    taken_below step told (is_upper c.requires.binary finds.begins) (kept_ends c.in-Some.ends)
+    taken_below c.args.self.now c.args.relations (kept_ends c.args.ends.now) step told c.args.most (is_upper c.args.self.now c.args.relations (g.T.Tuples.view c.args.tuples.now).bodies c.args.tid c.requires.binary finds.begins) (kept_ends c.in-Some.ends)
     (ends_said (finds.is refl) c.as_slice.ensures.bytes c.from.ensures _ c.in-Some.ensures) found (walks (told_then step told))) c.walk.ensures.walks
 
 pub returns-in-Some-clause-did : goal.returns-in-Some-clause-did
@@ -19,7 +19,7 @@ pub returns-in-None-clause-takes : goal.returns-in-None-clause-takes
 returns-in-None-clause-takes g c = λ told.
     let finds = (rw c.if-not-branch.false at c.in_ok-find.ensures.finds) told in
     record {
-      is_parent = is_upper c.requires.binary finds.begins;
+      is_parent = is_upper c.args.self.now c.args.relations (g.T.Tuples.view c.args.tuples.now).bodies c.args.tid c.requires.binary finds.begins;
       never = λ ends says list chain low. c.in-None.ensures (record { first = ends.first; last = ends.last })
           (ends_had (finds.is refl) c.as_slice.ensures.bytes c.from.ensures ends says);
     }
