@@ -1,7 +1,7 @@
 -- One chain, walked from its first member on.
-use Rattle.std.proofs.Common.{◌≡◌, inl, inr, ℕ, ◌≤◌, zero, suc, true, List, [], ◌∷◌, ◌++◌, length, Option, Some, None, refl, sym, ◌∙◌, ap, subst, arith, append_assoc, length-append}
+use Rattle.std.proofs.Common.{◌≡◌, inl, inr, ℕ, ◌≤◌, zero, suc, true, List, [], ◌∷◌, ◌++◌, length, Option, Some, None, refl, sym, ◌∙◌, ap, subst, arith, append_assoc}
 use Rattle.std.proofs.lemmas.List.{append-nil}
-use Rattle.rss_base.specs.Prefixes.{Ends, first_of, last_of, ends_of}
+use Rattle.rss_base.specs.Prefixes.{Ends, first_of, last_of}
 use Rattle.rss_base.specs.declared.tid.Tid.{Tid}
 use Rattle.rss_tuple.specs.Directory.{Bodies}
 use Rattle.rss_model.specs.Chains.{stands_in, StandOnce}
@@ -12,7 +12,7 @@ use Rattle.rss_link.specs.declared.blocks.Standing.TheVariants.{Within}
 use Rattle.rss_link.specs.Chains.{Lists, IsParent}
 use Rattle.rss_link.specs.Links.{Says, SaysEnds, SpellChains}
 use Rattle.rss_link.specs.Checking.{children_of, parents_of, linkage_of, SaysPlace, IsChain, IsFollowed, NotFollowed}
-use Rattle.rss_link.proofs.Lists.{cut, Cut, early, late, last_cases, last_is, last_is_from, last_from, first_is, never_some}
+use Rattle.rss_link.proofs.Lists.{cut, Cut, early, late, last_cases, last_is, last_is_from, first_is, never_some}
 use Rattle.rss_link.proofs.Meaning.{says_one, same_list, say_their, ends_as}
 use Rattle.rss_link.proofs.Operations.{split_at}
 use Rattle.rss_link.proofs.Prefixed.{stand_once, not_there}
@@ -54,15 +54,19 @@ module _ {link : Chains} {relations : Relations} {bodies : Bodies} {parent : Opt
           let other = last_is b_too some.tid (sym (lasts b a b_too a_too t is is_too) ∙ last_is_from b ∙ some.last) in
           let low_too : length some.front ≤ n = omega (arith, low, ap length some.is, length_cons some.front some.tid []) in
           let same : length other.0 ≡ length some.front = places n some.front (t ∷ a) other.0 (t ∷ a_too) some.tid low_too
-              (is ∙ ap (λ (l : List Tid). l ++ t ∷ a) some.is ∙ append_assoc some.front (some.tid ∷ []) (t ∷ a))
-              (is_too ∙ ap (λ (l : List Tid). l ++ t ∷ a_too) other.1 ∙ append_assoc other.0 (some.tid ∷ []) (t ∷ a_too)) in
+          (is ∙ ap (λ (l : List Tid). l ++ t ∷ a) some.is ∙ append_assoc some.front (some.tid ∷ []) (t ∷ a))
+          (is_too ∙ ap (λ (l : List Tid). l ++ t ∷ a_too) other.1 ∙ append_assoc other.0 (some.tid ∷ []) (t ∷ a_too)) in
           omega (arith, same, ap length some.is, ap length other.1, length_cons some.front some.tid [], length_cons other.0 some.tid [])
     ]
 
     pub chain_once : StandOnce list
     chain_once = stand_once list (λ b t a is. not_there t a (λ m after again.
-        omega (arith, places (length b) b a (b ++ t ∷ m) after t (omega arith) is
-        (is ∙ ap (λ (l : List Tid). b ++ t ∷ l) again ∙ sym (append_assoc b (t ∷ m) (t ∷ after))), length_cons b t m)))
+        omega (
+          arith,
+          places (length b) b a (b ++ t ∷ m) after t (omega arith) is
+              (is ∙ ap (λ (l : List Tid). b ++ t ∷ l) again ∙ sym (append_assoc b (t ∷ m) (t ∷ after))),
+          length_cons b t m,
+        )))
 
     -- there is one chain between these ends
     pub chain_one : {other : List Tid} → IsChain link relations bodies parent ends other → other ≡ list

@@ -18,7 +18,7 @@ use Rattle.rss_link.specs.Blocks.{IsNamed, HasEnds}
 use Rattle.rss_link.specs.Chains.{IsParent}
 use Rattle.rss_link.specs.Links.{BodySaysEnds}
 use Rattle.rss_link.specs.Calls.{seen_with}
-use Rattle.rss_link.specs.Checking.{begins_with, children_of, parents_of, IsParentOf, HasChains, IsCounted, AreCounted, IsCount, IsChain, IsWalked, NoneIsWalked, IsFollowed, NotFollowed, HasChain, IsTaken, IsNotTaken, AreWalked, AllWalked, NoneAreWalked}
+use Rattle.rss_link.specs.Checking.{begins_with, children_of, parents_of, IsParentOf, HasChains, IsCounted, AreCounted, IsCount, IsChain, IsWalked, NoneIsWalked, IsFollowed, NotFollowed, IsTaken, IsNotTaken, AreWalked, AllWalked, NoneAreWalked}
 use Rattle.rss_link.proofs.TupleSteps.{TuplesStep, then, same_bodies}
 use Rattle.rss_link.proofs.Lists.{false_true, last_behind, some_one}
 use Rattle.rss_link.proofs.Meaning.{ends_one}
@@ -27,7 +27,7 @@ use Rattle.rss_link.proofs.Chained.{IsFront, front_none, front_more, front_refus
 use Rattle.rss_link.proofs.Coming.{as_parent_of}
 use Rattle.rss_link.proofs.Prefixed.{none_parent, only_none}
 use Rattle.rss_link.proofs.Counted.{counted_none, counted_more, counted_all}
-use Rattle.rss_link.proofs.Walked.{walked_none, walked_other, walked_more, walked_few, never_too_long, never_fewer, all_spelled}
+use Rattle.rss_link.proofs.Walked.{walked_none, walked_other, walked_more, never_too_long, never_fewer, all_spelled}
 
 -- nothing was done
 pub rested : (view : TuplesView) → (IsTold view.pages.disk → AreHeaps view.pages) → TuplesStep no_page no_tuple 0 view view
@@ -73,9 +73,9 @@ module _ {link : Chains} {relations : Relations} {start now : TuplesView} {last 
         let told_now = so.step.below.passes.leaves.told.0 told in
         let at = first told_now in
         let list = counted_more was.1 tid (λ seen. seen behind) (seen_here tid) (λ t seen. seen_still last tid t behind seen)
-            (λ t child seen. seen_more tid t at (child_live told t child) seen)
-            (λ child. live_named now link.child_segment tid bodies width at.has.live)
-            stands (so_before (λ b. IsCounted link relations b tid stands) (then so.step on) told (looked (on.below.passes.leaves.told.0 told_now))) in
+        (λ t child seen. seen_more tid t at (child_live told t child) seen)
+        (λ child. live_named now link.child_segment tid bodies width at.has.live)
+        stands (so_before (λ b. IsCounted link relations b tid stands) (then so.step on) told (looked (on.below.passes.leaves.told.0 told_now))) in
         (list.0, list.1, list.2 ∙ ap (λ (n : ℕ). n + from_bool stands) was.2 ∙ sym is);
   }
     where
@@ -109,9 +109,12 @@ module _ {link : Chains} {relations : Relations} {parent : Option Tid} {ends : E
       few = few;
       are = λ told.
           let was = so.are told in
-          let said = so_before (λ b. IsFollowed link relations b parent previous tid behind) so.step told (followed (so.step.below.passes.leaves.told.0 told)) in
-          (was.0 ++ tid ∷ [], front_more was.1 tid is behind (subst (λ (p : Option Tid). IsFollowed link relations start.bodies parent p tid behind) was.2 said),
-          sym (last_behind was.0 [] tid), omega (arith, long, was.3, length-append was.0 (tid ∷ [])));
+          let said = so_before (λ b. IsFollowed link relations b parent previous tid behind) so.step told (followed (so.step.below.passes.leaves.told.0 told)) in (
+            was.0 ++ tid ∷ [],
+            front_more was.1 tid is behind (subst (λ (p : Option Tid). IsFollowed link relations start.bodies parent p tid behind) was.2 said),
+            sym (last_behind was.0 [] tid),
+            omega (arith, long, was.3, length-append was.0 (tid ∷ [])),
+          );
     }
 
     pub walking_full : count ≡ most → IsTold start.pages.disk → NoneIsWalked link relations start.bodies parent ends most
@@ -159,9 +162,13 @@ walking_all_none link relations kept standing start kind heaps = record {
   step = rested start heaps;
   within = tt;
   few = omega arith;
-  are = λ told. ([], walked_none
-      (λ parent is seen. let its = no_upper link.unary (parents_of link relations start.bodies) parent kind is in seen its.0 its.1 tt)
-      (λ t is seen. seen t refl tt), omega arith);
+  are = λ told. (
+    [],
+    walked_none
+        (λ parent is seen. let its = no_upper link.unary (parents_of link relations start.bodies) parent kind is in seen its.0 its.1 tt)
+        (λ t is seen. seen t refl tt),
+    omega arith,
+  );
 }
 
 module _ {link : Chains} {relations : Relations} {kept : Ends} {standing : ℕ} {start now : TuplesView} {last : Option Tid} {left : ℕ} (so : WalkingAll link relations kept standing start now last left) (kind : link.unary ≡ false) where
@@ -202,20 +209,26 @@ module _ {link : Chains} {relations : Relations} {kept : Ends} {standing : ℕ} 
         → (walked : List Tid) × AreWalked link relations (seen_with kept start) (IsSeenParent (Some tid)) walked × (length walked ≡ count + length (so.are told).0)
     are_more told count taken true is =
         let was = so.are told in
-        let its = taken.of_parent is in
-        (its.0 ++ was.0, walked_more was.1 still (Some tid) (as_parent_of link.unary (parents_of link relations start.bodies) tid kind is) fresh (λ t same. subst (IsSeen (Some tid)) (some_one tid t same) (seen_here tid)) its.0 its.1
-        (one_more_of told) (named_more told), omega (arith, length-append its.0 was.0, its.2))
+        let its = taken.of_parent is in (
+          its.0 ++ was.0,
+          walked_more was.1 still (Some tid) (as_parent_of link.unary (parents_of link relations start.bodies) tid kind is) fresh (λ t same. subst (IsSeen (Some tid)) (some_one tid t same) (seen_here tid)) its.0 its.1
+              (one_more_of told) (named_more told),
+          omega (arith, length-append its.0 was.0, its.2),
+        )
     are_more told count taken false is =
-        let was = so.are told in
-        (was.0, walked_other was.1 still
-        (λ parent upper seen. elim (one_more_of told parent upper seen) [
-          | inl same ↦ absurd (false_true _ is (upper_some link.unary (parents_of link relations start.bodies) parent tid upper same))
-          | inr old ↦ old
-        ])
-        (λ t upper seen. elim (one_more told t upper seen) [
-          | inl same ↦ absurd (false_true _ is (ap (parents_of link relations start.bodies) (sym same) ∙ upper))
-          | inr old ↦ old
-        ]), omega (arith, taken.none is))
+        let was = so.are told in (
+          was.0,
+          walked_other was.1 still
+              (λ parent upper seen. elim (one_more_of told parent upper seen) [
+                | inl same ↦ absurd (false_true _ is (upper_some link.unary (parents_of link relations start.bodies) parent tid upper same))
+                | inr old ↦ old
+              ])
+              (λ t upper seen. elim (one_more told t upper seen) [
+                | inl same ↦ absurd (false_true _ is (ap (parents_of link relations start.bodies) (sym same) ∙ upper))
+                | inr old ↦ old
+              ]),
+          omega (arith, taken.none is),
+        )
 
     pub walking_all_more : {cost cost_then : ℕ} (mid new : TuplesView) → TuplesStep no_page no_tuple cost now mid → TuplesStep no_page no_tuple cost_then mid new → (count : ℕ) → (IsTold mid.pages.disk → IsTaken link relations (seen_with kept mid) tid count)
         → (left_now : ℕ) → left_now + count ≡ left → WalkingAll link relations kept standing start new (Some tid) left_now
@@ -245,10 +258,13 @@ module _ {link : Chains} {relations : Relations} {kept : Ends} {standing : ℕ} 
 
     all_are : (walked : List Tid) × AreWalked link relations (seen_with kept start) (λ parent. Unit {0}) walked × (left + length walked ≡ standing)
     all_are =
-        let was = so.are told in
-        (was.0, walked_other was.1 (λ parent seen. tt)
-        (λ parent is seen. let its = no_upper link.unary (parents_of link relations start.bodies) parent kind is in subst (IsSeenParent last) (sym its.1) (all_seen its.0 its.2))
-        (λ t is seen. all_seen t is), was.2)
+        let was = so.are told in (
+          was.0,
+          walked_other was.1 (λ parent seen. tt)
+              (λ parent is seen. let its = no_upper link.unary (parents_of link relations start.bodies) parent kind is in subst (IsSeenParent last) (sym its.1) (all_seen its.0 its.2))
+              (λ t is seen. all_seen t is),
+          was.2,
+        )
 
     pub walking_all_done : left ≡ 0 → AllWalked link relations (seen_with kept start) standing
     walking_all_done is = let all = all_are in record { walked = all.0; are = all.1; long = omega (arith, all.2, is) }
@@ -267,10 +283,13 @@ none_yet = walked_none (λ parent is seen. seen) (λ t is seen. seen)
 module _ {link : Chains} {relations : Relations} {kept : Ends} {start : TuplesView} (kind : link.unary ≡ true) where
   module _ {count : ℕ} (walked : IsWalked link relations start.bodies None kept count) where
     alone_all : (list : List Tid) × AreWalked link relations (seen_with kept start) (λ parent. Unit {0}) list × (length list ≡ count)
-    alone_all = (walked.list ++ [], walked_more none_yet (λ parent seen. tt) None (none_parent link.unary (parents_of link relations start.bodies) kind) (λ seen. seen) tt walked.list
-        (record { ends = kept; says = refl; chain = walked.chain })
-        (λ parent is seen. inl (only_none link.unary (parents_of link relations start.bodies) parent kind is)) (λ t is seen. absurd (no_parent link relations start.bodies t kind is)),
-        omega (arith, length-append walked.list [], walked.long))
+    alone_all = (
+      walked.list ++ [],
+      walked_more none_yet (λ parent seen. tt) None (none_parent link.unary (parents_of link relations start.bodies) kind) (λ seen. seen) tt walked.list
+          (record { ends = kept; says = refl; chain = walked.chain })
+          (λ parent is seen. inl (only_none link.unary (parents_of link relations start.bodies) parent kind is)) (λ t is seen. absurd (no_parent link relations start.bodies t kind is)),
+      omega (arith, length-append walked.list [], walked.long),
+    )
 
     pub alone_done : {standing : ℕ} → count ≡ standing → AllWalked link relations (seen_with kept start) standing
     alone_done is = record { walked = alone_all.0; are = alone_all.1; long = alone_all.2 ∙ is }

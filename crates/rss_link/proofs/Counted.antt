@@ -47,31 +47,39 @@ module _ {link : Chains} {relations : Relations} {bodies : Bodies} where
     ]
 
     pub counted_more : (stands : Bool) → IsCounted link relations bodies tid stands → (list : List Tid) × AreCounted link relations bodies now list × (length list ≡ length standing + from_bool stands)
-    counted_more true looked = (tid ∷ standing, record {
-      says = each (SaysSome link bodies) looked.says so.says;
-      named = each IsNamed named so.named;
-      distinct = each (λ t. AreDistinct link relations) looked.distinct so.distinct;
-      within = λ t there. elim (stands_cases t tid standing there) [
-        | inl same ↦ subst (λ (x : Tid). now x × (children_of link relations bodies x ≡ true) × SaysPlace link bodies x) (sym same) (here, (looked.within refl).0, (looked.within refl).1)
-        | inr old ↦ let was = so.within t old in (keeps t was.0, was.1, was.2)
-      ];
-      all = λ t there child place. elim (back t child there) [
-        | inl same ↦ stands_first t tid standing same
-        | inr was ↦ stands_more t tid standing (so.all t was child place)
-      ];
-      once = (false_where (stands_in tid standing) (λ there. fresh (so.within tid there).0), so.once);
-    }, omega arith)
-    counted_more false looked = (standing, record {
-      says = each (SaysSome link bodies) looked.says so.says;
-      named = each IsNamed named so.named;
-      distinct = each (λ t. AreDistinct link relations) looked.distinct so.distinct;
-      within = λ t there. let was = so.within t there in (keeps t was.0, was.1, was.2);
-      all = λ t there child place. elim (back t child there) [
-        | inl same ↦ absurd (never_both (subst (SaysPlace link bodies) same place) Outside refl (looked.outside refl (ap (children_of link relations bodies) (sym same) ∙ child)))
-        | inr was ↦ so.all t was child place
-      ];
-      once = so.once;
-    }, omega arith)
+    counted_more true looked = (
+      tid ∷ standing,
+      record {
+        says = each (SaysSome link bodies) looked.says so.says;
+        named = each IsNamed named so.named;
+        distinct = each (λ t. AreDistinct link relations) looked.distinct so.distinct;
+        within = λ t there. elim (stands_cases t tid standing there) [
+          | inl same ↦ subst (λ (x : Tid). now x × (children_of link relations bodies x ≡ true) × SaysPlace link bodies x) (sym same) (here, (looked.within refl).0, (looked.within refl).1)
+          | inr old ↦ let was = so.within t old in (keeps t was.0, was.1, was.2)
+        ];
+        all = λ t there child place. elim (back t child there) [
+          | inl same ↦ stands_first t tid standing same
+          | inr was ↦ stands_more t tid standing (so.all t was child place)
+        ];
+        once = (false_where (stands_in tid standing) (λ there. fresh (so.within tid there).0), so.once);
+      },
+      omega arith,
+    )
+    counted_more false looked = (
+      standing,
+      record {
+        says = each (SaysSome link bodies) looked.says so.says;
+        named = each IsNamed named so.named;
+        distinct = each (λ t. AreDistinct link relations) looked.distinct so.distinct;
+        within = λ t there. let was = so.within t there in (keeps t was.0, was.1, was.2);
+        all = λ t there child place. elim (back t child there) [
+          | inl same ↦ absurd (never_both (subst (SaysPlace link bodies) same place) Outside refl (looked.outside refl (ap (children_of link relations bodies) (sym same) ∙ child)))
+          | inr was ↦ so.all t was child place
+        ];
+        once = so.once;
+      },
+      omega arith,
+    )
 
   -- all were seen
   pub counted_all : {seen : Tid → Type 0} {standing : List Tid} → AreCounted link relations bodies seen standing → ((t : Tid) → children_of link relations bodies t ≡ true → seen t) → AreCounted link relations bodies (λ t. Unit {0}) standing

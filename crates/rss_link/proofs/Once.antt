@@ -1,5 +1,5 @@
 -- Lists in which each tuple stands once.
-use Rattle.std.proofs.Common.{◌≡◌, ◌⊎◌, inl, inr, ℕ, ◌≤◌, Bool, true, false, List, [], ◌∷◌, ◌++◌, length, refl, sym, ◌∙◌, ap, subst, arith, length-append}
+use Rattle.std.proofs.Common.{◌≡◌, ◌⊎◌, inl, inr, ◌≤◌, Bool, true, false, List, [], ◌∷◌, ◌++◌, length, refl, sym, ◌∙◌, ap, arith, length-append}
 use Rattle.std.specs.Prelude.{◌||◌}
 use Rattle.std.proofs.lemmas.Bool.{cases_Bool}
 use Rattle.rss_base.specs.Prefixes.{is_tid}
@@ -61,13 +61,13 @@ few [] ys once there = omega arith
 few (x ∷ xs) ys once there =
     let split = split_at x ys (there x (stands_there x [] xs)) in
     let others : (t : Tid) → stands_in t xs ≡ true → stands_in t (split.before ++ split.after) ≡ true = λ t is.
-        elim (stands_both t split.before (x ∷ split.after) (ap (stands_in t) (sym split.is) ∙ there t (stands_more t x xs is))) [
-          | inl left ↦ stands_left t split.before split.after left
-          | inr right ↦ elim (stands_cases t x split.after right) [
-            | inl same ↦ absurd (false_true (stands_in x xs) once.0 (ap (λ (y : Tid). stands_in y xs) (sym same) ∙ is))
-            | inr behind ↦ stands_right t split.before split.after behind
-          ]
-        ] in
+    elim (stands_both t split.before (x ∷ split.after) (ap (stands_in t) (sym split.is) ∙ there t (stands_more t x xs is))) [
+      | inl left ↦ stands_left t split.before split.after left
+      | inr right ↦ elim (stands_cases t x split.after right) [
+        | inl same ↦ absurd (false_true (stands_in x xs) once.0 (ap (λ (y : Tid). stands_in y xs) (sym same) ∙ is))
+        | inr behind ↦ stands_right t split.before split.after behind
+      ]
+    ] in
     let rest : length xs ≤ length (split.before ++ split.after) = few xs (split.before ++ split.after) once.1 others in
     omega (arith, rest, ap length split.is, length-append split.before (x ∷ split.after), length-append split.before split.after)
 

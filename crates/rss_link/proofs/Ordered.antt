@@ -1,18 +1,17 @@
 -- The tuples of a segment, one behind another.
-use Rattle.std.proofs.Common.{◌≡◌, ◌⊎◌, inl, inr, ℕ, ◌+◌, ◌-◌, ◌*◌, ◌^◌, ◌<◌, ◌≤◌, Bool, true, false, List, [], ◌∷◌, refl, sym, ◌∙◌, ap, subst, arith}
+use Rattle.std.proofs.Common.{◌≡◌, ◌⊎◌, inl, inr, ℕ, ◌+◌, ◌-◌, ◌*◌, ◌^◌, ◌<◌, true, false, List, refl, sym, ◌∙◌, ap, subst, arith}
 use Rattle.std.specs.Prelude.{Option, Some, None, IfSome, IsSome}
-use Rattle.std.proofs.lemmas.Bool.{cases_lt, cases_eq}
+use Rattle.std.proofs.lemmas.Bool.{cases_lt}
 use Rattle.rss_base.specs.Paged.{Held, page_key}
 use Rattle.rss_base.specs.declared.key.Space.TheVariants.{Home}
 use Rattle.rss_base.specs.declared.tid.Tid.{Tid}
-use Rattle.rss_page.specs.Content.{Empty}
 use Rattle.rss_tuple.specs.Directory.{Bodies, bodies_of, body_by, overflows}
 use Rattle.rss_tuple.specs.Finding.{IsAfter, IsNext}
 use Rattle.rss_tuple.specs.TupleSteps.{TuplesView, IsLive, IsBelow, IsLeast, NoneIs}
 use Rattle.rss_tuple.proofs.Seen.{high_empty}
 use Rattle.rss_link.specs.Blocks.{IsNamed}
 use Rattle.rss_link.specs.Checking.{begins_with}
-use Rattle.rss_link.proofs.Lists.{false_true, never_some}
+use Rattle.rss_link.proofs.Lists.{false_true}
 
 -- ---- how many there may be
 

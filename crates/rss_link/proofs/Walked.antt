@@ -1,5 +1,5 @@
 -- The chains of all parents, one after another.
-use Rattle.std.proofs.Common.{◌≡◌, ◌⊎◌, inl, inr, ℕ, ◌+◌, ◌≤◌, Bool, true, false, List, [], ◌∷◌, ◌++◌, length, Option, Some, None, refl, sym, ◌∙◌, ap, subst, arith, length-append}
+use Rattle.std.proofs.Common.{◌≡◌, ◌⊎◌, inl, inr, ℕ, ◌+◌, ◌≤◌, true, false, List, [], ◌∷◌, ◌++◌, length, Option, Some, None, refl, sym, ◌∙◌, ap, subst, arith, length-append}
 use Rattle.std.proofs.lemmas.Bool.{eqb-true, cond-false}
 use Rattle.rss_base.specs.Prefixes.{Ends, ends_of}
 use Rattle.rss_base.specs.declared.tid.Tid.{Tid}
@@ -11,15 +11,13 @@ use Rattle.rss_link.specs.declared.blocks.Standing.{Standing}
 use Rattle.rss_link.specs.declared.blocks.Standing.TheVariants.{Outside, Within}
 use Rattle.rss_link.specs.Blocks.{IsNamed}
 use Rattle.rss_link.specs.Chains.{Lists, with_list, Stands, IsPlaced}
-use Rattle.rss_link.specs.Links.{Says, SaysEnds, SpellChains}
+use Rattle.rss_link.specs.Links.{Says, SaysEnds}
 use Rattle.rss_link.specs.Calls.{LinkView}
-use Rattle.rss_link.specs.Edits.{SaysSome}
-use Rattle.rss_link.specs.Checking.{begins_with, children_of, parents_of, IsParentOf, HasChains, AreDistinct, SaysPlace, AreCounted, IsCount, IsNoChild, IsChain, HasChain, HasNoChain, AreWalked}
-use Rattle.rss_link.proofs.Lists.{false_true, place_cases, list_here, list_off, some_one, same_parts}
+use Rattle.rss_link.specs.Checking.{begins_with, children_of, parents_of, IsParentOf, HasChains, SaysPlace, AreCounted, IsNoChild, IsChain, HasChain, HasNoChain, AreWalked}
+use Rattle.rss_link.proofs.Lists.{false_true, place_cases, list_here, list_off}
 use Rattle.rss_link.proofs.Meaning.{says_one, stands_as, says_some}
 use Rattle.rss_link.proofs.Operations.{split_at, stands_there}
 use Rattle.rss_link.proofs.Prefixed.{one_place}
-use Rattle.rss_link.proofs.Puts.{some_parent}
 use Rattle.rss_link.proofs.Once.{stands_left, stands_right, stands_both, once_both, few, all_there}
 use Rattle.rss_link.proofs.Chained.{says_there, child_there, chain_once, chain_one, spelled_chain}
 use Rattle.rss_link.proofs.Counted.{never_both}
@@ -143,7 +141,7 @@ module _ {link : Chains} {relations : Relations} {view : LinkView} where
         let chain = spelled_chain has.spells p (ends_of list) is_parent says in
         let its : HasChain link relations view p list = record { ends = ends_of list; says = says; chain = chain } in
         let all = walked_more {now = λ parent. (parent ≡ p) ⊎ seen parent} so (λ parent there. inr there) p is_parent fresh (inl refl) list its (λ parent is there. there)
-            (λ t is there. has.spells.named.parents t is) in
+        (λ t is there. has.spells.named.parents t is) in
         never (ends_of list) says list chain (omega (arith, sum, few_of all, length-append list walked))
       where
         few_of : {others : Option Tid → Type 0} {all : List Tid} → AreWalked link relations view others all → length all ≤ length standing
@@ -156,15 +154,19 @@ module _ {link : Chains} {relations : Relations} {view : LinkView} where
   module _ {walked standing : List Tid} (so : AreWalked link relations view (λ parent. Unit {0}) walked) (counted : AreCounted link relations view.tuples.bodies (λ t. Unit {0}) standing) where
     -- and each child that says so is walked
     pub never_fewer : (length walked ≡ length standing → ⊥) → HasChains link relations view → ⊥
-    never_fewer differ has = differ (omega (arith, walked_few so counted, few standing walked counted.once (λ t there.
-        let its = counted.within t there in
-        let place = its.2 in
-        let is = stands_as has.spells t (Within place.parent place.previous place.next) its.1 place.says in
-        let stands : Stands has.lists t = record { parent = place.parent; before = is.before; after = is.after; is = is.is } in
-        let upper = has.spells.chains.parents t stands in
-        let its_chain = so.chains place.parent upper tt in
-        let same : has.lists place.parent ≡ so.lists place.parent = chain_one its_chain.chain (spelled_chain has.spells place.parent its_chain.ends upper its_chain.says) in
-        (so.within place.parent t (ap (stands_in t) (sym same ∙ is.is) ∙ stands_there t is.before is.after)).2)))
+    never_fewer differ has = differ (omega (
+      arith,
+      walked_few so counted,
+      few standing walked counted.once (λ t there.
+          let its = counted.within t there in
+          let place = its.2 in
+          let is = stands_as has.spells t (Within place.parent place.previous place.next) its.1 place.says in
+          let stands : Stands has.lists t = record { parent = place.parent; before = is.before; after = is.after; is = is.is } in
+          let upper = has.spells.chains.parents t stands in
+          let its_chain = so.chains place.parent upper tt in
+          let same : has.lists place.parent ≡ so.lists place.parent = chain_one its_chain.chain (spelled_chain has.spells place.parent its_chain.ends upper its_chain.says) in
+          (so.within place.parent t (ap (stands_in t) (sym same ∙ is.is) ∙ stands_there t is.before is.after)).2),
+    ))
 
     module _ (many : length walked ≡ length standing) where
       in_list : (t : Tid) (stands : Stands so.lists t) → stands_in t (so.lists stands.parent) ≡ true
@@ -224,5 +226,5 @@ module _ {link : Chains} {relations : Relations} {view : LinkView} where
 pub no_child : {link : Chains} {relations : Relations} {view : LinkView} {t : Tid} → IsNoChild link relations view.tuples.bodies t → HasChains link relations view → ⊥
 no_child {link = link} {relations = relations} {view = view} {t = t} its has =
     its.never (says_some has.spells t its.is_child) (λ kind segments same. has.spells.apart kind segments t its.is_child
-        (cond-false link.unary false (begins_with relations.parent (view.tuples.bodies link.parent_segment t)) kind
-        ∙ (λ i. begins_with (sym same i) (view.tuples.bodies (sym segments i) t)) ∙ its.is_child))
+    (cond-false link.unary false (begins_with relations.parent (view.tuples.bodies link.parent_segment t)) kind
+    ∙ (λ i. begins_with (sym same i) (view.tuples.bodies (sym segments i) t)) ∙ its.is_child))

@@ -182,7 +182,13 @@ impl Chains {
             (T.view tuples.old) (T.view tuples.new) result }
     {
         let mut body = Body::new();
-        if !find(tuples, self.parent_segment, relations.parent, tid, &mut body)? {
+        if !find(
+            tuples,
+            self.parent_segment,
+            relations.parent,
+            tid,
+            &mut body,
+        )? {
             return Ok(Some(0));
         }
         match ends_at(body.as_slice(), usize::from(self.parent_at)) {
@@ -249,11 +255,13 @@ impl Chains {
         if !find(tuples, self.child_segment, relations.child, tid, &mut body)? {
             return Ok(None);
         }
-        let Some(Standing::Within {
-            parent: other,
-            previous: before,
-            next,
-        }) = standing_at(body.as_slice(), usize::from(self.child_at), self.unary)
+        let Some(
+            Standing::Within {
+                parent: other,
+                previous: before,
+                next,
+            },
+        ) = standing_at(body.as_slice(), usize::from(self.child_at), self.unary)
         else {
             return Ok(None);
         };

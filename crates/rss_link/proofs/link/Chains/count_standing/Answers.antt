@@ -8,19 +8,25 @@ pub loop-tid-init : goal.loop-tid-init
 loop-tid-init g c = counting_none _ _ _ c.requires.heaps
 
 pub returns-in_err-tid-clause-did : goal.returns-in_err-tid-clause-did
-returns-in_err-tid-clause-did g c = (c.loop-tid.invariant.cost + (g.T.Tuples.view c.loop-tid.tuples).pages.slots,
-    fails _ c.from_residual.ensures.1 (λ key there. there) (omega arith) (then_call _ c.loop-tid.invariant.step c.in_err-tid.ensures.did))
+returns-in_err-tid-clause-did g c = (
+  c.loop-tid.invariant.cost + (g.T.Tuples.view c.loop-tid.tuples).pages.slots,
+  fails _ c.from_residual.ensures.1 (λ key there. there) (omega arith) (then_call _ c.loop-tid.invariant.step c.in_err-tid.ensures.did),
+)
 
 pub returns-in_err-stands-clause-did : goal.returns-in_err-stands-clause-did
-returns-in_err-stands-clause-did g c = (c.loop-tid.invariant.cost + (g.T.Tuples.view c.loop-tid.tuples).pages.slots + 2,
-    fails _ c.from_residual-in_err-stands.ensures.1 (λ key there. there) (omega arith)
-    (then_call _ (then c.loop-tid.invariant.step (stepped c.in_ok-tid.ensures.did)) c.in_err-stands.ensures.did))
+returns-in_err-stands-clause-did g c = (
+  c.loop-tid.invariant.cost + (g.T.Tuples.view c.loop-tid.tuples).pages.slots + 2,
+  fails _ c.from_residual-in_err-stands.ensures.1 (λ key there. there) (omega arith)
+      (then_call _ (then c.loop-tid.invariant.step (stepped c.in_ok-tid.ensures.did)) c.in_err-stands.ensures.did),
+)
 
 pub returns-in_default-2-clause-counts : goal.returns-in_default-2-clause-counts
 returns-in_default-2-clause-counts g c = λ told.
-    let step = then c.loop-tid.invariant.step (stepped c.in_ok-tid.ensures.did) in
-    (c.in-Some.tid, so_before (λ bodies. IsNoChild c.args.self.now c.args.relations bodies c.in-Some.tid) step told
-    ((rw c.in_default-2.is at c.in_ok-stands.ensures.says) (told_then step told)))
+    let step = then c.loop-tid.invariant.step (stepped c.in_ok-tid.ensures.did) in (
+      c.in-Some.tid,
+      so_before (λ bodies. IsNoChild c.args.self.now c.args.relations bodies c.in-Some.tid) step told
+          ((rw c.in_default-2.is at c.in_ok-stands.ensures.says) (told_then step told)),
+    )
 
 pub returns-in_default-2-clause-did : goal.returns-in_default-2-clause-did
 returns-in_default-2-clause-did g c = (_, done _ (then (then c.loop-tid.invariant.step (stepped c.in_ok-tid.ensures.did)) (stepped c.in_ok-stands.ensures.did)))

@@ -1,4 +1,4 @@
-use Rattle.std.proofs.Common.{◌+◌, refl, sym, arith}
+use Rattle.std.proofs.Common.{◌+◌, refl, arith}
 use Rattle.rss_link.proofs.TupleSteps.{then, then_call, stepped, done, fails}
 use Rattle.rss_link.proofs.Lists.{same_places, other_places}
 use Rattle.rss_link.proofs.Checks.{walking_none, walking_more, walking_refused, walking_open, walking_done}
@@ -8,8 +8,10 @@ pub loop-next-init : goal.loop-next-init
 loop-next-init g c = walking_none _ _ _ _ _ _ c.requires.heaps
 
 pub returns-in_err-behind-clause-did : goal.returns-in_err-behind-clause-did
-returns-in_err-behind-clause-did g c = (c.loop-next.invariant.cost + 2,
-    fails _ c.from_residual.ensures.1 (λ key there. there) (omega arith) (then_call _ c.loop-next.invariant.step c.in_err-behind.ensures.did))
+returns-in_err-behind-clause-did g c = (
+  c.loop-next.invariant.cost + 2,
+  fails _ c.from_residual.ensures.1 (λ key there. there) (omega arith) (then_call _ c.loop-next.invariant.step c.in_err-behind.ensures.did),
+)
 
 pub returns-in-None-clause-walks : goal.returns-in-None-clause-walks
 returns-in-None-clause-walks g c = walking_refused c.loop-next.invariant c.in-Some.tid c.in-Some.is (rw c.in-None.is at c.in_ok-behind.ensures.follows)

@@ -9,13 +9,17 @@ pub loop-tid-init : goal.loop-tid-init
 loop-tid-init g c = walking_all_none _ _ _ _ _ c.requires.binary c.requires.heaps
 
 pub returns-in_err-tid-clause-did : goal.returns-in_err-tid-clause-did
-returns-in_err-tid-clause-did g c = (c.loop-tid.invariant.cost + (g.T.Tuples.view c.loop-tid.tuples).pages.slots,
-    fails _ c.from_residual.ensures.1 (λ key there. there) (omega arith) (then_call _ c.loop-tid.invariant.step c.in_err-tid.ensures.did))
+returns-in_err-tid-clause-did g c = (
+  c.loop-tid.invariant.cost + (g.T.Tuples.view c.loop-tid.tuples).pages.slots,
+  fails _ c.from_residual.ensures.1 (λ key there. there) (omega arith) (then_call _ c.loop-tid.invariant.step c.in_err-tid.ensures.did),
+)
 
 pub returns-in_err-count-clause-did : goal.returns-in_err-count-clause-did
-returns-in_err-count-clause-did g c = (c.loop-tid.invariant.cost + (g.T.Tuples.view c.loop-tid.tuples).pages.slots + c.in_err-count.ensures.did.0,
-    fails _ c.from_residual-in_err-count.ensures.1 (λ key there. there) (omega arith)
-    (then_call _ (then c.loop-tid.invariant.step (stepped c.in_ok-tid.ensures.did)) c.in_err-count.ensures.did.1))
+returns-in_err-count-clause-did g c = (
+  c.loop-tid.invariant.cost + (g.T.Tuples.view c.loop-tid.tuples).pages.slots + c.in_err-count.ensures.did.0,
+  fails _ c.from_residual-in_err-count.ensures.1 (λ key there. there) (omega arith)
+      (then_call _ (then c.loop-tid.invariant.step (stepped c.in_ok-tid.ensures.did)) c.in_err-count.ensures.did.1),
+)
 
 pub returns-in_default-2-clause-no : goal.returns-in_default-2-clause-no
 returns-in_default-2-clause-no g c = λ is told.
