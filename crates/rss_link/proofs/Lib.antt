@@ -15,3 +15,9 @@ pub mod Failing
 pub mod Coming
 pub mod Operations
 pub mod Prefixed
+pub mod Once
+pub mod Chained
+pub mod Ordered
+pub mod Counted
+pub mod Walked
+pub mod Checks

@@ -1,10 +1,13 @@
 -- Lists of tuples, and the places in them.
 use Rattle.std.proofs.Common.{◌≡◌, ◌⊎◌, inl, inr, ℕ, Bool, true, false, eqb, List, [], ◌∷◌, ◌++◌, length, take, drop, Option, Some, None, refl, sym, ◌∙◌, ap, arith}
-use Rattle.std.specs.Prelude.{◌&&◌}
+use Rattle.std.specs.Prelude.{◌&&◌, not}
+use Rattle.std.specs.Bool.{Decides}
+use Rattle.std.specs.Option.{option_eq}
 use Rattle.std.proofs.lemmas.Bool.{cases_Bool, eqb-true, cond-true, cond-false}
 use Rattle.std.proofs.lemmas.List.{take_at, drop_at}
 use Rattle.rss_base.specs.declared.tid.Tid.{Tid}
 use Rattle.rss_base.specs.Prefixes.{first_of, last_of}
+use Rattle.rss_base.proofs.Equal.{same_tid, tid_decides}
 use Rattle.rss_tuple.specs.Directory.{is_same_tid}
 use Rattle.rss_link.specs.Chains.{Lists, is_same_place, with_list, Stands}
 
@@ -55,6 +58,22 @@ place_cases a b = elim (cases_Bool (is_same_place a b)) [
   | inl same ↦ inl (is_same_place-true a b same)
   | inr differ ↦ inr (λ is. false_true (is_same_place a b) differ (ap (λ (t : Option Tid). is_same_place a t) (sym is) ∙ is_same_place-itself a))
 ]
+
+places_decide : (a b : Option Tid) → Decides (option_eq same_tid a b) (a ≡ b)
+places_decide None None = (λ is. refl, λ is. refl)
+places_decide (Some a) (Some b) = (λ is. ap Some ((tid_decides a b).0 is), λ is. (tid_decides a b).1 (cc))
+places_decide None (Some b) = (λ is. absurd (false_true false refl is), λ is. absurd (cc))
+places_decide (Some a) None = (λ is. absurd (false_true false refl is), λ is. absurd (cc))
+
+-- what `!=` says of two
+pub same_places : (a b : Option Tid) (differ : Bool) → differ ≡ not (option_eq same_tid a b) → differ ≡ false → a ≡ b
+same_places a b differ is never = elim (cases_Bool (option_eq same_tid a b)) [
+  | inl same ↦ (places_decide a b).0 same
+  | inr other ↦ absurd (false_true differ never (is ∙ ap not other))
+]
+
+pub other_places : (a b : Option Tid) (differ : Bool) → differ ≡ not (option_eq same_tid a b) → differ ≡ true → a ≡ b → ⊥
+other_places a b differ is so same = false_true false refl (sym (is ∙ ap not ((places_decide a b).1 same)) ∙ so)
 
 -- ---- one of the lists
 

@@ -118,25 +118,34 @@ module _ {link : Chains} {ends : Ends} {bodies : Bodies} {linkage : Linkage} (sp
 
 -- ---- bodies spell the chains in one way
 
-module _ (link : Chains) (kept : Ends) (bodies : Bodies) (one other : Linkage) (spells : SpellChains link kept bodies one) (spells_too : SpellChains link kept bodies other) (parent : Option Tid) where
-  walk : (before xs ys : List Tid) → one.lists parent ≡ before ++ xs → other.lists parent ≡ before ++ ys → first_of xs ≡ first_of ys → xs ≡ ys
-  walk before [] [] is is_too same = refl
-  walk before [] (y ∷ ys) is is_too same = absurd (never_some y None refl same)
-  walk before (x ∷ xs) [] is is_too same = absurd (never_some x None refl (sym same))
-  walk before (x ∷ xs) (y ∷ ys) is is_too same =
-      let heads : x ≡ y = cc in
-      let here : other.lists parent ≡ before ++ x ∷ ys = is_too ∙ ap (λ (t : Tid). before ++ t ∷ ys) (sym heads) in
-      let says = says_within spells.chains x (record { parent = parent; before = before; after = xs; is = is }) in
-      let says_too = says_within spells_too.chains x (record { parent = parent; before = before; after = ys; is = here }) in
-      let both : Within parent (last_of before) (first_of xs) ≡ Within parent (last_of before) (first_of ys) = says_one link bodies x _ _ says says_too in
-      let next : first_of xs ≡ first_of ys = cc in
-      let tails : xs ≡ ys = walk (before ++ x ∷ []) xs ys (is ∙ sym (append_assoc before (x ∷ []) xs)) (here ∙ sym (append_assoc before (x ∷ []) ys)) next in
-      λ i. heads i ∷ tails i
+-- each of the list says that it stands there in the chain of a parent
+abbrev pub SayTheir : Chains → Bodies → Option Tid → List Tid → Type 0
+SayTheir link bodies parent list = (before after : List Tid) (t : Tid) → list ≡ before ++ t ∷ after
+    → Says link bodies t (Within parent (last_of before) (first_of after))
 
+-- two lists that begin with the same tuple are one
+pub same_list : (link : Chains) (bodies : Bodies) (parent : Option Tid) (one other : List Tid) → SayTheir link bodies parent one → SayTheir link bodies parent other
+    → (before xs ys : List Tid) → one ≡ before ++ xs → other ≡ before ++ ys → first_of xs ≡ first_of ys → xs ≡ ys
+same_list link bodies parent one other say say_too before [] [] is is_too same = refl
+same_list link bodies parent one other say say_too before [] (y ∷ ys) is is_too same = absurd (never_some y None refl same)
+same_list link bodies parent one other say say_too before (x ∷ xs) [] is is_too same = absurd (never_some x None refl (sym same))
+same_list link bodies parent one other say say_too before (x ∷ xs) (y ∷ ys) is is_too same =
+    let heads : x ≡ y = cc in
+    let here : other ≡ before ++ x ∷ ys = is_too ∙ ap (λ (t : Tid). before ++ t ∷ ys) (sym heads) in
+    let both : Within parent (last_of before) (first_of xs) ≡ Within parent (last_of before) (first_of ys) = says_one link bodies x _ _ (say before xs x is) (say_too before ys x here) in
+    let next : first_of xs ≡ first_of ys = cc in
+    let tails : xs ≡ ys = same_list link bodies parent one other say say_too (before ++ x ∷ []) xs ys (is ∙ sym (append_assoc before (x ∷ []) xs)) (here ∙ sym (append_assoc before (x ∷ []) ys)) next in
+    λ i. heads i ∷ tails i
+
+-- chains that are spelled say so
+pub say_their : {link : Chains} {kept : Ends} {bodies : Bodies} {linkage : Linkage} → SpellChains link kept bodies linkage → (parent : Option Tid) → SayTheir link bodies parent (linkage.lists parent)
+say_their spells parent before after t is = says_within spells.chains t (record { parent = parent; before = before; after = after; is = is })
+
+module _ (link : Chains) (kept : Ends) (bodies : Bodies) (one other : Linkage) (spells : SpellChains link kept bodies one) (spells_too : SpellChains link kept bodies other) (parent : Option Tid) where
   by_ends : (xs ys : List Tid) → one.lists parent ≡ xs → other.lists parent ≡ ys → IsParent link.unary one.parents parent → IsParent link.unary other.parents parent → ys ≡ xs
   by_ends xs ys is is_too is_parent is_parent_too =
       let same : ends_of (one.lists parent) ≡ ends_of (other.lists parent) = ends_one link kept bodies parent _ _ (spells.chains.ends parent is_parent) (spells_too.chains.ends parent is_parent_too) in
-      sym (walk [] xs ys is is_too (ap first_of (sym is) ∙ ap (λ (e : Ends). e.first) same ∙ ap first_of is_too))
+      sym (same_list link bodies parent (one.lists parent) (other.lists parent) (say_their spells parent) (say_their spells_too parent) [] xs ys is is_too (ap first_of (sym is) ∙ ap (λ (e : Ends). e.first) same ∙ ap first_of is_too))
 
   both_lists : other.parents ≡ one.parents → (xs ys : List Tid) → one.lists parent ≡ xs → other.lists parent ≡ ys → ys ≡ xs
   both_lists parents [] [] is is_too = refl

@@ -73,7 +73,7 @@ neighbours_at t previous (x ∷ before) after off =
 
 -- ---- whether a tuple stands in a list
 
-or_true : (a b : Bool) → b ≡ true → (a || b) ≡ true
+pub or_true : (a b : Bool) → b ≡ true → (a || b) ≡ true
 or_true true b is = refl
 or_true false b is = is
 

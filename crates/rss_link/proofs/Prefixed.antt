@@ -57,11 +57,11 @@ between t previous (x ∷ xs) n is = elim (cases_Bool (is_tid x t)) [
 
 -- ---- tuples that stand once
 
-stand_once : (xs : List Tid) → ((b : List Tid) (t : Tid) (a : List Tid) → xs ≡ b ++ t ∷ a → stands_in t a ≡ false) → StandOnce xs
+pub stand_once : (xs : List Tid) → ((b : List Tid) (t : Tid) (a : List Tid) → xs ≡ b ++ t ∷ a → stands_in t a ≡ false) → StandOnce xs
 stand_once [] off = tt
 stand_once (x ∷ xs) off = (off [] x xs refl, stand_once xs (λ b t a is. off (x ∷ b) t a (ap (λ (l : List Tid). x ∷ l) is)))
 
-not_there : (t : Tid) (xs : List Tid) → IsNotIn t xs → stands_in t xs ≡ false
+pub not_there : (t : Tid) (xs : List Tid) → IsNotIn t xs → stands_in t xs ≡ false
 not_there t xs off = elim (cases_Bool (stands_in t xs)) [
   | inl there ↦ let split = split_at t xs there in absurd (off split.before split.after split.is)
   | inr none ↦ none
@@ -70,7 +70,7 @@ not_there t xs off = elim (cases_Bool (stands_in t xs)) [
 tails : (x y : Tid) (xs ys : List Tid) → x ∷ xs ≡ y ∷ ys → (x ≡ y) × (xs ≡ ys)
 tails x y xs ys is = (cc, cc)
 
-one_place : (t : Tid) (xs b a b_too a_too : List Tid) → StandOnce xs → xs ≡ b ++ t ∷ a → xs ≡ b_too ++ t ∷ a_too → length b_too ≡ length b
+pub one_place : (t : Tid) (xs b a b_too a_too : List Tid) → StandOnce xs → xs ≡ b ++ t ∷ a → xs ≡ b_too ++ t ∷ a_too → length b_too ≡ length b
 one_place t [] [] a b_too a_too once is is_too = absurd (cc)
 one_place t [] (y ∷ b) a b_too a_too once is is_too = absurd (cc)
 one_place t (x ∷ xs) [] a [] a_too once is is_too = refl
@@ -86,12 +86,12 @@ one_place t (x ∷ xs) (y ∷ b) a (z ∷ b_too) a_too once is is_too = ap suc (
 
 -- ---- from chains to blocks
 
-only_none : (unary : Bool) (parents : Tid → Bool) (parent : Option Tid) → unary ≡ true → IsParent unary parents parent → parent ≡ None
+pub only_none : (unary : Bool) (parents : Tid → Bool) (parent : Option Tid) → unary ≡ true → IsParent unary parents parent → parent ≡ None
 only_none true parents None kind is = refl
 only_none true parents (Some parent) kind is = absurd is
 only_none false parents parent kind is = absurd (false_true false refl kind)
 
-none_parent : (unary : Bool) (parents : Tid → Bool) → unary ≡ true → IsParent unary parents None
+pub none_parent : (unary : Bool) (parents : Tid → Bool) → unary ≡ true → IsParent unary parents None
 none_parent true parents kind = tt
 none_parent false parents kind = absurd (false_true false refl kind)
 

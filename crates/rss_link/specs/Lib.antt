@@ -4,3 +4,4 @@ pub mod Links
 pub mod Calls
 pub mod Prefixed
 pub mod Edits
+pub mod Checking

@@ -3,6 +3,7 @@
 
 mod blocks;
 mod bodies;
+mod checking;
 mod laws;
 mod link;
 mod linking;
@@ -12,4 +13,4 @@ pub use laws::{
     blocks_matter_alone, comes_outside, goes_outside, other_links_stay, pointers_are_spelled,
     spelled_by_blocks, spelled_once,
 };
-pub use link::{Chains, Ends};
+pub use link::{Chains, Ends, Relations};

@@ -30,3 +30,11 @@ pub struct Ends {
     pub first: Option<Tid>,
     pub last: Option<Tid>,
 }
+
+/// Which tuples are of a link's relations: those whose body begins with the number of one.
+#[derive(Clone, Copy, Debug, PartialEq, Eq)]
+pub struct Relations {
+    pub child: u8,
+    /// Of no meaning where the link is unary.
+    pub parent: u8,
+}
