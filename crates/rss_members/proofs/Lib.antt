@@ -1,1 +1,3 @@
 pub mod Prefixed
+pub mod Chained
+pub mod Spelled

@@ -4,12 +4,14 @@ use Rattle.rss_base.specs.Listings.{Listing, ListingFits, relation_at, with_link
 use Rattle.rss_base.specs.Prefixes.{Ends, Part, Outside, Member, Child, Parent, part_in, ends_of, member_block, child_block, parent_block, prefix_size}
 use Rattle.rss_base.specs.declared.name.Name.{Name}
 use Rattle.rss_base.specs.declared.tid.Tid.{Tid}
-use Rattle.rss_base.specs.declared.item.Item.TheVariants.{Chain as ChainItem}
+use Rattle.rss_base.specs.declared.item.Item.TheVariants.{Tuple as TupleItem, Chain as ChainItem}
 use Rattle.rss_base.specs.declared.relation.RelationEntry.{RelationEntry}
 use Rattle.rss_base.specs.declared.link.LinkEntry.{LinkEntry}
 use Rattle.rss_tuple.specs.Directory.{Bodies}
-use Rattle.rss_model.specs.Tables.{LinkDef, Contents, Tables, put}
+use Rattle.rss_model.specs.Items.{Content}
+use Rattle.rss_model.specs.Tables.{LinkDef, Contents, Tables, content, put}
 use Rattle.rss_model.specs.Chains.{chain, chain_content, is_there, LinksFit}
+use Rattle.rss_model.specs.Fits.{IsTupleOf}
 use Rattle.rss_model.specs.Store.{Defines, SpellsContents}
 use Rattle.rss_link.specs.declared.link.Chains.{Chains}
 use Rattle.rss_link.specs.Blocks.{IsNamed}
@@ -73,6 +75,8 @@ pub record SpellsMembers (listing : Listing) (bodies : Bodies) (tables : Tables)
   pub listed : ListingFits listing
   pub defines : Defines listing tables.definitions
   pub contents : SpellsContents listing bodies tables.contents
+  pub tuples : (relation : Name) (tid : Tid) (held : Content)
+      → content tables.contents (TupleItem relation tid) ≡ Some held → IsTupleOf tables relation held
   pub links : LinksFit tables
   pub tids : (relation : Name) (tid : Tid) → is_there tables.contents relation tid ≡ true → IsNamed tid
 
