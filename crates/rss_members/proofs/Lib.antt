@@ -1,3 +1,4 @@
 pub mod Prefixed
 pub mod Chained
 pub mod Spelled
+pub mod Apart

@@ -4,7 +4,7 @@ use Rattle.std.specs.Prelude.{◌≢◌, ◌==◌, not, is_some, IfSome, option_
 use Rattle.std.specs.FinMap as map
 use Rattle.std.proofs.lemmas.Option.{same_Some}
 use Rattle.std.proofs.lemmas.Bool.{cond-true, cond-false, ne_eqb}
-use Rattle.rss_base.specs.Listings.{Listing, relation_at, link_at, is_parent_in}
+use Rattle.rss_base.specs.Listings.{Listing, LinkFits, relation_at, link_at, is_parent_in}
 use Rattle.rss_base.specs.Prefixes.{Ends, Part, Outside, Parent, part_in, lower_part, block_size, ends_of, parent_block}
 use Rattle.rss_base.specs.TupleTypes.{tuple_bytes}
 use Rattle.rss_base.specs.declared.name.Name.{Name}
@@ -75,7 +75,8 @@ module _ {listing : Listing} {bodies : Bodies} {tables : Tables} (spells : Spell
     pub other : number ≡ link.child → ⊥
 
   module _ (number : ℕ) (link : LinkEntry) (at : link_at listing number ≡ Some link) where
-    abbrev fits = spells.listed.paths.links number link at
+    fits : LinkFits listing link
+    fits = spells.listed.paths.links number link at
 
     pub child_listed : (child : RelationEntry) × (relation_at listing link.child ≡ Some child)
     child_listed = some_of (relation_at listing link.child) fits.child
