@@ -2,3 +2,4 @@ pub mod Prefixed
 pub mod Chained
 pub mod Spelled
 pub mod Apart
+pub mod Linked
