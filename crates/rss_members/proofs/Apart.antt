@@ -34,7 +34,7 @@ lesser_first items relation one other link at less =
     subst (λ (l : List (Option LinkEntry)). prefix_size l relation + block_size (part_in link relation) ≤ prefix_size rest relation) front
     (subst (λ (o : Option LinkEntry). sum_by (listed_block_size relation) (take (one - 1) rest) + listed_block_size relation o ≤ sum_by (listed_block_size relation) rest) here sum)
 
-size_of_child : (parent : Option ℕ) → child_size (not (is_some parent)) ≡ block_size (lower_part parent)
+pub size_of_child : (parent : Option ℕ) → child_size (not (is_some parent)) ≡ block_size (lower_part parent)
 size_of_child None = refl
 size_of_child (Some parent) = refl
 

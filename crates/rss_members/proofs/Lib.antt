@@ -3,3 +3,4 @@ pub mod Chained
 pub mod Spelled
 pub mod Apart
 pub mod Linked
+pub mod Rewritten

@@ -89,7 +89,7 @@ module _ (contents : Contents) (relation : ℕ) (tid : Tid) where
   abbrev pub back_of : List (Option LinkEntry) → ℕ → List Value → List ℕ
   back_of items number values = flat_map (listed_block contents relation tid) (drop number items) ++ tuple_bytes values
 
-  long_front : (items : List (Option LinkEntry)) (number : ℕ) → length (front_of items number) ≡ 1 + prefix_size (take (number - 1) items) relation
+  pub long_front : (items : List (Option LinkEntry)) (number : ℕ) → length (front_of items number) ≡ 1 + prefix_size (take (number - 1) items) relation
   long_front items number = omega (arith, long_prefix contents relation tid (take (number - 1) items))
 
   pub cut_items : (items : List (Option LinkEntry)) (number : ℕ) (link : LinkEntry) (values : List Value) → numbered items number ≡ Some link
