@@ -4,3 +4,4 @@ pub mod Spelled
 pub mod Apart
 pub mod Linked
 pub mod Rewritten
+pub mod Again
