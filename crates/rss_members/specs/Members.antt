@@ -12,7 +12,7 @@ use Rattle.rss_model.specs.Items.{Content}
 use Rattle.rss_model.specs.Tables.{LinkDef, Contents, Tables, content, put}
 use Rattle.rss_model.specs.Chains.{chain, chain_content, is_there, LinksFit}
 use Rattle.rss_model.specs.Fits.{IsTupleOf}
-use Rattle.rss_model.specs.Store.{Defines, SpellsContents}
+use Rattle.rss_model.specs.Store.{Defines, SpellsContents, link_definition}
 use Rattle.rss_link.specs.declared.link.Chains.{Chains}
 use Rattle.rss_link.specs.Blocks.{IsNamed}
 use Rattle.rss_link.specs.Chains.{Linkage}
@@ -67,6 +67,10 @@ linkage_of contents name link = record {
   parents = is_parent contents link.parent;
   lists = chain contents name;
 }
+
+-- those of a listed link, whose children's relation is this one
+abbrev pub linkage_in : Listing → Tables → LinkEntry → RelationEntry → Linkage
+linkage_in listing tables link child = linkage_of tables.contents link.name (link_definition listing link child)
 
 -- ---- tables
 

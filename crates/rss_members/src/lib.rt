@@ -3,4 +3,4 @@
 
 mod laws;
 
-pub use laws::blank_prefixes;
+pub use laws::{blank_prefixes, blocks_lie_apart, links_are_spelled, spelled_again};
