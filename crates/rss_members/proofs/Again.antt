@@ -13,6 +13,7 @@ use Rattle.rss_base.specs.declared.item.Item.TheVariants.{Tuple as TupleItem, Ch
 use Rattle.rss_base.specs.declared.refusal.Kind.TheVariants.{Link as LinkKind}
 use Rattle.rss_base.specs.declared.relation.RelationEntry.{RelationEntry}
 use Rattle.rss_base.specs.declared.link.LinkEntry.{LinkEntry}
+use Rattle.rss_catalog.specs.Catalogs.{with_ends}
 use Rattle.rss_catalog.proofs.Numbered.{numbered_within, with_same, with_other, with_cases, numbered_map}
 use Rattle.rss_tuple.specs.Directory.{Bodies}
 use Rattle.rss_base.specs.declared.value.Value.{Value}
@@ -28,7 +29,7 @@ use Rattle.rss_link.specs.Links.{SpellChains, KeepsBody, same, of_child, of_pare
 use Rattle.rss_link.specs.Prefixed.{IsPrefixed}
 use Rattle.rss_link.proofs.Lists.{place_cases, list_off}
 use Rattle.rss_link.proofs.Prefixed.{prefixed as is_prefixed}
-use Rattle.rss_members.specs.Members.{segment_of, segment_in, chains_of, listed_ends, is_parent, linkage_of, with_ends, with_chain, SpellsMembers}
+use Rattle.rss_members.specs.Members.{segment_of, segment_in, chains_of, listed_ends, is_parent, linkage_of, with_chain, SpellsMembers}
 use Rattle.rss_members.proofs.Spelled.{HasBody, defined}
 use Rattle.rss_members.proofs.Linked.{elsewhere, tuple_stays, there_still, other_chain, chain_now}
 use Rattle.rss_members.proofs.Rewritten.{links_again, body_again}
@@ -39,12 +40,12 @@ module _ {listing : Listing} {bodies : Bodies} {tables : Tables} (spells : Spell
     (keeps : KeepBodies (chains_of listing number link) (linkage_of tables.contents link.name (link_definition listing link child)) bodies new)
     (stay : not (is_some link.parent) ≡ false → ends ≡ listed_ends link)
     (kind : IsParent (not (is_some link.parent)) (is_parent tables.contents (link_definition listing link child).parent) parent)
-    (fits : ListingFits (with_link listing number (Some (with_ends ends link)))) where
+    (fits : ListingFits (with_link listing number (Some (with_ends ends.first ends.last link)))) where
   abbrev now : Tables
   now = with_chain tables link.name parent list
 
   abbrev listed : Listing
-  listed = with_link listing number (Some (with_ends ends link))
+  listed = with_link listing number (Some (with_ends ends.first ends.last link))
 
   low : 1 ≤ number
   low = (numbered_within listing.links number link at).0
@@ -52,8 +53,8 @@ module _ {listing : Listing} {bodies : Bodies} {tables : Tables} (spells : Spell
   high : number ≤ length listing.links
   high = (numbered_within listing.links number link at).1
 
-  at_now : link_at listed number ≡ Some (with_ends ends link)
-  at_now = with_same listing.links number (Some (with_ends ends link)) low high
+  at_now : link_at listed number ≡ Some (with_ends ends.first ends.last link)
+  at_now = with_same listing.links number (Some (with_ends ends.first ends.last link)) low high
 
   -- ---- what is defined
 
@@ -64,7 +65,7 @@ module _ {listing : Listing} {bodies : Bodies} {tables : Tables} (spells : Spell
         ∙ ap (option_map (λ (l : LinkEntry). l.name)) at_now
         ∙ sym (ap (option_map (λ (l : LinkEntry). l.name)) at)
         ∙ ap (λ (k : ℕ). option_map (λ (l : LinkEntry). l.name) (link_at listing k)) (sym here)
-    | inr off ↦ ap (option_map (λ (l : LinkEntry). l.name)) (with_other listing.links number n (Some (with_ends ends link)) low off)
+    | inr off ↦ ap (option_map (λ (l : LinkEntry). l.name)) (with_other listing.links number n (Some (with_ends ends.first ends.last link)) low off)
   ]
 
   links_defined : (n : ℕ) (l : LinkEntry) (c : RelationEntry) → IsListedLink listed n l c → map.get tables.definitions.links l.name ≡ Some (link_definition listed l c)
@@ -72,7 +73,7 @@ module _ {listing : Listing} {bodies : Bodies} {tables : Tables} (spells : Spell
       (λ here. subst (λ (e : LinkEntry). relation_at listing e.child ≡ Some c → map.get tables.definitions.links e.name ≡ Some (link_definition listed e c)) (same_Some _ _ here.1)
       (λ c_at. spells.defines.paths.links number link c (record { at = at; within = c_at })) is.within)
       (λ off. spells.defines.paths.links n l c (record { at = off.1; within = is.within }))
-      (with_cases listing.links number n (Some (with_ends ends link)) l low high is.at)
+      (with_cases listing.links number n (Some (with_ends ends.first ends.last link)) l low high is.at)
 
   defines : Defines listed tables.definitions
   defines = record {
@@ -130,7 +131,7 @@ module _ {listing : Listing} {bodies : Bodies} {tables : Tables} (spells : Spell
 
   only : (item : Item) → is_some (content now.contents item) ≡ true → IsTupleItem listed item ⊎ IsChainItem listed item
   only item is = by_item item (ChainItem link.name parent)
-      (λ e. inr (record { number = number; link = with_ends ends link; parent = parent; at = at_now; is = e }))
+      (λ e. inr (record { number = number; link = with_ends ends.first ends.last link; parent = parent; at = at_now; is = e }))
       (λ off. ⊎_elim (λ t. inl (record { number = t.number; relation = t.relation; tid = t.tid; at = t.at; is = t.is })) (λ c. inr (chain_item item c))
       (spells.contents.only item (sym (ap is_some (elsewhere tables link.name parent list item off)) ∙ is)))
     where
@@ -138,8 +139,8 @@ module _ {listing : Listing} {bodies : Bodies} {tables : Tables} (spells : Spell
       chain_item item c = elim (cases_eq c.number number) [
         | inl here ↦
             let one : link ≡ c.link = same_Some _ _ (sym at ∙ ap (link_at listing) (sym here) ∙ c.at) in
-            record { number = number; link = with_ends ends link; parent = c.parent; at = at_now; is = c.is ∙ ap (λ (l : LinkEntry). ChainItem l.name c.parent) (sym one) }
-        | inr off ↦ record { number = c.number; link = c.link; parent = c.parent; at = with_other listing.links number c.number (Some (with_ends ends link)) low off ∙ c.at; is = c.is }
+            record { number = number; link = with_ends ends.first ends.last link; parent = c.parent; at = at_now; is = c.is ∙ ap (λ (l : LinkEntry). ChainItem l.name c.parent) (sym one) }
+        | inr off ↦ record { number = c.number; link = c.link; parent = c.parent; at = with_other listing.links number c.number (Some (with_ends ends.first ends.last link)) low off ∙ c.at; is = c.is }
       ]
 
   -- ---- the ends of chains
@@ -170,7 +171,7 @@ module _ {listing : Listing} {bodies : Bodies} {tables : Tables} (spells : Spell
           (name_numbered (λ (e : LinkEntry). e.name) listing.links number link at)) in
       let chains : chain now.contents l.name None ≡ chain tables.contents l.name None = ap tuples_in (other_chain tables link.name parent list l.name None apart) in
       (was.0 ∙ ap first_of (sym chains), was.1 ∙ ap last_of (sym chains)))
-      (with_cases listing.links number n (Some (with_ends ends link)) l low high is)
+      (with_cases listing.links number n (Some (with_ends ends.first ends.last link)) l low high is)
 
   pub members_again : SpellsMembers listed new now
   members_again = record {

@@ -5,3 +5,4 @@ pub mod Apart
 pub mod Linked
 pub mod Rewritten
 pub mod Again
+pub mod Sums

@@ -49,11 +49,17 @@ long_items f size same (item ∷ items) = ap length (flat_map-cons f item items)
 pub long_prefix : (contents : Contents) (number : ℕ) (tid : Tid) (items : List (Option LinkEntry)) → length (flat_map (listed_block contents number tid) items) ≡ prefix_size items number
 long_prefix contents number tid items = long_items (listed_block contents number tid) (listed_block_size number) (long_listed contents number tid) items
 
-long_blank_block : (part : Part) → length (blank_block part) ≡ block_size part
+pub long_blank_block : (part : Part) → length (blank_block part) ≡ block_size part
 long_blank_block Outside = refl
 long_blank_block Member = refl
 long_blank_block Child = refl
 long_blank_block Parent = length-parent_block (ends_of [])
+
+pub size_most : (part : Part) → block_size part ≤ 18
+size_most Outside = omega arith
+size_most Member = omega arith
+size_most Child = omega arith
+size_most Parent = omega arith
 
 long_blank_listed : (number : ℕ) (item : Option LinkEntry) → length (blank_listed number item) ≡ listed_block_size number item
 long_blank_listed number None = refl

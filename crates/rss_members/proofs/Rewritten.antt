@@ -13,6 +13,7 @@ use Rattle.rss_base.specs.declared.tid.Tid.{Tid}
 use Rattle.rss_base.specs.declared.value.Value.{Value}
 use Rattle.rss_base.specs.declared.relation.RelationEntry.{RelationEntry}
 use Rattle.rss_base.specs.declared.link.LinkEntry.{LinkEntry}
+use Rattle.rss_catalog.specs.Catalogs.{with_ends}
 use Rattle.rss_catalog.proofs.Numbered.{numbered_within, with_same}
 use Rattle.rss_tuple.specs.Directory.{Bodies}
 use Rattle.rss_model.specs.Tables.{LinkDef, Tables}
@@ -28,7 +29,7 @@ use Rattle.rss_link.specs.Links.{SpellChains, AgreeOff, KeepsBody, same, of_chil
 use Rattle.rss_link.specs.Prefixed.{IsLowerBlock, BodyHas, IsPrefixed}
 use Rattle.rss_link.proofs.Lists.{some_one}
 use Rattle.rss_link.proofs.Prefixed.{prefixed as is_prefixed}
-use Rattle.rss_members.specs.Members.{block_at, segment_of, of_parents, chains_of, is_parent, linkage_of, with_ends, with_chain, SpellsMembers}
+use Rattle.rss_members.specs.Members.{block_at, segment_of, of_parents, chains_of, is_parent, linkage_of, with_chain, SpellsMembers}
 use Rattle.rss_members.proofs.Prefixed.{long_block, long_front, front_of, back_of, cut_items}
 use Rattle.rss_members.proofs.Chained.{lower_block}
 use Rattle.rss_members.proofs.Spelled.{eqb_off, part_of_child, part_of_parent, HasBody, HasAbove, one_relation, above_listed, parent_named, is_above, defined, kind, spells_chains, body_there}
@@ -83,7 +84,7 @@ module _ {listing : Listing} {bodies : Bodies} {tables : Tables} (spells : Spell
   now = with_chain tables link.name parent list
 
   abbrev items_now : List (Option LinkEntry)
-  items_now = with_number listing.links number (Some (with_ends ends link))
+  items_now = with_number listing.links number (Some (with_ends ends.first ends.last link))
 
   -- ---- the blocks of the other links
 
@@ -110,7 +111,7 @@ module _ {listing : Listing} {bodies : Bodies} {tables : Tables} (spells : Spell
         let less : k < number - 1 = omega (arith, lt, length-take (number - 1) listing.links) in
         let here : get_or (take (number - 1) listing.links) k None ≡ get_or listing.links k None = get_or-take (number - 1) listing.links k None less in
         ap (listed_block tables.contents relation tid) here ∙ alike_at k (λ e. omega (arith, e, less, low)) ∙ ap (listed_block now.contents relation tid) (sym here))
-        ∙ ap (flat_map (listed_block now.contents relation tid)) (sym (take-set listing.links (number - 1) (Some (with_ends ends link)))))
+        ∙ ap (flat_map (listed_block now.contents relation tid)) (sym (take-set listing.links (number - 1) (Some (with_ends ends.first ends.last link)))))
 
     same_back : (values : List Value) → back_of tables.contents relation tid listing.links number values ≡ back_of now.contents relation tid items_now number values
     same_back values = ap (λ (l : List ℕ). l ++ tuple_bytes values)
@@ -118,7 +119,7 @@ module _ {listing : Listing} {bodies : Bodies} {tables : Tables} (spells : Spell
         (λ k lt.
         let here : get_or (drop number listing.links) k None ≡ get_or listing.links (number + k) None = get_or-drop number listing.links k None in
         ap (listed_block tables.contents relation tid) here ∙ alike_at (number + k) (λ e. omega (arith, e)) ∙ ap (listed_block now.contents relation tid) (sym here))
-        ∙ ap (flat_map (listed_block now.contents relation tid)) (sym (drop-set-lt number listing.links (number - 1) (Some (with_ends ends link)) (omega (arith, low)))))
+        ∙ ap (flat_map (listed_block now.contents relation tid)) (sym (drop-set-lt number listing.links (number - 1) (Some (with_ends ends.first ends.last link)) (omega (arith, low)))))
 
   -- ---- the block of the link itself
 
@@ -234,7 +235,7 @@ module _ {listing : Listing} {bodies : Bodies} {tables : Tables} (spells : Spell
 
     -- its body says the tables in which the chain has the other list
     pub body_again : (relation : ℕ) (entry : RelationEntry) (tid : Tid) → relation_at listing relation ≡ Some entry → is_there tables.contents entry.name tid ≡ true → (has : HasBody spells relation tid)
-        → new (segment_of listing relation) tid ≡ Some (body_of (with_link listing number (Some (with_ends ends link))) now.contents relation tid has.values)
+        → new (segment_of listing relation) tid ≡ Some (body_of (with_link listing number (Some (with_ends ends.first ends.last link))) now.contents relation tid has.values)
     body_again relation entry tid entry_at is has =
         let w = written relation entry tid entry_at is has in
         let bounds = numbered_within listing.links number link at in
@@ -244,4 +245,4 @@ module _ {listing : Listing} {bodies : Bodies} {tables : Tables} (spells : Spell
         (long_front tables.contents relation tid listing.links number) (long_block tables.contents link.name tid (part_in link relation)) (long_block now.contents link.name tid (part_in link relation))
         (cut_items tables.contents relation tid listing.links number link has.values at) w.agree w.block
         ∙ (λ i. same_front relation tid i ++ (block_of now.contents link.name tid (part_in link relation) ++ same_back relation tid has.values i))
-        ∙ sym (cut_items now.contents relation tid items_now number (with_ends ends link) has.values (with_same listing.links number (Some (with_ends ends link)) bounds.0 bounds.1)))
+        ∙ sym (cut_items now.contents relation tid items_now number (with_ends ends.first ends.last link) has.values (with_same listing.links number (Some (with_ends ends.first ends.last link)) bounds.0 bounds.1)))

@@ -51,9 +51,6 @@ chains_of listing number link = record {
 abbrev pub listed_ends : LinkEntry → Ends
 listed_ends link = record { first = link.first; last = link.last }
 
-abbrev pub with_ends : Ends → LinkEntry → LinkEntry
-with_ends ends link = record link { first = ends.first; last = ends.last }
-
 -- ---- its tuples and its chains
 
 abbrev pub is_parent : Contents → Option Name → Tid → Bool

@@ -5,12 +5,13 @@ ghost use Rattle.rss_base.specs.Prefixes.{Ends as SomeEnds, prefix_size};
 ghost use Rattle.rss_base.specs.declared.link.LinkEntry.{LinkEntry as ALink};
 ghost use Rattle.rss_base.specs.declared.relation.RelationEntry.{RelationEntry as Entry};
 ghost use Rattle.rss_base.specs.declared.tid.Tid.{Tid as SomeTid};
+ghost use Rattle.rss_catalog.specs.Catalogs.{with_ends};
 ghost use Rattle.rss_tuple.specs.Directory.{Bodies};
 ghost use Rattle.rss_model.specs.Tables.{Contents, Tables};
 ghost use Rattle.rss_model.specs.Store.{prefix_of, IsListedLink};
 ghost use Rattle.rss_link.specs.Chains.{IsParent, relinked};
 ghost use Rattle.rss_link.specs.Links.{SpellChains, KeepBodies, AreDisjoint};
-ghost use Rattle.rss_members.specs.Members.{chains_of, linkage_in, listed_ends, with_ends, with_chain};
+ghost use Rattle.rss_members.specs.Members.{chains_of, linkage_in, listed_ends, with_chain};
 ghost use Rattle.rss_members.specs.Members.{SpellsMembers, blank_prefix};
 
 /// A prefix has as many bytes as the links of its relation have, whatever its tuple's chains are.
@@ -51,7 +52,7 @@ pub fn spelled_again()
         (relinked (linkage_in listing tables link child) parent list)
         → KeepBodies (chains_of listing number link) (linkage_in listing tables link child) old new
         → ((chains_of listing number link).unary ≡ false → ends ≡ listed_ends link)
-        → ListingFits (with_link listing number (Some (with_ends ends link)))
-        → SpellsMembers (with_link listing number (Some (with_ends ends link))) new
+        → ListingFits (with_link listing number (Some (with_ends ends.first ends.last link)))
+        → SpellsMembers (with_link listing number (Some (with_ends ends.first ends.last link))) new
         (with_chain tables link.name parent list) }
 {}

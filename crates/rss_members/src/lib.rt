@@ -2,5 +2,7 @@
 #![tactic(auto)]
 
 mod laws;
+mod places;
 
 pub use laws::{blank_prefixes, blocks_lie_apart, links_are_spelled, spelled_again};
+pub use places::{chains_of, prefix_len, push_blank_prefix};
