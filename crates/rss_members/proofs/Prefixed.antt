@@ -61,7 +61,7 @@ size_most Member = omega arith
 size_most Child = omega arith
 size_most Parent = omega arith
 
-long_blank_listed : (number : ℕ) (item : Option LinkEntry) → length (blank_listed number item) ≡ listed_block_size number item
+pub long_blank_listed : (number : ℕ) (item : Option LinkEntry) → length (blank_listed number item) ≡ listed_block_size number item
 long_blank_listed number None = refl
 long_blank_listed number (Some link) = long_blank_block (part_in link number)
 
