@@ -15,3 +15,4 @@ pub mod Failing
 pub mod Coming
 pub mod Operations
 pub mod Prefixed
+pub mod Told
