@@ -43,7 +43,7 @@ some_held : (o : Option Content) (x : Tid) → stands_in x (tuples_in o) ≡ tru
 some_held None x is = absurd (cc (is))
 some_held (Some held) x is = (held, refl)
 
-as_parent : (contents : Contents) (above : Option Name) (parent : Option Tid) → HasParent contents above parent → IsParent (not (is_some above)) (is_parent contents above) parent
+pub as_parent : (contents : Contents) (above : Option Name) (parent : Option Tid) → HasParent contents above parent → IsParent (not (is_some above)) (is_parent contents above) parent
 as_parent contents None None has = tt
 as_parent contents None (Some parent) has = has
 as_parent contents (Some relation) None has = has

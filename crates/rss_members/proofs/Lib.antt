@@ -6,3 +6,4 @@ pub mod Linked
 pub mod Rewritten
 pub mod Again
 pub mod Sums
+pub mod Asked
