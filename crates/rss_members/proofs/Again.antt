@@ -1,16 +1,15 @@
 -- Tables are spelled again once a link's chain has another list.
-use Rattle.std.proofs.Common.{◌≡◌, ◌⊎◌, inl, inr, ⊎_elim, ℕ, ◌≤◌, Bool, true, false, List, ◌∷◌, length, Option, Some, None, refl, sym, ◌∙◌, ap, subst}
+use Rattle.std.proofs.Common.{◌≡◌, ◌⊎◌, inl, inr, ⊎_elim, ℕ, ◌≤◌, Bool, true, false, List, length, Option, Some, None, refl, sym, ◌∙◌, ap, subst}
 use Rattle.std.specs.Prelude.{not, is_some, option_map}
 use Rattle.std.specs.FinMap as map
 use Rattle.std.proofs.lemmas.Bool.{cases_Bool, cases_eq}
 use Rattle.std.proofs.lemmas.Option.{same_Some}
-use Rattle.rss_base.specs.Listings.{Listing, ListingFits, numbered, with_number, names_of, IsNumberOf, relation_at, link_at, with_link}
+use Rattle.rss_base.specs.Listings.{Listing, ListingFits, relation_at, link_at, with_link}
 use Rattle.rss_base.specs.Prefixes.{Ends, first_of, last_of, ends_of}
 use Rattle.rss_base.specs.declared.name.Name.{Name}
 use Rattle.rss_base.specs.declared.tid.Tid.{Tid}
 use Rattle.rss_base.specs.declared.item.Item.{Item}
 use Rattle.rss_base.specs.declared.item.Item.TheVariants.{Tuple as TupleItem, Chain as ChainItem}
-use Rattle.rss_base.specs.declared.refusal.Kind.TheVariants.{Link as LinkKind}
 use Rattle.rss_base.specs.declared.relation.RelationEntry.{RelationEntry}
 use Rattle.rss_base.specs.declared.link.LinkEntry.{LinkEntry}
 use Rattle.rss_catalog.specs.Catalogs.{with_ends}
@@ -18,19 +17,19 @@ use Rattle.rss_catalog.proofs.Numbered.{numbered_within, with_same, with_other, 
 use Rattle.rss_tuple.specs.Directory.{Bodies}
 use Rattle.rss_base.specs.declared.value.Value.{Value}
 use Rattle.rss_model.specs.Items.{Content, Values}
-use Rattle.rss_model.specs.Tables.{LinkDef, Tables, content}
+use Rattle.rss_model.specs.Tables.{Tables, content}
 use Rattle.rss_model.specs.Chains.{tuples_in, chain, is_there}
-use Rattle.rss_model.specs.Store.{body_of, Defines, DefinesPaths, HasNumber, IsListedLink, SpellsContents, IsTupleBody, IsTupleItem, IsChainItem, AreEnds, link_definition}
+use Rattle.rss_model.specs.Store.{body_of, Defines, IsListedLink, IsTupleBody, IsTupleItem, IsChainItem, AreEnds, link_definition}
 use Rattle.rss_model.proofs.LogChanging.{by_item}
 use Rattle.rss_model.proofs.LogLists.{false_true, none_some}
 use Rattle.rss_model.proofs.Spelled.{name_numbered}
-use Rattle.rss_link.specs.Chains.{Lists, Linkage, IsParent, with_list, relinked}
+use Rattle.rss_link.specs.Chains.{IsParent, relinked}
 use Rattle.rss_link.specs.Links.{SpellChains, KeepsBody, same, of_child, of_parent, KeepBodies}
 use Rattle.rss_link.specs.Prefixed.{IsPrefixed}
-use Rattle.rss_link.proofs.Lists.{place_cases, list_off}
+use Rattle.rss_link.proofs.Lists.{list_off}
 use Rattle.rss_link.proofs.Prefixed.{prefixed as is_prefixed}
-use Rattle.rss_members.specs.Members.{segment_of, segment_in, chains_of, listed_ends, is_parent, linkage_of, with_chain, SpellsMembers}
-use Rattle.rss_members.proofs.Spelled.{HasBody, defined}
+use Rattle.rss_members.specs.Members.{segment_in, chains_of, listed_ends, is_parent, linkage_of, with_chain, SpellsMembers}
+use Rattle.rss_members.proofs.Spelled.{HasBody}
 use Rattle.rss_members.proofs.Linked.{elsewhere, tuple_stays, there_still, other_chain, chain_now}
 use Rattle.rss_members.proofs.Rewritten.{links_again, body_again}
 

@@ -3,7 +3,7 @@ use Rattle.std.proofs.Common.{◌≡◌, ◌↔◌, ℕ, Bool, true, false, List
 use Rattle.std.specs.Prelude.{not, is_some}
 use Rattle.std.proofs.Math.Logic.{∥∥₁_map}
 use Rattle.std.proofs.lemmas.Option.{same_Some}
-use Rattle.rss_base.specs.Listings.{link_at}
+use Rattle.rss_base.specs.Listings.{relation_at, link_at}
 use Rattle.rss_base.specs.Prefixes.{Ends}
 use Rattle.rss_base.specs.declared.name.Name.{Name}
 use Rattle.rss_base.specs.declared.tid.Tid.{Tid}
@@ -11,24 +11,25 @@ use Rattle.rss_base.specs.declared.item.Item.{Item}
 use Rattle.rss_base.specs.declared.item.Item.TheVariants.{Chain as ChainItem}
 use Rattle.rss_base.specs.declared.relation.RelationEntry.{RelationEntry}
 use Rattle.rss_base.specs.declared.link.LinkEntry.{LinkEntry}
-use Rattle.rss_tuple.specs.TupleSteps.{TuplesView}
+use Rattle.rss_tuple.specs.Finding.{IsFetched}
 use Rattle.rss_model.specs.Tables.{Contents, Tables}
 use Rattle.rss_model.specs.Chains.{chain, chain_with, stands_in, is_there, HasParent, LinksFit}
-use Rattle.rss_model.specs.Store.{IsListedLink, link_definition}
+use Rattle.rss_model.specs.Store.{body_of, IsListedLink, link_definition}
 use Rattle.rss_model.proofs.ChainKeeping.{chain_found}
 use Rattle.rss_model.proofs.ChangeKeeping.{in_no_chain}
-use Rattle.rss_model.proofs.LogLists.{false_true}
+use Rattle.rss_model.proofs.LogLists.{by_test, false_true, none_some}
 use Rattle.rss_link.specs.declared.link.Chains.{Chains}
 use Rattle.rss_link.specs.declared.link.Ends.{Ends as KeptEnds}
 use Rattle.rss_link.specs.Blocks.{kept_ends}
 use Rattle.rss_link.specs.Chains.{Lists, Stands, IsParent}
 use Rattle.rss_link.specs.Links.{SpellChains}
-use Rattle.rss_link.specs.Calls.{seen, TellsBodies, MayAskParent, AnswersOf, MayAsk, Answers, IsTheOne, IsChildOf, KnowsParent, KnowsChild}
+use Rattle.rss_link.specs.Calls.{seen, MayAskParent, AnswersOf, MayAsk, Answers, IsTheOne, IsChildOf}
+use Rattle.rss_link.proofs.Lists.{eqb_itself}
 use Rattle.rss_link.proofs.Operations.{chain_has, in_chain, stands_under}
-use Rattle.rss_members.specs.Members.{chains_of, listed_ends, linkage_in, is_parent}
-use Rattle.rss_members.specs.Calls.{MembersView, Spells, KnowsAbove, MayAskAbove, AnswersAbove, KnowsBelow, MayAskBelow, AnswersBelow, above_in}
+use Rattle.rss_members.specs.Members.{chains_of, listed_ends, linkage_in, segment_in, segment_of}
+use Rattle.rss_members.specs.Calls.{MembersView, Spells, MayAskAbove, AnswersAbove, MayAskBelow, AnswersBelow, above_in, begins}
 use Rattle.rss_members.proofs.Chained.{as_parent}
-use Rattle.rss_members.proofs.Spelled.{kind, spells_chains}
+use Rattle.rss_members.proofs.Spelled.{eqb_off, kind, spells_chains, body_there}
 
 module _ (at : MembersView) (number : ℕ) (works : Chains) (is : (link : LinkEntry) → link_at at.catalog.listing number ≡ Some link → works ≡ chains_of at.catalog.listing number link) where
   -- the chains of a listed link are those that are worked on
@@ -110,3 +111,32 @@ parent_is contents name tid alone found one = by (chain_with contents name tid) 
     by (Some item) is found one =
         let there = chain_found contents name tid item is in
         some item there.0 there.1 (in_chain (chain contents name) there.0 tid there.2) found one (λ q is_child. alone q there.0 (chain_has (chain contents name) q tid is_child) there.2)
+
+-- ---- whether a tuple is there
+
+-- a tuple of a relation is there exactly where the body at its identifier begins with the relation's number
+module _ (at : MembersView) {tables : Tables} (spells : Spells at tables) (number : ℕ) (relation : RelationEntry) (number_at : relation_at at.catalog.listing number ≡ Some relation) (tid : Tid) where
+  abbrev there : Bool
+  there = is_there tables.contents relation.name tid
+
+  segment_is : segment_of at.catalog.listing number ≡ relation.segment
+  segment_is = ap segment_in number_at
+
+  pub none_there : at.tuples.bodies relation.segment tid ≡ None → false ≡ there
+  none_there none = by_test there
+      (λ e. let has = body_there spells number relation tid number_at e in none_some (sym none ∙ sym (ap (λ (s : ℕ). at.tuples.bodies s tid) segment_is) ∙ has.there))
+      (λ e. sym e)
+
+  pub body_says : (body : List ℕ) → at.tuples.bodies relation.segment tid ≡ Some body → begins number body ≡ there
+  body_says body is = by_test there
+      (λ e.
+      let has = body_there spells number relation tid number_at e in
+      let same : body ≡ body_of at.catalog.listing tables.contents number tid has.values = same_Some _ _ (sym is ∙ sym (ap (λ (s : ℕ). at.tuples.bodies s tid) segment_is) ∙ has.there) in
+      ap (begins number) same ∙ eqb_itself number ∙ sym e)
+      (λ e.
+      let of = spells.contents.bodies_are relation.segment tid body is in
+      ap (begins number) of.is ∙ eqb_off of.number number (λ same. false_true (ap is_some of.holds) (ap (λ (r : RelationEntry). is_there tables.contents r.name tid) (same_Some _ _ (sym of.at ∙ ap (relation_at at.catalog.listing) same ∙ number_at)) ∙ e)) ∙ sym e)
+
+  pub fetched_says : (o : Option (List ℕ)) → at.tuples.bodies relation.segment tid ≡ o → (live : Bool) (read : List ℕ) → IsFetched o live read → ((live ≡ true → begins number read ≡ there) × (live ≡ false → live ≡ there))
+  fetched_says None is live read fetched = ((λ e. false_true e fetched), (λ e. e ∙ none_there is))
+  fetched_says (Some body) is live read fetched = ((λ e. ap (begins number) fetched.1 ∙ body_says body is), (λ e. false_true fetched.0 e))

@@ -1,9 +1,9 @@
 -- The chains of tables that fit, as the lists of a link, and what the blocks of its tuples say of them.
-use Rattle.std.proofs.Common.{◌≡◌, ℕ, ◌≤◌, suc, Bool, true, false, List, [], ◌∷◌, length, Option, Some, None, refl, sym, ◌∙◌, ap, subst, arith}
-use Rattle.std.specs.Prelude.{All, not, is_some, option_map, option_and_then}
+use Rattle.std.proofs.Common.{◌≡◌, ℕ, suc, Bool, true, false, List, [], ◌∷◌, Option, Some, None, refl, sym, ◌∙◌, ap, subst, arith}
+use Rattle.std.specs.Prelude.{All, not, is_some, option_map}
 use Rattle.std.specs.FinMap as map
 use Rattle.std.proofs.lemmas.Option.{same_Some}
-use Rattle.rss_base.specs.Prefixes.{Neighbours, is_tid, first_of, neighbours_from, neighbours_in, lower_part, child_block}
+use Rattle.rss_base.specs.Prefixes.{Neighbours, is_tid, first_of, neighbours_from, lower_part, child_block}
 use Rattle.rss_base.specs.declared.name.Name.{Name}
 use Rattle.rss_base.specs.declared.tid.Tid.{Tid}
 use Rattle.rss_base.specs.declared.item.Item.{Item}

@@ -1,10 +1,10 @@
 -- Tables in which a chain has another list.
 use Rattle.std.proofs.Common.{◌≡◌, ◌⊎◌, inl, inr, ℕ, ◌≤◌, Bool, true, false, List, [], ◌∷◌, length, Option, Some, None, refl, sym, ◌∙◌, ap, subst, arith}
-use Rattle.std.specs.Prelude.{not, is_some, option_map, ◌||◌}
+use Rattle.std.specs.Prelude.{not, is_some, option_map}
 use Rattle.std.specs.Ordering.{eq_by_cmp}
 use Rattle.std.specs.FinMap as map
 use Rattle.std.proofs.lemmas.Option.{same_Some}
-use Rattle.rss_base.specs.Prefixes.{Neighbours, ChildPlace, Part, Outside, Member, Child, Parent, is_tid, ends_of, neighbours_from, neighbours_in, member_block, child_block, parent_block}
+use Rattle.rss_base.specs.Prefixes.{Neighbours, Part, Outside, Member, Child, Parent, is_tid, ends_of, neighbours_from, neighbours_in, member_block, child_block, parent_block}
 use Rattle.rss_base.specs.declared.name.Name.{Name}
 use Rattle.rss_base.specs.declared.tid.Tid.{Tid}
 use Rattle.rss_base.specs.declared.item.Item.{Item}

@@ -1,11 +1,11 @@
 -- The bodies of tables in which one chain has another list.
-use Rattle.std.proofs.Common.{◌≡◌, ◌⊎◌, inl, inr, ℕ, ◌+◌, ◌-◌, ◌<◌, ◌≤◌, suc, Bool, true, false, List, [], ◌∷◌, ◌++◌, length, get_or, take, drop, Option, Some, None, refl, sym, ◌∙◌, ap, subst, arith}
-use Rattle.std.specs.Prelude.{◌==◌, not, is_some, flat_map, min}
+use Rattle.std.proofs.Common.{◌≡◌, inl, inr, ℕ, ◌+◌, ◌-◌, ◌<◌, ◌≤◌, suc, true, false, List, [], ◌∷◌, ◌++◌, length, get_or, take, drop, Option, Some, None, refl, sym, ◌∙◌, ap, subst, arith}
+use Rattle.std.specs.Prelude.{◌==◌, not, is_some, flat_map}
 use Rattle.std.proofs.lemmas.Bool.{cases_eq, cond-false}
 use Rattle.std.proofs.lemmas.Option.{same_Some}
 use Rattle.std.proofs.lemmas.List.{take_at, drop_at, take-append-drop, drop-drop, take-set, drop-set-lt, get_or-take, get_or-drop, length-take}
 use Rattle.std.proofs.lemmas.List.Concat.{flat_map-cons}
-use Rattle.rss_base.specs.Listings.{Listing, numbered, with_number, relation_at, link_at, is_parent_in, with_link}
+use Rattle.rss_base.specs.Listings.{Listing, with_number, relation_at, link_at, is_parent_in, with_link}
 use Rattle.rss_base.specs.Prefixes.{Ends, Part, Outside, Parent, part_in, lower_part, block_size, ends_of, parent_block}
 use Rattle.rss_base.specs.TupleTypes.{tuple_bytes}
 use Rattle.rss_base.specs.declared.name.Name.{Name}
@@ -17,22 +17,21 @@ use Rattle.rss_catalog.specs.Catalogs.{with_ends}
 use Rattle.rss_catalog.proofs.Numbered.{numbered_within, with_same}
 use Rattle.rss_tuple.specs.Directory.{Bodies}
 use Rattle.rss_model.specs.Tables.{LinkDef, Tables}
-use Rattle.rss_model.specs.Chains.{chain, stands_in, is_there, LinksFit}
+use Rattle.rss_model.specs.Chains.{chain, is_there, LinksFit}
 use Rattle.rss_model.specs.Store.{block_of, listed_block, body_of, link_definition}
 use Rattle.rss_model.proofs.Listed.{at_place}
 use Rattle.rss_model.proofs.LogLists.{none_some}
 use Rattle.rss_model.proofs.Spelled.{name_numbered}
 use Rattle.rss_link.specs.declared.link.Chains.{Chains}
-use Rattle.rss_link.specs.Blocks.{HasBytes, child_size, parent_size}
+use Rattle.rss_link.specs.Blocks.{HasBytes}
 use Rattle.rss_link.specs.Chains.{Linkage, Lists, with_list, relinked}
 use Rattle.rss_link.specs.Links.{SpellChains, AgreeOff, KeepsBody, same, of_child, of_parent, KeepBodies}
-use Rattle.rss_link.specs.Prefixed.{IsLowerBlock, BodyHas, IsPrefixed}
-use Rattle.rss_link.proofs.Lists.{some_one}
+use Rattle.rss_link.specs.Prefixed.{IsLowerBlock, IsPrefixed}
 use Rattle.rss_link.proofs.Prefixed.{prefixed as is_prefixed}
 use Rattle.rss_members.specs.Members.{block_at, segment_of, of_parents, chains_of, is_parent, linkage_of, with_chain, SpellsMembers}
 use Rattle.rss_members.proofs.Prefixed.{long_block, long_front, front_of, back_of, cut_items}
 use Rattle.rss_members.proofs.Chained.{lower_block}
-use Rattle.rss_members.proofs.Spelled.{eqb_off, part_of_child, part_of_parent, HasBody, HasAbove, one_relation, above_listed, parent_named, is_above, defined, kind, spells_chains, body_there}
+use Rattle.rss_members.proofs.Spelled.{eqb_off, part_of_child, part_of_parent, HasBody, HasAbove, one_relation, above_listed, parent_named, is_above, defined, kind, body_there}
 use Rattle.rss_members.proofs.Apart.{size_of_child}
 use Rattle.rss_members.proofs.Linked.{chain_now, same_block, links_now, one_lower_block}
 

@@ -1,12 +1,11 @@
 -- The chains of each listed link are spelled, where tables are.
-use Rattle.std.proofs.Common.{◌≡◌, ℕ, ◌+◌, Bool, true, false, List, ◌∷◌, ◌++◌, Option, Some, None, refl, sym, ◌∙◌, ap, subst, get_or}
+use Rattle.std.proofs.Common.{◌≡◌, ℕ, true, false, List, Option, Some, None, refl, sym, ◌∙◌, ap, subst, get_or}
 use Rattle.std.specs.Prelude.{◌≢◌, ◌==◌, not, is_some, IfSome, option_map, option_and_then}
 use Rattle.std.specs.FinMap as map
 use Rattle.std.proofs.lemmas.Option.{same_Some}
 use Rattle.std.proofs.lemmas.Bool.{cond-true, cond-false, ne_eqb}
 use Rattle.rss_base.specs.Listings.{Listing, LinkFits, relation_at, link_at, is_parent_in}
-use Rattle.rss_base.specs.Prefixes.{Ends, Part, Outside, Parent, part_in, lower_part, block_size, ends_of, parent_block}
-use Rattle.rss_base.specs.TupleTypes.{tuple_bytes}
+use Rattle.rss_base.specs.Prefixes.{Part, Outside, Parent, part_in, lower_part, ends_of, parent_block}
 use Rattle.rss_base.specs.declared.name.Name.{Name}
 use Rattle.rss_base.specs.declared.tid.Tid.{Tid}
 use Rattle.rss_base.specs.declared.value.Value.{Value}
@@ -14,10 +13,10 @@ use Rattle.rss_base.specs.declared.item.Item.TheVariants.{Tuple as TupleItem}
 use Rattle.rss_base.specs.declared.relation.RelationEntry.{RelationEntry}
 use Rattle.rss_base.specs.declared.link.LinkEntry.{LinkEntry}
 use Rattle.rss_tuple.specs.Directory.{Bodies}
-use Rattle.rss_model.specs.Items.{Content, Values}
+use Rattle.rss_model.specs.Items.{Content}
 use Rattle.rss_model.specs.Tables.{LinkDef, Tables, content}
 use Rattle.rss_model.specs.Chains.{chain, is_there}
-use Rattle.rss_model.specs.Store.{block_of, body_of, prefix_of, relation_name, link_definition}
+use Rattle.rss_model.specs.Store.{block_of, body_of, relation_name, link_definition}
 use Rattle.rss_model.proofs.LogLists.{some_of}
 use Rattle.rss_link.specs.Blocks.{IsNamed}
 use Rattle.rss_link.specs.Links.{AreNamed, AreApart, SpellChains}

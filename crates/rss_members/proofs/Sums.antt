@@ -1,6 +1,6 @@
 -- Blocks and the sum of their sizes, one link after another.
-use Rattle.std.proofs.Common.{◌≡◌, ◌⊎◌, ℕ, zero, suc, ◌+◌, ◌-◌, ◌<◌, ◌≤◌, false, true, List, [], ◌∷◌, ◌++◌, length, take, drop, get_or, Option, Some, None, refl, sym, ◌∙◌, ap, arith, inl, inr, append_assoc}
-use Rattle.std.specs.Prelude.{is_some, option_map, sum_by, flat_map}
+use Rattle.std.proofs.Common.{◌≡◌, ℕ, suc, ◌+◌, ◌<◌, ◌≤◌, false, List, [], ◌∷◌, ◌++◌, length, take, drop, get_or, Option, Some, None, refl, sym, ◌∙◌, ap, arith, inl, inr, append_assoc}
+use Rattle.std.specs.Prelude.{is_some, option_map, flat_map}
 use Rattle.std.proofs.lemmas.Bool.{cases_lt}
 use Rattle.std.proofs.lemmas.List.{take_all, get_or-drop, take-append-drop, append-nil, length-append}
 use Rattle.std.proofs.lemmas.List.Concat.{flat_map-cons}
@@ -11,7 +11,7 @@ use Rattle.rss_base.specs.Listings.{Listing, numbered, names_of, link_at}
 use Rattle.rss_base.specs.Prefixes.{listed_block_size, prefix_size}
 use Rattle.rss_base.specs.declared.link.LinkEntry.{LinkEntry}
 use Rattle.rss_base.specs.declared.refusal.Kind.TheVariants.{Link as LinkKind}
-use Rattle.rss_catalog.proofs.Numbered.{numbered_at, numbered_past, numbered_map, unused_none}
+use Rattle.rss_catalog.proofs.Numbered.{numbered_past, numbered_map, unused_none}
 use Rattle.rss_model.proofs.Listed.{at_place}
 use Rattle.rss_members.specs.Members.{blank_listed}
 use Rattle.rss_members.proofs.Prefixed.{long_blank_listed, long_blank}

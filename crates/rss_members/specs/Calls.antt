@@ -1,6 +1,6 @@
 -- What the calls on listed links may be given, and what they ensure.
-use Rattle.std.specs.Prelude.{◌≡◌, ℕ, true, List, Option, is_some, option_and_then}
-use Rattle.rss_base.specs.Listings.{link_at}
+use Rattle.std.specs.Prelude.{◌≡◌, ℕ, ◌==◌, Bool, true, false, List, [], ◌∷◌, Option, Some, is_some, option_and_then}
+use Rattle.rss_base.specs.Listings.{relation_at, link_at}
 use Rattle.rss_base.specs.declared.tid.Tid.{Tid}
 use Rattle.rss_base.specs.declared.item.Item.{Item}
 use Rattle.rss_base.specs.declared.relation.RelationEntry.{RelationEntry}
@@ -74,3 +74,16 @@ AnswersBelow at number tid answer = TellsBodies at.tuples → (tables : Tables) 
 -- the parent of a chain, if there are both
 abbrev pub above_in : Option Item → Option Tid
 above_in chain = option_and_then parent_of chain
+
+-- ---- whether a tuple is there
+
+-- the body is that of a tuple of this relation
+abbrev pub begins : ℕ → List ℕ → Bool
+begins relation [] = false
+begins relation (first ∷ body) = first == relation
+
+-- what was found is so in whatever tables the tuples spell
+abbrev pub FindsTuple : MembersView → ℕ → Tid → Bool → Type 0
+FindsTuple at number tid found = TellsBodies at.tuples → (tables : Tables) (relation : RelationEntry)
+    → Spells at tables → relation_at at.catalog.listing number ≡ Some relation
+    → found ≡ is_there tables.contents relation.name tid

@@ -1,6 +1,6 @@
 -- Links as a catalog lists them: where their blocks stand in bodies, and the tables that these spell.
 use Rattle.std.specs.Prelude.{◌≡◌, ℕ, ◌+◌, ◌-◌, Bool, true, false, not, List, [], take, flat_map, Option, Some, None, is_some}
-use Rattle.rss_base.specs.Listings.{Listing, ListingFits, relation_at, with_link}
+use Rattle.rss_base.specs.Listings.{Listing, ListingFits, relation_at}
 use Rattle.rss_base.specs.Prefixes.{Ends, Part, Outside, Member, Child, Parent, part_in, ends_of, member_block, child_block, parent_block, prefix_size}
 use Rattle.rss_base.specs.declared.name.Name.{Name}
 use Rattle.rss_base.specs.declared.tid.Tid.{Tid}

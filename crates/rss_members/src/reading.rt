@@ -1,16 +1,46 @@
 // What is asked of the links that a catalog lists.
-ghost use Rattle.std.specs.Prelude.{◌≡◌, Some, is_some, IfOk};
+ghost use Rattle.std.specs.Prelude.{◌≡◌, Some, true, is_some, IfOk};
 ghost use Rattle.rss_base.specs.Prefixes.{first_of as first_in};
 ghost use Rattle.rss_base.specs.Steps.{no_page};
 ghost use Rattle.rss_tuple.specs.TupleSteps.{TuplesCall, no_tuple};
 ghost use Rattle.rss_model.specs.Chains.{chain_with};
 ghost use Rattle.rss_members.specs.Calls.{both, MayAskAbove, AnswersAbove, MayAskBelow, AnswersBelow};
-ghost use Rattle.rss_members.specs.Calls.{above_in};
+ghost use Rattle.rss_members.specs.Calls.{above_in, begins, FindsTuple};
+ghost use Rattle.rss_base.specs.Listings.{relation_at};
+ghost use Rattle.rss_link.specs.Calls.{HoldsHeaps};
 
 use crate::places::{chains_of, ends_of};
-use rss_base::{PageFault, Tid};
+use rss_base::{Body, PageFault, Tid};
 use rss_catalog::Catalog;
 use rss_tuple::Tuples;
+
+/// Whether a tuple of a relation, by its number, stands at an identifier.
+pub fn is_there<T: Tuples>(
+    tuples: &mut T,
+    catalog: &Catalog,
+    relation: u8,
+    tid: Tid,
+) -> Result<bool, PageFault>
+    requires listed { is_some (relation_at catalog.now.listing relation) ≡ true }
+    requires heaps { HoldsHeaps (T.view tuples.old) }
+    ensures finds { IfOk result
+        (FindsTuple (both (T.view tuples.old) catalog.now) relation tid) }
+    ensures did { TuplesCall no_page no_tuple 2 (T.view tuples.old) (T.view tuples.new) result }
+{
+    let mut body = Body::new();
+    let live = tuples.fetch(catalog.relation(relation).segment, tid, &mut body)?;
+    Ok(live && begins(body.as_slice(), relation))
+}
+
+/// Whether a body is that of a tuple of a relation, by its number.
+fn begins(body: &[u8], relation: u8) -> bool
+    ensures { result ≡ begins relation body.now }
+{
+    match body.first() {
+        Some(first) => *first == relation,
+        None => false,
+    }
+}
 
 /// The first child of a parent, or the first member of a unary link, which has no parent.
 pub fn first_of<T: Tuples>(

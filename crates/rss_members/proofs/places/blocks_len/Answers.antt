@@ -1,5 +1,5 @@
 -- Each turn adds the block of the link at its number, or nothing where none has it.
-use Rattle.std.proofs.Common.{◌≡◌, ◌≤◌, sym, ◌∙◌, ap, arith, length}
+use Rattle.std.proofs.Common.{sym, ◌∙◌, ap, arith, length}
 use Rattle.rss_base.specs.Prefixes.{part_in}
 use Rattle.rss_members.proofs.Prefixed.{long_blank_block, size_most}
 use Rattle.rss_members.proofs.Sums.{link_added, link_passed}
