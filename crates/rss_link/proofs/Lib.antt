@@ -21,3 +21,4 @@ pub mod Ordered
 pub mod Counted
 pub mod Walked
 pub mod Checks
+pub mod Told

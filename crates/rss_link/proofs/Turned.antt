@@ -1,5 +1,7 @@
 -- What is said of a link once one block was changed.
 use Rattle.std.proofs.Common.{◌≡◌, ℕ, ◌+◌, ◌≤◌, Bool, true, false, List, length, Option, Some, None, refl, sym, ◌∙◌, ap, subst, arith}
+use Rattle.std.proofs.Math.Bridge.{le_prop}
+use Rattle.std.proofs.Math.Logic.{∥∥₁_elim}
 use Rattle.rss_base.specs.LogRecords.{place_bytes}
 use Rattle.rss_base.specs.declared.tid.Tid.{Tid}
 use Rattle.rss_tuple.specs.Directory.{Bodies}
@@ -14,7 +16,7 @@ use Rattle.rss_link.specs.Blocks.{HasStanding, HasEnds, standing_bytes, child_si
 use Rattle.rss_link.specs.Chains.{Linkage}
 use Rattle.rss_link.specs.Links.{Says, BodySaysEnds, AreApart}
 use Rattle.rss_link.specs.Calls.{seen_with}
-use Rattle.rss_link.specs.Edits.{bytes_of, PutsBytes, SaysSome, with_pointer, turn, Restates, Turns}
+use Rattle.rss_link.specs.Edits.{bytes_of, PutsBytes, SaysSome, SaysSomeEnds, with_pointer, turn, Restates, Turns}
 use Rattle.rss_link.proofs.BlockBytes.{length-standing_bytes}
 use Rattle.rss_link.proofs.Edited.{put_whole}
 use Rattle.rss_link.proofs.Lists.{some_one, never_some}
@@ -53,14 +55,14 @@ module _ (link : Chains) (linkage : Linkage) (apart : AreApart link linkage) (ol
         };
       }
 
-  pub turned_child : (which : Pointer) (parent to : Option Tid) (child : Tid) → linkage.children child ≡ true → SaysSome link old.bodies child
-      → PutsBytes (bytes_of link.child_segment child (link.child_at + pointer_in link.unary which) (place_bytes to)) old.bodies new.bodies
+  pub turned_child : (which : Pointer) (parent to : Option Tid) (child : Tid) → linkage.children child ≡ true
+      → (puts : PutsBytes (bytes_of link.child_segment child (link.child_at + pointer_in link.unary which) (place_bytes to)) old.bodies new.bodies)
+      → ∥ SaysSome link old.bodies child ∥₁
       → Turns link (turn which parent (Some child) to) linkage (seen_with kept old) (seen_with kept new)
-  turned_child which parent to child is_child some puts =
+  turned_child which parent to child is_child puts some =
       let at : ℕ = link.child_at + pointer_in link.unary which in
-      let room : link.child_at + child_size link.unary ≤ length some.says.body = standing_room link old.bodies child some.standing some.says in
-      let one : some.says.body ≡ puts.reaches.body = some_one _ _ (sym some.says.there ∙ puts.reaches.there) in
-      let room_too : link.child_at + child_size link.unary ≤ length puts.reaches.body = subst (λ (b : List ℕ). link.child_at + child_size link.unary ≤ length b) one room in
+      let room_too : link.child_at + child_size link.unary ≤ length puts.reaches.body = ∥∥₁_elim some le_prop (λ (some : SaysSome link old.bodies child).
+          subst (λ (b : List ℕ). link.child_at + child_size link.unary ≤ length b) (some_one _ _ (sym some.says.there ∙ puts.reaches.there)) (standing_room link old.bodies child some.standing some.says)) in
       record {
         child = record {
           each = λ other p l r is fits says.
@@ -81,14 +83,14 @@ module _ (link : Chains) (linkage : Linkage) (apart : AreApart link linkage) (ol
         };
       }
 
-  pub turned_parent : (which : Pointer) (to : Option Tid) (parent : Tid) → link.unary ≡ false → linkage.parents parent ≡ true → (some : Ends) → BodySaysEnds link old.bodies parent some
-      → PutsBytes (bytes_of link.parent_segment parent (link.parent_at + end_in which) (place_bytes to)) old.bodies new.bodies
+  pub turned_parent : (which : Pointer) (to : Option Tid) (parent : Tid) → link.unary ≡ false → linkage.parents parent ≡ true
+      → (puts : PutsBytes (bytes_of link.parent_segment parent (link.parent_at + end_in which) (place_bytes to)) old.bodies new.bodies)
+      → ∥ SaysSomeEnds link (seen_with kept old) (Some parent) ∥₁
       → Turns link (turn which (Some parent) None to) linkage (seen_with kept old) (seen_with kept new)
-  turned_parent which to parent kind is_parent some some_says puts =
+  turned_parent which to parent kind is_parent puts some =
       let at : ℕ = link.parent_at + end_in which in
-      let room : link.parent_at + 12 ≤ length some_says.body = ends_room link old.bodies parent some some_says in
-      let one : some_says.body ≡ puts.reaches.body = some_one _ _ (sym some_says.there ∙ puts.reaches.there) in
-      let room_too : link.parent_at + 12 ≤ length puts.reaches.body = subst (λ (b : List ℕ). link.parent_at + 12 ≤ length b) one room in
+      let room_too : link.parent_at + 12 ≤ length puts.reaches.body = ∥∥₁_elim some le_prop (λ (some : SaysSomeEnds link (seen_with kept old) (Some parent)).
+          subst (λ (b : List ℕ). link.parent_at + 12 ≤ length b) (some_one _ _ (sym some.says.there ∙ puts.reaches.there)) (ends_room link old.bodies parent some.ends some.says)) in
       record {
         child = record { each = λ other p l r is fits says. absurd (never_some other None refl is) };
         end = record {

@@ -47,7 +47,7 @@ pub record KnowsChild (link : Chains) (view : TuplesView) (child : Tid) : Type 0
 
 pub record MayAsk (link : Chains) (view : TuplesView) (child : Tid) : Type 0 where
   pub heaps : HoldsHeaps view
-  pub knows : TellsBodies view → KnowsChild link view child
+  pub knows : TellsBodies view → ∥ KnowsChild link view child ∥₁
 
 -- what is answered of a child is so in whatever chains the tuples spell
 abbrev pub Answers : Chains → TuplesView → Tid → (Lists → Type 0) → Type 0
@@ -62,7 +62,7 @@ pub record KnowsParent (link : Chains) (view : LinkView) (parent : Option Tid) :
 
 pub record MayAskParent (link : Chains) (view : LinkView) (parent : Option Tid) : Type 0 where
   pub heaps : HoldsHeaps view.tuples
-  pub knows : TellsBodies view.tuples → KnowsParent link view parent
+  pub knows : TellsBodies view.tuples → ∥ KnowsParent link view parent ∥₁
 
 abbrev pub AnswersOf : Chains → LinkView → Option Tid → (List Tid → Type 0) → Type 0
 AnswersOf link view parent answer = TellsBodies view.tuples → (linkage : Linkage)
@@ -120,7 +120,7 @@ pub record MayConnect (link : Chains) (spot : Spot) (view : LinkView) : Type 0 w
   pub segments : IsLink link
   pub kind : HasKind link.unary spot.parent
   pub heaps : HoldsHeaps view.tuples
-  pub knows : TellsBodies view.tuples → KnowsSpot link view spot
+  pub knows : TellsBodies view.tuples → ∥ KnowsSpot link view spot ∥₁
 
 -- the tuples and the ends spell chains, in one of which a child stands
 pub record KnowsPlace (link : Chains) (view : LinkView) (child : Tid) : Type 0 where
@@ -131,7 +131,7 @@ pub record KnowsPlace (link : Chains) (view : LinkView) (child : Tid) : Type 0 w
 pub record MayDisconnect (link : Chains) (child : Tid) (view : LinkView) : Type 0 where
   pub segments : IsLink link
   pub heaps : HoldsHeaps view.tuples
-  pub knows : TellsBodies view.tuples → KnowsPlace link view child
+  pub knows : TellsBodies view.tuples → ∥ KnowsPlace link view child ∥₁
 
 -- The chains are others now, of the same relations, and no byte was changed but in blocks of the link.
 pub record Relinks (link : Chains) (old new : LinkView) (was now : Linkage) : Type 0 where

@@ -37,7 +37,7 @@ pub record SaysSome (link : Chains) (bodies : Bodies) (child : Tid) : Type 0 whe
 
 pub record MayReadChild (link : Chains) (view : TuplesView) (child : Tid) : Type 0 where
   pub heaps : HoldsHeaps view
-  pub some : TellsBodies view → SaysSome link view.bodies child
+  pub some : TellsBodies view → ∥ SaysSome link view.bodies child ∥₁
 
 pub record SaysSomeEnds (link : Chains) (view : LinkView) (parent : Option Tid) : Type 0 where
   pub ends : Ends
@@ -45,7 +45,7 @@ pub record SaysSomeEnds (link : Chains) (view : LinkView) (parent : Option Tid) 
 
 pub record MayReadEnds (link : Chains) (view : LinkView) (parent : Option Tid) : Type 0 where
   pub heaps : HoldsHeaps view.tuples
-  pub some : TellsBodies view.tuples → SaysSomeEnds link view parent
+  pub some : TellsBodies view.tuples → ∥ SaysSomeEnds link view parent ∥₁
 
 pub record KnowsParts (link : Chains) (view : LinkView) (parent left : Option Tid) : Type 0 where
   pub linkage : Linkage
@@ -56,7 +56,7 @@ pub record KnowsParts (link : Chains) (view : LinkView) (parent left : Option Ti
 
 pub record MayReadNext (link : Chains) (view : LinkView) (parent left : Option Tid) : Type 0 where
   pub heaps : HoldsHeaps view.tuples
-  pub knows : TellsBodies view.tuples → KnowsParts link view parent left
+  pub knows : TellsBodies view.tuples → ∥ KnowsParts link view parent left ∥₁
 
 -- the first tuple behind `left` was found, in whatever chains are spelled
 abbrev pub FindsNext : Chains → LinkView → Option Tid → Option Tid → Option Tid → Type 0
@@ -122,7 +122,7 @@ pub record IsTurnOf (link : Chains) (linkage : Linkage) (turn : Turn) : Type 0 w
 
 pub record MayTurn (link : Chains) (view : LinkView) (parent from : Option Tid) : Type 0 where
   pub heaps : HoldsHeaps view.tuples
-  pub has : TellsBodies view.tuples → HasPointer link view parent from
+  pub has : TellsBodies view.tuples → ∥ HasPointer link view parent from ∥₁
 
 -- ---- what is kept
 

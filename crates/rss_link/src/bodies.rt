@@ -80,7 +80,7 @@ pub(crate) fn put<T: Tuples>(
     requires short { at + length bytes.now < 2 ^ 17 }
     requires heaps { HoldsHeaps (T.view tuples.old) }
     requires reaches { TellsBodies (T.view tuples.old)
-        → Reaches (T.view tuples.old).bodies segment tid (at + length bytes.now) }
+        → ∥ Reaches (T.view tuples.old).bodies segment tid (at + length bytes.now) ∥₁ }
     ensures puts { OnOk result (TellsBodies (T.view tuples.old) → PutsBytes
         (bytes_of segment tid at bytes.now) (T.view tuples.old).bodies (T.view tuples.new).bodies) }
     ensures takes { OnOk result (TellsBodies (T.view tuples.old)

@@ -1,11 +1,17 @@
+use Rattle.std.proofs.Math.Logic.{∥∥₁_elim}
+use mathlib.Core.HLevel.{⊥_prop}
 use Rattle.std.proofs.Common.{◌≡◌, ℕ, sym, ◌∙◌, ap, List, length, rules, arith}
 use Rattle.std.specs.Prelude.{Some}
 use Rattle.std.proofs.lemmas.Grind.{common_steps}
 use Rattle.rss_base.specs.Steps.{with_bytes}
 use Rattle.rss_link.proofs.TupleSteps.{stepped, heaps_then, told_before, same_slots, untouched, then_call, widens, done, then, within, fails_at, is_damaged}
 use Rattle.rss_link.proofs.Lists.{some_one}
+use Rattle.rss_link.proofs.Told.{live_by}
 use Rattle.rss_link.proofs.Edited.{length-with_bytes, puts_after, takes_for}
 use Rattle.rss_link.proofs.bodies.put.Goals as goal
+
+pub read-requires : goal.read-requires
+read-requires g c = record { heaps = c.requires.heaps; live = λ told. live_by _ (λ reaches. reaches.body) (λ reaches. reaches.there) (c.requires.reaches told) }
 
 pub returns-in-Ok-clause-puts : goal.returns-in-Ok-clause-puts
 returns-in-Ok-clause-puts g c =
@@ -31,10 +37,9 @@ returns-in-Err-clause-did g c =
 pub returns-then-old-end-clause-did : goal.returns-then-old-end-clause-did
 returns-then-old-end-clause-did g c = is_damaged c.damaged.result c.damaged.ensures
     (within (λ key none. absurd none) (λ segment tid none. absurd none) (omega arith) (stepped c.in_ok-read.ensures.did))
-    (λ told.
-    let reaches = c.requires.reaches told in
+    (λ told. ∥∥₁_elim (c.requires.reaches told) ⊥_prop (λ reaches.
     let same = some_one _ _ (sym reaches.there ∙ c.in_ok-read.ensures.read told) ∙ sym c.as_slice-old.ensures.bytes in
-    omega (arith, reaches.room, ap (λ (l : List ℕ). length l) same, c.if-old-end.true))
+    omega (arith, reaches.room, ap (λ (l : List ℕ). length l) same, c.if-old-end.true)))
 
 pub replace-requires : goal.replace-requires
 replace-requires g c =

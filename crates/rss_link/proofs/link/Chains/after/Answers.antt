@@ -1,5 +1,9 @@
-use Rattle.rss_link.proofs.Meaning.{stands_by, after_within, after_outside}
+use Rattle.std.proofs.Math.Logic.{∥∥₁_map}
+use Rattle.rss_link.proofs.Meaning.{says_some, stands_by, after_within, after_outside}
 use Rattle.rss_link.proofs.link.Chains.after.Goals as goal
+
+pub standing-requires : goal.standing-requires
+standing-requires g c = record { heaps = c.requires.heaps; some = λ told. ∥∥₁_map (c.requires.knows told) (λ knows. says_some knows.spells c.args.child knows.is_child) }
 
 pub returns-in-Within-clause-after : goal.returns-in-Within-clause-after
 returns-in-Within-clause-after g c = λ told ends linkage spells is_child.

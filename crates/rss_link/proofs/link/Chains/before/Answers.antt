@@ -1,5 +1,9 @@
-use Rattle.rss_link.proofs.Meaning.{stands_by, before_within, before_outside}
+use Rattle.std.proofs.Math.Logic.{∥∥₁_map}
+use Rattle.rss_link.proofs.Meaning.{says_some, stands_by, before_within, before_outside}
 use Rattle.rss_link.proofs.link.Chains.before.Goals as goal
+
+pub standing-requires : goal.standing-requires
+standing-requires g c = record { heaps = c.requires.heaps; some = λ told. ∥∥₁_map (c.requires.knows told) (λ knows. says_some knows.spells c.args.child knows.is_child) }
 
 pub returns-in-Within-clause-before : goal.returns-in-Within-clause-before
 returns-in-Within-clause-before g c = λ told ends linkage spells is_child.

@@ -1,3 +1,4 @@
+use Rattle.std.proofs.Math.Logic.{∥∥₁_map}
 use Rattle.std.proofs.Common.{sym, ◌∙◌, subst, arith}
 use Rattle.rss_tuple.specs.Directory.{Bodies}
 use Rattle.rss_link.specs.Edits.{SaysSome}
@@ -15,10 +16,9 @@ use Rattle.rss_link.proofs.link.Chains.connect.Goals as goal
 pub behind-requires : goal.behind-requires
 behind-requires g c = record {
   heaps = c.requires.heaps;
-  knows = λ told.
-      let knows = c.requires.knows told in
+  knows = λ told. ∥∥₁_map (c.requires.knows told) (λ knows.
       let place = free_at knows.spells knows.free in
-      record { linkage = knows.linkage; before = place.before; after = place.after; spells = knows.spells; parted = place.at.parted };
+      record { linkage = knows.linkage; before = place.before; after = place.after; spells = knows.spells; parted = place.at.parted });
 }
 
 pub turn-requires-clause-may : goal.turn-requires-clause-may
@@ -29,8 +29,8 @@ turn-requires-clause-may g c =
       heaps = heaps_then step1;
       has = λ told.
           let told0 = told_before step0 (told_before step1 told) in
-          let knows = c.requires.knows told0 in
-          connect_left step0 c.in_ok-right.ensures.finds c.in_ok-restate.ensures.restates told0 knows.spells (free_at knows.spells knows.free).at;
+          ∥∥₁_map (c.requires.knows told0) (λ knows.
+          connect_left step0 c.in_ok-right.ensures.finds c.in_ok-restate.ensures.restates told0 knows.spells (free_at knows.spells knows.free).at);
     }
 
 pub turn-requires-2-clause-may : goal.turn-requires-2-clause-may
@@ -43,9 +43,9 @@ turn-requires-2-clause-may g c =
       has = λ told.
           let told1 = told_before step1 (told_before step2 told) in
           let told0 = told_before step0 told1 in
-          let knows = c.requires.knows told0 in
+          ∥∥₁_map (c.requires.knows told0) (λ knows.
           connect_right step0 c.in_ok-right.ensures.finds c.in_ok-restate.ensures.restates told0 knows.spells (free_at knows.spells knows.free).at
-          (c.in_ok-turn.ensures.turns (told_then step1 told1) knows.linkage knows.spells.apart (connect_turns_left step0 c.in_ok-right.ensures.finds c.in_ok-restate.ensures.restates told0 knows.spells (free_at knows.spells knows.free).at));
+          (c.in_ok-turn.ensures.turns (told_then step1 told1) knows.linkage knows.spells.apart (connect_turns_left step0 c.in_ok-right.ensures.finds c.in_ok-restate.ensures.restates told0 knows.spells (free_at knows.spells knows.free).at)));
     }
 
 pub returns-clause-connects : goal.returns-clause-connects
@@ -123,6 +123,6 @@ restate-requires-clause-may g c =
       heaps = heaps_then step0;
       some = λ told.
           let told0 = told_before step0 told in
-          let knows = c.requires.knows told0 in
-          subst (λ (bodies : Bodies). SaysSome c.args.self.now bodies c.args.child) (sym (same_bodies step0 told0)) (says_some knows.spells c.args.child knows.free.child);
+          ∥∥₁_map (c.requires.knows told0) (λ knows.
+          subst (λ (bodies : Bodies). SaysSome c.args.self.now bodies c.args.child) (sym (same_bodies step0 told0)) (says_some knows.spells c.args.child knows.free.child));
     }

@@ -1,3 +1,5 @@
+use Rattle.std.proofs.Math.Logic.{∥∥₁_elim, ∥∥₁_map}
+use mathlib.Core.HLevel.{⊥_prop}
 use Rattle.std.proofs.Common.{inr, sym, ◌∙◌, subst, arith}
 use Rattle.rss_tuple.specs.Directory.{Bodies}
 use Rattle.rss_link.specs.Edits.{SaysSome}
@@ -18,15 +20,15 @@ use Rattle.rss_link.proofs.link.Chains.disconnect.Goals as goal
 pub standing-requires : goal.standing-requires
 standing-requires g c = record {
   heaps = c.requires.heaps;
-  some = λ told. let knows = c.requires.knows told in says_some knows.spells c.args.child (knows.spells.chains.children c.args.child knows.stands);
+  some = λ told. ∥∥₁_map (c.requires.knows told) (λ knows. says_some knows.spells c.args.child (knows.spells.chains.children c.args.child knows.stands));
 }
 
 pub returns-in_default-clause-did : goal.returns-in_default-clause-did
 returns-in_default-clause-did g c =
     let step0 = stepped c.in_ok-parent.ensures.did in
     is_damaged c.damaged.result c.damaged.ensures (within (λ key none. absurd none) (λ segment tid none. absurd none) (omega arith) step0)
-    (λ told. let knows = c.requires.knows told in
-    stands_by knows.spells c.args.child _ _ c.in_default.is (knows.spells.chains.children c.args.child knows.stands) (c.in_ok-parent.ensures.says told) knows.stands)
+    (λ told. ∥∥₁_elim (c.requires.knows told) ⊥_prop (λ knows.
+    stands_by knows.spells c.args.child _ _ c.in_default.is (knows.spells.chains.children c.args.child knows.stands) (c.in_ok-parent.ensures.says told) knows.stands))
 
 pub turn-requires-clause-may : goal.turn-requires-clause-may
 turn-requires-clause-may g c =
@@ -37,8 +39,8 @@ turn-requires-clause-may g c =
       heaps = heaps_then step1;
       has = λ told.
           let told0 = told_before step0 (told_before step1 told) in
-          let knows = c.requires.knows told0 in
-          disconnect_left step0 (λ told. subst (λ (s : Standing). Says c.args.self.now (g.T.Tuples.view c.args.tuples.now).bodies c.args.child s) c.in-Within.is (c.in_ok-parent.ensures.says told)) fits c.in_ok-restate.ensures.restates told0 knows.spells knows.stands;
+          ∥∥₁_map (c.requires.knows told0) (λ knows.
+          disconnect_left step0 (λ told. subst (λ (s : Standing). Says c.args.self.now (g.T.Tuples.view c.args.tuples.now).bodies c.args.child s) c.in-Within.is (c.in_ok-parent.ensures.says told)) fits c.in_ok-restate.ensures.restates told0 knows.spells knows.stands);
     }
 
 pub turn-requires-2-clause-may : goal.turn-requires-2-clause-may
@@ -52,9 +54,9 @@ turn-requires-2-clause-may g c =
       has = λ told.
           let told1 = told_before step1 (told_before step2 told) in
           let told0 = told_before step0 told1 in
-          let knows = c.requires.knows told0 in
+          ∥∥₁_map (c.requires.knows told0) (λ knows.
           disconnect_right step0 (λ told. subst (λ (s : Standing). Says c.args.self.now (g.T.Tuples.view c.args.tuples.now).bodies c.args.child s) c.in-Within.is (c.in_ok-parent.ensures.says told)) fits c.in_ok-restate.ensures.restates told0 knows.spells knows.stands
-          (c.in_ok-turn.ensures.turns (told_then step1 told1) knows.linkage knows.spells.apart (disconnect_turns_left step0 (λ told. subst (λ (s : Standing). Says c.args.self.now (g.T.Tuples.view c.args.tuples.now).bodies c.args.child s) c.in-Within.is (c.in_ok-parent.ensures.says told)) fits c.in_ok-restate.ensures.restates told0 knows.spells knows.stands));
+          (c.in_ok-turn.ensures.turns (told_then step1 told1) knows.linkage knows.spells.apart (disconnect_turns_left step0 (λ told. subst (λ (s : Standing). Says c.args.self.now (g.T.Tuples.view c.args.tuples.now).bodies c.args.child s) c.in-Within.is (c.in_ok-parent.ensures.says told)) fits c.in_ok-restate.ensures.restates told0 knows.spells knows.stands)));
     }
 
 pub returns-clause-disconnects : goal.returns-clause-disconnects
@@ -133,6 +135,6 @@ restate-requires-clause-may g c =
       heaps = heaps_then step0;
       some = λ told.
           let told0 = told_before step0 told in
-          let knows = c.requires.knows told0 in
-          subst (λ (bodies : Bodies). SaysSome c.args.self.now bodies c.args.child) (sym (same_bodies step0 told0)) (says_some knows.spells c.args.child (knows.spells.chains.children c.args.child knows.stands));
+          ∥∥₁_map (c.requires.knows told0) (λ knows.
+          subst (λ (bodies : Bodies). SaysSome c.args.self.now bodies c.args.child) (sym (same_bodies step0 told0)) (says_some knows.spells c.args.child (knows.spells.chains.children c.args.child knows.stands)));
     }

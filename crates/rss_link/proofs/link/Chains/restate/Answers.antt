@@ -1,3 +1,4 @@
+use Rattle.std.proofs.Math.Logic.{∥∥₁_map}
 use Rattle.std.proofs.Common.{◌∙◌, ap, List, ℕ, length, arith}
 use Rattle.std.proofs.lemmas.Result.{on_ok_weaker}
 use Rattle.rss_link.proofs.BlockBytes.{length-standing_bytes}
@@ -7,10 +8,9 @@ use Rattle.rss_link.proofs.Turned.{puts_same, restated}
 use Rattle.rss_link.proofs.link.Chains.restate.Goals as goal
 
 pub put-requires-clause-reaches : goal.put-requires-clause-reaches
-put-requires-clause-reaches g c = λ told.
-    let some = c.requires.may.some told in
+put-requires-clause-reaches g c = λ told. ∥∥₁_map (c.requires.may.some told) (λ some.
     let long = ap (λ (l : List ℕ). length l) (c.as_slice.ensures.bytes ∙ c.standing_bytes-block.ensures) ∙ length-standing_bytes c.args.self.now.unary c.args.standing in
-    record { body = some.says.body; there = some.says.there; room = omega (arith, long, c.from-at.ensures, standing_room c.args.self.now _ c.args.child some.standing some.says) }
+    record { body = some.says.body; there = some.says.there; room = omega (arith, long, c.from-at.ensures, standing_room c.args.self.now _ c.args.child some.standing some.says) })
 
 pub returns-clause-restates : goal.returns-clause-restates
 returns-clause-restates g c = on_ok_weaker c.put.result (λ puts told kept linkage apart is_child.

@@ -1,6 +1,10 @@
+use Rattle.std.proofs.Math.Logic.{∥∥₁_map}
 use Rattle.std.proofs.Common.{refl}
-use Rattle.rss_link.proofs.Meaning.{stands_by}
+use Rattle.rss_link.proofs.Meaning.{says_some, stands_by}
 use Rattle.rss_link.proofs.link.Chains.stands.Goals as goal
+
+pub standing-requires : goal.standing-requires
+standing-requires g c = record { heaps = c.requires.heaps; some = λ told. ∥∥₁_map (c.requires.knows told) (λ knows. says_some knows.spells c.args.child knows.is_child) }
 
 pub returns-in-Within-clause-stands : goal.returns-in-Within-clause-stands
 returns-in-Within-clause-stands g c = λ told ends linkage spells is_child.
