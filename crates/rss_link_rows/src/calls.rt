@@ -1,7 +1,7 @@
 // Calls on links over tuples of which proofs know nothing.
 use crate::untold::Untold;
 use rss_base::{PageFault, Tid};
-use rss_link::{Chains, Ends};
+use rss_link::{Chains, Ends, Relations};
 use std::alloc::Global;
 use std::test::Fail;
 
@@ -49,6 +49,19 @@ pub(crate) fn disconnect(
         return Ok(());
     }
     link.disconnect(ends, store, tid(child))
+}
+
+#[tactic(auto, using(rss_images::specs::Silent::never_told))]
+pub(crate) fn check(
+    link: &Chains,
+    ends: &Ends,
+    store: &mut Untold,
+    relations: Relations,
+) -> Result<bool, PageFault> {
+    if link.child_segment != SEGMENT || link.parent_segment != SEGMENT {
+        return Ok(false);
+    }
+    link.check(ends, store, relations)
 }
 
 /// The slots of a chain, from its first on, and 20 of them at most.

@@ -6,6 +6,8 @@ mod calls;
 #[cfg(test)]
 mod chains;
 #[cfg(test)]
+mod checked;
+#[cfg(test)]
 mod damaged;
 #[cfg(test)]
 mod links;

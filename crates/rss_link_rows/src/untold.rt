@@ -1,8 +1,9 @@
 // Tuples in memory of which proofs know nothing: a test needs no proof of what they are, and bodies
 // that no store has may stand there too.
-ghost use Rattle.std.specs.Prelude.{◌≡◌};
+ghost use Rattle.std.specs.Prelude.{◌≡◌, IfSome};
 ghost use Rattle.rss_base.specs.Paged.{page_key};
 ghost use Rattle.rss_base.specs.declared.key.Space.TheVariants.{Home};
+ghost use Rattle.rss_tuple.specs.Finding.{IsAfter};
 ghost use Rattle.rss_link_rows.specs.Silent.{untold};
 
 use rss_base::{Body, PAGE_ENTRIES, PageFault, PageKey, Place, Space, Tid};
@@ -132,9 +133,28 @@ impl Tuples for Untold {
         Err(PageFault::Damaged(Place::Page(home(segment, tid))))
     }
 
-    fn next_live(&mut self, _segment: u8, _after: Option<Tid>) -> Result<Option<Tid>, PageFault> {
-        Ok(None)
+    fn next_live(&mut self, _segment: u8, after: Option<Tid>) -> Result<Option<Tid>, PageFault> {
+        match behind(after) {
+            Some(tid) if usize::from(tid.slot) < self.bodies.len() => Ok(Some(tid)),
+            _ => Ok(None),
+        }
     }
+}
+
+/// The next identifier of page 0.
+fn behind(after: Option<Tid>) -> Option<Tid>
+    ensures { IfSome result (IsAfter after) }
+{
+    let Some(after) = after else {
+        return Some(Tid { page: 0, slot: 0 });
+    };
+    if after.page != 0 || after.slot == u16::MAX {
+        return None;
+    }
+    Some(Tid {
+        page: 0,
+        slot: after.slot + 1,
+    })
 }
 
 /// The home page of an identifier.
