@@ -15,9 +15,6 @@ use Rattle.rss_image.proofs.evening.even.Goals as goal
 pub read_node-requires-clause-there : goal.read_node-requires-clause-there
 read_node-requires-clause-there g c = λ told. ∥∥₁_map (c.requires.there told) (left_node c.args.of (g.P.Pages.view c.args.pages.now).held c.args.level c.args.number c.args.other c.args.pair.now)
 
-pub returns-in_err-left-clause-did : goal.returns-in_err-left-clause-did
-returns-in_err-left-clause-did g c = fails _ c.from_residual.ensures.1 (λ key none. absurd none) (omega arith) (omega arith) c.in_err-left.ensures.did
-
 pub read_node-requires-2-clause-there : goal.read_node-requires-2-clause-there
 read_node-requires-2-clause-there g c = λ told_one.
     let of = c.args.of in

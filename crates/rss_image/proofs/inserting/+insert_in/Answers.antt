@@ -61,9 +61,6 @@ returns-then-level-eq0-clause-spare g t c =
     let spare = spare_rests (g.P.Pages.view c.args.pages.now) (g.P.Pages.view c.read_node.new.pages) c.in_ok-node.ensures.did.step (g.met.P.Pages.are_counted c.args.pages.now) (g.met.P.Pages.are_counted c.read_node.new.pages) in
     on_ok c.grow.result (λ split more. omega (arith, spare, more)) c.grow.ensures.spare
 
-pub returns-in_err-node-clause-did : goal.returns-in_err-node-clause-did
-returns-in_err-node-clause-did g t c = fails _ c.from_residual.ensures.1 (λ key none. absurd none) (omega arith) (omega arith) c.in_err-node.ensures.did
-
 pub returns-then-level-eq0-clause-did : goal.returns-then-level-eq0-clause-did
 returns-then-level-eq0-clause-did g t c = widens (λ key there. there) (omega arith) (omega arith) (then_call (untouched c.in_ok-node.ensures.did.step) c.grow.ensures.did)
 

@@ -43,9 +43,6 @@ returns-then-level-eq0-clause-removed g t c = on_ok c.take_out.result (λ count 
     subst (λ (l : ℕ). RemovedFrom of (cells_of of old.held) l c.args.number c.args.pair.now (cells_of of new.held) count) (sym c.if-level-eq0.true)
     (subst (λ (cs : Cells). RemovedFrom of cs 0 c.args.number c.args.pair.now (cells_of of new.held) count) (keeps_none of old (g.P.Pages.view c.read_node.new.pages) step told) (removed told_one))) c.take_out.ensures.removed
 
-pub returns-in_err-node-clause-did : goal.returns-in_err-node-clause-did
-returns-in_err-node-clause-did g t c = fails _ c.from_residual.ensures.1 (λ key none. absurd none) (omega arith) (omega arith) c.in_err-node.ensures.did
-
 pub returns-then-level-eq0-clause-did : goal.returns-then-level-eq0-clause-did
 returns-then-level-eq0-clause-did g t c = widens (λ key there. there) (omega arith) (omega arith) (then_call (untouched c.in_ok-node.ensures.did.step) c.take_out.ensures.did)
 

@@ -13,9 +13,6 @@ use Rattle.rss_image.proofs.rooting.drop_root.Goals as goal
 pub read_node-requires-clause-there : goal.read_node-requires-clause-there
 read_node-requires-clause-there g c = λ told. ∥∥₁_map (c.requires.there told) (λ has. record { next = has.next; entries = has.entries; holds = has.holds })
 
-pub returns-in_err-node-clause-did : goal.returns-in_err-node-clause-did
-returns-in_err-node-clause-did g c = fails _ c.from_residual.ensures.1 (λ key none. absurd none) (omega arith) (omega arith) c.in_err-node.ensures.did
-
 pub returns-then-count-eq0-clause-did : goal.returns-then-count-eq0-clause-did
 returns-then-count-eq0-clause-did g c = damage (untouched c.in_ok-node.ensures.did.step) c.damaged.ensures (λ told. ∥∥₁_elim (c.requires.there told) ⊥_prop (λ has.
     let same = ap (λ (n : NodeView). length n.entries) (same_node c.args.of (cells_of c.args.of (g.P.Pages.view c.args.pages.now).held) c.args.level c.args.root c.in_ok-node.node.next has.next c.in_ok-node.node.entries has.entries (c.in_ok-node.ensures.holds told) has.holds) in

@@ -5,9 +5,6 @@ use Rattle.rss_base.proofs.Steps.{done, fails, widens, is_in}
 use Rattle.rss_image.proofs.Calls.{given_unmapped, given_loses, spare_given}
 use Rattle.rss_image.proofs.store.give_page.Goals as goal
 
-pub returns-in_err-give-clause-did : goal.returns-in_err-give-clause-did
-returns-in_err-give-clause-did g c = fails _ c.from_residual.ensures.1 (λ key none. absurd none) (omega arith) (omega arith) c.in_err-give.ensures.did
-
 pub returns-clause-given : goal.returns-clause-given
 returns-clause-given g c = given_unmapped (g.P.Pages.view c.args.pages.now) (g.P.Pages.view c.give.new.self) (page_key c.args.of.segment Image c.args.number) c.node_key-key.result c.node_key-key.ensures c.in_ok-give.ensures.given
 
