@@ -1,7 +1,9 @@
 -- The bytes behind the relation's number are those of the tuple's values.
 use Rattle.std.proofs.Common.{◌≡◌, ◌+◌, ℕ, List, ◌∷◌, Some, refl, sym, ◌∙◌, ap, subst, arith}
 use Rattle.std.proofs.lemmas.Result.{IfOk-weaker}
-use Rattle.rss_base.proofs.Steps.{then_call, widens}
+use Rattle.std.proofs.Math.Logic.{∥∥₁_map}
+use Rattle.rss_base.proofs.Steps.{then_call, widens, all_held}
+use Rattle.rss_image.specs.Images.{HasImage}
 use Rattle.rss_entries.specs.Keyed.{kinds_of}
 use Rattle.rss_access.specs.Checking.{HasEntry}
 use Rattle.rss_access.proofs.Walked.{entry_then, entry_back, rest_is}
@@ -9,6 +11,12 @@ use Rattle.rss_access.proofs.checking.has_entry.Goals as goal
 
 rest_same : {a b : ℕ} {x y : List ℕ} → a ∷ x ≡ b ∷ y → x ≡ y
 rest_same same = cc
+
+pub has_pair-requires-clause-there : goal.has_pair-requires-clause-there
+has_pair-requires-clause-there g c = λ told_now.
+    let step = c.in_ok-find.ensures.did.step in
+    let told = step.passes.leaves.told.1 told_now in
+    ∥∥₁_map (c.requires.there told) (λ has. subst (HasImage c.args.image.now) (sym (all_held step told)) has)
 
 pub returns-in-Some-clause-has : goal.returns-in-Some-clause-has
 returns-in-Some-clause-has g c = IfOk-weaker c.has_pair.result _ _ (λ has found is told bytes there.

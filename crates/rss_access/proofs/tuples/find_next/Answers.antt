@@ -36,5 +36,10 @@ loop-tid-preserved g c =
     (λ told. (rw c.in-Some.is at c.in_ok-tid.ensures.next) (so.step.passes.leaves.told.0 told))
     (λ told. (rw c.if-branch.false at c.in_ok-find.ensures.finds) (on.passes.leaves.told.0 (so.step.passes.leaves.told.0 told)))
 
+pub returns-clause-heaps : goal.returns-clause-heaps
+returns-clause-heaps g c = λ told.
+    let step = then c.loop-tid.invariant.step c.in_ok-tid.ensures.did.below.step in
+    heaps_after step c.requires.heaps (step.passes.leaves.told.0 told)
+
 pub returns-clause-did : goal.returns-clause-did
 returns-clause-did g c = (_, done _ (then c.loop-tid.invariant.step c.in_ok-tid.ensures.did.below.step))
