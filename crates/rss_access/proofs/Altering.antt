@@ -190,7 +190,7 @@ module _ {cost : ℕ} {old new : AccessView} {told_change : told.Change} (step :
               is = refl;
               grows = omega (arith, sets.grows key space there none, size_was, size_of next);
               stands = stands_within next_tables spells.listed spells.defines number relation alters.listed so.0 so.1.within;
-              beyond = omega (arith, sets.over key space there none, bytes_less next_tables spells.listed spells.defines (contents_by (recounts_itself alters.listed)) relation.segment so.0 so.1.within tid.page);
+              beyond = omega (arith, sets.over key space there none, bytes_less next_tables spells.listed spells.no_links spells.defines (contents_by (recounts_itself alters.listed)) relation.segment so.0 so.1.within tid.page);
             }
 
 -- ---- from all tables in which it may be applied
