@@ -178,3 +178,8 @@ pub record AllWalked (link : Chains) (relations : Relations) (view : LinkView) (
 abbrev pub NoneAreWalked : Chains → Relations → LinkView → ℕ → Type 0
 NoneAreWalked link relations view count =
     IsCount link relations view.tuples.bodies count → HasChains link relations view → ⊥
+
+-- what is answered of all chains and so many children
+pub record IsTally (link : Chains) (relations : Relations) (view : LinkView) (count : ℕ) (are : Bool) : Type 0 where
+  pub yes : are ≡ true → AllWalked link relations view count
+  pub no : are ≡ false → NoneAreWalked link relations view count

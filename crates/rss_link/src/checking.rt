@@ -8,7 +8,7 @@ ghost use Rattle.rss_link.specs.Blocks.{kept_ends};
 ghost use Rattle.rss_link.specs.Calls.{TellsBodies, HoldsHeaps, seen, IsLink};
 ghost use Rattle.rss_link.specs.Checking.{HasChains, IsFoundBody, IsCounted, IsNoChild};
 ghost use Rattle.rss_link.specs.Checking.{IsCount, IsWalked, NoneIsWalked, IsFollowed, NotFollowed};
-ghost use Rattle.rss_link.specs.Checking.{IsTaken, IsNotTaken, AllWalked, NoneAreWalked, AreDistinct};
+ghost use Rattle.rss_link.specs.Checking.{IsTaken, IsNotTaken, IsTally, AreDistinct};
 
 use crate::blocks::{Standing, ends_at, standing_at};
 use crate::link::{Chains, Ends, Relations};
@@ -119,10 +119,8 @@ impl Chains {
     ) -> Result<bool, PageFault>
         requires unary { self.now.unary ≡ true }
         requires heaps { HoldsHeaps (T.view tuples.old) }
-        ensures yes { IfOk result (λ are. are ≡ true → TellsBodies (T.view tuples.old)
-            → AllWalked self.now relations (seen ends.now (T.view tuples.old)) standing) }
-        ensures no { IfOk result (λ are. are ≡ false → TellsBodies (T.view tuples.old)
-            → NoneAreWalked self.now relations (seen ends.now (T.view tuples.old)) standing) }
+        ensures walks { IfOk result (λ are. TellsBodies (T.view tuples.old)
+            → IsTally self.now relations (seen ends.now (T.view tuples.old)) standing are) }
         ensures did { (most : ℕ) × TuplesCall no_page no_tuple most
             (T.view tuples.old) (T.view tuples.new) result }
     {
@@ -143,10 +141,8 @@ impl Chains {
         requires binary { self.now.unary ≡ false }
         requires segment { IsSegment self.now.parent_segment }
         requires heaps { HoldsHeaps (T.view tuples.old) }
-        ensures yes { IfOk result (λ are. are ≡ true → TellsBodies (T.view tuples.old)
-            → AllWalked self.now relations (seen ends.now (T.view tuples.old)) standing) }
-        ensures no { IfOk result (λ are. are ≡ false → TellsBodies (T.view tuples.old)
-            → NoneAreWalked self.now relations (seen ends.now (T.view tuples.old)) standing) }
+        ensures walks { IfOk result (λ are. TellsBodies (T.view tuples.old)
+            → IsTally self.now relations (seen ends.now (T.view tuples.old)) standing are) }
         ensures did { (most : ℕ) × TuplesCall no_page no_tuple most
             (T.view tuples.old) (T.view tuples.new) result }
     {

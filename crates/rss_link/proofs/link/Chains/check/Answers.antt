@@ -13,27 +13,27 @@ pub returns-in_default-clause-no : goal.returns-in_default-clause-no
 returns-in_default-clause-no g c = λ is told has. no_child ((rw c.in_default.is at c.in_ok-standing.ensures.counts) told).1 has
 
 pub returns-then-self-clause-yes : goal.returns-then-self-clause-yes
-returns-then-self-clause-yes g c = IfOk-weaker c.walk_alone.result _ _ (λ spelled all is told.
+returns-then-self-clause-yes g c = IfOk-weaker c.walk_alone.result _ _ (λ spelled tally is told.
     let step = stepped c.in_ok-standing.ensures.did.1 in
-    checked_yes c.args.self.now c.args.relations (kept_ends c.args.ends.now) step told ((rw c.in-Some.is at c.in_ok-standing.ensures.counts) told) (all is (told_then step told))) c.walk_alone.ensures.yes
+    checked_yes c.args.self.now c.args.relations (kept_ends c.args.ends.now) step told ((rw c.in-Some.is at c.in_ok-standing.ensures.counts) told) ((tally (told_then step told)).yes is)) c.walk_alone.ensures.walks
 
 pub returns-then-self-clause-no : goal.returns-then-self-clause-no
-returns-then-self-clause-no g c = IfOk-weaker c.walk_alone.result _ _ (λ spelled none is told.
+returns-then-self-clause-no g c = IfOk-weaker c.walk_alone.result _ _ (λ spelled tally is told.
     let step = stepped c.in_ok-standing.ensures.did.1 in
-    checked_no c.args.self.now c.args.relations (kept_ends c.args.ends.now) step told ((rw c.in-Some.is at c.in_ok-standing.ensures.counts) told) (none is (told_then step told))) c.walk_alone.ensures.no
+    checked_no c.args.self.now c.args.relations (kept_ends c.args.ends.now) step told ((rw c.in-Some.is at c.in_ok-standing.ensures.counts) told) ((tally (told_then step told)).no is)) c.walk_alone.ensures.walks
 
 pub returns-then-self-clause-did : goal.returns-then-self-clause-did
 returns-then-self-clause-did g c = (c.in_ok-standing.ensures.did.0 + c.walk_alone.ensures.did.0, then_call _ (stepped c.in_ok-standing.ensures.did.1) c.walk_alone.ensures.did.1)
 
 pub returns-else-self-clause-yes : goal.returns-else-self-clause-yes
-returns-else-self-clause-yes g c = IfOk-weaker c.walk_all.result _ _ (λ spelled all is told.
+returns-else-self-clause-yes g c = IfOk-weaker c.walk_all.result _ _ (λ spelled tally is told.
     let step = stepped c.in_ok-standing.ensures.did.1 in
-    checked_yes c.args.self.now c.args.relations (kept_ends c.args.ends.now) step told ((rw c.in-Some.is at c.in_ok-standing.ensures.counts) told) (all is (told_then step told))) c.walk_all.ensures.yes
+    checked_yes c.args.self.now c.args.relations (kept_ends c.args.ends.now) step told ((rw c.in-Some.is at c.in_ok-standing.ensures.counts) told) ((tally (told_then step told)).yes is)) c.walk_all.ensures.walks
 
 pub returns-else-self-clause-no : goal.returns-else-self-clause-no
-returns-else-self-clause-no g c = IfOk-weaker c.walk_all.result _ _ (λ spelled none is told.
+returns-else-self-clause-no g c = IfOk-weaker c.walk_all.result _ _ (λ spelled tally is told.
     let step = stepped c.in_ok-standing.ensures.did.1 in
-    checked_no c.args.self.now c.args.relations (kept_ends c.args.ends.now) step told ((rw c.in-Some.is at c.in_ok-standing.ensures.counts) told) (none is (told_then step told))) c.walk_all.ensures.no
+    checked_no c.args.self.now c.args.relations (kept_ends c.args.ends.now) step told ((rw c.in-Some.is at c.in_ok-standing.ensures.counts) told) ((tally (told_then step told)).no is)) c.walk_all.ensures.walks
 
 pub returns-else-self-clause-did : goal.returns-else-self-clause-did
 returns-else-self-clause-did g c = (c.in_ok-standing.ensures.did.0 + c.walk_all.ensures.did.0, then_call _ (stepped c.in_ok-standing.ensures.did.1) c.walk_all.ensures.did.1)

@@ -1,4 +1,4 @@
-use Rattle.std.proofs.Common.{◌+◌, ◌≤◌, arith}
+use Rattle.std.proofs.Common.{◌+◌, ◌≤◌, false, refl, arith}
 use Rattle.std.specs.Cmp.{unsigned_Decides}
 use Rattle.rss_link.proofs.Lists.{false_true}
 use Rattle.rss_link.proofs.TupleSteps.{then, then_call, stepped, done, fails, told_then}
@@ -21,10 +21,12 @@ returns-in_err-count-clause-did g c = (
       (then_call _ (then c.loop-tid.invariant.step (stepped c.in_ok-tid.ensures.did)) c.in_err-count.ensures.did.1),
 )
 
-pub returns-in_default-2-clause-no : goal.returns-in_default-2-clause-no
-returns-in_default-2-clause-no g c = λ is told.
-    walking_all_refused c.loop-tid.invariant c.requires.binary c.in-Some.tid (record { page = omega arith; slot = omega arith }) (rw c.in-Some.is at c.in_ok-tid.ensures.behind)
-    (g.met.T.Tuples.are_in_pages c.loop-tid.tuples) (rw c.in-Some.is at c.in_ok-tid.ensures.next) _ (stepped c.in_ok-tid.ensures.did) (rw c.in_default-2.is at c.in_ok-count.ensures.takes) told
+pub returns-in_default-2-clause-walks : goal.returns-in_default-2-clause-walks
+returns-in_default-2-clause-walks g c = λ told. record {
+  yes = λ never. absurd (false_true false refl never);
+  no = λ is. walking_all_refused c.loop-tid.invariant c.requires.binary c.in-Some.tid (record { page = omega arith; slot = omega arith }) (rw c.in-Some.is at c.in_ok-tid.ensures.behind)
+      (g.met.T.Tuples.are_in_pages c.loop-tid.tuples) (rw c.in-Some.is at c.in_ok-tid.ensures.next) _ (stepped c.in_ok-tid.ensures.did) (rw c.in_default-2.is at c.in_ok-count.ensures.takes) told;
+}
 
 pub returns-in_default-2-clause-did : goal.returns-in_default-2-clause-did
 returns-in_default-2-clause-did g c = (_, done _ (then (then c.loop-tid.invariant.step (stepped c.in_ok-tid.ensures.did)) (stepped c.in_ok-count.ensures.did.1)))
@@ -36,15 +38,14 @@ loop-tid-preserved g c =
     (g.met.T.Tuples.are_in_pages c.loop-tid.tuples) (rw c.in-Some.is at c.in_ok-tid.ensures.next) _ _ (stepped c.in_ok-tid.ensures.did) (stepped c.in_ok-count.ensures.did.1)
     c.in-Some-2.count (rw c.in-Some-2.is at c.in_ok-count.ensures.takes) _ (omega (arith, few))
 
-pub returns-clause-yes : goal.returns-clause-yes
-returns-clause-yes g c = λ same told.
+pub returns-clause-walks : goal.returns-clause-walks
+returns-clause-walks g c = λ told.
     let so = c.loop-tid.invariant in
-    walking_all_done so c.requires.binary told ((rw c.in_default.is at c.in_ok-tid.ensures.next) (told_then so.step told)) ((unsigned_Decides _ _).0 same)
-
-pub returns-clause-no : goal.returns-clause-no
-returns-clause-no g c = λ differ told.
-    let so = c.loop-tid.invariant in
-    walking_all_left so c.requires.binary told ((rw c.in_default.is at c.in_ok-tid.ensures.next) (told_then so.step told)) (λ same. false_true _ differ ((unsigned_Decides _ _).1 same))
+    let none = (rw c.in_default.is at c.in_ok-tid.ensures.next) (told_then so.step told) in
+    record {
+      yes = λ same. walking_all_done so c.requires.binary told none ((unsigned_Decides _ _).0 same);
+      no = λ differ. walking_all_left so c.requires.binary told none (λ same. false_true _ differ ((unsigned_Decides _ _).1 same));
+    }
 
 pub returns-clause-did : goal.returns-clause-did
 returns-clause-did g c = (_, done _ (then c.loop-tid.invariant.step (stepped c.in_ok-tid.ensures.did)))
