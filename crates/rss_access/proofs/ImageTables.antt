@@ -291,6 +291,7 @@ module _ {old : AccessView} {listed : CatalogView} {new : AccessView} {number : 
 -- after a search they are those that they were
 pub entries_still : {asks outs : ℕ} {old new : PagesView} (catalog : CatalogView) (number : ℕ) (relation : RelationEntry) (which : List ℕ) (entries : List (List ℕ × Tid)) → PagesStep no_page asks outs old new → IsTold old.disk → AreEntries (both old catalog) number relation which entries → AreEntries (both new catalog) number relation which entries
 entries_still {old = old} {new = new} catalog number relation which entries step told are tables other shows = are tables other (record {
+  no_links = shows.no_links;
   listed = shows.listed;
   defines = shows.defines;
   counts = shows.counts;

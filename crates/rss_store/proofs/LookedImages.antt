@@ -55,6 +55,7 @@ module _ {old new : PagesView} (catalog : CatalogView) (slots : new.slots ≡ ol
     counts = shows.counts;
     contents = subst (λ (h : Held). SpellsContents catalog.listing (bodies_of h) tables.contents) (sym held) shows.contents;
     tuples = shows.tuples;
+    no_links = shows.no_links;
     tids = λ relation tid lives. subst (λ (n : ℕ). IsIdentifier n tid) (sym slots) (shows.tids relation tid lives);
   }
 
