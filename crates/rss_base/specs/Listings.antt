@@ -159,11 +159,11 @@ pub record PathsFit (listing : Listing) : Type 0 where
   pub links : (number : ℕ) (link : LinkEntry) → link_at listing number ≡ Some link → LinkFits listing link
   pub few_roles : (number : ℕ) → roles_of listing number ≤ roles_most
 
--- as yet there are no links
+-- there are no links
 abbrev pub HasNoLinks : Listing → Type 0
 HasNoLinks listing = listing.links ≡ replicate links_most None
 
--- nor images in a store
+-- nor images
 pub record IsPlain (listing : Listing) : Type 0 where
   pub no_images : listing.images ≡ replicate images_most None
   pub no_links : HasNoLinks listing
@@ -176,7 +176,6 @@ pub record ListingFits (listing : Listing) : Type 0 where
   pub relations_once : AreListedOnce Relation listing
   pub relations : (number : ℕ) (relation : RelationEntry) → relation_at listing number ≡ Some relation → EntryFits listing relation
   pub paths : PathsFit listing
-  pub no_links : HasNoLinks listing
 
 -- nothing is defined
 abbrev pub no_listing : Listing

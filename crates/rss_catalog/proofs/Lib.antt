@@ -1,10 +1,13 @@
 pub mod Numbered
 pub mod Plain
+pub mod Roles
 pub mod Listed
+pub mod Links
 pub mod NamesIn
 pub mod Pieces
 pub mod Spelled
 pub mod Imaged
+pub mod Linked
 pub mod Read
 pub mod Loaded
 pub mod Stored

@@ -1,24 +1,25 @@
 -- What changes of a listing leave of it: it fits a store as before.
 use Rattle.std.proofs.Common.{◌≡◌, ℕ, ◌-◌, ◌<◌, ◌≤◌, ◌^◌, Bool, true, get_or, set, List, length, Option, Some, None, refl, sym, ◌∙◌, ap, subst, inl, inr, arith}
-use Rattle.std.specs.Prelude.{is_some, map, max, All, option_map, IfSome, nat_le, ◌&&◌}
+use Rattle.std.specs.Prelude.{is_some, map, max, All, option_map, count_by, IfSome, nat_le, ◌&&◌}
 use Rattle.std.proofs.lemmas.Bool.{cases_eq, and_parts, leb-true}
 use Rattle.std.proofs.lemmas.Option.{none-some, same_Some}
 use Rattle.std.proofs.lemmas.List.{length-set, length-map, map-set, get_or_default}
-use Rattle.rss_base.specs.Sizes.{segments}
+use Rattle.rss_base.specs.Sizes.{segments, images_most, roles_most}
 use Rattle.rss_base.specs.Names.{IsName}
 use Rattle.rss_base.specs.TupleTypes.{AreFields, kinds, is_kind, most_fields, chosen, key_width, most_key_width}
 use Rattle.std.specs.List.{list_all}
 use Rattle.rss_base.specs.declared.field.FieldDef.{FieldDef}
 use Rattle.rss_base.specs.declared.value.FieldKind.{FieldKind}
-use Rattle.rss_base.specs.Listings.{Listing, numbered, with_number, segment_at, relation_at, image_at, names_of, IsNumberOf, IsUnlisted, IsLeastUnused, EntryFits, ImageFits, IsFieldNumber, field_numbers, PathsFit, HasNoLinks, ListingFits, with_segment, with_relation, with_image, with_count, with_root}
+use Rattle.rss_base.specs.Listings.{Listing, numbered, with_number, segment_at, relation_at, image_at, link_at, has_role, names_of, IsNumberOf, IsUnlisted, IsLeastUnused, EntryFits, ImageFits, IsFieldNumber, field_numbers, PathsFit, ListingFits, with_segment, with_relation, with_image, with_count, with_root}
 use Rattle.rss_base.specs.declared.name.Name.{Name}
 use Rattle.rss_base.specs.declared.relation.RelationEntry.{RelationEntry}
 use Rattle.rss_base.specs.declared.image.ImageEntry.{ImageEntry}
+use Rattle.rss_base.specs.declared.link.LinkEntry.{LinkEntry}
 use Rattle.rss_base.specs.declared.refusal.Kind.{Kind}
 use Rattle.rss_base.specs.declared.refusal.Kind.TheVariants.{Segment, Relation, Image}
-use Rattle.rss_catalog.specs.Catalogs.{CatalogView, HasRelationIn, HasImageOf, IsSafe, IsSafeImage, Lists}
-use Rattle.rss_catalog.specs.Checking.{AreOnce, AreSafeIn, relation_names, image_names, listing_of}
-use Rattle.rss_catalog.proofs.Plain.{paths_of}
+use Rattle.rss_catalog.specs.Catalogs.{CatalogView, HasRelationIn, HasImageOf, HasLinkOf, IsSafe, IsSafeImage, Lists}
+use Rattle.rss_catalog.specs.Checking.{AreOnce, AreSafeIn, relation_names, image_names, link_names, listing_of}
+use Rattle.rss_catalog.proofs.Roles.{link_moves, link_stays}
 use Rattle.rss_catalog.proofs.Numbered.{numbered_at, numbered_within, with_same, with_other, with_cases, used_has, numbered_map}
 
 -- ---- names
@@ -55,7 +56,7 @@ once_dropped items number low high once one other found is_one is_other =
     ]
 
 -- the names after an entry was put at a place
-names_put : {X : Type 0} (name : X → Name) (items : List (Option X)) (number : ℕ) (item : Option X) → map (option_map name) (with_number items number item) ≡ with_number (map (option_map name) items) number (option_map name item)
+pub names_put : {X : Type 0} (name : X → Name) (items : List (Option X)) (number : ℕ) (item : Option X) → map (option_map name) (with_number items number item) ≡ with_number (map (option_map name) items) number (option_map name item)
 names_put name items number item = map-set (option_map name) items (number - 1) item
 
 -- ---- what stays of a listing
@@ -111,11 +112,34 @@ KeepsFields old new =
     (number : ℕ) (image : ImageEntry) → image_at old number ≡ Some image → (relation : RelationEntry) → relation_at old image.relation ≡ Some relation
     → HasFields new image.relation relation.fields
 
-paths_move : (old new : Listing) → PathsFit old → HasNoLinks new → new.images ≡ old.images → KeepsFields old new → PathsFit new
-paths_move old new paths no_links same keeps = paths_of new no_links (ap length same ∙ paths.image_places) (subst (λ (l : List (Option ImageEntry)). AreOnce (image_names l)) (sym same) paths.images_once) (λ number image is.
-    let there : image_at old number ≡ Some image = ap (λ (l : List (Option ImageEntry)). numbered l number) (sym same) ∙ is in
-    let fit = paths.images number image there in
-    image_moves old new image fit (keeps number image there fit.relation fit.listed))
+-- and of a link's relations
+abbrev pub KeepsRelations : Listing → Listing → Type 0
+KeepsRelations old new =
+    (number : ℕ) (link : LinkEntry) → link_at old number ≡ Some link → (relation : ℕ) → has_role relation (Some link) ≡ true
+    → is_some (relation_at old relation) ≡ true → is_some (relation_at new relation) ≡ true
+
+-- the images and the links are the same
+record IsBeside (old new : Listing) : Type 0 where
+  images : new.images ≡ old.images
+  links : new.links ≡ old.links
+  fields : KeepsFields old new
+  relations : KeepsRelations old new
+
+paths_move : (old new : Listing) → PathsFit old → IsBeside old new → PathsFit new
+paths_move old new paths beside = record {
+  image_places = ap length beside.images ∙ paths.image_places;
+  link_places = ap length beside.links ∙ paths.link_places;
+  images_once = subst (λ (l : List (Option ImageEntry)). AreOnce (image_names l)) (sym beside.images) paths.images_once;
+  links_once = subst (λ (l : List (Option LinkEntry)). AreOnce (link_names l)) (sym beside.links) paths.links_once;
+  images = λ number image is.
+      let there : image_at old number ≡ Some image = ap (λ (l : List (Option ImageEntry)). numbered l number) (sym beside.images) ∙ is in
+      let fit = paths.images number image there in
+      image_moves old new image fit (beside.fields number image there fit.relation fit.listed);
+  links = λ number link is.
+      let there : link_at old number ≡ Some link = ap (λ (l : List (Option LinkEntry)). numbered l number) (sym beside.links) ∙ is in
+      link_moves old new link (paths.links number link there) (beside.relations number link there);
+  few_roles = λ number. subst (λ (l : List (Option LinkEntry)). count_by (has_role number) l ≤ roles_most) (sym beside.links) (paths.few_roles number);
+}
 
 -- where the relations are the same, so are their fields
 same_relations : (old new : Listing) → new.relations ≡ old.relations → KeepsFields old new
@@ -125,14 +149,16 @@ same_relations old new same number image at relation listed = record {
   same = refl;
 }
 
+beside_segments : (listing : Listing) (names : List (Option Name)) → IsBeside listing (record listing { segments = names })
+beside_segments listing names = record { images = refl; links = refl; fields = same_relations listing _ refl; relations = λ number link at relation has listed. listed }
+
 -- ---- segments
 
 pub fits_with_segment : (listing : Listing) (number : ℕ) (name : Name) → ListingFits listing → 1 ≤ number → number ≤ length listing.segments → IsName name → IsUnlisted Segment listing name → ListingFits (with_segment listing number (Some name))
 fits_with_segment listing number name fits low high is_name unlisted = record {
   segment_places = length-set listing.segments (number - 1) (Some name) ∙ fits.segment_places;
   relation_places = fits.relation_places;
-  paths = paths_move listing _ fits.paths fits.no_links refl (same_relations listing _ refl);
-  no_links = fits.no_links;
+  paths = paths_move listing _ fits.paths (beside_segments listing (with_number listing.segments number (Some name)));
   segment_names = λ k found is. elim (with_cases listing.segments number k (Some name) found low high is) [
     | inl here ↦ subst IsName (same_Some name found here.1) is_name
     | inr off ↦ fits.segment_names k found off.1
@@ -155,8 +181,7 @@ pub fits_without_segment : (listing : Listing) (number : ℕ) → ListingFits li
 fits_without_segment listing number fits low high none = record {
   segment_places = length-set listing.segments (number - 1) None ∙ fits.segment_places;
   relation_places = fits.relation_places;
-  paths = paths_move listing _ fits.paths fits.no_links refl (same_relations listing _ refl);
-  no_links = fits.no_links;
+  paths = paths_move listing _ fits.paths (beside_segments listing (with_number listing.segments number None));
   segment_names = λ k found is. elim (with_cases listing.segments number k None found low high is) [
     | inl here ↦ absurd (none-some found here.1)
     | inr off ↦ fits.segment_names k found off.1
@@ -185,6 +210,21 @@ keeps_with listing number relation low high kept k image at was listed = elim (c
   | inr off ↦ record { relation = was; listed = with_other listing.relations number image.relation (Some relation) low off ∙ listed; same = refl }
 ]
 
+-- a relation is there for the links, too
+pub some_with : (listing : Listing) (number : ℕ) (relation : RelationEntry) → 1 ≤ number → number ≤ length listing.relations → (other : ℕ) → is_some (relation_at listing other) ≡ true → is_some (relation_at (with_relation listing number (Some relation)) other) ≡ true
+some_with listing number relation low high other listed = elim (cases_eq other number) [
+  | inl here ↦ ap (λ (n : ℕ). is_some (numbered (with_number listing.relations number (Some relation)) n)) here ∙ ap is_some (with_same listing.relations number (Some relation) low high)
+  | inr off ↦ ap is_some (with_other listing.relations number other (Some relation) low off) ∙ listed
+]
+
+beside_with : (listing : Listing) (number : ℕ) (relation : RelationEntry) → 1 ≤ number → number ≤ length listing.relations → ((was : RelationEntry) → relation_at listing number ≡ Some was → relation.fields ≡ was.fields) → IsBeside listing (with_relation listing number (Some relation))
+beside_with listing number relation low high kept = record {
+  images = refl;
+  links = refl;
+  fields = keeps_with listing number relation low high kept;
+  relations = λ k link at other has listed. some_with listing number relation low high other listed;
+}
+
 -- whatever is put at the place of a relation that no image is of
 keeps_off : (listing : Listing) (number : ℕ) (item : Option RelationEntry) → 1 ≤ number → (HasImageOf listing number → ⊥) → KeepsFields listing (with_relation listing number item)
 keeps_off listing number item low none k image at was listed = record {
@@ -193,13 +233,20 @@ keeps_off listing number item low none k image at was listed = record {
   same = refl;
 }
 
+-- and no link
+pub some_off : (listing : Listing) (number : ℕ) (item : Option RelationEntry) → 1 ≤ number → (HasLinkOf listing number → ⊥) → KeepsRelations listing (with_relation listing number item)
+some_off listing number item low none k link at other has listed =
+    ap is_some (with_other listing.relations number other item low (λ here. none (record { number = k; link = link; at = at; of = ap (λ (n : ℕ). has_role n (Some link)) (sym here) ∙ has }))) ∙ listed
+
+beside_off : (listing : Listing) (number : ℕ) (item : Option RelationEntry) → 1 ≤ number → (HasImageOf listing number → ⊥) → (HasLinkOf listing number → ⊥) → IsBeside listing (with_relation listing number item)
+beside_off listing number item low no_image no_link = record { images = refl; links = refl; fields = keeps_off listing number item low no_image; relations = some_off listing number item low no_link }
+
 pub fits_with_relation : (listing : Listing) (number : ℕ) (relation : RelationEntry) → ListingFits listing → 1 ≤ number → number ≤ length listing.relations → EntryFits listing relation → ((k : ℕ) → IsNumberOf Relation listing relation.name k → k ≡ number)
     → ((was : RelationEntry) → relation_at listing number ≡ Some was → relation.fields ≡ was.fields) → ListingFits (with_relation listing number (Some relation))
 fits_with_relation listing number relation fits low high entry_fits only kept = record {
   segment_places = fits.segment_places;
   relation_places = length-set listing.relations (number - 1) (Some relation) ∙ fits.relation_places;
-  paths = paths_move listing _ fits.paths fits.no_links refl (keeps_with listing number relation low high kept);
-  no_links = fits.no_links;
+  paths = paths_move listing _ fits.paths (beside_with listing number relation low high kept);
   segment_names = fits.segment_names;
   segments_once = fits.segments_once;
   relations_once = subst AreOnce (sym (names_put (λ (entry : RelationEntry). entry.name) listing.relations number (Some relation)))
@@ -210,12 +257,11 @@ fits_with_relation listing number relation fits low high entry_fits only kept = 
   ];
 }
 
-pub fits_without_relation : (listing : Listing) (number : ℕ) → ListingFits listing → 1 ≤ number → number ≤ length listing.relations → (HasImageOf listing number → ⊥) → ListingFits (with_relation listing number None)
-fits_without_relation listing number fits low high none = record {
+pub fits_without_relation : (listing : Listing) (number : ℕ) → ListingFits listing → 1 ≤ number → number ≤ length listing.relations → (HasImageOf listing number → ⊥) → (HasLinkOf listing number → ⊥) → ListingFits (with_relation listing number None)
+fits_without_relation listing number fits low high no_image no_link = record {
   segment_places = fits.segment_places;
   relation_places = length-set listing.relations (number - 1) None ∙ fits.relation_places;
-  paths = paths_move listing _ fits.paths fits.no_links refl (keeps_off listing number None low none);
-  no_links = fits.no_links;
+  paths = paths_move listing _ fits.paths (beside_off listing number None low no_image no_link);
   segment_names = fits.segment_names;
   segments_once = fits.segments_once;
   relations_once = subst AreOnce (sym (names_put (λ (entry : RelationEntry). entry.name) listing.relations number None))
@@ -237,8 +283,8 @@ fits_with_count listing number live relation fits is low =
 -- ---- images
 
 -- the segments and the relations are the same
-fits_again : (old new : Listing) → new.segments ≡ old.segments → new.relations ≡ old.relations → ListingFits old → PathsFit new → HasNoLinks new → ListingFits new
-fits_again old new same_segments same_relations fits paths no_links = record {
+pub fits_again : (old new : Listing) → new.segments ≡ old.segments → new.relations ≡ old.relations → ListingFits old → PathsFit new → ListingFits new
+fits_again old new same_segments same_relations fits paths = record {
   segment_places = ap length same_segments ∙ fits.segment_places;
   relation_places = ap length same_relations ∙ fits.relation_places;
   segment_names = λ number name is. fits.segment_names number name (ap (λ (l : List (Option Name)). numbered l number) (sym same_segments) ∙ is);
@@ -246,36 +292,46 @@ fits_again old new same_segments same_relations fits paths no_links = record {
   relations_once = subst (λ (l : List (Option RelationEntry)). AreOnce (relation_names l)) (sym same_relations) fits.relations_once;
   relations = λ number entry is. entry_moves old new entry same_segments (fits.relations number entry (ap (λ (l : List (Option RelationEntry)). numbered l number) (sym same_relations) ∙ is));
   paths = paths;
-  no_links = no_links;
 }
 
--- an image fits a listing whatever its images are
-image_stays : (listing : Listing) (images : List (Option ImageEntry)) (image : ImageEntry) → ImageFits listing image → ImageFits (record listing { images = images }) image
-image_stays listing images image fit = image_moves listing (record listing { images = images }) image fit (record { relation = fit.relation; listed = fit.listed; same = refl })
+-- an image fits wherever the relations are the same
+pub image_stays : (old new : Listing) (image : ImageEntry) → new.relations ≡ old.relations → ImageFits old image → ImageFits new image
+image_stays old new image same fit = image_moves old new image fit (record { relation = fit.relation; listed = ap (λ (l : List (Option RelationEntry)). numbered l image.relation) same ∙ fit.listed; same = refl })
+
+paths_with_images : (listing : Listing) (images : List (Option ImageEntry)) → PathsFit listing → length images ≡ images_most → AreOnce (image_names images) → ((number : ℕ) (image : ImageEntry) → numbered images number ≡ Some image → ImageFits listing image) → PathsFit (record listing { images = images })
+paths_with_images listing images paths places once each = record {
+  image_places = places;
+  link_places = paths.link_places;
+  images_once = once;
+  links_once = paths.links_once;
+  images = λ number image is. image_stays listing (record listing { images = images }) image refl (each number image is);
+  links = λ number link is. link_stays listing (record listing { images = images }) link refl (paths.links number link is);
+  few_roles = paths.few_roles;
+}
 
 pub fits_with_image : (listing : Listing) (number : ℕ) (image : ImageEntry) → ListingFits listing → 1 ≤ number → number ≤ length listing.images → ImageFits listing image → ((k : ℕ) → IsNumberOf Image listing image.name k → k ≡ number) → ListingFits (with_image listing number (Some image))
 fits_with_image listing number image fits low high image_fits only =
     let images = with_number listing.images number (Some image) in
     fits_again listing (record listing { images = images }) refl refl fits
-    (paths_of (record listing { images = images }) fits.no_links (length-set listing.images (number - 1) (Some image) ∙ fits.paths.image_places)
+    (paths_with_images listing images fits.paths (length-set listing.images (number - 1) (Some image) ∙ fits.paths.image_places)
     (subst AreOnce (sym (names_put (λ (entry : ImageEntry). entry.name) listing.images number (Some image)))
     (once_put (image_names listing.images) number image.name low (omega (arith, length-map listing.images (option_map (λ (entry : ImageEntry). entry.name)))) fits.paths.images_once only))
     (λ k found is. elim (with_cases listing.images number k (Some image) found low high is) [
-      | inl here ↦ image_stays listing images found (subst (ImageFits listing) (same_Some image found here.1) image_fits)
-      | inr off ↦ image_stays listing images found (fits.paths.images k found off.1)
-    ])) fits.no_links
+      | inl here ↦ subst (ImageFits listing) (same_Some image found here.1) image_fits
+      | inr off ↦ fits.paths.images k found off.1
+    ]))
 
 pub fits_without_image : (listing : Listing) (number : ℕ) → ListingFits listing → 1 ≤ number → number ≤ length listing.images → ListingFits (with_image listing number None)
 fits_without_image listing number fits low high =
     let images = with_number listing.images number None in
     fits_again listing (record listing { images = images }) refl refl fits
-    (paths_of (record listing { images = images }) fits.no_links (length-set listing.images (number - 1) None ∙ fits.paths.image_places)
+    (paths_with_images listing images fits.paths (length-set listing.images (number - 1) None ∙ fits.paths.image_places)
     (subst AreOnce (sym (names_put (λ (entry : ImageEntry). entry.name) listing.images number None))
     (once_dropped (image_names listing.images) number low (omega (arith, length-map listing.images (option_map (λ (entry : ImageEntry). entry.name)))) fits.paths.images_once))
     (λ k found is. elim (with_cases listing.images number k None found low high is) [
       | inl here ↦ absurd (none-some found here.1)
-      | inr off ↦ image_stays listing images found (fits.paths.images k found off.1)
-    ])) fits.no_links
+      | inr off ↦ fits.paths.images k found off.1
+    ]))
 
 pub fits_with_root : (listing : Listing) (number root levels : ℕ) (image : ImageEntry) → ListingFits listing → image_at listing number ≡ Some image → root < 2 ^ 32 → 1 ≤ levels → levels < 2 ^ 8 → ListingFits (with_image listing number (Some (with_root root levels image)))
 fits_with_root listing number root levels image fits is low_root some_levels low_levels =
@@ -411,11 +467,11 @@ safe_fit listing relation places fit =
     }
 
 -- the count of a relation was changed in its place
-pub counted_in_place : (names : List (Option Name)) (items : List (Option RelationEntry)) (images : List (Option ImageEntry)) (pending : List Bool) (old : CatalogView) (number n page p live : ℕ) (read : RelationEntry) (d : Option RelationEntry) → record { listing = listing_of names items images; pending = pending } ≡ old
+pub counted_in_place : (names : List (Option Name)) (items : List (Option RelationEntry)) (images : List (Option ImageEntry)) (links : List (Option LinkEntry)) (pending : List Bool) (old : CatalogView) (number n page p live : ℕ) (read : RelationEntry) (d : Option RelationEntry) → record { listing = listing_of names items images links; pending = pending } ≡ old
     → n ≡ number → p ≡ page → d ≡ get_or items (n - 1) d → d ≡ Some read → (relation : RelationEntry) → relation_at old.listing number ≡ Some relation
     → Lists (with_relation old.listing number (Some (with_count live relation))) page old
-    (record { listing = listing_of names (set items (n - 1) (Some (with_count live read))) images; pending = set pending p true })
-counted_in_place names items images pending old number n page p live read d was same_number same_page found is relation at =
+    (record { listing = listing_of names (set items (n - 1) (Some (with_count live read))) images links; pending = set pending p true })
+counted_in_place names items images links pending old number n page p live read d was same_number same_page found is relation at =
     let there : numbered items number ≡ Some relation = ap (λ (v : CatalogView). numbered v.listing.relations number) was ∙ at in
     let within = numbered_within items number relation there in
     let same : relation ≡ read = same_Some relation read (sym there ∙ numbered_at items number within.0 within.1 ∙ ap (λ (k : ℕ). get_or items (k - 1) None) (sym same_number) ∙ get_or_default items (n - 1) None d (omega (arith, within, same_number)) ∙ sym found ∙ is) in
@@ -440,10 +496,10 @@ used_within listing kind same number is used =
     numbered_within (names_of same listing) number has.0 has.1
 
 -- a relation was taken away
-pub removed_relation : (old new : Listing) (kind : Kind) (number : ℕ) → kind ≡ Relation → is_some (numbered (names_of kind old) number) ≡ true → new ≡ with_relation old number None → (HasImageOf old number → ⊥) → ListingFits old → ListingFits new
-removed_relation old new kind number is used now none fits =
+pub removed_relation : (old new : Listing) (kind : Kind) (number : ℕ) → kind ≡ Relation → is_some (numbered (names_of kind old) number) ≡ true → new ≡ with_relation old number None → (HasImageOf old number → ⊥) → (HasLinkOf old number → ⊥) → ListingFits old → ListingFits new
+removed_relation old new kind number is used now no_image no_link fits =
     let within = used_within old kind Relation number is used in
-    subst ListingFits (sym now) (fits_without_relation old number fits within.0 (omega (arith, within.1, length-map old.relations (option_map (λ (entry : RelationEntry). entry.name)))) none)
+    subst ListingFits (sym now) (fits_without_relation old number fits within.0 (omega (arith, within.1, length-map old.relations (option_map (λ (entry : RelationEntry). entry.name)))) no_image no_link)
 
 -- an image was taken away
 pub removed_image : (old new : Listing) (kind : Kind) (number : ℕ) → kind ≡ Image → is_some (numbered (names_of kind old) number) ≡ true → new ≡ with_image old number None → ListingFits old → ListingFits new

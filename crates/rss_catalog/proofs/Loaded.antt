@@ -9,7 +9,7 @@ use Rattle.std.proofs.Math.Nat.{mul-le-mul_left}
 use Rattle.std.proofs.Math.Seq.{take-add}
 use Rattle.std.specs.Str.{bytes_eq}
 use Rattle.std.proofs.lemmas.Slice.Eq.{bytes_eq-Decides}
-use Rattle.rss_base.specs.Sizes.{page_bytes, zero_page, system_pages}
+use Rattle.rss_base.specs.Sizes.{page_bytes, system_pages}
 use Rattle.rss_base.specs.DiskRule.{IsTold}
 use Rattle.rss_base.specs.Paged.{Mapped, Held, page_key}
 use Rattle.rss_base.specs.Steps.{PagesView, no_page}
@@ -18,6 +18,7 @@ use Rattle.rss_base.specs.Listings.{Listing, ListingFits, HoldsListing, catalog_
 use Rattle.rss_base.specs.declared.name.Name.{Name}
 use Rattle.rss_base.specs.declared.relation.RelationEntry.{RelationEntry}
 use Rattle.rss_base.specs.declared.image.ImageEntry.{ImageEntry}
+use Rattle.rss_base.specs.declared.link.LinkEntry.{LinkEntry}
 use Rattle.rss_base.specs.declared.place.Place.{Place}
 use Rattle.rss_base.specs.declared.place.Place.TheVariants.{Catalog as CatalogPlace}
 use Rattle.rss_base.specs.declared.fault.PageFault.{PageFault}
@@ -27,7 +28,7 @@ use Rattle.rss_base.specs.declared.key.Space.TheVariants.{System}
 use Rattle.rss_base.proofs.Looking.{checks_then, checks_as, checks_within}
 use Rattle.rss_catalog.specs.Catalogs.{IsCatalogPlace, Loads, none_pending}
 use Rattle.rss_catalog.specs.Reading.{pieces, segment_of, relation_of, entry_of, fields_of, HasFewFields}
-use Rattle.rss_catalog.specs.Loading.{SpellsNone, IsFlawed, HasPage, LoadsSegments, Form, relation_form, image_form, page_with, part, IsFormed, HasForm, AddsPage, LoadsEntries}
+use Rattle.rss_catalog.specs.Loading.{SpellsNone, IsFlawed, HasPage, LoadsSegments, Form, relation_form, image_form, link_form, page_with, part, IsFormed, HasForm, AddsPage, LoadsEntries}
 use Rattle.rss_catalog.specs.Checking.{listing_of}
 use Rattle.rss_catalog.proofs.Plain.{links_page_is, images_page_is}
 use Rattle.rss_catalog.proofs.Pieces.{length-pieces}
@@ -206,12 +207,6 @@ checks_ends result few is one two = checks_within (λ key same. same) few (check
 pub no_device : {T U : Type 0} {fault : PageFault} {place : Place} {result : Result T PageFault} → fault ≡ Damaged place → ◌≡◌ {A = Result U PageFault} (Err fault) (Err DeviceFailed) → result ≡ Err DeviceFailed
 no_device {fault = fault} {place = place} is error = let same : Damaged place ≡ DeviceFailed = cc in absurd (cc)
 
--- ---- the last page
-
-pub no_zeros : (old : PagesView) (page : List ℕ) → HasPage old 9 page → (page ≡ zero_page → ⊥) → SpellsNone old
-no_zeros old page has other = λ told listing fits holds.
-    other (spelled_so old 9 page listing has (omega arith) told holds ∙ links_page_is listing 9 fits.no_links (omega arith))
-
 -- ---- the whole catalog
 
 pub segments_after : {old new : PagesView} {items : List (Option Name)} → SamePages old new → LoadsSegments old items → LoadsSegments new items
@@ -222,38 +217,36 @@ segments_after same so = record {
 }
 
 -- all pages of a listing were found
-pub record LoadsAll (pages : PagesView) (names : List (Option Name)) (entries : List (Option RelationEntry)) (shown : List (Option ImageEntry)) : Type 0 where
-  pub segments : LoadsSegments pages names
-  pub relations : LoadsEntries relation_form 1 6 pages entries
-  pub images : LoadsEntries image_form 7 2 pages shown
+pub record LoadsAll (pages : PagesView) (listing : Listing) : Type 0 where
+  pub segments : LoadsSegments pages listing.segments
+  pub relations : LoadsEntries relation_form 1 6 pages listing.relations
+  pub images : LoadsEntries image_form 7 2 pages listing.images
+  pub links : LoadsEntries link_form 9 1 pages listing.links
 
-holds_all : (old : PagesView) (names : List (Option Name)) (items : List (Option RelationEntry)) (images : List (Option ImageEntry)) → LoadsAll old names items images → HasPage old 9 zero_page
-    → (page : ℕ) → page < system_pages → HasPage old page (catalog_page (listing_of names items images) page)
-holds_all old names items images all zeros page low =
-    let listing : Listing = listing_of names items images in
-    elim (cases_eq page 0) [
-      | inl here ↦ subst (λ (n : ℕ). HasPage old n (catalog_page listing n)) (sym here) all.segments.has
-      | inr off ↦ elim (cases_lt 6 page) [
-        | inr few ↦
-            let before = page - 1 in
-            let number : 1 + before ≡ page = omega (arith, off) in
-            subst (λ (n : ℕ). HasPage old n (catalog_page listing page)) number (subst (λ (bytes : List ℕ). HasPage old (1 + before) bytes) (sym (relations_page_is listing page (omega (arith, off)) few)) (all.relations.has before (omega (arith, off, few))))
-        | inl past ↦ elim (cases_lt 8 page) [
-          | inr few ↦
-              let before = page - 1 - 6 in
-              let number : 7 + before ≡ page = omega (arith, past) in
-              subst (λ (n : ℕ). HasPage old n (catalog_page listing page)) number (subst (λ (bytes : List ℕ). HasPage old (7 + before) bytes) (sym (images_page_is listing page past few)) (all.images.has before (omega (arith, past, few))))
-          | inl links ↦
-              let number : 9 ≡ page = omega (arith, low, links) in
-              subst (λ (bytes : List ℕ). HasPage old page bytes) (sym (links_page_is listing page refl links)) (subst (λ (n : ℕ). HasPage old n zero_page) number zeros)
-        ]
-      ]
+holds_all : (old : PagesView) (listing : Listing) → length listing.links ≡ 64 → LoadsAll old listing → (page : ℕ) → page < system_pages → HasPage old page (catalog_page listing page)
+holds_all old listing places all page low = elim (cases_eq page 0) [
+  | inl here ↦ subst (λ (n : ℕ). HasPage old n (catalog_page listing n)) (sym here) all.segments.has
+  | inr off ↦ elim (cases_lt 6 page) [
+    | inr few ↦
+        let before = page - 1 in
+        let number : 1 + before ≡ page = omega (arith, off) in
+        subst (λ (n : ℕ). HasPage old n (catalog_page listing page)) number (subst (λ (bytes : List ℕ). HasPage old (1 + before) bytes) (sym (relations_page_is listing page (omega (arith, off)) few)) (all.relations.has before (omega (arith, off, few))))
+    | inl past ↦ elim (cases_lt 8 page) [
+      | inr few ↦
+          let before = page - 1 - 6 in
+          let number : 7 + before ≡ page = omega (arith, past) in
+          subst (λ (n : ℕ). HasPage old n (catalog_page listing page)) number (subst (λ (bytes : List ℕ). HasPage old (7 + before) bytes) (sym (images_page_is listing page past few)) (all.images.has before (omega (arith, past, few))))
+      | inl last ↦
+          let number : 9 + 0 ≡ page = omega (arith, low, last) in
+          let those : part link_form 0 listing.links ≡ listing.links = take_all 64 listing.links (omega (arith, places)) in
+          subst (λ (n : ℕ). HasPage old n (catalog_page listing page)) number (subst (λ (bytes : List ℕ). HasPage old (9 + 0) bytes) (ap (page_with link_form) those ∙ sym (links_page_is listing page last)) (all.links.has 0 (omega arith)))
     ]
+  ]
+]
 
-pub loads_all : (old : PagesView) (names : List (Option Name)) (items : List (Option RelationEntry)) (images : List (Option ImageEntry)) → LoadsAll old names items images → HasPage old 9 zero_page → ListingFits (listing_of names items images)
-    → Loads old (record { listing = listing_of names items images; pending = none_pending })
-loads_all old names items images all zeros fits =
-    let has = holds_all old names items images all zeros in
+pub loads_all : (old : PagesView) (listing : Listing) → LoadsAll old listing → ListingFits listing → Loads old (record { listing = listing; pending = none_pending })
+loads_all old listing all fits =
+    let has = holds_all old listing fits.paths.link_places all in
     record {
       mapped = λ page low. (has page low).mapped;
       fits = fits;
@@ -262,17 +255,20 @@ loads_all old names items images all zeros fits =
     }
 
 -- a listing that doesn't fit was found, so that none that fits is spelled
-pub no_listing_fits : (old : PagesView) (names : List (Option Name)) (items : List (Option RelationEntry)) (images : List (Option ImageEntry)) → LoadsAll old names items images → (ListingFits (listing_of names items images) → ⊥) → SpellsNone old
-no_listing_fits old names items images all other = λ told listing fits holds.
-    let same_names = all.segments.only told listing fits holds in
-    let same_items : items ≡ listing.relations = all.relations.only told listing fits holds ∙ take_all 48 listing.relations (omega (arith, fits.relation_places)) in
-    let same_images : images ≡ listing.images = all.images.only told listing fits holds ∙ take_all 128 listing.images (omega (arith, fits.paths.image_places)) in
-    other (subst ListingFits (sym (λ i. record { segments = same_names i; relations = same_items i; images = same_images i; links = sym fits.no_links i })) fits)
+pub no_listing_fits : (old : PagesView) (found : Listing) → LoadsAll old found → (ListingFits found → ⊥) → SpellsNone old
+no_listing_fits old found all other = λ told listing fits holds.
+    let segments = all.segments.only told listing fits holds in
+    let relations : found.relations ≡ listing.relations = all.relations.only told listing fits holds ∙ take_all 48 listing.relations (omega (arith, fits.relation_places)) in
+    let images : found.images ≡ listing.images = all.images.only told listing fits holds ∙ take_all 128 listing.images (omega (arith, fits.paths.image_places)) in
+    let links : found.links ≡ listing.links = all.links.only told listing fits holds ∙ take_all 64 listing.links (omega (arith, fits.paths.link_places)) in
+    other (subst ListingFits (sym (λ i. record { segments = segments i; relations = relations i; images = images i; links = links i })) fits)
 
 -- what was loaded in a row was there before
-pub all_after : {T U : Type 0} {asks asks_relations : ℕ} {old mid next : PagesView} {names : List (Option Name)} {entries : List (Option RelationEntry)} {images : List (Option ImageEntry)} {first : Result T PageFault} {second : Result U PageFault} → LoadsSegments old names → ChecksPages no_page asks old mid first → LoadsEntries relation_form 1 6 mid entries → ChecksPages no_page asks_relations mid next second → LoadsEntries image_form 7 2 next images → LoadsAll old names entries images
-all_after segments one relations two images = record {
+pub all_after : {T U V : Type 0} {asks asks_relations asks_images : ℕ} {old mid next last : PagesView} {names : List (Option Name)} {entries : List (Option RelationEntry)} {images : List (Option ImageEntry)} {links : List (Option LinkEntry)} {first : Result T PageFault} {second : Result U PageFault} {third : Result V PageFault}
+    → LoadsSegments old names → ChecksPages no_page asks old mid first → LoadsEntries relation_form 1 6 mid entries → ChecksPages no_page asks_relations mid next second → LoadsEntries image_form 7 2 next images → ChecksPages no_page asks_images next last third → LoadsEntries link_form 9 1 last links → LoadsAll old (listing_of names entries images links)
+all_after segments one relations two images three links = record {
   segments = segments;
   relations = entries_after (looked_back (looked one)) relations;
   images = entries_after (looked_back (looked (checks_then one two))) images;
+  links = entries_after (looked_back (looked (checks_then (checks_then one two) three))) links;
 }

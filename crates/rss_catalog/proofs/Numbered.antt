@@ -1,9 +1,9 @@
 -- What has which number.
-use Rattle.std.proofs.Common.{◌≡◌, ◌⊎◌, ℕ, ◌-◌, ◌<◌, ◌≤◌, suc, zero, true, false, List, length, replicate, Option, Some, None, refl, sym, ◌∙◌, ap, inl, inr, arith, get_or}
+use Rattle.std.proofs.Common.{◌≡◌, ◌⊎◌, ℕ, ◌+◌, ◌-◌, ◌<◌, ◌≤◌, suc, zero, true, false, List, length, replicate, Option, Some, None, refl, sym, ◌∙◌, ap, inl, inr, arith, get_or}
 use Rattle.std.specs.Prelude.{is_some, map, option_map, option_and_then, slice_get, ◌==◌}
 use Rattle.std.proofs.lemmas.Bool.{cases_eq, cases_lt, cond-false, ne_eqb}
 use Rattle.std.proofs.lemmas.Option.{none-some, slice_get-get_or, slice_get_past, slice_get-map}
-use Rattle.std.proofs.lemmas.List.{length-set, length-replicate, get_or-replicate, get_or-set_same, get_or-set_other}
+use Rattle.std.proofs.lemmas.List.{length-set, length-replicate, get_or_default, get_or-replicate, get_or-set_same, get_or-set_other}
 use Rattle.rss_base.specs.Listings.{numbered, with_number}
 
 -- the item of a place, as a number looks it up
@@ -27,6 +27,14 @@ numbered_within items (suc k) item is = elim (cases_lt (length items) (suc k)) [
   | inl past ↦ absurd (none-some item (sym (numbered_past items (suc k) past) ∙ is))
   | inr within ↦ (omega arith, within)
 ]
+
+-- what a place has, its number has
+pub has_number : {A : Type 0} (items : List (Option A)) (k : ℕ) (d : Option A) (item : A) → k < length items → get_or items k d ≡ Some item → numbered items (k + 1) ≡ Some item
+has_number items k d item low is = numbered_at items (k + 1) (omega arith) (omega arith) ∙ ap (λ (n : ℕ). get_or items n None) (omega arith) ∙ get_or_default items k None d low ∙ is
+
+-- and what a number has, its place has
+pub place_has : {A : Type 0} (items : List (Option A)) (number : ℕ) (item : A) → numbered items number ≡ Some item → get_or items (number - 1) None ≡ Some item
+place_has items number item is = let within = numbered_within items number item is in sym (numbered_at items number within.0 within.1) ∙ is
 
 -- what a number has that was given this, and what the others have
 pub with_same : {A : Type 0} (items : List (Option A)) (number : ℕ) (item : Option A) → 1 ≤ number → number ≤ length items → numbered (with_number items number item) number ≡ item

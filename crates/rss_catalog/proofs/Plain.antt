@@ -1,17 +1,14 @@
--- A listing without links, and one without images too.
-use Rattle.std.proofs.Common.{◌≡◌, ◌⊎◌, ℕ, zero, suc, ◌+◌, ◌-◌, ◌*◌, ◌<◌, ◌≤◌, List, ◌++◌, length, take, drop, map, replicate, zero-mul, inl, inr, refl, sym, ◌∙◌, ap, subst, arith}
+-- A listing without images and links, and the pages of a listing behind its relations.
+use Rattle.std.proofs.Common.{◌≡◌, ℕ, zero, suc, ◌+◌, ◌-◌, ◌*◌, ◌<◌, ◌≤◌, List, ◌++◌, length, get_or, take, drop, map, replicate, zero-mul, inl, inr, refl, sym, ◌∙◌, ap, arith}
 use Rattle.std.specs.Prelude.{Option, Some, None, option_map, count_by, flat_map, min, nat_le, ◌==◌, if◌then◌else◌}
-use Rattle.std.proofs.lemmas.List.{length-replicate, take-replicate, drop-replicate, replicate-append-replicate, take_all}
+use Rattle.std.proofs.lemmas.List.{same_lists, get_or_default, get_or-replicate, length-replicate, take-replicate, drop-replicate, replicate-append-replicate, take_all}
 use Rattle.std.proofs.lemmas.Bool.{cases_lt, cond-true, cond-false, ne_eqb, lt-leb, le-leb}
 use Rattle.std.proofs.lemmas.Option.{none-some}
-use Rattle.rss_base.specs.declared.name.Name.{Name}
 use Rattle.rss_base.specs.declared.link.LinkEntry.{LinkEntry}
-use Rattle.rss_base.specs.declared.refusal.Kind.{Kind}
-use Rattle.rss_base.specs.declared.refusal.Kind.TheVariants.{Image, Link, Field, Scan}
 use Rattle.rss_base.specs.Sizes.{images_most, links_most, page_bytes, zero_page}
 use Rattle.rss_base.specs.declared.image.ImageEntry.{ImageEntry}
-use Rattle.rss_base.specs.Listings.{Listing, PathsFit, IsPlain, HasNoLinks, ImageFits, AreListedOnce, image_at, numbered, names_of, has_role, padded, catalog_page, image_spelled, link_spelled, images_on}
-use Rattle.rss_catalog.proofs.Numbered.{numbered_map, none_numbered}
+use Rattle.rss_base.specs.Listings.{Listing, PathsFit, IsPlain, HasNoLinks, numbered, has_role, padded, catalog_page, image_spelled, link_spelled, images_on}
+use Rattle.rss_catalog.proofs.Numbered.{numbered_at, numbered_map, none_numbered}
 
 -- nothing has a number
 pub none_of : {A : Type 0} (items : List (Option A)) (count number : ℕ) (item : A) → items ≡ replicate count None → numbered items number ≡ Some item → ⊥
@@ -21,6 +18,11 @@ none_of {A = A} items count number item none is =
 pub none_at : {A : Type 0} (items : List (Option A)) (count number : ℕ) → items ≡ replicate count None → numbered items number ≡ None
 none_at {A = A} items count number none = ap (λ (l : List (Option A)). numbered l number) none ∙ none_numbered count number
 
+-- where no number has anything, nothing stands at any place
+pub none_where : {A : Type 0} (items : List (Option A)) (count : ℕ) → length items ≡ count → ((number : ℕ) → 0 < number → numbered items number ≡ None) → items ≡ replicate count None
+none_where {A = A} items count long none = same_lists items (replicate count None) (long ∙ sym (length-replicate {A = Option A} count None)) (λ k d low.
+    get_or_default items k d None low ∙ ap (λ (n : ℕ). get_or items n None) (omega arith) ∙ sym (numbered_at items (k + 1) (omega arith) (omega (arith, low))) ∙ none (k + 1) (omega arith) ∙ sym (get_or-replicate count k None d (omega (arith, long, low))))
+
 none_named : {A B : Type 0} (f : A → B) (items : List (Option A)) (count number : ℕ) (name : B) → items ≡ replicate count None → numbered (map (option_map f) items) number ≡ Some name → ⊥
 none_named {A = A} f items count number name none is =
     none-some name (sym (numbered_map f items number ∙ ap (λ (l : List (Option A)). option_map f (numbered l number)) none ∙ ap (option_map f) (none_numbered count number)) ∙ is)
@@ -29,36 +31,16 @@ no_roles : (number count : ℕ) → count_by (has_role number) (replicate count 
 no_roles number zero = refl
 no_roles number (suc count) = no_roles number count
 
--- the links have no part in it
-pub paths_of : (listing : Listing) → HasNoLinks listing → length listing.images ≡ images_most → AreListedOnce Image listing → ((number : ℕ) (image : ImageEntry) → image_at listing number ≡ Some image → ImageFits listing image) → PathsFit listing
-paths_of listing no_links places once each = record {
-  image_places = places;
-  link_places = ap length no_links ∙ length-replicate {A = Option LinkEntry} links_most None;
-  images_once = once;
-  links_once = λ one other name is_one is_other. absurd (none_named (λ (link : LinkEntry). link.name) listing.links links_most one name no_links is_one);
-  images = each;
-  links = λ number link is. absurd (none_of listing.links links_most number link no_links is);
-  few_roles = λ number. let none = ap (count_by (has_role number)) no_links ∙ no_roles number links_most in omega (arith, none);
-}
-
 pub plain_paths : (listing : Listing) → IsPlain listing → PathsFit listing
-plain_paths listing plain = paths_of listing plain.no_links (ap length plain.no_images ∙ length-replicate {A = Option ImageEntry} images_most None)
-    (λ one other name is_one is_other. absurd (none_named (λ (image : ImageEntry). image.name) listing.images images_most one name plain.no_images is_one))
-    (λ number image is. absurd (none_of listing.images images_most number image plain.no_images is))
-
--- no name of these kinds has a number
-unnamed : {A : Type 0} (f : A → Name) (items : List (Option A)) (count number : ℕ) → items ≡ replicate count None → None ≡ numbered (map (option_map f) items) number
-unnamed {A = A} f items count number none =
-    sym (numbered_map f items number ∙ ap (λ (l : List (Option A)). option_map f (numbered l number)) none ∙ ap (option_map f) (none_numbered count number))
-
-pub unnamed_kind : (listing : Listing) → HasNoLinks listing → (kind : Kind) (number : ℕ) → (kind ≡ Link) ⊎ ((kind ≡ Field) ⊎ (kind ≡ Scan)) → None ≡ numbered (names_of kind listing) number
-unnamed_kind listing no_links kind number is = elim is [
-  | inl link ↦ subst (λ (k : Kind). None ≡ numbered (names_of k listing) number) (sym link) (unnamed (λ (entry : LinkEntry). entry.name) listing.links links_most number no_links)
-  | inr rest ↦ elim rest [
-    | inl field ↦ subst (λ (k : Kind). None ≡ numbered (names_of k listing) number) (sym field) (sym (none_numbered {A = Name} 0 number))
-    | inr scan ↦ subst (λ (k : Kind). None ≡ numbered (names_of k listing) number) (sym scan) (sym (none_numbered {A = Name} 0 number))
-  ]
-]
+plain_paths listing plain = record {
+  image_places = ap length plain.no_images ∙ length-replicate {A = Option ImageEntry} images_most None;
+  link_places = ap length plain.no_links ∙ length-replicate {A = Option LinkEntry} links_most None;
+  images_once = λ one other name is_one is_other. absurd (none_named (λ (image : ImageEntry). image.name) listing.images images_most one name plain.no_images is_one);
+  links_once = λ one other name is_one is_other. absurd (none_named (λ (link : LinkEntry). link.name) listing.links links_most one name plain.no_links is_one);
+  images = λ number image is. absurd (none_of listing.images images_most number image plain.no_images is);
+  links = λ number link is. absurd (none_of listing.links links_most number link plain.no_links is);
+  few_roles = λ number. let none = ap (count_by (has_role number)) plain.no_links ∙ no_roles number links_most in omega (arith, none);
+}
 
 -- ---- its pages
 
@@ -108,13 +90,11 @@ past_relations listing page past =
 pub images_page_is : (listing : Listing) (page : ℕ) → 6 < page → page ≤ 8 → catalog_page listing page ≡ padded page_bytes (flat_map image_spelled (images_on listing page))
 images_page_is listing page low high = past_relations listing page low ∙ ap (padded page_bytes) (cond-true (nat_le page 8) _ _ (le-leb page 8 high))
 
--- the page of the links is zeros
-pub links_page_is : (listing : Listing) (page : ℕ) → HasNoLinks listing → 8 < page → catalog_page listing page ≡ zero_page
-links_page_is listing page no_links past =
-    past_relations listing page (omega arith) ∙ ap (padded page_bytes) (cond-false (nat_le page 8) _ _ (lt-leb page 8 past)) ∙ links_zero listing no_links
+pub links_page_is : (listing : Listing) (page : ℕ) → 8 < page → catalog_page listing page ≡ padded page_bytes (flat_map link_spelled listing.links)
+links_page_is listing page past = past_relations listing page (omega arith) ∙ ap (padded page_bytes) (cond-false (nat_le page 8) _ _ (lt-leb page 8 past))
 
 pub zeros_past : (listing : Listing) → IsPlain listing → (page : ℕ) → 6 < page → catalog_page listing page ≡ zero_page
 zeros_past listing plain page past = elim (cases_lt 8 page) [
-  | inl links ↦ links_page_is listing page plain.no_links links
+  | inl links ↦ links_page_is listing page links ∙ links_zero listing plain.no_links
   | inr images ↦ images_page_is listing page past images ∙ images_zero listing plain page
 ]

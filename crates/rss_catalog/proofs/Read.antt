@@ -1,39 +1,41 @@
 -- What the pages of a listing read as.
-use Rattle.std.proofs.Common.{◌≡◌, ℕ, ◌+◌, ◌-◌, ◌*◌, ◌<◌, ◌≤◌, suc, List, [], ◌∷◌, length, take, drop, get_or, replicate, Option, Some, None, refl, sym, ◌∙◌, ap, arith}
+use Rattle.std.proofs.Common.{◌≡◌, ℕ, ◌+◌, ◌-◌, ◌*◌, ◌<◌, ◌≤◌, suc, List, [], ◌∷◌, length, take, drop, get_or, replicate, Option, None, refl, sym, ◌∙◌, ap, arith, mul-zero}
 use Rattle.std.specs.Prelude.{map, flat_map, ◌==◌, nat_le}
 use Rattle.std.proofs.lemmas.Bool.{cond-true, cond-false, ne_eqb, le-leb}
-use Rattle.std.proofs.lemmas.List.{length-map, length-take, length-drop, take_all, get_or_default, get_or-take, get_or-drop}
+use Rattle.std.proofs.lemmas.List.{length-map, length-take, length-drop, take_all, get_or-take, get_or-drop}
 use Rattle.rss_base.specs.Sizes.{page_bytes}
-use Rattle.rss_base.specs.Listings.{Listing, ListingFits, catalog_page, padded, segment_spelled, relation_spelled, image_spelled, relations_on, images_on, numbered}
+use Rattle.rss_base.specs.Listings.{Listing, ListingFits, catalog_page, padded, segment_spelled, relation_spelled, image_spelled, link_spelled, relations_on, images_on}
 use Rattle.rss_base.specs.declared.name.Name.{Name}
 use Rattle.rss_base.specs.declared.relation.RelationEntry.{RelationEntry}
 use Rattle.rss_base.specs.declared.image.ImageEntry.{ImageEntry}
-use Rattle.rss_catalog.specs.Reading.{pieces, segment_of, relation_of, image_of}
-use Rattle.rss_catalog.specs.Loading.{HasForm, relation_form, image_form}
-use Rattle.rss_catalog.proofs.Numbered.{numbered_at}
+use Rattle.rss_base.specs.declared.link.LinkEntry.{LinkEntry}
+use Rattle.rss_catalog.specs.Reading.{pieces, segment_of, relation_of, image_of, link_of}
+use Rattle.rss_catalog.specs.Loading.{HasForm, relation_form, image_form, link_form}
+use Rattle.rss_catalog.proofs.Numbered.{has_number}
 use Rattle.rss_catalog.proofs.Listed.{few_of}
 use Rattle.rss_catalog.proofs.Pieces.{pieces_of, length-pieces}
-use Rattle.rss_catalog.proofs.Plain.{images_page_is}
+use Rattle.rss_catalog.proofs.Plain.{images_page_is, links_page_is}
 use Rattle.rss_catalog.proofs.Spelled.{IsNamed, segment_long, segment_back, AreFormed, names_long, relation_long, relation_back}
 use Rattle.rss_catalog.proofs.Imaged.{AreDrawn, drawn_of, image_long, image_back}
+use Rattle.rss_catalog.proofs.Linked.{AreTied, tied_of, link_long, link_back}
 
 -- ---- a listing's items
 
--- what a place has, its number has
-at_number : {A : Type 0} (items : List (Option A)) (k : ℕ) (d : Option A) (item : A) → k < length items → get_or items k d ≡ Some item → numbered items (k + 1) ≡ Some item
-at_number items k d item low is = numbered_at items (k + 1) (omega arith) (omega arith) ∙ ap (λ (n : ℕ). get_or items n None) (omega arith) ∙ get_or_default items k None d low ∙ is
-
 named_at : (listing : Listing) → ListingFits listing → (k : ℕ) (d : Option Name) → k < length listing.segments → IsNamed (get_or listing.segments k d)
-named_at listing fits k d low name is = fits.segment_names (k + 1) name (at_number listing.segments k d name low is)
+named_at listing fits k d low name is = fits.segment_names (k + 1) name (has_number listing.segments k d name low is)
 
 formed_at : (listing : Listing) → ListingFits listing → (k : ℕ) (d : Option RelationEntry) → k < length listing.relations → AreFormed (get_or listing.relations k d)
 formed_at listing fits k d low entry is =
-    let fit = fits.relations (k + 1) entry (at_number listing.relations k d entry low is) in
+    let fit = fits.relations (k + 1) entry (has_number listing.relations k d entry low is) in
     record { name = fit.name; fields = names_long entry.fields fit.fields.names; few = few_of entry.fields fit.fields; live = fit.live }
 
 -- an image of a listing that fits can be read
 drawn_at : (listing : Listing) → ListingFits listing → (k : ℕ) (d : Option ImageEntry) → k < length listing.images → AreDrawn (get_or listing.images k d)
-drawn_at listing fits k d low entry is = drawn_of listing entry (fits.paths.images (k + 1) entry (at_number listing.images k d entry low is))
+drawn_at listing fits k d low entry is = drawn_of listing entry (fits.paths.images (k + 1) entry (has_number listing.images k d entry low is))
+
+-- and so can a link
+tied_at : (listing : Listing) → ListingFits listing → (k : ℕ) (d : Option LinkEntry) → k < length listing.links → AreTied (get_or listing.links k d)
+tied_at listing fits k d low entry is = tied_of listing entry (fits.paths.links (k + 1) entry (has_number listing.links k d entry low is))
 
 -- what is read of each item that is spelled
 all_read : {X : Type 0} (read : List ℕ → X) (spell : X → List ℕ) (xs : List X) → ((k : ℕ) (d : X) → k < length xs → read (spell (get_or xs k d)) ≡ get_or xs k d) → map read (map spell xs) ≡ xs
@@ -90,6 +92,13 @@ images_back listing page fits low high =
     ap (λ (bytes : List ℕ). map image_of (pieces 64 64 bytes)) (images_page_is listing page low high)
     ∙ page_read image_of image_spelled 64 64 items None long (λ k d within. image_long (get_or items k d) (on_drawn listing fits page k d within)) (λ k d within. image_back (get_or items k d) (on_drawn listing fits page k d within))
 
+-- the page of the links reads as all of them
+pub links_back : (listing : Listing) → ListingFits listing → map link_of (pieces 64 64 (catalog_page listing 9)) ≡ listing.links
+links_back listing fits =
+    let items = listing.links in
+    ap (λ (bytes : List ℕ). map link_of (pieces 64 64 bytes)) (links_page_is listing 9 (omega arith))
+    ∙ page_read link_of link_spelled 64 64 items None fits.paths.link_places (λ k d low. link_long (get_or items k d) (tied_at listing fits k d low)) (λ k d low. link_back (get_or items k d) (tied_at listing fits k d low))
+
 -- ---- how entries stand on pages
 
 -- pages 1 to 6 have relations
@@ -110,4 +119,21 @@ has_images = record {
   formed = λ before low listing fits.
       images_page_is listing (7 + before) (omega arith) (omega arith) ∙ ap (λ (l : List (Option ImageEntry)). padded page_bytes (flat_map image_spelled l)) (sym (images_back listing (7 + before) fits (omega arith) (omega arith)));
   back = λ before low listing fits. images_back listing (7 + before) fits (omega arith) (omega arith) ∙ ap (λ (n : ℕ). take 64 (drop (64 * n) listing.images)) (omega arith);
+}
+
+-- a part that has all of them
+part_all : {X : Type 0} (items : List X) (count before : ℕ) → length items ≡ count → before ≡ 0 → take count (drop (count * before) items) ≡ items
+part_all items count before long none = (λ i. take count (drop (count * none i) items)) ∙ ap (λ (n : ℕ). take count (drop n items)) (mul-zero count) ∙ take_all count items (omega (arith, long))
+
+-- page 9 has links
+pub has_links : HasForm link_form 9 1
+has_links = record {
+  within = omega arith;
+  long = λ bytes. length-map (pieces 64 64 bytes) link_of ∙ length-pieces 64 64 bytes;
+  formed = λ before low listing fits.
+      let here : 9 + before ≡ 9 = omega (arith, low) in
+      links_page_is listing (9 + before) (omega arith) ∙ ap (λ (l : List (Option LinkEntry)). padded page_bytes (flat_map link_spelled l)) (sym (ap (λ (n : ℕ). map link_of (pieces 64 64 (catalog_page listing n))) here ∙ links_back listing fits));
+  back = λ before low listing fits.
+      let here : 9 + before ≡ 9 = omega (arith, low) in
+      ap (λ (n : ℕ). map link_of (pieces 64 64 (catalog_page listing n))) here ∙ links_back listing fits ∙ sym (part_all listing.links 64 before fits.paths.link_places (omega (arith, low)));
 }

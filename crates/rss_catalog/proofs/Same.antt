@@ -8,9 +8,9 @@ use Rattle.std.proofs.Math.Nat.{mul-le-mul_left}
 use Rattle.rss_base.specs.Sizes.{system_pages, zero_page}
 use Rattle.rss_base.specs.Paged.{Held}
 use Rattle.rss_base.specs.Listings.{Listing, ListingFits, HoldsListing, catalog_page, relations_on, no_listing, segment_spelled, relation_spelled}
-use Rattle.rss_catalog.specs.Reading.{pieces, segment_of, relation_of, image_of}
+use Rattle.rss_catalog.specs.Reading.{pieces, segment_of, relation_of, image_of, link_of}
 use Rattle.rss_catalog.proofs.Plain.{nones_spelled, padded_zeros, take_some, zeros_past}
-use Rattle.rss_catalog.proofs.Read.{segments_back, relations_back, relations_page_is, images_back}
+use Rattle.rss_catalog.proofs.Read.{segments_back, relations_back, relations_page_is, images_back, links_back}
 
 -- a page of one is a page of the other
 same_page : (held : Held) (one other : Listing) → HoldsListing held one → HoldsListing held other → (page : ℕ) → page < system_pages → catalog_page one page ≡ catalog_page other page
@@ -52,7 +52,7 @@ same_listing held one other holds_one holds_other fits_one fits_other =
     relations_part one part fits_one low ∙ ap (λ (bytes : List ℕ). map relation_of (pieces 512 8 bytes)) (pages (1 + part) (omega (arith, low))) ∙ sym (relations_part other part fits_other low)) in
     let images : one.images ≡ other.images = same_parts 64 2 one.images other.images (omega arith) fits_one.paths.image_places fits_other.paths.image_places (λ part low.
     images_part one part fits_one low ∙ ap (λ (bytes : List ℕ). map image_of (pieces 64 64 bytes)) (pages (7 + part) (omega (arith, low))) ∙ sym (images_part other part fits_other low)) in
-    let links : one.links ≡ other.links = fits_one.no_links ∙ sym fits_other.no_links in
+    let links : one.links ≡ other.links = sym (links_back one fits_one) ∙ ap (λ (bytes : List ℕ). map link_of (pieces 64 64 bytes)) (pages 9 (omega arith)) ∙ links_back other fits_other in
     λ i. record { segments = names i; relations = relations i; images = images i; links = links i }
 
 -- ---- the pages of the empty listing

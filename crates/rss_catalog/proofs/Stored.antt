@@ -1,8 +1,8 @@
 -- How the pages of a listing are written, one after another.
-use Rattle.std.proofs.Common.{◌≡◌, ℕ, ◌+◌, ◌-◌, ◌*◌, ◌<◌, ◌≤◌, Bool, true, false, cond, List, length, take, drop, get_or, Option, Some, None, All, refl, sym, ◌∙◌, ap, subst, inl, inr, arith}
+use Rattle.std.proofs.Common.{◌≡◌, ℕ, ◌+◌, ◌-◌, ◌*◌, ◌<◌, ◌≤◌, Bool, true, false, cond, List, length, take, drop, get_or, Option, Some, All, refl, sym, ◌∙◌, ap, subst, inl, inr, arith}
 use Rattle.std.specs.Prelude.{Result, Ok, Err, IsErrAnd, count_by}
 use Rattle.std.proofs.lemmas.Bool.{cases_eq, cases_lt}
-use Rattle.std.proofs.lemmas.List.{get_or_default, get_or_past, take_all, take-append-drop}
+use Rattle.std.proofs.lemmas.List.{get_or_past, take_all, take-append-drop}
 use Rattle.std.proofs.lemmas.List.Elements.{All-take, All-drop}
 use Rattle.std.proofs.lemmas.List.Sums.{count_by_more_yes, count_by_more_no, sum_by-append}
 use Rattle.rss_base.specs.DiskRule.{IsTold}
@@ -16,18 +16,14 @@ use Rattle.rss_base.specs.declared.key.Space.TheVariants.{System}
 use Rattle.rss_base.proofs.Steps.{rests, then, among, done, fails, then_call, untouched_call, written_here, held_off-with}
 use Rattle.rss_catalog.specs.Catalogs.{CatalogView, IsPending, IsSafe, pending_pages, StoresListing}
 use Rattle.rss_catalog.specs.Reading.{HasFewFields}
-use Rattle.rss_catalog.proofs.Numbered.{numbered_at}
+use Rattle.rss_catalog.proofs.Numbered.{has_number}
 use Rattle.rss_catalog.specs.Loading.{Form, page_with, part}
 
 -- ---- the bytes of a page
 
--- what a place has, its number has
-at_number : (items : List (Option RelationEntry)) (k : ℕ) (d : Option RelationEntry) (item : RelationEntry) → k < length items → get_or items k d ≡ Some item → numbered items (k + 1) ≡ Some item
-at_number items k d item low is = numbered_at items (k + 1) (omega arith) (omega arith) ∙ ap (λ (n : ℕ). get_or items n None) (omega arith) ∙ get_or_default items k None d low ∙ is
-
 -- safe relations have few fields
 pub few_all : (items : List (Option RelationEntry)) → ((number : ℕ) (entry : RelationEntry) → numbered items number ≡ Some entry → IsSafe entry) → All HasFewFields items
-few_all items safe k d low entry is = (safe (k + 1) entry (at_number items k d entry low is)).few
+few_all items safe k d low entry is = (safe (k + 1) entry (has_number items k d entry low is)).few
 
 pub few_part : (items now : List (Option RelationEntry)) (from count : ℕ) → ((number : ℕ) (entry : RelationEntry) → numbered items number ≡ Some entry → IsSafe entry) → now ≡ items → All HasFewFields (take count (drop from now))
 few_part items now from count safe same = All-take HasFewFields count (drop from now) (All-drop HasFewFields from now (subst (λ (l : List (Option RelationEntry)). All HasFewFields l) (sym same) (few_all items safe)))

@@ -1,5 +1,5 @@
 -- What the tests of a listing find.
-use Rattle.std.proofs.Common.{◌≡◌, ℕ, ◌+◌, ◌-◌, ◌<◌, ◌≤◌, true, List, [], ◌∷◌, ◌++◌, length, take, drop, get_or, set, replicate, Option, Some, None, All, refl, sym, ◌∙◌, ap, subst, inl, inr, arith, length-append}
+use Rattle.std.proofs.Common.{◌≡◌, ℕ, ◌+◌, ◌-◌, ◌<◌, ◌≤◌, Bool, true, List, [], ◌∷◌, ◌++◌, length, take, drop, get_or, set, replicate, Option, Some, None, All, refl, sym, ◌∙◌, ap, subst, inl, inr, arith, length-append}
 use Rattle.std.specs.Prelude.{map, IfNone, nat_le, ◌&&◌}
 use Rattle.std.proofs.lemmas.Bool.{cases_eq, cases_lt, and_parts, leb-true, le-leb}
 use Rattle.std.proofs.lemmas.Option.{same_Some}
@@ -9,16 +9,14 @@ use Rattle.rss_base.specs.Names.{IsName, IsNameByte, IsNameText, AreApart}
 use Rattle.std.specs.List.{list_all}
 use Rattle.rss_base.specs.TupleTypes.{AreFields, field_names, kinds, is_kind, width, most_fields, most_width}
 use Rattle.rss_base.specs.declared.value.FieldKind.TheVariants.{Int}
-use Rattle.rss_base.specs.Sizes.{segments, relations_most, images_most}
+use Rattle.rss_base.specs.Sizes.{segments, relations_most, images_most, links_most}
 use Rattle.rss_base.specs.Listings.{Listing, numbered, ListingFits}
-use Rattle.rss_base.specs.declared.relation.RelationEntry.{RelationEntry}
-use Rattle.rss_base.specs.declared.image.ImageEntry.{ImageEntry}
 use Rattle.rss_base.specs.declared.name.Name.{Name}
 use Rattle.rss_base.specs.declared.field.FieldDef.{FieldDef}
-use Rattle.rss_catalog.specs.Checking.{AreNames, AreOnce, IsTaken, TablesFit, ImagesFit, HasEntryOf, listing_of}
-use Rattle.rss_catalog.proofs.Plain.{paths_of}
-use Rattle.rss_catalog.proofs.Listed.{entry_moves, image_moves}
-use Rattle.rss_catalog.proofs.Numbered.{numbered_at, numbered_within}
+use Rattle.rss_catalog.specs.Checking.{AreNames, AreOnce, IsTaken, TablesFit, ImagesFit, LinksFit, HasEntryOf, listing_of}
+use Rattle.rss_catalog.proofs.Roles.{link_stays}
+use Rattle.rss_catalog.proofs.Listed.{entry_moves, image_stays}
+use Rattle.rss_catalog.proofs.Numbered.{numbered_within, has_number, place_has}
 
 -- ---- one name
 
@@ -85,14 +83,6 @@ text_of_name is bytes long same here =
     )
 
 -- ---- names by their numbers
-
--- what a place has, its number has
-pub has_number : {A : Type 0} (items : List (Option A)) (k : ℕ) (d : Option A) (item : A) → k < length items → get_or items k d ≡ Some item → numbered items (k + 1) ≡ Some item
-has_number items k d item low is = numbered_at items (k + 1) (omega arith) (omega arith) ∙ ap (λ (n : ℕ). get_or items n None) (omega arith) ∙ get_or_default items k None d low ∙ is
-
--- and what a number has, its place has
-pub place_has : {A : Type 0} (items : List (Option A)) (number : ℕ) (item : A) → numbered items number ≡ Some item → get_or items (number - 1) None ≡ Some item
-place_has items number item is = let within = numbered_within items number item is in sym (numbered_at items number within.0 within.1) ∙ is
 
 pub names_all : (items : List (Option Name)) (count : ℕ) → length items ≤ count → ((k : ℕ) (name : Name) → k < count → get_or items k None ≡ Some name → IsName name) → AreNames items
 names_all items count all each number name is = let within = numbered_within items number name is in each (number - 1) name (omega (arith, within, all)) (place_has items number name is)
@@ -225,8 +215,8 @@ tested_fields fields are =
 -- ---- what belongs to a number
 
 -- an entry of the number was found at a place
-pub found_entry : {X : Type 0} (owner : X → ℕ) (items : List (Option X)) (index number : ℕ) (read : Option X) (entry : X) → index < length items → read ≡ get_or items index read → read ≡ Some entry → owner entry ≡ number → HasEntryOf owner items number
-found_entry owner items index number read entry low at is of = record {
+pub found_entry : {X : Type 0} (belongs : X → ℕ → Bool) (items : List (Option X)) (index number : ℕ) (read : Option X) (entry : X) → index < length items → read ≡ get_or items index read → read ≡ Some entry → belongs entry number ≡ true → HasEntryOf belongs items number
+found_entry belongs items index number read entry low at is of = record {
   place = index + 1;
   entry = entry;
   at = has_number items index read entry low (sym at ∙ is);
@@ -234,8 +224,8 @@ found_entry owner items index number read entry low at is of = record {
 }
 
 -- at none of the places
-pub no_entry : {X : Type 0} (owner : X → ℕ) (items : List (Option X)) (index number : ℕ) → length items ≤ index → ((k : ℕ) (entry : X) → k < index → get_or items k None ≡ Some entry → owner entry ≡ number → ⊥) → HasEntryOf owner items number → ⊥
-no_entry owner items index number all none has =
+pub no_entry : {X : Type 0} (belongs : X → ℕ → Bool) (items : List (Option X)) (index number : ℕ) → length items ≤ index → ((k : ℕ) (entry : X) → k < index → get_or items k None ≡ Some entry → belongs entry number ≡ true → ⊥) → HasEntryOf belongs items number → ⊥
+no_entry belongs items index number all none has =
     let within = numbered_within items has.place has.entry has.at in
     none (has.place - 1) has.entry (omega (arith, within, all)) (place_has items has.place has.entry has.at) has.of
 
@@ -266,35 +256,44 @@ each_all Fits items count all each number item is =
     each (number - 1) item (omega (arith, within, all)) (place_has items number item is)
 
 -- the parts of a listing that fits
-pub tables_of : (names : List (Option Name)) (entries : List (Option RelationEntry)) (images : List (Option ImageEntry)) → ListingFits (listing_of names entries images) → TablesFit names entries
-tables_of names entries images fits = record {
+pub tables_of : (listing : Listing) → ListingFits listing → TablesFit listing.segments listing.relations
+tables_of listing fits = record {
   names_fit = fits.segment_names;
   names_once = fits.segments_once;
   relations_once = fits.relations_once;
-  relations = λ number entry is. entry_moves (listing_of names entries images) (listing_of names [] []) entry refl (fits.relations number entry is);
+  relations = λ number entry is. entry_moves listing (listing_of listing.segments [] [] []) entry refl (fits.relations number entry is);
 }
 
-pub images_of : (names : List (Option Name)) (entries : List (Option RelationEntry)) (images : List (Option ImageEntry)) → ListingFits (listing_of names entries images) → ImagesFit entries images
-images_of names entries images fits = record {
+pub images_of : (listing : Listing) → ListingFits listing → ImagesFit listing.relations listing.images
+images_of listing fits = record {
   once = fits.paths.images_once;
-  each = λ number image is.
-      let fit = fits.paths.images number image is in
-      image_moves (listing_of names entries images) (listing_of [] entries []) image fit (record { relation = fit.relation; listed = fit.listed; same = refl });
+  each = λ number image is. image_stays listing (listing_of [] listing.relations [] []) image refl (fits.paths.images number image is);
+}
+
+pub links_of : (listing : Listing) → ListingFits listing → LinksFit listing.relations listing.links
+links_of listing fits = record {
+  once = fits.paths.links_once;
+  each = λ number link is. link_stays listing (listing_of [] listing.relations [] []) link refl (fits.paths.links number link is);
+  few_roles = fits.paths.few_roles;
 }
 
 -- and a listing of such parts
-pub listing_fits : (names : List (Option Name)) (entries : List (Option RelationEntry)) (images : List (Option ImageEntry)) → length names ≡ segments → length entries ≡ relations_most → length images ≡ images_most → TablesFit names entries → ImagesFit entries images → ListingFits (listing_of names entries images)
-listing_fits names entries images many most places tables drawn =
-    let listing : Listing = listing_of names entries images in
+pub listing_fits : (listing : Listing) → length listing.segments ≡ segments → length listing.relations ≡ relations_most → length listing.images ≡ images_most → length listing.links ≡ links_most → TablesFit listing.segments listing.relations → ImagesFit listing.relations listing.images → LinksFit listing.relations listing.links → ListingFits listing
+listing_fits listing many most places link_places tables drawn tied =
     record {
       segment_places = many;
       relation_places = most;
-      paths = paths_of listing refl places drawn.once (λ number image is.
-          let fit = drawn.each number image is in
-          image_moves (listing_of [] entries []) listing image fit (record { relation = fit.relation; listed = fit.listed; same = refl }));
-      no_links = refl;
+      paths = record {
+        image_places = places;
+        link_places = link_places;
+        images_once = drawn.once;
+        links_once = tied.once;
+        images = λ number image is. image_stays (listing_of [] listing.relations [] []) listing image refl (drawn.each number image is);
+        links = λ number link is. link_stays (listing_of [] listing.relations [] []) listing link refl (tied.each number link is);
+        few_roles = tied.few_roles;
+      };
       segment_names = tables.names_fit;
       segments_once = tables.names_once;
       relations_once = tables.relations_once;
-      relations = λ number entry is. entry_moves (listing_of names [] []) listing entry refl (tables.relations number entry is);
+      relations = λ number entry is. entry_moves (listing_of listing.segments [] [] []) listing entry refl (tables.relations number entry is);
     }

@@ -1,13 +1,15 @@
 -- What there is to see of a catalog, and what the calls on it do.
-use Rattle.std.specs.Prelude.{◌≡◌, ℕ, ◌+◌, ◌-◌, ◌/◌, ◌<◌, ◌≤◌, Bool, true, false, List, length, All, replicate, slice_set, slice_index_or, Some, None}
-use Rattle.rss_base.specs.Sizes.{segments, system_pages}
+use Rattle.std.specs.Prelude.{◌≡◌, ◌≢◌, ℕ, ◌+◌, ◌-◌, ◌/◌, ◌<◌, ◌≤◌, Bool, true, false, List, length, All, replicate, slice_set, slice_index_or, Option, Some, None, is_some, IfSome}
+use Rattle.rss_base.specs.Sizes.{segments, roles_most, system_pages}
 use Rattle.rss_base.specs.DiskRule.{IsTold}
 use Rattle.rss_base.specs.Paged.{Mapped, page_key}
 use Rattle.rss_base.specs.Steps.{PagesView}
 use Rattle.rss_base.specs.TupleTypes.{kinds, width, key_width, chosen, most_fields, most_width, most_key_width, are_kinds}
-use Rattle.rss_base.specs.Listings.{Listing, ListingFits, IsNumberOf, IsFieldNumber, HoldsListing, catalog_page, relation_at, image_at, field_numbers, with_segment, with_relation, with_image, relations_of_page, relation_pages, images_of_page}
+use Rattle.rss_base.specs.Listings.{Listing, ListingFits, IsNumberOf, IsFieldNumber, HoldsListing, catalog_page, relation_at, image_at, link_at, field_numbers, IsSpelled, has_role, roles_of, with_segment, with_relation, with_image, with_link, relations_of_page, relation_pages, images_of_page, image_pages}
 use Rattle.rss_base.specs.declared.relation.RelationEntry.{RelationEntry}
 use Rattle.rss_base.specs.declared.image.ImageEntry.{ImageEntry}
+use Rattle.rss_base.specs.declared.link.LinkEntry.{LinkEntry}
+use Rattle.rss_base.specs.declared.tid.Tid.{Tid}
 use Rattle.rss_base.specs.declared.refusal.Kind.{Kind}
 use Rattle.rss_base.specs.declared.refusal.Kind.TheVariants.{Segment, Relation, Image, Link, Field, Scan}
 use Rattle.rss_base.specs.declared.name.Name.{Name}
@@ -62,12 +64,16 @@ pub record StoresListing (catalog : CatalogView) (old new : PagesView) : Type 0 
 
 -- ---- changes
 
+-- the page of the links, behind those of the images
+abbrev pub link_page : ℕ
+link_page = 1 + relation_pages + image_pages
+
 -- the page that spells the definition of a number
 abbrev pub page_of : Kind → ℕ → ℕ
 page_of Segment number = 0
 page_of Relation number = 1 + (number - 1) / relations_of_page
 page_of Image number = 1 + relation_pages + (number - 1) / images_of_page
-page_of Link number = 0
+page_of Link number = link_page
 page_of Field number = 0
 page_of Scan number = 0
 
@@ -81,7 +87,7 @@ abbrev pub without : Kind → Listing → ℕ → Listing
 without Segment listing number = with_segment listing number None
 without Relation listing number = with_relation listing number None
 without Image listing number = with_image listing number None
-without Link listing number = listing
+without Link listing number = with_link listing number None
 without Field listing number = listing
 without Scan listing number = listing
 
@@ -98,6 +104,29 @@ pub record HasImageOf (listing : Listing) (relation : ℕ) : Type 0 where
   pub image : ImageEntry
   pub at : image_at listing number ≡ Some image
   pub of : image.relation ≡ relation
+
+-- the relation has a part in a link
+pub record HasLinkOf (listing : Listing) (relation : ℕ) : Type 0 where
+  pub number : ℕ
+  pub link : LinkEntry
+  pub at : link_at listing number ≡ Some link
+  pub of : has_role relation (Some link) ≡ true
+
+-- each relation of the link may have a part in one link more
+pub record HasRoleLeft (listing : Listing) (link : LinkEntry) : Type 0 where
+  pub child : roles_of listing link.child < roles_most
+  pub parent : IfSome link.parent (λ number. roles_of listing number < roles_most)
+
+-- a link that a listing may have, as far as its numbers go
+pub record IsSafeLink (listing : Listing) (link : LinkEntry) : Type 0 where
+  pub child : is_some (relation_at listing link.child) ≡ true
+  pub parent : IfSome link.parent (λ number. (is_some (relation_at listing number) ≡ true) × (number ≢ link.child))
+  pub first : IfSome link.first IsSpelled
+  pub last : IfSome link.last IsSpelled
+
+-- the link with other ends of its chain
+abbrev pub with_ends : Option Tid → Option Tid → LinkEntry → LinkEntry
+with_ends first last link = record link { first = first; last = last }
 
 -- a relation of this segment has this name
 pub record IsNamedIn (listing : Listing) (segment : ℕ) (name : Name) : Type 0 where

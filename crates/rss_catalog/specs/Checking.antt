@@ -1,21 +1,23 @@
 -- What is asked of a listing, by parts.
-use Rattle.std.specs.Prelude.{◌≡◌, ℕ, ◌-◌, ◌≤◌, ◌++◌, List, [], length, Contains, All, map, replicate, option_map, Option, Some, None, is_some, true}
-use Rattle.rss_base.specs.Sizes.{links_most}
+use Rattle.std.specs.Prelude.{◌≡◌, ℕ, ◌-◌, ◌≤◌, ◌++◌, List, [], length, Contains, All, map, replicate, option_map, count_by, Option, Some, is_some, true, Bool}
+use Rattle.rss_base.specs.Sizes.{roles_most}
 use Rattle.rss_base.specs.Names.{IsName}
 use Rattle.rss_base.specs.TupleTypes.{kinds, chosen, key_width, most_key_width, most_fields}
-use Rattle.rss_base.specs.Listings.{Listing, numbered, EntryFits, ImageFits, IsFieldNumber, AreDifferent, field_numbers}
+use Rattle.rss_base.specs.Listings.{Listing, numbered, EntryFits, ImageFits, LinkFits, IsFieldNumber, AreDifferent, field_numbers, has_role}
 use Rattle.rss_base.specs.declared.name.Name.{Name}
 use Rattle.rss_base.specs.declared.field.FieldDef.{FieldDef}
 use Rattle.rss_base.specs.declared.relation.RelationEntry.{RelationEntry}
 use Rattle.rss_base.specs.declared.image.ImageEntry.{ImageEntry}
+use Rattle.rss_base.specs.declared.link.LinkEntry.{LinkEntry}
+use Rattle.rss_catalog.specs.Catalogs.{IsSafeLink}
 
 -- these are listed
-abbrev pub listing_of : List (Option Name) → List (Option RelationEntry) → List (Option ImageEntry) → Listing
-listing_of names entries images = record {
+abbrev pub listing_of : List (Option Name) → List (Option RelationEntry) → List (Option ImageEntry) → List (Option LinkEntry) → Listing
+listing_of names entries images links = record {
   segments = names;
   relations = entries;
   images = images;
-  links = replicate links_most None;
+  links = links;
 }
 
 abbrev pub relation_names : List (Option RelationEntry) → List (Option Name)
@@ -23,6 +25,9 @@ relation_names entries = map (option_map (λ entry. entry.name)) entries
 
 abbrev pub image_names : List (Option ImageEntry) → List (Option Name)
 image_names images = map (option_map (λ image. image.name)) images
+
+abbrev pub link_names : List (Option LinkEntry) → List (Option Name)
+link_names links = map (option_map (λ link. link.name)) links
 
 -- each name has the bytes of one
 abbrev pub AreNames : List (Option Name) → Type 0
@@ -38,7 +43,7 @@ IsTaken items item = (name : Name) × (item ≡ Some name) × Contains items (So
 
 -- the relation fits a listing of these segments
 abbrev pub FitsIn : List (Option Name) → RelationEntry → Type 0
-FitsIn names entry = EntryFits (listing_of names [] []) entry
+FitsIn names entry = EntryFits (listing_of names [] [] []) entry
 
 -- so does the relation at a place, if there is one
 abbrev pub MayStand : List (Option Name) → Option RelationEntry → Type 0
@@ -46,11 +51,23 @@ MayStand names relation = (entry : RelationEntry) → relation ≡ Some entry �
 
 -- the image fits a listing of these relations
 abbrev pub ImageFitsIn : List (Option RelationEntry) → ImageEntry → Type 0
-ImageFitsIn entries image = ImageFits (listing_of [] entries []) image
+ImageFitsIn entries image = ImageFits (listing_of [] entries [] []) image
 
 -- so does the image at a place, if there is one
 abbrev pub MayIndex : List (Option RelationEntry) → Option ImageEntry → Type 0
 MayIndex entries image = (entry : ImageEntry) → image ≡ Some entry → ImageFitsIn entries entry
+
+-- the link fits a listing of these relations
+abbrev pub LinkFitsIn : List (Option RelationEntry) → LinkEntry → Type 0
+LinkFitsIn entries link = LinkFits (listing_of [] entries [] []) link
+
+-- so does the link at a place, if there is one
+abbrev pub MayLink : List (Option RelationEntry) → Option LinkEntry → Type 0
+MayLink entries link = (entry : LinkEntry) → link ≡ Some entry → LinkFitsIn entries entry
+
+-- so do all of these links
+abbrev pub AreLinksIn : List (Option RelationEntry) → List (Option LinkEntry) → Type 0
+AreLinksIn entries links = (number : ℕ) (link : LinkEntry) → numbered links number ≡ Some link → LinkFitsIn entries link
 
 -- the numbers of some of these fields, none of them twice, and their key is not too wide
 pub record IsKeyOf (fields : List FieldDef) (numbers : List ℕ) : Type 0 where
@@ -77,12 +94,26 @@ pub record ImagesFit (entries : List (Option RelationEntry)) (images : List (Opt
   pub once : AreOnce (image_names images)
   pub each : (number : ℕ) (image : ImageEntry) → numbered images number ≡ Some image → ImageFitsIn entries image
 
+-- each of these links is safe beside these relations
+abbrev pub AreSafeLinks : List (Option RelationEntry) → List (Option LinkEntry) → Type 0
+AreSafeLinks entries links = (number : ℕ) (link : LinkEntry) → numbered links number ≡ Some link → IsSafeLink (listing_of [] entries [] []) link
+
+-- no relation has a part in too many of these links
+abbrev pub HaveFewRoles : List (Option LinkEntry) → Type 0
+HaveFewRoles links = (number : ℕ) → count_by (has_role number) links ≤ roles_most
+
+-- the links of a listing
+pub record LinksFit (entries : List (Option RelationEntry)) (links : List (Option LinkEntry)) : Type 0 where
+  pub once : AreOnce (link_names links)
+  pub each : AreLinksIn entries links
+  pub few_roles : HaveFewRoles links
+
 -- one of these entries belongs to this number
-pub record HasEntryOf {X : Type 0} (owner : X → ℕ) (entries : List (Option X)) (number : ℕ) : Type 0 where
+pub record HasEntryOf {X : Type 0} (belongs : X → ℕ → Bool) (entries : List (Option X)) (number : ℕ) : Type 0 where
   pub place : ℕ
   pub entry : X
   pub at : numbered entries place ≡ Some entry
-  pub of : owner entry ≡ number
+  pub of : belongs entry number ≡ true
 
 -- an image that may stand beside these relations, as far as its numbers go: what IsSafeImage says of it, without a relation as a part
 pub record IsSafeIn (entries : List (Option RelationEntry)) (image : ImageEntry) : Type 0 where

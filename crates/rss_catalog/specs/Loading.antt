@@ -1,18 +1,19 @@
 -- What the pages of the system space are found to hold, as far as they were read.
 use Rattle.std.specs.Prelude.{◌≡◌, ℕ, ◌+◌, ◌*◌, ◌≤◌, ◌<◌, ◌++◌, true, List, length, map, flat_map, take, drop, Option, Some}
-use Rattle.rss_base.specs.Sizes.{page_bytes, segments, system_pages}
+use Rattle.rss_base.specs.Sizes.{page_bytes, segments, links_most, system_pages}
 use Rattle.rss_base.specs.DiskRule.{IsTold}
 use Rattle.rss_base.specs.Paged.{page_key}
 use Rattle.rss_base.specs.Steps.{PagesView}
-use Rattle.rss_base.specs.Listings.{Listing, ListingFits, HoldsListing, catalog_page, padded, segment_spelled, relation_spelled, image_spelled}
-use Rattle.rss_base.specs.Listings.{relation_bytes, relations_of_page, relation_pages, image_bytes, images_of_page, image_pages}
+use Rattle.rss_base.specs.Listings.{Listing, ListingFits, HoldsListing, catalog_page, padded, segment_spelled, relation_spelled, image_spelled, link_spelled}
+use Rattle.rss_base.specs.Listings.{relation_bytes, relations_of_page, image_bytes, images_of_page, link_bytes}
 use Rattle.rss_base.specs.declared.name.Name.{Name}
 use Rattle.rss_base.specs.declared.relation.RelationEntry.{RelationEntry}
 use Rattle.rss_base.specs.declared.image.ImageEntry.{ImageEntry}
+use Rattle.rss_base.specs.declared.link.LinkEntry.{LinkEntry}
 use Rattle.rss_base.specs.declared.place.Place.{Place}
 use Rattle.rss_base.specs.declared.key.Space.TheVariants.{System}
 use Rattle.rss_catalog.specs.Catalogs.{IsCatalogPlace}
-use Rattle.rss_catalog.specs.Reading.{pieces, relation_of, image_of}
+use Rattle.rss_catalog.specs.Reading.{pieces, relation_of, image_of, link_of}
 
 -- No listing of a store is spelled by the pages.
 abbrev pub SpellsNone : PagesView → Type 0
@@ -27,10 +28,6 @@ pub record IsFlawed (pages : PagesView) (place : Place) : Type 0 where
 pub record HasPage (pages : PagesView) (page : ℕ) (bytes : List ℕ) : Type 0 where
   pub mapped : pages.mapped (page_key 0 System page) ≡ true
   pub holds : IsTold pages.disk → pages.held (page_key 0 System page) ≡ Some bytes
-
--- the page of the links, behind those of the images
-abbrev pub link_page : ℕ
-link_page = 1 + relation_pages + image_pages
 
 -- the first page spells these segments, and no others
 pub record LoadsSegments (pages : PagesView) (items : List (Option Name)) : Type 0 where
@@ -61,6 +58,15 @@ image_form = record {
   read = λ page. map image_of (pieces image_bytes images_of_page page);
   spelled = image_spelled;
   listed = λ listing. listing.images;
+}
+
+-- all links stand on one page
+abbrev pub link_form : Form LinkEntry
+link_form = record {
+  count = links_most;
+  read = λ page. map link_of (pieces link_bytes links_most page);
+  spelled = link_spelled;
+  listed = λ listing. listing.links;
 }
 
 -- the page that spells these entries

@@ -1,6 +1,6 @@
 -- What bytes of the catalog read as, whether or not they are in form: what was read is in form where it is spelled by the same bytes.
 use Rattle.std.specs.Prelude.{◌≡◌, ℕ, ◌+◌, ◌*◌, ◌≤◌, ◌==◌, zero, suc, min, if◌then◌else◌, List, [], ◌∷◌, ◌++◌, length, replicate, map, flat_map, take, drop, slice_index, Option, Some, None}
-use Rattle.std.specs.Int.{w32, to_be_bytes, from_be_bytes}
+use Rattle.std.specs.Int.{w16, w32, to_be_bytes, from_be_bytes}
 use Rattle.rss_base.specs.Names.{name_bytes}
 use Rattle.rss_base.specs.TupleTypes.{most_fields}
 use Rattle.rss_base.specs.Listings.{field_spelled, field_bytes}
@@ -10,6 +10,8 @@ use Rattle.rss_base.specs.declared.value.FieldKind.TheVariants.{Int, Text}
 use Rattle.rss_base.specs.declared.field.FieldDef.{FieldDef}
 use Rattle.rss_base.specs.declared.relation.RelationEntry.{RelationEntry}
 use Rattle.rss_base.specs.declared.image.ImageEntry.{ImageEntry}
+use Rattle.rss_base.specs.declared.link.LinkEntry.{LinkEntry}
+use Rattle.rss_base.specs.declared.tid.Tid.{Tid}
 
 -- ---- what is spelled in front of the zeros of a relation
 
@@ -76,3 +78,25 @@ image_entry_of bytes = record {
 
 abbrev pub image_of : List ℕ → Option ImageEntry
 image_of bytes = if slice_index bytes 0 == 0 then None else Some (image_entry_of bytes)
+
+abbrev pub parent_of : ℕ → ℕ → Option ℕ
+parent_of code parent = if code == 2 then Some parent else None
+
+-- no slot has the number of two bytes of 255
+abbrev pub tid_of : ℕ → ℕ → Option Tid
+tid_of page slot = if slot == 65535 then None else Some (record { page = page; slot = slot })
+
+abbrev pub place_of : List ℕ → Option Tid
+place_of bytes = tid_of (from_be_bytes w32 (take 4 bytes)) (from_be_bytes w16 (take 2 (drop 4 bytes)))
+
+abbrev pub link_entry_of : List ℕ → LinkEntry
+link_entry_of bytes = record {
+  name = name_of (take name_bytes bytes);
+  parent = parent_of (slice_index bytes 16) (slice_index bytes 17);
+  child = slice_index bytes 18;
+  first = place_of (take 6 (drop 20 bytes));
+  last = place_of (take 6 (drop 26 bytes));
+}
+
+abbrev pub link_of : List ℕ → Option LinkEntry
+link_of bytes = if slice_index bytes 0 == 0 then None else Some (link_entry_of bytes)

@@ -1,35 +1,38 @@
 // The catalog, and the calls on it.
-ghost use Rattle.std.specs.Prelude.{◌≡◌, ◌⊎◌, ◌↔◌, ℕ, ◌≤◌, ◌<◌, true, None, length, replicate, is_some, count_by, Some, Err, IsTrue, IfOk, IfSome, IfNone, OnOk, OnErr, Contains};
+ghost use Rattle.std.specs.Prelude.{◌≡◌, ◌⊎◌, ◌↔◌, ℕ, ◌≤◌, ◌<◌, true, None, length, replicate, is_some, count_by, Option, Some, Err, IsTrue, IfOk, IfSome, IfNone, OnOk, OnErr, Contains};
 ghost use Rattle.rss_base.specs.DiskRule.{IsTold};
 ghost use Rattle.rss_base.specs.Looking.{ChecksPages};
 ghost use Rattle.rss_base.specs.Names.{IsName};
-ghost use Rattle.rss_base.specs.Sizes.{segments as segments_most, relations_most, images_most, system_pages};
+ghost use Rattle.rss_base.specs.Sizes.{segments as segments_most, relations_most, images_most, links_most, system_pages};
 ghost use Rattle.rss_base.specs.Steps.{PagesCall, no_page};
-ghost use Rattle.rss_base.specs.Listings.{Listing, numbered, names_of, segment_at, relation_at, image_at, IsNumberOf, IsUnlisted};
-ghost use Rattle.rss_base.specs.Listings.{IsLeastUnused, AreAllUsed, EntryFits, ImageFits, ListingFits, HoldsListing};
-ghost use Rattle.rss_base.specs.Listings.{no_listing, with_segment, with_relation, with_image, with_count, with_root, catalog_page};
+ghost use Rattle.rss_base.specs.Listings.{Listing, numbered, names_of, segment_at, relation_at, image_at, link_at, IsNumberOf, IsUnlisted};
+ghost use Rattle.rss_base.specs.Listings.{IsLeastUnused, AreAllUsed, EntryFits, ImageFits, LinkFits, IsSpelled, ListingFits, HoldsListing};
+ghost use Rattle.rss_base.specs.Listings.{no_listing, with_segment, with_relation, with_image, with_link, with_count, with_root, roles_of, catalog_page};
 ghost use Rattle.rss_base.specs.declared.fault.PageFault.TheVariants.{Damaged as PageDamaged};
 ghost use Rattle.rss_base.specs.declared.name.Name.{Name as AnyName};
 ghost use Rattle.rss_base.specs.declared.place.Place.{Place as AnyPlace};
 ghost use Rattle.rss_base.specs.declared.relation.RelationEntry.{RelationEntry as Entry};
 ghost use Rattle.rss_base.specs.declared.image.ImageEntry.{ImageEntry as AnImage};
-ghost use Rattle.rss_base.specs.declared.refusal.Kind.TheVariants.{Segment, Relation, Image};
+ghost use Rattle.rss_base.specs.declared.link.LinkEntry.{LinkEntry as ALink};
+ghost use Rattle.rss_base.specs.declared.refusal.Kind.TheVariants.{Segment, Relation, Image, Link};
 ghost use Rattle.rss_catalog.specs.Catalogs.{none_pending, pending_pages, page_of, Loads, IsCatalogPlace};
 ghost use Rattle.rss_catalog.specs.Catalogs.{StoresListing, HasSystemPages, Lists, without, HasNoLesser, HasRelationIn, HasImageOf, IsNamedIn};
-ghost use Rattle.rss_catalog.specs.Catalogs.{IsSafe, IsSafeImage};
-ghost use Rattle.rss_catalog.specs.Checking.{AreSafeIn};
+ghost use Rattle.rss_catalog.specs.Catalogs.{IsSafe, IsSafeImage, IsSafeLink, HasLinkOf, HasRoleLeft, with_ends};
+ghost use Rattle.rss_catalog.specs.Checking.{AreSafeIn, AreSafeLinks};
+ghost use Rattle.std.proofs.Props.{props};
 
 use crate::checking::flaw;
 use crate::encoding::{
-    IMAGES_OF_PAGE, RELATIONS_OF_PAGE, images_page, relations_page, segments_page,
+    IMAGES_OF_PAGE, RELATIONS_OF_PAGE, images_page, links_page, relations_page, segments_page,
 };
-use crate::entries::has_entry_of;
+use crate::entries::{has_entry_of, roles_in};
 use crate::loading::{
-    IMAGE_PAGES, RELATION_PAGES, check_zeros, damaged, key_of, load_entries, load_segments,
+    IMAGE_PAGES, LINK_PAGE, LINK_PAGES, RELATION_PAGES, damaged, key_of, load_entries,
+    load_segments,
 };
 use rss_base::{
-    IMAGES_MOST, ImageEntry, Kind, LINKS_MOST, Name, PAGE_BYTES, Page, PageFault, Pages,
-    RELATIONS_MOST, RelationEntry, SEGMENTS, SYSTEM_PAGES,
+    IMAGES_MOST, ImageEntry, Kind, LINKS_MOST, LinkEntry, Name, Page, PageFault, Pages,
+    RELATIONS_MOST, RelationEntry, SEGMENTS, SYSTEM_PAGES, Tid,
 };
 use std::alloc::{AllocError, Global};
 use std::marker::Model;
@@ -84,7 +87,8 @@ pub(crate) fn at<T>(items: &[Option<T>], number: u8) -> Option<&T>
 fn last_used<T>(items: &[Option<T>]) -> u8
     requires { length items.now ≤ images_most }
     ensures none { (number : ℕ) → result < number → numbered items.now number ≡ None }
-    ensures few { result ≤ images_most }
+    ensures some { 1 ≤ result → is_some (numbered items.now result) ≡ true }
+    ensures few { result ≤ length items.now }
 {
     match items.iter().rposition(|item| item.is_some()) {
         Some(place) => place as u8 + 1,
@@ -103,6 +107,9 @@ pub struct Catalog {
     images: Vec<Option<ImageEntry>>,
     /// No image has a number above this one.
     last_image: u8,
+    links: Vec<Option<LinkEntry>>,
+    /// The number of the last link, or 0 where there is none.
+    last_link: u8,
     /// Which pages have changed since they were written.
     pending: [bool; PAGES],
     ghost segment_places: { length segments.items ≡ segments_most },
@@ -114,6 +121,12 @@ pub struct Catalog {
     ghost none_behind: { (number : ℕ) → last_image < number
         → numbered images.items number ≡ None },
     ghost few_images: { last_image ≤ images_most },
+    ghost link_places: { length links.items ≡ links_most },
+    ghost safe_links: { AreSafeLinks relations.items links.items } by { Prim.hlevel props },
+    ghost no_link_behind: { (number : ℕ) → last_link < number
+        → numbered links.items number ≡ None },
+    ghost few_links: { last_link ≤ links_most },
+    ghost last_used: { 1 ≤ last_link → is_some (numbered links.items last_link) ≡ true },
 }
 
 impl Model for Catalog {
@@ -123,7 +136,7 @@ impl Model for Catalog {
     ghost Value = { CatalogView };
 
     ghost view = { λ c. record {
-      listing = listing_of c.segments.items c.relations.items c.images.items;
+      listing = listing_of c.segments.items c.relations.items c.images.items c.links.items;
       pending = c.pending;
     } };
 }
@@ -139,6 +152,8 @@ impl Catalog {
             relations: free_places(alloc, RELATIONS_MOST)?,
             images: free_places(alloc, IMAGES_MOST)?,
             last_image: 0,
+            links: free_places(alloc, LINKS_MOST)?,
+            last_link: 0,
             pending: [false; PAGES],
         })
     }
@@ -146,7 +161,8 @@ impl Catalog {
     /// The catalog in the pages of the system space. `Damaged` names one of them that isn't there or
     /// isn't in form: an entry that isn't spelled as `docs/CATALOG.md` says, a name that stands twice,
     /// a relation of no segment or with fields that no relation has, an image of no relation or with
-    /// a key that no image has.
+    /// a key that no image has, a link of no relation or whose parents are its children, a relation
+    /// of too many links.
     pub fn load<P: Pages>(alloc: Global, pages: &mut P) -> Result<Self, PageFault>
         ensures loaded { IfOk result (λ catalog. Loads (P.view pages.old) catalog) }
         ensures flawed { (place : AnyPlace) → result ≡ Err (PageDamaged place)
@@ -160,16 +176,19 @@ impl Catalog {
         let segments = load_segments(alloc, pages)?;
         let relations = load_entries::<RelationEntry, P>(alloc, pages, 1, RELATION_PAGES)?;
         let images = load_entries::<ImageEntry, P>(alloc, pages, 1 + RELATION_PAGES, IMAGE_PAGES)?;
-        check_zeros(pages)?;
-        if let Some(page) = flaw(&segments, &relations, &images) {
+        let links = load_entries::<LinkEntry, P>(alloc, pages, LINK_PAGE, LINK_PAGES)?;
+        if let Some(page) = flaw(&segments, &relations, &images, &links) {
             return Err(damaged(page));
         }
         let last_image = last_used(&images);
+        let last_link = last_used(&links);
         Ok(Catalog {
             segments,
             relations,
             images,
             last_image,
+            links,
+            last_link,
             pending: [false; PAGES],
         })
     }
@@ -263,6 +282,26 @@ impl Catalog {
         self.last_image
     }
 
+    pub fn link(&self, number: u8) -> &LinkEntry
+        requires { is_some (link_at self.now.listing number) ≡ true }
+        ensures is { link_at self.now.listing number ≡ Some result.now }
+        ensures safe { IsSafeLink self.now.listing result.now }
+    {
+        match at(&self.links, number) {
+            Some(link) => link,
+            None => unreachable!(),
+        }
+    }
+
+    /// The number of the last link, or 0 where there is none.
+    pub fn last_link(&self) -> u8
+        ensures none { (number : ℕ) → result < number → link_at self.now.listing number ≡ None }
+        ensures some { 1 ≤ result → is_some (link_at self.now.listing result) ≡ true }
+        ensures few { result ≤ links_most }
+    {
+        self.last_link
+    }
+
     /// No relation has a number above this one.
     pub fn last_relation(&self) -> u8
         ensures none { (number : ℕ) → result < number → relation_at self.now.listing number ≡ None }
@@ -283,6 +322,20 @@ impl Catalog {
         ensures { IsTrue result ↔ HasImageOf self.now.listing relation }
     {
         has_entry_of(&self.images, relation)
+    }
+
+    /// Whether a relation has a part in a link.
+    pub fn has_link_of(&self, relation: u8) -> bool
+        ensures { IsTrue result ↔ HasLinkOf self.now.listing relation }
+    {
+        has_entry_of(&self.links, relation)
+    }
+
+    /// In how many links a relation is.
+    pub fn roles_of(&self, relation: u8) -> u8
+        ensures { result ≡ roles_of self.now.listing relation }
+    {
+        roles_in(&self.links, relation)
     }
 
     /// The names of the relations of a segment, by their numbers.
@@ -325,6 +378,7 @@ impl Catalog {
         ensures lists { Lists (with_relation self.old.listing result (Some relation))
             (page_of Relation result) self.old self.new }
         ensures none { HasImageOf self.old.listing result → ⊥ }
+        ensures unlinked { HasLinkOf self.old.listing result → ⊥ }
         ensures fits { ListingFits self.old.listing → ListingFits self.new.listing }
     {
         let number = self.first_unused(Kind::Relation).unwrap();
@@ -347,11 +401,28 @@ impl Catalog {
         number
     }
 
+    /// Defines a link by the least number that is not in use, and answers this.
+    pub fn add_link(&mut self, link: LinkEntry) -> u8
+        requires entry { LinkFits self.old.listing link }
+        requires fresh { IsUnlisted Link self.old.listing link.name }
+        requires room { AreAllUsed Link self.old.listing → ⊥ }
+        requires roles { HasRoleLeft self.old.listing link }
+        ensures least { IsLeastUnused Link self.old.listing result }
+        ensures lists { Lists (with_link self.old.listing result (Some link))
+            (page_of Link result) self.old self.new }
+        ensures fits { ListingFits self.old.listing → ListingFits self.new.listing }
+    {
+        let number = self.first_unused(Kind::Link).unwrap();
+        self.set_link(number, Some(link));
+        number
+    }
+
     /// Takes a definition away.
     pub fn remove(&mut self, kind: Kind, number: u8)
-        requires kind { (kind ≡ Segment) ⊎ ((kind ≡ Relation) ⊎ (kind ≡ Image)) }
+        requires kind { (kind ≡ Segment) ⊎ ((kind ≡ Relation) ⊎ ((kind ≡ Image) ⊎ (kind ≡ Link))) }
         requires used { is_some (numbered (names_of kind self.old.listing) number) ≡ true }
         requires no_image { kind ≡ Relation → HasImageOf self.old.listing number → ⊥ }
+        requires no_link { kind ≡ Relation → HasLinkOf self.old.listing number → ⊥ }
         ensures lists { Lists (without kind self.old.listing number) (page_of kind number)
             self.old self.new }
         ensures fits { (kind ≡ Segment → HasRelationIn self.old.listing number → ⊥)
@@ -361,7 +432,8 @@ impl Catalog {
             Kind::Segment => self.set_segment(number, None),
             Kind::Relation => self.set_relation(number, None),
             Kind::Image => self.set_image(number, None),
-            Kind::Link | Kind::Field | Kind::Scan => unreachable!(),
+            Kind::Link => self.set_link(number, None),
+            Kind::Field | Kind::Scan => unreachable!(),
         }
     }
 
@@ -378,6 +450,22 @@ impl Catalog {
         image.root = root;
         image.levels = levels;
         self.set_image(number, Some(image));
+    }
+
+    /// Sets the ends of the one chain of a link without parents.
+    pub fn set_ends(&mut self, number: u8, first: Option<Tid>, last: Option<Tid>)
+        requires there { is_some (link_at self.old.listing number) ≡ true }
+        requires first { IfSome first IsSpelled }
+        requires last { IfSome last IsSpelled }
+        ensures lists { (link : ALink) → link_at self.old.listing number ≡ Some link
+            → Lists (with_link self.old.listing number (Some (with_ends first last link)))
+            (page_of Link number) self.old self.new }
+        ensures fits { ListingFits self.old.listing → ListingFits self.new.listing }
+    {
+        let mut link = *self.link(number);
+        link.first = first;
+        link.last = last;
+        self.set_link(number, Some(link));
     }
 
     /// Sets how many tuples a relation has.
@@ -411,7 +499,7 @@ impl Catalog {
             let first = usize::from((number - 1 - RELATION_PAGES) * IMAGES_OF_PAGE);
             return images_page(&self.images[first..first + usize::from(IMAGES_OF_PAGE)]);
         }
-        [0; PAGE_BYTES]
+        links_page(&self.links)
     }
 
     /// How many places a kind has.
@@ -423,7 +511,7 @@ impl Catalog {
             Kind::Segment => self.segments.len() as u8,
             Kind::Relation => self.relations.len() as u8,
             Kind::Image => self.images.len() as u8,
-            Kind::Link => LINKS_MOST,
+            Kind::Link => self.links.len() as u8,
             Kind::Field | Kind::Scan => 0,
         }
     }
@@ -436,7 +524,8 @@ impl Catalog {
             Kind::Segment => at(&self.segments, number).copied(),
             Kind::Relation => at(&self.relations, number).map(|relation| relation.name),
             Kind::Image => at(&self.images, number).map(|image| image.name),
-            Kind::Link | Kind::Field | Kind::Scan => None,
+            Kind::Link => at(&self.links, number).map(|link| link.name),
+            Kind::Field | Kind::Scan => None,
         }
     }
 
@@ -463,16 +552,19 @@ impl Catalog {
         self.pending[0] = true;
     }
 
-    /// Puts this at the place of a relation, in place of one that no image is of.
+    /// Puts this at the place of a relation, in place of one that no image is of, and no link.
     fn set_relation(&mut self, number: u8, relation: Option<RelationEntry>)
         requires low { 1 ≤ number }
         requires high { number ≤ length self.old.listing.relations }
         requires fits { IfSome relation (EntryFits self.old.listing) }
         requires no_image { is_some (relation_at self.old.listing number) ≡ true
             → HasImageOf self.old.listing number → ⊥ }
+        requires no_link { is_some (relation_at self.old.listing number) ≡ true
+            → HasLinkOf self.old.listing number → ⊥ }
         ensures lists { Lists (with_relation self.old.listing number relation) (page_of Relation number)
             self.old self.new }
         ensures none { HasImageOf self.old.listing number → ⊥ }
+        ensures unlinked { HasLinkOf self.old.listing number → ⊥ }
     {
         self.relations[usize::from(number) - 1] = relation;
         self.pending[usize::from(page_of(number))] = true;
@@ -489,5 +581,18 @@ impl Catalog {
         self.images[usize::from(number) - 1] = image;
         self.last_image = self.last_image.max(number);
         self.pending[usize::from(image_page_of(number))] = true;
+    }
+
+    /// Puts this at the place of a link.
+    fn set_link(&mut self, number: u8, link: Option<LinkEntry>)
+        requires low { 1 ≤ number }
+        requires high { number ≤ length self.old.listing.links }
+        requires safe { IfSome link (IsSafeLink self.old.listing) }
+        ensures { Lists (with_link self.old.listing number link) (page_of Link number)
+            self.old self.new }
+    {
+        self.links[usize::from(number) - 1] = link;
+        self.last_link = last_used(&self.links);
+        self.pending[usize::from(LINK_PAGE)] = true;
     }
 }

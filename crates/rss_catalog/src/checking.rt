@@ -1,18 +1,20 @@
 // Whether a listing may stand in a store.
-ghost use Rattle.std.specs.Prelude.{◌≡◌, ◌≢◌, ◌↔◌, ◌<◌, ◌≤◌, ℕ, true, length, slice_index, All, Contains, Some, map, option_map, IsTrue};
+ghost use Rattle.std.specs.Prelude.{◌≡◌, ◌≢◌, ◌↔◌, ◌<◌, ◌≤◌, ℕ, true, length, slice_index, is_some, All, Contains, Some, map, option_map, IsTrue};
 ghost use Rattle.std.specs.Prelude.{IfSome, IfNone};
 ghost use Rattle.rss_base.specs.Names.{IsName, AreApart};
-ghost use Rattle.rss_base.specs.Sizes.{segments, relations_most, images_most, system_pages};
+ghost use Rattle.rss_base.specs.Sizes.{segments, relations_most, images_most, links_most, system_pages};
 ghost use Rattle.rss_base.specs.TupleTypes.{AreFields, field_names, is_kind, most_fields};
-ghost use Rattle.rss_base.specs.Listings.{ListingFits, IsFieldNumber, AreDifferent};
+ghost use Rattle.rss_base.specs.Listings.{ListingFits, numbered, IsFieldNumber, AreDifferent, IsSpelled};
 ghost use Rattle.rss_catalog.specs.Checking.{listing_of, AreNames, AreOnce, IsTaken, FitsIn, MayStand, TablesFit};
 ghost use Rattle.rss_catalog.specs.Checking.{ImageFitsIn, MayIndex, HasKeyOf, IsKeyOf, ImagesFit};
+ghost use Rattle.rss_catalog.specs.Checking.{LinkFitsIn, MayLink, AreLinksIn, HaveFewRoles, LinksFit};
 
 use crate::catalog::{at, image_page_of, page_of};
-use crate::entries::Entry;
+use crate::entries::{Entry, roles_in};
+use crate::loading::LINK_PAGE;
 use rss_base::{
-    FieldDef, IMAGES_MOST, ImageEntry, KEY_BYTES, MOST_FIELDS, MOST_WIDTH, Name, RELATIONS_MOST,
-    RelationEntry, is_name_text,
+    FieldDef, IMAGES_MOST, ImageEntry, KEY_BYTES, LINKS_MOST, LinkEntry, MOST_FIELDS, MOST_WIDTH,
+    Name, PAGE_ENTRIES, RELATIONS_MOST, RelationEntry, Tid, is_name_text,
 };
 use rss_value::{key_width, width};
 
@@ -22,25 +24,39 @@ const RELATIONS: usize = RELATIONS_MOST as usize;
 /// How many images there may be.
 const IMAGES: usize = IMAGES_MOST as usize;
 
+/// How many links there may be.
+const LINKS: usize = LINKS_MOST as usize;
+
+/// In how many links a relation may be.
+const ROLES_MOST: u8 = 16;
+
 /// A page that makes a listing one that may not stand in a store.
 pub(crate) fn flaw(
     segment_names: &[Option<Name>],
     relations: &[Option<RelationEntry>],
     images: &[Option<ImageEntry>],
+    links: &[Option<LinkEntry>],
 ) -> Option<u8>
     requires segment_places { length segment_names.now ≡ segments }
     requires relation_places { length relations.now ≡ relations_most }
     requires image_places { length images.now ≡ images_most }
+    requires link_places { length links.now ≡ links_most }
     ensures none { IfNone result
-        (ListingFits (listing_of segment_names.now relations.now images.now)) }
+        (ListingFits (listing_of segment_names.now relations.now images.now links.now)) }
     ensures some { IfSome result (λ page.
-        ListingFits (listing_of segment_names.now relations.now images.now) → ⊥) }
+        ListingFits (listing_of segment_names.now relations.now images.now links.now) → ⊥) }
     ensures within { IfSome result (λ page. page < system_pages) }
 {
-    match table_flaw(segment_names, relations) {
-        Some(page) => Some(page),
-        None => image_flaw(relations, images),
+    if let Some(page) = table_flaw(segment_names, relations) {
+        return Some(page);
     }
+    if let Some(page) = image_flaw(relations, images) {
+        return Some(page);
+    }
+    if !are_links(relations, links) {
+        return Some(LINK_PAGE);
+    }
+    None
 }
 
 /// A page of segments or of relations that makes them such as a store may not have.
@@ -342,4 +358,95 @@ fn are_different(numbers: &[u8]) -> bool
         }
     }
     true
+}
+
+// ---- links
+
+/// Whether a store with these relations may have these links.
+fn are_links(relations: &[Option<RelationEntry>], links: &[Option<LinkEntry>]) -> bool
+    requires relation_places { length relations.now ≡ relations_most }
+    requires link_places { length links.now ≡ links_most }
+    ensures { IsTrue result ↔ LinksFit relations.now links.now }
+{
+    if !are_once(&names_of::<LinkEntry, LINKS>(links)) {
+        return false;
+    }
+    if !may_all_link(relations, links) {
+        return false;
+    }
+    have_few_roles(relations, links)
+}
+
+/// Whether each of these links may stand beside these relations.
+fn may_all_link(relations: &[Option<RelationEntry>], links: &[Option<LinkEntry>]) -> bool
+    ensures { IsTrue result ↔ AreLinksIn relations.now links.now }
+{
+    for link in links {
+        if !may_link(relations, link) {
+            return false;
+        }
+    }
+    true
+}
+
+/// Whether no relation is in too many of these links.
+fn have_few_roles(relations: &[Option<RelationEntry>], links: &[Option<LinkEntry>]) -> bool
+    requires relation_places { length relations.now ≡ relations_most }
+    requires link_places { length links.now ≡ links_most }
+    requires fit { AreLinksIn relations.now links.now }
+    ensures { IsTrue result ↔ HaveFewRoles links.now }
+{
+    for place in 0..relations.len() {
+        if roles_in(links, place as u8 + 1) > ROLES_MOST {
+            return false;
+        }
+    }
+    true
+}
+
+/// Whether the link at a place, if there is one, may stand beside these relations.
+fn may_link(relations: &[Option<RelationEntry>], link: &Option<LinkEntry>) -> bool
+    ensures { IsTrue result ↔ MayLink relations.now link.now }
+{
+    match link {
+        Some(link) => is_link(relations, link),
+        None => true,
+    }
+}
+
+/// Whether a link may stand beside these relations.
+fn is_link(relations: &[Option<RelationEntry>], link: &LinkEntry) -> bool
+    ensures { IsTrue result ↔ LinkFitsIn relations.now link.now }
+{
+    if !is_name(&link.name) {
+        return false;
+    }
+    if at(relations, link.child).is_none() {
+        return false;
+    }
+    if !may_have_parent(relations, link) {
+        return false;
+    }
+    is_end(link.first) && is_end(link.last)
+}
+
+/// Whether a link's parents, if it has any, are of another of these relations than its children.
+fn may_have_parent(relations: &[Option<RelationEntry>], link: &LinkEntry) -> bool
+    ensures { IsTrue result ↔ IfSome link.now.parent (λ parent.
+        (is_some (numbered relations.now parent) ≡ true) × (parent ≢ link.now.child)) }
+{
+    match link.parent {
+        Some(parent) => parent != link.child && at(relations, parent).is_some(),
+        None => true,
+    }
+}
+
+/// Whether an end of a chain, if there is one, is an identifier that can be spelled.
+fn is_end(end: Option<Tid>) -> bool
+    ensures { IsTrue result ↔ IfSome end IsSpelled }
+{
+    match end {
+        Some(tid) => usize::from(tid.slot) < PAGE_ENTRIES,
+        None => true,
+    }
 }

@@ -1,19 +1,20 @@
 // What the bytes of the catalog's pages read as, whether or not they are in form.
 ghost use Rattle.std.specs.Prelude.{◌≡◌, ◌+◌, ◌*◌, ◌<◌, ◌≤◌, ◌++◌, length, map, take, IfOk, OnOk, All};
-ghost use Rattle.rss_base.specs.Sizes.{page_bytes, segments};
+ghost use Rattle.rss_base.specs.Sizes.{page_bytes, segments, links_most};
 ghost use Rattle.rss_base.specs.Names.{name_bytes};
 ghost use Rattle.rss_base.specs.TupleTypes.{most_fields};
-ghost use Rattle.rss_base.specs.Listings.{field_bytes, relation_bytes, relations_of_page, image_bytes, images_of_page};
+ghost use Rattle.rss_base.specs.Listings.{field_bytes, relation_bytes, relations_of_page, image_bytes, images_of_page, link_bytes};
 ghost use Rattle.std.specs.Int.{w32, from_be_bytes};
 ghost use Rattle.rss_catalog.specs.Reading.{pieces, segment_of, kind_of, field_of, fields_of};
-ghost use Rattle.rss_catalog.specs.Reading.{relation_of, image_of};
+ghost use Rattle.rss_catalog.specs.Reading.{relation_of, image_of, link_of, parent_of, place_of};
 
 use crate::encoding::{
-    FIELD_BYTES, IMAGE_BYTES, IMAGES_OF_PAGE, RELATION_BYTES, RELATIONS_OF_PAGE,
+    FIELD_BYTES, IMAGE_BYTES, IMAGES_OF_PAGE, LINK_BYTES, LINKS_OF_PAGE, PLACE_BYTES,
+    RELATION_BYTES, RELATIONS_OF_PAGE,
 };
 use rss_base::{
-    FieldDef, FieldKind, Fields, ImageEntry, MOST_FIELDS, NAME_BYTES, Name, Page, RelationEntry,
-    SEGMENTS,
+    FieldDef, FieldKind, Fields, ImageEntry, LinkEntry, MOST_FIELDS, NAME_BYTES, Name, Page,
+    RelationEntry, SEGMENTS, Tid,
 };
 use std::alloc::{AllocError, Global};
 
@@ -56,6 +57,18 @@ pub(crate) fn read_images(
     for place in 0..usize::from(IMAGES_OF_PAGE) {
         let at = IMAGE_BYTES * place;
         images.push(read_image(&page[at..at + IMAGE_BYTES]))?;
+    }
+    Ok(())
+}
+
+/// Puts the links of a page behind those that are there.
+pub(crate) fn read_links(page: &Page, links: &mut Vec<Option<LinkEntry>>) -> Result<(), AllocError>
+    ensures read { OnOk result (links.new.items ≡ links.old.items
+        ++ map link_of (pieces link_bytes links_most page.now)) }
+{
+    for place in 0..usize::from(LINKS_OF_PAGE) {
+        let at = LINK_BYTES * place;
+        links.push(read_link(&page[at..at + LINK_BYTES]))?;
     }
     Ok(())
 }
@@ -146,6 +159,41 @@ fn read_image(bytes: &[u8]) -> Option<ImageEntry>
         levels: bytes[19],
         root: read_number(&bytes[20..24]),
     })
+}
+
+fn read_link(bytes: &[u8]) -> Option<LinkEntry>
+    requires { length bytes.now ≡ link_bytes }
+    ensures { result ≡ link_of bytes.now }
+{
+    if bytes[0] == 0 {
+        return None;
+    }
+    Some(LinkEntry {
+        name: read_name(&bytes[..NAME_BYTES]),
+        parent: read_parent(bytes[16], bytes[17]),
+        child: bytes[18],
+        first: read_place(&bytes[20..26]),
+        last: read_place(&bytes[26..32]),
+    })
+}
+
+fn read_parent(code: u8, parent: u8) -> Option<u8>
+    ensures { result ≡ parent_of code parent }
+{
+    if code == 2 { Some(parent) } else { None }
+}
+
+fn read_place(bytes: &[u8]) -> Option<Tid>
+    requires { length bytes.now ≡ PLACE_BYTES }
+    ensures { result ≡ place_of bytes.now }
+{
+    let page = read_number(&bytes[..4]);
+    let slot = u16::from_be_bytes([bytes[4], bytes[5]]);
+    if slot == u16::MAX {
+        None
+    } else {
+        Some(Tid { page, slot })
+    }
 }
 
 fn read_number(bytes: &[u8]) -> u32

@@ -1,16 +1,18 @@
 // The bytes of the catalog's pages.
 ghost use Rattle.std.specs.Prelude.{◌≡◌, ◌+◌, ◌*◌, ◌<◌, ◌≤◌, ◌++◌, length, flat_map, IfSome, Some, All};
-ghost use Rattle.rss_base.specs.Sizes.{page_bytes};
+ghost use Rattle.rss_base.specs.Sizes.{page_bytes, links_most};
+ghost use Rattle.rss_base.specs.LogRecords.{place_bytes};
 ghost use Rattle.rss_base.specs.TupleTypes.{most_fields};
 ghost use Rattle.rss_base.specs.Listings.{padded, relation_bytes, relations_of_page, field_bytes};
 ghost use Rattle.rss_base.specs.Listings.{segment_spelled, kind_spelled, field_spelled};
 ghost use Rattle.rss_base.specs.Listings.{relation_spelled, image_bytes, images_of_page, image_spelled};
+ghost use Rattle.rss_base.specs.Listings.{link_bytes, link_spelled, parent_spelled};
 ghost use Rattle.rss_base.specs.Sizes.{segments};
 ghost use Rattle.rss_catalog.specs.Reading.{definition_bytes, definition_spelled, HasFewFields};
 
 use rss_base::{
-    BoundedBytes, FieldDef, FieldKind, ImageEntry, NAME_BYTES, Name, PAGE_BYTES, Page,
-    RelationEntry, put_bytes,
+    BoundedBytes, FieldDef, FieldKind, ImageEntry, LINKS_MOST, LinkEntry, NAME_BYTES, Name,
+    PAGE_BYTES, Page, RelationEntry, Tid, put_bytes,
 };
 
 /// How many bytes a field and a relation have.
@@ -26,6 +28,14 @@ pub(crate) const IMAGE_BYTES: usize = 64;
 
 /// How many images a page has.
 pub(crate) const IMAGES_OF_PAGE: u8 = 64;
+
+/// How many bytes a link and a place have.
+pub(crate) const LINK_BYTES: usize = 64;
+
+pub(crate) const PLACE_BYTES: usize = 6;
+
+/// How many links a page has: there is one page of them.
+pub(crate) const LINKS_OF_PAGE: u8 = LINKS_MOST;
 
 /// The bytes of a page, as far as they are written.
 type PageBytes = BoundedBytes<PAGE_BYTES>;
@@ -63,6 +73,18 @@ pub(crate) fn images_page(items: &[Option<ImageEntry>]) -> Page
     let mut bytes = PageBytes::new();
     for item in items {
         put_image(&mut bytes, item);
+    }
+    page_of(&bytes)
+}
+
+/// The page of the links.
+pub(crate) fn links_page(items: &[Option<LinkEntry>]) -> Page
+    requires { length items.now ≤ links_most }
+    ensures { result ≡ padded page_bytes (flat_map link_spelled items.now) }
+{
+    let mut bytes = PageBytes::new();
+    for item in items {
+        put_link(&mut bytes, item);
     }
     page_of(&bytes)
 }
@@ -180,4 +202,50 @@ fn put_image_entry(bytes: &mut PageBytes, image: &ImageEntry)
     bytes.extend_from_slice(&image.root.to_be_bytes());
     bytes.extend_from_slice(&image.fields);
     bytes.extend_from_slice(&[0; 24]);
+}
+
+fn put_link(bytes: &mut PageBytes, link: &Option<LinkEntry>)
+    requires { length bytes.old + link_bytes ≤ page_bytes }
+    ensures put { bytes.new ≡ bytes.old ++ link_spelled link.now }
+    ensures long { length bytes.new ≡ length bytes.old + link_bytes }
+{
+    match link {
+        Some(link) => put_link_entry(bytes, link),
+        None => bytes.extend_from_slice(&[0; LINK_BYTES]),
+    }
+}
+
+fn put_link_entry(bytes: &mut PageBytes, link: &LinkEntry)
+    requires { length bytes.old + link_bytes ≤ page_bytes }
+    ensures put { bytes.new ≡ bytes.old ++ link_spelled (Some link.now) }
+    ensures long { length bytes.new ≡ length bytes.old + link_bytes }
+{
+    bytes.extend_from_slice(&link.name.bytes);
+    bytes.extend_from_slice(&parent_bytes(link.parent));
+    bytes.extend_from_slice(&[link.child, 0]);
+    bytes.extend_from_slice(&place_bytes(link.first));
+    bytes.extend_from_slice(&place_bytes(link.last));
+    bytes.extend_from_slice(&[0; 32]);
+}
+
+fn parent_bytes(parent: Option<u8>) -> [u8; 2]
+    ensures { result ≡ parent_spelled parent }
+{
+    match parent {
+        Some(parent) => [2, parent],
+        None => [1, 0],
+    }
+}
+
+fn place_bytes(tid: Option<Tid>) -> [u8; PLACE_BYTES]
+    ensures { result ≡ place_bytes tid }
+{
+    match tid {
+        Some(tid) => {
+            let page = tid.page.to_be_bytes();
+            let slot = tid.slot.to_be_bytes();
+            [page[0], page[1], page[2], page[3], slot[0], slot[1]]
+        }
+        None => [u8::MAX; PLACE_BYTES],
+    }
 }

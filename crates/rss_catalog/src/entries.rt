@@ -1,12 +1,16 @@
-// What the pages behind the first one list: relations and images.
-ghost use Rattle.std.specs.Prelude.{◌≡◌, ◌↔◌, ◌++◌, ℕ, IfOk, OnOk, IsTrue};
+// What the pages behind the first one list: relations, images and links.
+ghost use Rattle.std.specs.Prelude.{◌≡◌, ◌↔◌, ◌≤◌, ◌++◌, ◌==◌, ℕ, Bool, Some, length, count_by, IfOk, OnOk, IsTrue};
+ghost use Rattle.rss_base.specs.Sizes.{links_most};
+ghost use Rattle.rss_base.specs.Listings.{has_role};
 ghost use Rattle.rss_base.specs.declared.name.Name.{Name as AnyName};
-ghost use Rattle.rss_catalog.specs.Loading.{Form, relation_form, image_form, page_with};
+ghost use Rattle.rss_catalog.specs.Loading.{Form, relation_form, image_form, link_form, page_with};
 ghost use Rattle.rss_catalog.specs.Checking.{HasEntryOf};
 
-use crate::decoding::{read_images, read_relations};
-use crate::encoding::{images_page, relations_page};
-use rss_base::{IMAGES_MOST, ImageEntry, Name, Page, RELATIONS_MOST, RelationEntry};
+use crate::decoding::{read_images, read_links, read_relations};
+use crate::encoding::{images_page, links_page, relations_page};
+use rss_base::{
+    IMAGES_MOST, ImageEntry, LINKS_MOST, LinkEntry, Name, Page, RELATIONS_MOST, RelationEntry,
+};
 use std::alloc::{AllocError, Global};
 
 /// A definition that stands on pages of its kind, so many on each.
@@ -16,8 +20,9 @@ pub(crate) trait Entry: Drop {
 
     ghost named: { Self → AnyName };
 
-    /// The number of what it belongs to: a relation to a segment, an image to a relation.
-    ghost owner: { Self → ℕ };
+    /// Whether it belongs to a number: a relation to a segment, an image to a relation, a link to
+    /// each of its relations.
+    ghost belongs: { Self → ℕ → Bool };
 
     /// How many there may be.
     const MOST: u8;
@@ -25,8 +30,8 @@ pub(crate) trait Entry: Drop {
     fn name(&self) -> Name
         ensures { result ≡ named self.now };
 
-    fn owner(&self) -> u8
-        ensures { result ≡ owner self.now };
+    fn belongs(&self, number: u8) -> bool
+        ensures { result ≡ belongs self.now number };
 
     /// Puts the entries of a page behind those that are there, and answers whether the page is in
     /// form: whether it is what these entries are spelled by.
@@ -42,12 +47,12 @@ pub(crate) trait Entry: Drop {
 }
 
 /// Whether one of these belongs to this number.
-pub(crate) fn has_entry_of<E: Entry>(entries: &[Option<E>], owner: u8) -> bool
-    ensures { IsTrue result ↔ HasEntryOf E.owner entries.now owner }
+pub(crate) fn has_entry_of<E: Entry>(entries: &[Option<E>], number: u8) -> bool
+    ensures { IsTrue result ↔ HasEntryOf E.belongs entries.now number }
 {
     for entry in entries {
         if let Some(entry) = entry
-            && entry.owner() == owner
+            && entry.belongs(number)
         {
             return true;
         }
@@ -55,12 +60,36 @@ pub(crate) fn has_entry_of<E: Entry>(entries: &[Option<E>], owner: u8) -> bool
     false
 }
 
+/// In how many of these links a relation is.
+pub(crate) fn roles_in(links: &[Option<LinkEntry>], relation: u8) -> u8
+    requires { length links.now ≤ links_most }
+    ensures { result ≡ count_by (has_role relation) links.now }
+{
+    let mut roles = 0;
+    for link in links {
+        if has_role(link, relation) {
+            roles += 1;
+        }
+    }
+    roles
+}
+
+/// Whether there is a link, and a relation has a part in it.
+fn has_role(link: &Option<LinkEntry>, relation: u8) -> bool
+    ensures { result ≡ has_role relation link.now }
+{
+    match link {
+        Some(link) => link.belongs(relation),
+        None => false,
+    }
+}
+
 impl Entry for RelationEntry {
     ghost form = { relation_form };
 
     ghost named = { λ relation. relation.name };
 
-    ghost owner = { λ relation. relation.segment };
+    ghost belongs = { λ relation number. relation.segment == number };
 
     const MOST: u8 = RELATIONS_MOST;
 
@@ -68,8 +97,8 @@ impl Entry for RelationEntry {
         self.name
     }
 
-    fn owner(&self) -> u8 {
-        self.segment
+    fn belongs(&self, number: u8) -> bool {
+        self.segment == number
     }
 
     fn read_page(
@@ -88,7 +117,7 @@ impl Entry for ImageEntry {
 
     ghost named = { λ image. image.name };
 
-    ghost owner = { λ image. image.relation };
+    ghost belongs = { λ image number. image.relation == number };
 
     const MOST: u8 = IMAGES_MOST;
 
@@ -96,8 +125,8 @@ impl Entry for ImageEntry {
         self.name
     }
 
-    fn owner(&self) -> u8 {
-        self.relation
+    fn belongs(&self, number: u8) -> bool {
+        self.relation == number
     }
 
     fn read_page(
@@ -108,5 +137,37 @@ impl Entry for ImageEntry {
         let first = entries.len();
         read_images(page, entries)?;
         Ok(*page == images_page(&entries[first..]))
+    }
+}
+
+impl Entry for LinkEntry {
+    ghost form = { link_form };
+
+    ghost named = { λ link. link.name };
+
+    ghost belongs = { λ link number. has_role number (Some link) };
+
+    const MOST: u8 = LINKS_MOST;
+
+    fn name(&self) -> Name {
+        self.name
+    }
+
+    fn belongs(&self, number: u8) -> bool {
+        let is_parent = match self.parent {
+            Some(parent) => parent == number,
+            None => false,
+        };
+        self.child == number || is_parent
+    }
+
+    fn read_page(
+        _alloc: Global,
+        page: &Page,
+        entries: &mut Vec<Option<LinkEntry>>,
+    ) -> Result<bool, AllocError> {
+        let first = entries.len();
+        read_links(page, entries)?;
+        Ok(*page == links_page(&entries[first..]))
     }
 }

@@ -3,20 +3,20 @@ ghost use Rattle.std.specs.Prelude.{◌≡◌, ◌+◌, ◌<◌, ◌≤◌, ℕ,
 ghost use Rattle.rss_base.specs.DiskRule.{IsTold};
 ghost use Rattle.rss_base.specs.Looking.{ChecksPages};
 ghost use Rattle.rss_base.specs.Paged.{page_key};
-ghost use Rattle.rss_base.specs.Sizes.{system_pages, zero_page};
+ghost use Rattle.rss_base.specs.Sizes.{system_pages};
 ghost use Rattle.rss_base.specs.Steps.{no_page};
 ghost use Rattle.rss_base.specs.declared.fault.PageFault.TheVariants.{Damaged as PageDamaged, Device as PageDevice};
 ghost use Rattle.rss_base.specs.declared.key.Space.TheVariants.{System};
 ghost use Rattle.rss_base.specs.declared.place.Place.{Place as AnyPlace};
 ghost use Rattle.rss_base.specs.declared.place.Place.TheVariants.{Catalog as CatalogPlace};
 ghost use Rattle.rss_catalog.specs.Catalogs.{IsCatalogPlace};
-ghost use Rattle.rss_catalog.specs.Loading.{IsFlawed, HasPage, link_page, LoadsSegments, HasForm, IsFormed, AddsPage, LoadsEntries};
+ghost use Rattle.rss_catalog.specs.Loading.{IsFlawed, LoadsSegments, HasForm, IsFormed, AddsPage, LoadsEntries};
 
 use crate::decoding::read_segments;
-use crate::encoding::{IMAGES_OF_PAGE, RELATIONS_OF_PAGE, segments_page};
+use crate::encoding::{IMAGES_OF_PAGE, LINKS_OF_PAGE, RELATIONS_OF_PAGE, segments_page};
 use crate::entries::Entry;
 use rss_base::{
-    IMAGES_MOST, Name, PAGE_BYTES, PageFault, PageKey, Pages, Place, RELATIONS_MOST, Space,
+    IMAGES_MOST, LINKS_MOST, Name, PageFault, PageKey, Pages, Place, RELATIONS_MOST, Space,
 };
 use std::alloc::Global;
 
@@ -26,8 +26,11 @@ pub(crate) const RELATION_PAGES: u8 = RELATIONS_MOST / RELATIONS_OF_PAGE;
 /// How many pages have images: those behind the relations.
 pub(crate) const IMAGE_PAGES: u8 = IMAGES_MOST / IMAGES_OF_PAGE;
 
+/// How many pages have links: that behind the images.
+pub(crate) const LINK_PAGES: u8 = LINKS_MOST / LINKS_OF_PAGE;
+
 /// The page of the links.
-const LINK_PAGE: u8 = 1 + RELATION_PAGES + IMAGE_PAGES;
+pub(crate) const LINK_PAGE: u8 = 1 + RELATION_PAGES + IMAGE_PAGES;
 
 /// The page of this number of the system space.
 pub(crate) fn key_of(number: u8) -> PageKey
@@ -105,20 +108,6 @@ fn load_entry_page<E: Entry, P: Pages>(
         Ok(false) => Err(damaged(number)),
         Err(_) => Err(PageFault::NoMemory),
     }
-}
-
-/// The last page, which is zeros as yet.
-pub(crate) fn check_zeros<P: Pages>(pages: &mut P) -> Result<(), PageFault>
-    ensures zeros { OnOk result (HasPage (P.view pages.old) link_page zero_page) }
-    ensures flawed { (place : AnyPlace) → result ≡ Err (PageDamaged place)
-        → IsFlawed (P.view pages.old) place }
-    ensures did { ChecksPages no_page 1 (P.view pages.old) (P.view pages.new) result }
-{
-    load_page(pages, LINK_PAGE)?;
-    if *pages.loaded(key_of(LINK_PAGE)) != [0; PAGE_BYTES] {
-        return Err(damaged(LINK_PAGE));
-    }
-    Ok(())
 }
 
 /// Brings a page of the system space into memory.

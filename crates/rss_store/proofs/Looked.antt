@@ -8,7 +8,7 @@ use Rattle.rss_base.specs.Paged.{Held, Mapped, page_key}
 use Rattle.rss_base.specs.Sizes.{segments, system_pages}
 use Rattle.rss_base.specs.Steps.{PagesView, no_page}
 use Rattle.rss_base.specs.Looking.{ChecksPages}
-use Rattle.rss_base.specs.Listings.{Listing, ListingFits, HoldsListing, segment_at}
+use Rattle.rss_base.specs.Listings.{Listing, ListingFits, HasNoLinks, HoldsListing, segment_at}
 use Rattle.rss_base.specs.declared.place.Place.{Place}
 use Rattle.rss_base.specs.declared.place.Place.TheVariants.{Room}
 use Rattle.rss_base.specs.declared.fault.PageFault.{PageFault}
@@ -181,6 +181,13 @@ module _ {T : Type 0} {old mid : PagesView} {catalog : CatalogView} {first : Res
   was_mapped : (key : PageKey) → mid.mapped key ≡ true → old.mapped key ≡ true
   was_mapped key is = ap (λ (m : Mapped). m key) (sym did.looks.mapped) ∙ is
 
+  -- there are links
+  pub none_linked : {place : Place} → (HasNoLinks catalog.listing → ⊥) → (place ≡ Room → ⊥) → FindsNone old place
+  none_linked linked elsewhere = record {
+    none = λ told. none_by old.held old.slots catalog.listing loads.fits (loads.holds told) (λ tables spells nodes fit. linked spells.no_links);
+    elsewhere = λ told. elsewhere;
+  }
+
   -- there is a page that no store with these definitions has
   pub none_foreign : {place : Place} (key : PageKey) → mid.mapped key ≡ true → (IsStorePage catalog.listing key → ⊥) → (place ≡ Room → ⊥) → FindsNone old place
   none_foreign key is foreign elsewhere = record {
@@ -236,7 +243,7 @@ module _ {T : Type 0} {old mid : PagesView} {catalog : CatalogView} {first : Res
       elsewhere = λ told. (misses (told_seen told)).elsewhere;
     }
 
-    module _ (small : old.slots < 4294967296) (only : (key : PageKey) → mid.mapped key ≡ true → IsStorePage catalog.listing key) (checks : ChecksSegments catalog.listing mid seen) where
+    module _ (small : old.slots < 4294967296) (no_links : HasNoLinks catalog.listing) (only : (key : PageKey) → mid.mapped key ≡ true → IsStorePage catalog.listing key) (checks : ChecksSegments catalog.listing mid seen) where
       only_mapped : (key : PageKey) → old.mapped key ≡ true → IsStorePage catalog.listing key
       only_mapped key is = only key (ap (λ (m : Mapped). m key) did.looks.mapped ∙ is)
 
@@ -277,6 +284,7 @@ module _ {T : Type 0} {old mid : PagesView} {catalog : CatalogView} {first : Res
         pub finds_tables : FindsTables old new catalog
         finds_tables = record {
           loaded = loads;
+          no_links = no_links;
           only = only_mapped;
           holds = λ told. holds_found (both old catalog) small loads.fits (only_held told) (key_held told) (sound_old told) (images_old told) (loads.holds told);
           heaps = λ told. heaps_looked did_last.looks.step (told_seen told) (heaps_old told);

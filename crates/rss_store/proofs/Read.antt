@@ -173,7 +173,7 @@ module _ {root : Root} {number frames writes : ℕ} {owners : List (Option PageK
         system = λ n low. same_mapped (page_key 0 System n) ∙ finds.loaded.mapped n low;
         pending_places = ap (λ (l : List Bool). length l) finds.loaded.written;
         settled_now = did.looks.step.passes.leaves.stays_settled fresh.settled;
-        no_links = finds.loaded.fits.no_links;
+        no_links = finds.no_links;
         heaps = λ told. finds.heaps (did.looks.step.passes.leaves.told.1 told);
         tables = λ told. ∣ tables_read (finds.holds (did.looks.step.passes.leaves.told.1 told)) (did.looks.held (did.looks.step.passes.leaves.told.1 told)) did.looks.step.passes.slots ∣₁;
       }

@@ -3,7 +3,7 @@ use Rattle.std.specs.Prelude.{◌≡◌, ℕ, true, is_some}
 use Rattle.rss_base.specs.DiskRule.{IsTold}
 use Rattle.rss_base.specs.Paged.{Held}
 use Rattle.rss_base.specs.Steps.{PagesView}
-use Rattle.rss_base.specs.Listings.{Listing, HoldsListing, segment_at}
+use Rattle.rss_base.specs.Listings.{Listing, HasNoLinks, HoldsListing, segment_at}
 use Rattle.rss_base.specs.declared.key.PageKey.{PageKey}
 use Rattle.rss_base.specs.declared.place.Place.{Place}
 use Rattle.rss_base.specs.declared.place.Place.TheVariants.{Room}
@@ -38,6 +38,7 @@ AreAllNoted listing view =
 -- The pages were looked through, and spell tables with these definitions.
 pub record FindsTables (old new : PagesView) (catalog : CatalogView) : Type 0 where
   pub loaded : Loads old catalog
+  pub no_links : HasNoLinks catalog.listing
   pub only : (key : PageKey) → old.mapped key ≡ true → IsStorePage catalog.listing key
   pub holds : IsTold old.disk → HoldsTables old.held old.slots catalog.listing
   pub heaps : IsTold old.disk → AreHeaps new

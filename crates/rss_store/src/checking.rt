@@ -1,11 +1,11 @@
 // What the pages of a store hold, as an opening finds it.
-ghost use Rattle.std.specs.Prelude.{◌≡◌, ◌≢◌, ◌+◌, ◌*◌, ◌<◌, ◌≤◌, ℕ, length, true, is_some, IfSome, IfNone, IfOk, IfErr, OnOk, Err};
+ghost use Rattle.std.specs.Prelude.{◌≡◌, ◌≢◌, ◌+◌, ◌*◌, ◌<◌, ◌≤◌, ℕ, length, true, false, is_some, IsTrue, IfSome, IfNone, IfOk, IfErr, OnOk, Err};
 ghost use Rattle.rss_base.specs.DiskRule.{IsTold};
 ghost use Rattle.rss_base.specs.Looking.{ChecksPages};
 ghost use Rattle.rss_base.specs.PageMap.{IsTable, page_count};
 ghost use Rattle.rss_base.specs.Sizes.{relations_most, segments as segments_most};
 ghost use Rattle.rss_base.specs.Steps.{no_page};
-ghost use Rattle.rss_base.specs.Listings.{ListingFits, segment_at};
+ghost use Rattle.rss_base.specs.Listings.{ListingFits, HasNoLinks, segment_at};
 ghost use Rattle.rss_base.specs.declared.fault.PageFault.TheVariants.{Damaged as PageDamaged};
 ghost use Rattle.rss_base.specs.declared.place.Place.{Place as AnyPlace};
 ghost use Rattle.rss_base.specs.declared.place.Place.TheVariants.{Count as CountPlace, Room as RoomPlace};
@@ -32,6 +32,9 @@ use std::alloc::Global;
 /// How many places there are for the numbers of relations.
 pub const RELATIONS: usize = RELATIONS_MOST as usize;
 
+/// The page of the catalog that has the links.
+const LINK_PAGE: u8 = 9;
+
 /// How many pages a map has.
 pub fn pages_in(table: &SlotTable) -> u32
     ensures pages { result ≡ page_count table.now }
@@ -57,12 +60,24 @@ pub fn look_through<P: Pages>(alloc: Global, tuples: &mut Store<P>) -> Result<Ca
     // Numbers of pages are below this, so none of them is the one that stands for no page.
     let _slots = tuples.pages.slots();
     let catalog = Catalog::load(alloc, &mut tuples.pages)?;
+    if has_links(&catalog) {
+        return Err(PageFault::Damaged(Place::Catalog(LINK_PAGE)));
+    }
     if let Some(key) = first_foreign(&tuples.pages, &catalog) {
         return Err(PageFault::Damaged(Place::Page(key)));
     }
     look_at_segments(alloc, &mut tuples.pages, &catalog)?;
     look_at_images(tuples, &catalog)?;
     Ok(catalog)
+}
+
+/// Whether there are links.
+fn has_links(catalog: &Catalog) -> bool
+    requires { ListingFits catalog.now.listing }
+    ensures none { result ≡ false → HasNoLinks catalog.now.listing }
+    ensures some { IsTrue result → HasNoLinks catalog.now.listing → ⊥ }
+{
+    catalog.last_link() != 0
 }
 
 /// A page that no store with these definitions has: one of a segment that isn't defined.

@@ -1,5 +1,6 @@
 use Rattle.std.proofs.Common.{◌∙◌, ◌+◌, sym, refl, None, arith}
-use Rattle.rss_catalog.proofs.Tested.{has_number, names_all}
+use Rattle.rss_catalog.proofs.Numbered.{has_number}
+use Rattle.rss_catalog.proofs.Tested.{names_all}
 use Rattle.rss_catalog.proofs.checking.are_names.Goals as goal
 
 pub returns-in-loop-item : goal.returns-in-loop-item

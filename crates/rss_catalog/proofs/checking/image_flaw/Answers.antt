@@ -5,7 +5,8 @@ use Rattle.std.proofs.lemmas.List.{length-map}
 use Rattle.std.specs.Prelude.{option_map}
 use Rattle.rss_base.specs.declared.image.ImageEntry.{ImageEntry}
 use Rattle.rss_catalog.specs.Checking.{AreOnce, ImageFitsIn}
-use Rattle.rss_catalog.proofs.Tested.{has_number, each_more, each_all, once_all, once_more, taken_twice}
+use Rattle.rss_catalog.proofs.Numbered.{has_number}
+use Rattle.rss_catalog.proofs.Tested.{each_more, each_all, once_all, once_more, taken_twice}
 use Rattle.rss_catalog.proofs.checking.image_flaw.Goals as goal
 
 pub loop-place-preserved : goal.loop-place-preserved

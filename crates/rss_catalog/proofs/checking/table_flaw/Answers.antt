@@ -3,7 +3,8 @@ use Rattle.std.proofs.Common.{◌∙◌, ◌+◌, None, sym, subst, arith}
 use Rattle.std.proofs.lemmas.Bool.{false≢true}
 use Rattle.std.proofs.lemmas.List.{get_or_default}
 use Rattle.rss_catalog.specs.Checking.{AreOnce, FitsIn}
-use Rattle.rss_catalog.proofs.Tested.{has_number, each_more, each_all}
+use Rattle.rss_catalog.proofs.Numbered.{has_number}
+use Rattle.rss_catalog.proofs.Tested.{each_more, each_all}
 use Rattle.rss_catalog.proofs.checking.table_flaw.Goals as goal
 
 pub loop-place-preserved : goal.loop-place-preserved

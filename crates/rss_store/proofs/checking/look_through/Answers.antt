@@ -1,7 +1,7 @@
 use Rattle.std.proofs.Common.{◌+◌, ◌*◌, arith}
 use Rattle.rss_base.specs.Sizes.{system_pages}
 use Rattle.rss_base.proofs.Looking.{checks_as, checks_within, passed_on}
-use Rattle.rss_store.proofs.Looked.{none_listed, none_foreign, none_sound, none_imaged, heaps_seen, finds_tables, did_two, did_all}
+use Rattle.rss_store.proofs.Looked.{none_listed, none_linked, none_foreign, none_sound, none_imaged, heaps_seen, finds_tables, did_two, did_all}
 use Rattle.rss_store.proofs.checking.look_through.Goals as goal
 
 -- ---- the catalog
@@ -13,6 +13,16 @@ returns-in_err-catalog-clause-none g c = λ place is.
 
 pub returns-in_err-catalog-clause-did : goal.returns-in_err-catalog-clause-did
 returns-in_err-catalog-clause-did g c = (system_pages, checks_as _ (passed_on _ c.from_residual.ensures.1) (checks_within (λ key none. absurd none) (omega arith) c.in_err-catalog.ensures.did))
+
+pub has_links-requires : goal.has_links-requires
+has_links-requires g c = c.in_ok-catalog.ensures.loaded.fits
+
+pub returns-then-has_links-clause-none : goal.returns-then-has_links-clause-none
+returns-then-has_links-clause-none g c = λ place is.
+    none_linked (g.met.P.Pages.holds c.args.tuples.now.pages) (g.met.P.Pages.allowed c.args.tuples.now.pages) c.in_ok-catalog.ensures.loaded c.in_ok-catalog.ensures.did (c.has_links.ensures.some c.if-has_links.true) (λ room. cc)
+
+pub returns-then-has_links-clause-did : goal.returns-then-has_links-clause-did
+returns-then-has_links-clause-did g c = (system_pages, checks_as _ (λ is. absurd (cc)) (checks_within (λ key none. absurd none) (omega arith) c.in_ok-catalog.ensures.did))
 
 -- ---- pages of no segment
 
@@ -42,7 +52,7 @@ returns-in_err-look_at_segments-clause-did g c = (
 pub look_at_images-requires : goal.look_at_images-requires
 look_at_images-requires g c = record {
   heaps = heaps_seen (g.met.P.Pages.holds c.args.tuples.now.pages) (g.met.P.Pages.allowed c.args.tuples.now.pages) c.in_ok-catalog.ensures.loaded c.in_ok-catalog.ensures.did
-      c.in_ok-look_at_segments.ensures.did (omega (arith, c.slots-slots.ensures, c.slots-slots.type_inv)) c.in_default.ensures.none c.in_ok-look_at_segments.ensures.checks;
+      c.in_ok-look_at_segments.ensures.did (omega (arith, c.slots-slots.ensures, c.slots-slots.type_inv)) (c.has_links.ensures.none c.if-has_links.false) c.in_default.ensures.none c.in_ok-look_at_segments.ensures.checks;
 }
 
 pub returns-in_err-look_at_images-clause-none : goal.returns-in_err-look_at_images-clause-none
@@ -60,7 +70,7 @@ returns-in_err-look_at_images-clause-did g c =
 pub returns-clause-finds : goal.returns-clause-finds
 returns-clause-finds g c =
     finds_tables (g.met.P.Pages.holds c.args.tuples.now.pages) (g.met.P.Pages.allowed c.args.tuples.now.pages) c.in_ok-catalog.ensures.loaded c.in_ok-catalog.ensures.did
-    c.in_ok-look_at_segments.ensures.did (omega (arith, c.slots-slots.ensures, c.slots-slots.type_inv)) c.in_default.ensures.none c.in_ok-look_at_segments.ensures.checks
+    c.in_ok-look_at_segments.ensures.did (omega (arith, c.slots-slots.ensures, c.slots-slots.type_inv)) (c.has_links.ensures.none c.if-has_links.false) c.in_default.ensures.none c.in_ok-look_at_segments.ensures.checks
     c.in_ok-look_at_images.ensures.did.1 c.in_ok-look_at_images.ensures.checks
 
 pub returns-clause-did : goal.returns-clause-did

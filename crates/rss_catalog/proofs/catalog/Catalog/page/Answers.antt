@@ -1,7 +1,8 @@
 -- Each page is put together of the places that it spells.
-use Rattle.std.proofs.Common.{◌∙◌, ◌-◌, ap, sym, arith}
+use Rattle.std.proofs.Common.{◌∙◌, ◌-◌, ap, sym, arith, List, Option}
+use Rattle.rss_base.specs.declared.link.LinkEntry.{LinkEntry}
 use Rattle.rss_catalog.specs.Catalogs.{CatalogView}
-use Rattle.rss_catalog.specs.Loading.{relation_form, image_form}
+use Rattle.rss_catalog.specs.Loading.{relation_form, image_form, link_form, page_with}
 use Rattle.rss_catalog.proofs.Plain.{images_page_is, links_page_is}
 use Rattle.rss_catalog.proofs.Read.{relations_page_is}
 use Rattle.rss_catalog.proofs.Stored.{few_part, page_is}
@@ -21,4 +22,7 @@ returns-then-number c =
     ∙ sym (images_page_is c.args.self.now.listing c.args.number (omega arith) (omega arith))
 
 pub returns : goal.returns
-returns c = sym (links_page_is c.args.self.now.listing c.args.number (sym (ap (λ (v : CatalogView). v.listing.links) c.self.view_is)) (omega arith))
+returns c =
+    c.links_page.ensures
+    ∙ ap (λ (l : List (Option LinkEntry)). page_with link_form l) (c.deref-2.ensures.value ∙ ap (λ (v : CatalogView). v.listing.links) c.self.view_is)
+    ∙ sym (links_page_is c.args.self.now.listing c.args.number (omega arith))

@@ -1,0 +1,14 @@
+-- Each link of a catalog is safe.
+use Rattle.std.proofs.Common.{◌∙◌, ap, sym, subst, List, Option}
+use Rattle.rss_base.specs.Listings.{Listing, numbered}
+use Rattle.rss_base.specs.declared.link.LinkEntry.{LinkEntry}
+use Rattle.rss_catalog.specs.Catalogs.{CatalogView, IsSafeLink}
+use Rattle.rss_catalog.specs.Checking.{listing_of}
+use Rattle.rss_catalog.proofs.Links.{safe_links_all}
+use Rattle.rss_catalog.proofs.catalog.Catalog.link.Goals as goal
+
+pub returns-clause-safe : goal.returns-clause-safe
+returns-clause-safe c =
+    let listing : Listing = listing_of c.self.inside.segments.items c.self.inside.relations.items c.self.inside.images.items c.self.inside.links.items in
+    subst (λ (l : Listing). IsSafeLink l c.in-Some.link.now) (ap (λ (v : CatalogView). v.listing) c.self.view_is)
+    (safe_links_all listing c.self.inside.safe_links c.args.number _ (ap (λ (l : List (Option LinkEntry)). numbered l c.args.number) (sym c.deref.ensures.value) ∙ c.in-Some.ensures.some))
