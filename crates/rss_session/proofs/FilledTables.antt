@@ -94,7 +94,7 @@ module _ {old : SessionView} {entry : ImageEntry} {entries : List (List ℕ × T
         let touches = touches_images old builds.step catalog in
         let spelled = base_spelled closed shows in
         let same : builds.relation ≡ may.plans.within = same_Some _ _ (sym builds.within ∙ may.plans.at) in
-        image_redefined ready touches told closed (filled_written (filled spelled.listed) told ready.store.pending_places shows.store.written) kept shows may
+        image_redefined ready touches told closed (filled_written (filled spelled.listed) spelled.listed told ready.store.pending_places shows.store.written) kept shows may
         (subst (λ (r : RelationEntry). SpellsTables pages.held catalog.listing (with_definitions (with_image state.base.definitions entry.name (image_definition entry r)) state.base)) same
         (filled_shows (filled spelled.listed) told (bytes told) spelled (base_shown closed shows ready kept)))
 
