@@ -71,7 +71,7 @@ pub idle_then : {old mid new : PagesView} → StaysIdle old mid → StaysIdle mi
 idle_then one two = record { device = same_then one.device two.device; in_memory = two.in_memory ∙ one.in_memory }
 
 -- where no page was touched and the same ones are in memory, all of them are there still
-still_in_memory : {touched : Keys} {asks outs : ℕ} {old new : PagesView} → PagesStep touched asks outs old new → ((key : PageKey) → touched key → ⊥) → AreInMemory old → StaysIdle old new → AreInMemory new
+pub still_in_memory : {touched : Keys} {asks outs : ℕ} {old new : PagesView} → PagesStep touched asks outs old new → ((key : PageKey) → touched key → ⊥) → AreInMemory old → StaysIdle old new → AreInMemory new
 still_in_memory {old = old} {new = new} step off are idle =
     let same : new.mapped ≡ old.mapped = λ i key. step.mapped_off key (off key) i in
     let count : mapped_pages new.slots new.mapped ≡ mapped_pages old.slots old.mapped = λ i. mapped_pages (step.passes.slots i) (same i) in
