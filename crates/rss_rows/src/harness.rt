@@ -61,6 +61,14 @@ pub(crate) fn assert_script<D: Device + Drop, C: Debug + Copy>(
     Ok(device)
 }
 
+/// Runs the script of each row to its end over a small store without tuples, and it gets its replies.
+pub(crate) fn assert_rows(alloc: Global, rows: &[Row]) -> Result<(), Fail> {
+    for (number, row) in rows.iter().enumerate() {
+        assert_script(alloc, store_with_r(alloc, SMALL)?, row, WHOLE, number)?;
+    }
+    Ok(())
+}
+
 /// Runs the probe over a store, and it gets these replies.
 pub(crate) fn assert_probe<D: Device + Drop, C: Debug + Copy>(
     alloc: Global,

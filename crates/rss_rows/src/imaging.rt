@@ -1,8 +1,8 @@
 // Images: how they are made and taken away, how they are scanned, and whose key a unique one lets in.
-use crate::harness::{Row, SMALL, WHOLE, assert_script, empty_store, store_after, store_with_r};
+use crate::harness::{Row, assert_rows, empty_store, store_after};
 use crate::lines::write_lines;
 use crate::locking::assert_going_on;
-use crate::scanning::write_opens;
+use crate::scanning::assert_opens;
 use std::alloc::Global;
 use std::fmt::Write;
 use std::test::Fail;
@@ -1037,23 +1037,12 @@ fn write_images(script: &mut String, replies: &mut String) -> Result<(), Fail> {
 
 #[test]
 fn an_image_is_in_the_order_of_its_keys(rt: HostRuntime) -> Result<(), Fail> {
-    for (number, row) in ROWS.iter().enumerate() {
-        let device = store_with_r(rt.alloc(), SMALL)?;
-        assert_script(rt.alloc(), device, row, WHOLE, number)?;
-    }
-    Ok(())
+    assert_rows(rt.alloc(), &ROWS)
 }
 
 #[test]
 fn one_scan_of_an_image_too_many_is_refused(rt: HostRuntime) -> Result<(), Fail> {
-    let mut script = String::new(rt.alloc());
-    let mut replies = String::new(rt.alloc());
-    write_lines(&mut script, BEFORE_SCANS.0)?;
-    write_lines(&mut replies, BEFORE_SCANS.1)?;
-    write_opens("image i", &mut script, &mut replies)?;
-    let device = store_with_r(rt.alloc(), SMALL)?;
-    let texts = (script.as_str(), replies.as_str());
-    assert_going_on(rt.alloc(), device, texts, &BEHIND_SCANS)
+    assert_opens(rt.alloc(), BEFORE_SCANS, "image i", &BEHIND_SCANS)
 }
 
 #[test]

@@ -1,6 +1,6 @@
 // How many levels an image has while its tuples come and go, and how many pages there are.
 use crate::harness::{empty_store, store_after};
-use crate::lines::{write_inserts, write_lines};
+use crate::lines::{write_inserts, write_lines, write_texts};
 use rss_asserts::assert_same;
 use rss_base::Name;
 use rss_device::MemDevice;
@@ -70,16 +70,7 @@ fn assert_counts(
     Ok(without_moments(alloc, &device)?)
 }
 
-/// Writes the transaction that inserts the texts of these places.
-fn write_texts(script: &mut String, first: u32, end: u32) -> Result<(), Fail> {
-    write_lines(script, "begin 1\n")?;
-    for place in first..end {
-        writeln!(script, "insert 1 r \"{place:04}\"")?;
-    }
-    write_lines(script, "end 1\n")
-}
-
-/// Writes the transaction that deletes them.
+/// Writes the transaction that deletes the tuples of these places.
 fn write_deletes(script: &mut String, first: u32, end: u32) -> Result<(), Fail> {
     write_lines(script, "begin 1\n")?;
     for place in first..end {

@@ -24,6 +24,15 @@ pub(crate) fn write_inserted(replies: &mut String, first: u32, end: u32) -> Resu
     Ok(())
 }
 
+/// Writes the transaction that inserts the tuples of these places, whose values are texts.
+pub(crate) fn write_texts(script: &mut String, first: u32, end: u32) -> Result<(), Fail> {
+    write_lines(script, "begin 1\n")?;
+    for place in first..end {
+        writeln!(script, "insert 1 r \"{place:04}\"")?;
+    }
+    write_lines(script, "end 1\n")
+}
+
 /// Writes the lines that fetch the tuples of these places.
 pub(crate) fn write_fetches(script: &mut String, first: u32, end: u32) -> Result<(), Fail> {
     for place in first..end {

@@ -1,5 +1,5 @@
 // Transactions that are open together, and what they lock.
-use crate::harness::{Row, SMALL, WHOLE, assert_script, store_with_r};
+use crate::harness::{Row, SMALL, WHOLE, assert_rows, assert_script, store_with_r};
 use crate::lines::{write_absent, write_fetches, write_lines};
 use rss_base::PAGE_ENTRIES;
 use rss_device::MemDevice;
@@ -273,11 +273,7 @@ fn write_begins(script: &mut String, replies: &mut String) -> Result<(), Fail> {
 
 #[test]
 fn what_another_transaction_holds_is_busy(rt: HostRuntime) -> Result<(), Fail> {
-    for (number, row) in ROWS.iter().enumerate() {
-        let device = store_with_r(rt.alloc(), SMALL)?;
-        assert_script(rt.alloc(), device, row, WHOLE, number)?;
-    }
-    Ok(())
+    assert_rows(rt.alloc(), &ROWS)
 }
 
 #[test]

@@ -1,5 +1,5 @@
 // Scans of relations.
-use crate::harness::{Row, SMALL, WHOLE, assert_script, store_with_r};
+use crate::harness::{Row, SMALL, WHOLE, assert_rows, assert_script, store_with_r};
 use crate::lines::{write_given, write_inserted, write_inserts, write_lines, write_nexts};
 use crate::locking::assert_going_on;
 use rss_device::MemDevice;
@@ -486,16 +486,28 @@ ok 0
 };
 
 /// Writes the lines that open as many scans of this as may be, and their replies.
-pub(crate) fn write_opens(
-    what: &str,
-    script: &mut String,
-    replies: &mut String,
-) -> Result<(), Fail> {
+fn write_opens(script: &mut String, replies: &mut String, what: &str) -> Result<(), Fail> {
     for number in 0..SCANS {
         writeln!(script, "open 1 {what}")?;
         writeln!(replies, "ok {number}")?;
     }
     Ok(())
+}
+
+/// Opens as many scans of this as may be, with lines before them and behind them.
+pub(crate) fn assert_opens(
+    alloc: Global,
+    before: (&str, &str),
+    what: &str,
+    behind: &Row,
+) -> Result<(), Fail> {
+    let mut script = String::new(alloc);
+    let mut replies = String::new(alloc);
+    write_lines(&mut script, before.0)?;
+    write_lines(&mut replies, before.1)?;
+    write_opens(&mut script, &mut replies, what)?;
+    let device = store_with_r(alloc, SMALL)?;
+    assert_going_on(alloc, device, (script.as_str(), replies.as_str()), behind)
 }
 
 /// The places of tuples over several pages of 128: those of `r` on the first page, those of another
@@ -591,23 +603,12 @@ fn assert_emptied(alloc: Global, device: MemDevice) -> Result<MemDevice, Fail> {
 
 #[test]
 fn a_scan_gives_what_stands_behind_the_last_given(rt: HostRuntime) -> Result<(), Fail> {
-    for (number, row) in ROWS.iter().enumerate() {
-        let device = store_with_r(rt.alloc(), SMALL)?;
-        assert_script(rt.alloc(), device, row, WHOLE, number)?;
-    }
-    Ok(())
+    assert_rows(rt.alloc(), &ROWS)
 }
 
 #[test]
 fn one_scan_too_many_is_refused(rt: HostRuntime) -> Result<(), Fail> {
-    let mut script = String::new(rt.alloc());
-    let mut replies = String::new(rt.alloc());
-    write_lines(&mut script, BEFORE_SCANS.0)?;
-    write_lines(&mut replies, BEFORE_SCANS.1)?;
-    write_opens("relation r", &mut script, &mut replies)?;
-    let device = store_with_r(rt.alloc(), SMALL)?;
-    let texts = (script.as_str(), replies.as_str());
-    assert_going_on(rt.alloc(), device, texts, &BEHIND_SCANS)
+    assert_opens(rt.alloc(), BEFORE_SCANS, "relation r", &BEHIND_SCANS)
 }
 
 #[test]
