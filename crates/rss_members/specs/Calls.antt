@@ -5,13 +5,13 @@ use Rattle.rss_base.specs.declared.tid.Tid.{Tid}
 use Rattle.rss_base.specs.declared.item.Item.{Item}
 use Rattle.rss_base.specs.declared.relation.RelationEntry.{RelationEntry}
 use Rattle.rss_base.specs.declared.link.LinkEntry.{LinkEntry}
-use Rattle.rss_tuple.specs.TupleSteps.{TuplesView}
+use Rattle.rss_base.specs.declared.name.Name.{Name}
 use Rattle.rss_catalog.specs.Catalogs.{CatalogView}
+use Rattle.rss_tuple.specs.TupleSteps.{TuplesView}
 use Rattle.rss_model.specs.Tables.{Contents, Tables}
 use Rattle.rss_model.specs.Items.{parent_of}
 use Rattle.rss_model.specs.Chains.{chain, stands_in, with_behind, is_there, HasParent}
 use Rattle.rss_model.specs.Store.{IsListedLink, link_definition}
-use Rattle.rss_base.specs.declared.name.Name.{Name}
 use Rattle.rss_link.specs.Calls.{TellsBodies, HoldsHeaps}
 use Rattle.rss_members.specs.declared.membership.Membership.{Membership}
 use Rattle.rss_members.specs.Members.{SpellsMembers, with_chain}

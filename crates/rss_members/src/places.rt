@@ -1,19 +1,20 @@
 // Where the blocks of links stand.
 ghost use Rattle.std.specs.Prelude.{◌≡◌, ◌+◌, ◌*◌, ◌≤◌, ◌++◌, true, is_some, take, length, Some};
 ghost use Rattle.rss_base.specs.Listings.{link_at};
-ghost use Rattle.rss_base.specs.Prefixes.{part_in, block_size, prefix_size};
+ghost use Rattle.rss_base.specs.Prefixes.{part_in, prefix_size};
 ghost use Rattle.rss_base.specs.Sizes.{links_most};
 ghost use Rattle.rss_base.specs.declared.link.LinkEntry.{LinkEntry as ALink};
-ghost use Rattle.rss_members.specs.Members.{chains_of, block_at, listed_ends, blank_block, blank_prefix};
 ghost use Rattle.rss_tuple.specs.Heaps.{body_most};
 ghost use Rattle.rss_link.specs.Blocks.{kept_ends};
 ghost use Rattle.rss_link.specs.Calls.{IsLink};
+ghost use Rattle.rss_members.specs.Members.{chains_of, block_at, listed_ends, blank_block, blank_prefix};
 
 use rss_base::{Body, Kind, LinkEntry};
 use rss_catalog::Catalog;
 use rss_link::{Chains, Ends};
 
-/// The block of a tuple in no chain of a unary link, in no chain of a binary link, and with none.
+/// The block of a tuple that is in no chain of a unary link, of one that is in none of a binary link,
+/// and of one that has no children.
 const OUTSIDE_MEMBER: [u8; 13] = [
     0, 255, 255, 255, 255, 255, 255, 255, 255, 255, 255, 255, 255,
 ];

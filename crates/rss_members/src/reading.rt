@@ -2,12 +2,12 @@
 ghost use Rattle.std.specs.Prelude.{◌≡◌, Some, true, is_some, IfOk};
 ghost use Rattle.rss_base.specs.Prefixes.{first_of as first_in};
 ghost use Rattle.rss_base.specs.Steps.{no_page};
+ghost use Rattle.rss_base.specs.Listings.{relation_at};
 ghost use Rattle.rss_tuple.specs.TupleSteps.{TuplesCall, no_tuple};
 ghost use Rattle.rss_model.specs.Chains.{chain_with};
+ghost use Rattle.rss_link.specs.Calls.{HoldsHeaps};
 ghost use Rattle.rss_members.specs.Calls.{both, MayAskAbove, AnswersAbove, MayAskBelow, AnswersBelow};
 ghost use Rattle.rss_members.specs.Calls.{above_in, begins, FindsTuple};
-ghost use Rattle.rss_base.specs.Listings.{relation_at};
-ghost use Rattle.rss_link.specs.Calls.{HoldsHeaps};
 
 use crate::places::{chains_of, ends_of};
 use rss_base::{Body, PageFault, Tid};
