@@ -93,10 +93,9 @@ impl<S: Saving> Session<S> {
         let Some(number) = self.store.catalog.find(Kind::Relation, name) else {
             return Err(Refusal::NoSuch(Kind::Relation));
         };
-        let catalog = &self.store.catalog;
-        if catalog.relation(number).live > 0
-            || catalog.has_image_of(number)
-            || catalog.has_link_of(number)
+        if self.store.catalog.relation(number).live > 0
+            || self.store.catalog.has_image_of(number)
+            || self.store.catalog.has_link_of(number)
         {
             return Err(Refusal::NotEmpty);
         }

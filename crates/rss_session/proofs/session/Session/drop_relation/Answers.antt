@@ -45,8 +45,8 @@ returns-then-relation-gt0 g c =
       same = refl;
     }
 
-pub remove-requires-no_link : goal.remove-requires-no_link
-remove-requires-no_link g c = λ relation has. true≢false (sym (c.has_link_of.ensures.1 has) ∙ c.if-has_link_of.false)
+pub remove-requires-clause-no_link : goal.remove-requires-clause-no_link
+remove-requires-clause-no_link g c = λ relation has. true≢false (sym (c.has_link_of.ensures.1 has) ∙ c.if-has_link_of.false)
 
 pub returns : goal.returns
 returns g c =
