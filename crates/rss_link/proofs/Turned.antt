@@ -62,7 +62,7 @@ module _ (link : Chains) (linkage : Linkage) (apart : AreApart link linkage) (ol
   turned_child which parent to child is_child puts some =
       let at : ℕ = link.child_at + pointer_in link.unary which in
       let room_too : link.child_at + child_size link.unary ≤ length puts.reaches.body = ∥∥₁_elim some le_prop (λ (some : SaysSome link old.bodies child).
-          subst (λ (b : List ℕ). link.child_at + child_size link.unary ≤ length b) (some_one _ _ (sym some.says.there ∙ puts.reaches.there)) (standing_room link old.bodies child some.standing some.says)) in
+      subst (λ (b : List ℕ). link.child_at + child_size link.unary ≤ length b) (some_one _ _ (sym some.says.there ∙ puts.reaches.there)) (standing_room link old.bodies child some.standing some.says)) in
       record {
         child = record {
           each = λ other p l r is fits says.
@@ -90,7 +90,7 @@ module _ (link : Chains) (linkage : Linkage) (apart : AreApart link linkage) (ol
   turned_parent which to parent kind is_parent puts some =
       let at : ℕ = link.parent_at + end_in which in
       let room_too : link.parent_at + 12 ≤ length puts.reaches.body = ∥∥₁_elim some le_prop (λ (some : SaysSomeEnds link (seen_with kept old) (Some parent)).
-          subst (λ (b : List ℕ). link.parent_at + 12 ≤ length b) (some_one _ _ (sym some.says.there ∙ puts.reaches.there)) (ends_room link old.bodies parent some.ends some.says)) in
+      subst (λ (b : List ℕ). link.parent_at + 12 ≤ length b) (some_one _ _ (sym some.says.there ∙ puts.reaches.there)) (ends_room link old.bodies parent some.ends some.says)) in
       record {
         child = record { each = λ other p l r is fits says. absurd (never_some other None refl is) };
         end = record {

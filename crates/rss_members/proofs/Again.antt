@@ -166,8 +166,8 @@ module _ {listing : Listing} {bodies : Bodies} {tables : Tables} (spells : Spell
       (λ off.
       let was = spells.contents.ends n l off.1 in
       let apart : l.name ≡ link.name → ⊥ = λ named. off.0 (spells.listed.paths.links_once n number link.name
-          (name_numbered (λ (e : LinkEntry). e.name) listing.links n l off.1 ∙ ap (λ (x : Name). Some x) named)
-          (name_numbered (λ (e : LinkEntry). e.name) listing.links number link at)) in
+      (name_numbered (λ (e : LinkEntry). e.name) listing.links n l off.1 ∙ ap (λ (x : Name). Some x) named)
+      (name_numbered (λ (e : LinkEntry). e.name) listing.links number link at)) in
       let chains : chain now.contents l.name None ≡ chain tables.contents l.name None = ap tuples_in (other_chain tables link.name parent list l.name None apart) in
       (was.0 ∙ ap first_of (sym chains), was.1 ∙ ap last_of (sym chains)))
       (with_cases listing.links number n (Some (with_ends ends.first ends.last link)) l low high is)

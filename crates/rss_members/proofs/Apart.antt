@@ -30,7 +30,7 @@ lesser_first items relation one other link at less =
     let here : get_or rest (one - 1) None ≡ Some link = get_or-take (other - 1) items (one - 1) None (omega (arith, low, less)) ∙ sym (numbered_at items one low high) ∙ at in
     let front : take (one - 1) rest ≡ take (one - 1) items = take-take (one - 1) (other - 1) items (omega (arith, less)) in
     let sum : sum_by (listed_block_size relation) (take (one - 1) rest) + listed_block_size relation (get_or rest (one - 1) None) ≤ sum_by (listed_block_size relation) rest =
-        sum_by_more_le (listed_block_size relation) rest (one - 1) None (omega (arith, length-take (other - 1) items, low, high, less)) in
+    sum_by_more_le (listed_block_size relation) rest (one - 1) None (omega (arith, length-take (other - 1) items, low, high, less)) in
     subst (λ (l : List (Option LinkEntry)). prefix_size l relation + block_size (part_in link relation) ≤ prefix_size rest relation) front
     (subst (λ (o : Option LinkEntry). sum_by (listed_block_size relation) (take (one - 1) rest) + listed_block_size relation o ≤ sum_by (listed_block_size relation) rest) here sum)
 

@@ -34,10 +34,10 @@ use Rattle.rss_members.proofs.Spelled.{eqb_off, kind, spells_chains, body_there}
 module _ (at : MembersView) (number : ℕ) (works : Chains) (is : (link : LinkEntry) → link_at at.catalog.listing number ≡ Some link → works ≡ chains_of at.catalog.listing number link) where
   -- the chains of a listed link are those that are worked on
   module _ {tables : Tables} {link : LinkEntry} {child : RelationEntry} (spells : Spells at tables) (listed : IsListedLink at.catalog.listing number link child) where
-    works_spell : SpellChains works (listed_ends link) at.tuples.bodies (linkage_in at.catalog.listing tables link child)
+    pub works_spell : SpellChains works (listed_ends link) at.tuples.bodies (linkage_in at.catalog.listing tables link child)
     works_spell = subst (λ (w : Chains). SpellChains w (listed_ends link) at.tuples.bodies (linkage_in at.catalog.listing tables link child)) (sym (is link listed.at)) (spells_chains spells number link listed.at child listed.within)
 
-    works_parent : (parent : Option Tid) → HasParent tables.contents (link_definition at.catalog.listing link child).parent parent → IsParent works.unary (linkage_in at.catalog.listing tables link child).parents parent
+    pub works_parent : (parent : Option Tid) → HasParent tables.contents (link_definition at.catalog.listing link child).parent parent → IsParent works.unary (linkage_in at.catalog.listing tables link child).parents parent
     works_parent parent under =
         subst (λ (u : Bool). IsParent u (linkage_in at.catalog.listing tables link child).parents parent)
         (ap not (kind spells number link listed.at child listed.within) ∙ sym (ap (λ (w : Chains). w.unary) (is link listed.at)))

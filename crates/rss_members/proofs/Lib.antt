@@ -7,3 +7,4 @@ pub mod Rewritten
 pub mod Again
 pub mod Sums
 pub mod Asked
+pub mod Joined

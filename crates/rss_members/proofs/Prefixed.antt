@@ -105,9 +105,9 @@ module _ (contents : Contents) (relation : ℕ) (tid : Tid) where
       let front : List ℕ = flat_map (listed_block contents relation tid) (take (number - 1) items) in
       let back : List ℕ = flat_map (listed_block contents relation tid) (drop number items) in
       let cut : flat_map (listed_block contents relation tid) items ≡ front ++ (block ++ back) =
-          ap (flat_map (listed_block contents relation tid)) (split_items items number link at)
-          ∙ flat_map-append (listed_block contents relation tid) (take (number - 1) items) (Some link ∷ drop number items)
-          ∙ ap (λ (l : List ℕ). front ++ l) (flat_map-cons (listed_block contents relation tid) (Some link) (drop number items)) in
+      ap (flat_map (listed_block contents relation tid)) (split_items items number link at)
+      ∙ flat_map-append (listed_block contents relation tid) (take (number - 1) items) (Some link ∷ drop number items)
+      ∙ ap (λ (l : List ℕ). front ++ l) (flat_map-cons (listed_block contents relation tid) (Some link) (drop number items)) in
       ap (λ (l : List ℕ). relation ∷ l)
       (ap (λ (l : List ℕ). l ++ tuple_bytes values) cut
       ∙ append_assoc front (block ++ back) (tuple_bytes values)

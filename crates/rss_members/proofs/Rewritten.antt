@@ -43,8 +43,8 @@ rebuilt at size front block was back old now long long_was long_block old_is agr
     let start : take at now ≡ front = agree.front ∙ ap (take at) old_is ∙ take_at front (was ++ back) at long in
     let middle : take size (drop at now) ≡ block = ap (λ (n : ℕ). take n (drop at now)) (sym long_block) ∙ has in
     let end : drop size (drop at now) ≡ back =
-        drop-drop size at now ∙ agree.back ∙ ap (drop (at + size)) old_is ∙ sym (drop-drop size at (front ++ (was ++ back)))
-        ∙ ap (drop size) (drop_at front (was ++ back) at long) ∙ drop_at was back size long_was in
+    drop-drop size at now ∙ agree.back ∙ ap (drop (at + size)) old_is ∙ sym (drop-drop size at (front ++ (was ++ back)))
+    ∙ ap (drop size) (drop_at front (was ++ back) at long) ∙ drop_at was back size long_was in
     sym (take-append-drop at now) ∙ (λ i. start i ++ (sym (take-append-drop size (drop at now)) ∙ (λ j. middle j ++ end j)) i)
 
 agrees_itself : (at size : ℕ) (x y : List ℕ) → x ≡ y → AgreeOff at size x y
@@ -183,8 +183,8 @@ module _ {listing : Listing} {bodies : Bodies} {tables : Tables} (spells : Spell
           let upper = prefix.blocks.parents tid binary is in
           let there : new (segment_of listing above.number) tid ≡ Some upper.body = ap (λ (s : ℕ). new s tid) (sym (ap (of_parents (segment_of listing)) above.is)) ∙ upper.there in
           let block : HasBytes upper.body (block_at listing number above.number) (block_of now.contents link.name tid Parent) =
-              subst (λ (k : ℕ). HasBytes upper.body k (block_of now.contents link.name tid Parent)) (ap (of_parents (block_at listing number)) above.is)
-              (subst (λ (l : Lists). HasBytes upper.body (of_parents (block_at listing number) link.parent) (parent_block (ends_of (l (Some tid))))) (sym lists_now) upper.has) in record {
+          subst (λ (k : ℕ). HasBytes upper.body k (block_of now.contents link.name tid Parent)) (ap (of_parents (block_at listing number)) above.is)
+          (subst (λ (l : Lists). HasBytes upper.body (of_parents (block_at listing number) link.parent) (parent_block (ends_of (l (Some tid))))) (sym lists_now) upper.has) in record {
             body = upper.body;
             there = there;
             agree = parent_agrees tid is (old_body above.number tid has) upper.body _ _ (keeps (segment_of listing above.number) tid) has.there there;

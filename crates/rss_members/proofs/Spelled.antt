@@ -1,10 +1,11 @@
 -- The chains of each listed link are spelled, where tables are.
-use Rattle.std.proofs.Common.{◌≡◌, ℕ, true, false, List, Option, Some, None, refl, sym, ◌∙◌, ap, subst, get_or}
+use Rattle.std.proofs.Common.{◌≡◌, ℕ, true, false, List, Option, Some, None, refl, sym, ◌∙◌, ap, subst, get_or, ◌<◌, ◌^◌, arith}
 use Rattle.std.specs.Prelude.{◌≢◌, ◌==◌, not, is_some, IfSome, option_map, option_and_then}
 use Rattle.std.specs.FinMap as map
 use Rattle.std.proofs.lemmas.Option.{same_Some}
 use Rattle.std.proofs.lemmas.Bool.{cond-true, cond-false, ne_eqb}
-use Rattle.rss_base.specs.Listings.{Listing, LinkFits, relation_at, link_at, is_parent_in}
+use Rattle.rss_base.specs.Sizes.{page_entries}
+use Rattle.rss_base.specs.Listings.{IsSpelled, Listing, LinkFits, relation_at, link_at, is_parent_in}
 use Rattle.rss_base.specs.Prefixes.{Part, Outside, Parent, part_in, lower_part, ends_of, parent_block}
 use Rattle.rss_base.specs.declared.name.Name.{Name}
 use Rattle.rss_base.specs.declared.tid.Tid.{Tid}
@@ -41,6 +42,17 @@ part_of_parent link relation is other =
     ∙ cond-true (is_parent_in link.parent relation) Parent Outside (ap (λ (o : Option ℕ). is_parent_in o relation) is ∙ eqb_itself relation)
 
 -- ---- tuples
+
+-- six bytes spell an identifier that a store may have
+named_by : (tid : Tid) → IsSpelled tid → IsNamed tid
+named_by tid is =
+    let page : tid.page < 2 ^ 32 = is.0 in
+    let slot : tid.slot < page_entries = is.1 in
+    record {
+      page = page;
+      slot = omega (arith, slot);
+      some = λ none. let far : tid.slot ≡ 65535 = ap (λ (t : Tid). t.slot) none in absurd (omega (arith, slot, far));
+    }
 
 module _ {listing : Listing} {bodies : Bodies} {tables : Tables} (spells : SpellsMembers listing bodies tables) where
   -- a tuple of a relation has a body
@@ -112,11 +124,11 @@ module _ {listing : Listing} {bodies : Bodies} {tables : Tables} (spells : Spell
       block_there relation tid has = record { body = body_of listing tables.contents relation tid has.values; there = has.there; has = has_block tables.contents relation tid listing number link has.values at }
 
       named : AreNamed (linkage_of tables.contents link.name definition)
-      named = record { children = spells.tids child.name; parents = λ tid is. by definition.parent tid is }
+      named = record { children = λ tid is. named_by tid (spells.tids child.name tid is); parents = λ tid is. by definition.parent tid is }
         where
           by : (above : Option Name) (tid : Tid) → is_parent tables.contents above tid ≡ true → IsNamed tid
           by None tid is = absurd (cc (is))
-          by (Some relation) tid is = spells.tids relation tid is
+          by (Some relation) tid is = named_by tid (spells.tids relation tid is)
 
       apart : AreApart (chains_of listing number link) (linkage_of tables.contents link.name definition)
       apart binary same tid is_child is_parent =
@@ -133,7 +145,7 @@ module _ {listing : Listing} {bodies : Bodies} {tables : Tables} (spells : Spell
         parents = λ tid binary is.
             let above = above_listed binary in
             let has = subst (λ (part : Part). BodyHas bodies (segment_of listing above.number) tid (block_at listing number above.number) (block_of tables.contents link.name tid part)) (part_of_parent link above.number above.is above.other)
-                (block_there above.number tid (body_there above.number above.relation tid above.at (is_above above tid is))) in
+            (block_there above.number tid (body_there above.number above.relation tid above.at (is_above above tid is))) in
             subst (λ (o : Option ℕ). BodyHas bodies (of_parents (segment_of listing) o) tid (of_parents (block_at listing number) o) (parent_block (ends_of (chain tables.contents link.name (Some tid))))) (sym above.is) has;
         kept = λ unary. let ends = spells.contents.ends number link at in λ i. record { first = ends.0 i; last = ends.1 i };
       }

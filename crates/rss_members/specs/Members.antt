@@ -1,6 +1,6 @@
 -- Links as a catalog lists them: where their blocks stand in bodies, and the tables that these spell.
 use Rattle.std.specs.Prelude.{◌≡◌, ℕ, ◌+◌, ◌-◌, Bool, true, false, not, List, [], take, flat_map, Option, Some, None, is_some}
-use Rattle.rss_base.specs.Listings.{Listing, ListingFits, relation_at}
+use Rattle.rss_base.specs.Listings.{Listing, ListingFits, IsSpelled, relation_at}
 use Rattle.rss_base.specs.Prefixes.{Ends, Part, Outside, Member, Child, Parent, part_in, ends_of, member_block, child_block, parent_block, prefix_size}
 use Rattle.rss_base.specs.declared.name.Name.{Name}
 use Rattle.rss_base.specs.declared.tid.Tid.{Tid}
@@ -14,7 +14,6 @@ use Rattle.rss_model.specs.Chains.{chain, chain_content, is_there, LinksFit}
 use Rattle.rss_model.specs.Fits.{IsTupleOf}
 use Rattle.rss_model.specs.Store.{Defines, SpellsContents, link_definition}
 use Rattle.rss_link.specs.declared.link.Chains.{Chains}
-use Rattle.rss_link.specs.Blocks.{IsNamed}
 use Rattle.rss_link.specs.Chains.{Linkage}
 
 -- ---- a link by its number
@@ -71,7 +70,7 @@ linkage_in listing tables link child = linkage_of tables.contents link.name (lin
 
 -- ---- tables
 
--- The bodies spell these tables, as far as tuples and chains go, by a listing: the chains are such as links have, and the identifiers can be written in six bytes.
+-- The bodies spell these tables, as far as tuples and chains go, by a listing: the chains are such as links have, and the identifiers are such as a store may have.
 pub record SpellsMembers (listing : Listing) (bodies : Bodies) (tables : Tables) : Type 0 where
   pub listed : ListingFits listing
   pub defines : Defines listing tables.definitions
@@ -79,7 +78,7 @@ pub record SpellsMembers (listing : Listing) (bodies : Bodies) (tables : Tables)
   pub tuples : (relation : Name) (tid : Tid) (held : Content)
       → content tables.contents (TupleItem relation tid) ≡ Some held → IsTupleOf tables relation held
   pub links : LinksFit tables
-  pub tids : (relation : Name) (tid : Tid) → is_there tables.contents relation tid ≡ true → IsNamed tid
+  pub tids : (relation : Name) (tid : Tid) → is_there tables.contents relation tid ≡ true → IsSpelled tid
 
 -- the tables with another list as the chain of a parent
 abbrev pub with_chain : Tables → Name → Option Tid → List Tid → Tables

@@ -2,9 +2,11 @@
 #![tactic(auto)]
 
 mod laws;
+mod membership;
 mod places;
 mod reading;
 
 pub use laws::{blank_prefixes, blocks_lie_apart, links_are_spelled, spelled_again};
+pub use membership::Membership;
 pub use places::{chains_of, prefix_len, push_blank_prefix};
 pub use reading::{first_of, has_chain, is_there, parent_of, stands};

@@ -2,7 +2,7 @@
 use Rattle.std.proofs.Common.{◌≡◌, ℕ, ◌+◌, ◌*◌, ◌≤◌, Bool, true, false, List, [], length, refl, sym, ◌∙◌, ap, subst, arith, inl, inr}
 use Rattle.std.specs.Prelude.{Option, Some, None, is_some, option_map, unwrap_or, IfSome, Ok}
 use Rattle.std.specs.FinMap as map
-use Rattle.std.proofs.lemmas.Bool.{cases_lt, false_from_ne_true}
+use Rattle.std.proofs.lemmas.Bool.{cases_lt}
 use Rattle.std.proofs.lemmas.List.{length-replicate}
 use Rattle.std.proofs.lemmas.Option.{none-some, same_Some}
 use Rattle.rss_base.specs.DiskRule.{IsTold}
@@ -133,16 +133,12 @@ keys_back image relation same (Some key) fit = subst (λ (f : List FieldKind). I
 image_is : {session : SessionView} {state : State} {number : ℕ} {listed : ImageEntry} {relation : RelationEntry} (image : Name) → Shows session state → IsListedImage session.store.catalog.listing number listed relation → listed.name ≡ image → map.get state.base.definitions.images image ≡ Some (image_definition listed relation)
 image_is {state = state} {number = number} {listed = listed} {relation = relation} image shows is named = ap (map.get state.base.definitions.images) (sym named) ∙ shows.store.spells.defines.paths.images number listed relation is
 
--- and nothing else is
+-- so an image of its name is
 pub image_defined : {parts : RssParts} {state : State} (image : Name) (number : ℕ) → IsIn parts state → IsNumberOf ImageKind parts.session.store.catalog.listing image number → is_some (map.get state.base.definitions.images image) ≡ true
 image_defined {parts = parts} image number is_in numbered_so =
     let here = image_entry parts.session.store.catalog.listing image number numbered_so in
     let fits = is_in.shows.store.spells.listed.paths.images number here.entry here.at in
     ap is_some (image_is image is_in.shows (record { at = here.at; within = fits.listed }) here.named)
-
-pub image_undefined : {parts : RssParts} {state : State} (image : Name) → IsIn parts state → IsUnlisted ImageKind parts.session.store.catalog.listing image → is_some (map.get state.base.definitions.images image) ≡ false
-image_undefined {state = state} image is_in unlisted = false_from_ne_true (is_some (map.get state.base.definitions.images image)) (λ there.
-    let listed = is_in.shows.store.spells.defines.paths.only_images image there in unlisted listed.0 listed.1)
 
 -- its relation is listed still behind a look
 still_listed : {session mid : SessionView} {T : Type 0} {first : T} {number : ℕ} {listed : ImageEntry} {relation : RelationEntry} → IsListedImage session.store.catalog.listing number listed relation → LooksOn session mid (Ok first) → IsListedIn mid relation.segment listed.relation relation

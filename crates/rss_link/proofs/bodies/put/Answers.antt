@@ -4,7 +4,7 @@ use Rattle.std.proofs.Common.{◌≡◌, ℕ, sym, ◌∙◌, ap, List, length, 
 use Rattle.std.specs.Prelude.{Some}
 use Rattle.std.proofs.lemmas.Grind.{common_steps}
 use Rattle.rss_base.specs.Steps.{with_bytes}
-use Rattle.rss_link.proofs.TupleSteps.{stepped, heaps_then, told_before, same_slots, untouched, then_call, widens, done, then, within, fails_at, is_damaged}
+use Rattle.rss_link.proofs.TupleSteps.{stepped, heaps_then, told_before, same_slots, untouched, then_call, widens, done, then, within, fails, fails_at, is_damaged}
 use Rattle.rss_link.proofs.Lists.{some_one}
 use Rattle.rss_link.proofs.Told.{live_by}
 use Rattle.rss_link.proofs.Edited.{length-with_bytes, puts_after, takes_for}
@@ -58,3 +58,6 @@ replace-requires g c =
           let same = some_one _ _ (sym body ∙ step.others before c.args.segment c.args.tid (λ none. none) ∙ c.in_ok-read.ensures.read before) ∙ sym c.as_slice-old.ensures.bytes in
           omega (arith, less, long, ap (λ (l : List ℕ). length l) same);
     }
+
+pub returns-in_err-read-clause-did : goal.returns-in_err-read-clause-did
+returns-in_err-read-clause-did g c = fails c.from_residual.result c.from_residual.ensures.1 (λ key none. absurd none) (omega arith) c.in_err-read.ensures.did

@@ -138,3 +138,6 @@ restate-requires-clause-may g c =
           ∥∥₁_map (c.requires.knows told0) (λ knows.
           subst (λ (bodies : Bodies). SaysSome c.args.self.now bodies c.args.child) (sym (same_bodies step0 told0)) (says_some knows.spells c.args.child (knows.spells.chains.children c.args.child knows.stands)));
     }
+
+pub returns-in_err-parent-clause-did : goal.returns-in_err-parent-clause-did
+returns-in_err-parent-clause-did g c = fails c.from_residual.result c.from_residual.ensures.1 (λ key none. absurd none) (omega arith) c.in_err-parent.ensures.did
