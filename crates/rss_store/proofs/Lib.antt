@@ -16,6 +16,7 @@ pub mod Found
 pub mod Census
 pub mod DifferentKeys
 pub mod LookedImages
+pub mod Linkless
 pub mod Looked
 pub mod Resting
 pub mod RoomsAtRest
