@@ -49,6 +49,7 @@ use Rattle.rss_scan.specs.declared.cursor.Path.TheVariants.{Relation, Image, Lin
 use Rattle.rss_session.specs.Imaging.{FindsNextEntry, IsKeyLong, StartsAt}
 use Rattle.rss_session.specs.Looks.{CostsNothing, FindsTuple, HasTuple, LooksOn}
 use Rattle.rss_session.specs.Looks.{IsRelationIn as IsListedIn}
+use Rattle.rss_session.specs.Parts.{view as session_view}
 use Rattle.rss_session.specs.Sessions.{SessionView, IsReady}
 use Rattle.rss_lock.specs.declared.locks.Locks.{Locks as LockTable}
 use Rattle.rss_session.specs.declared.session.Session.{Session}

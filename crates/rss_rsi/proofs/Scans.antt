@@ -55,6 +55,10 @@ module _ (parts : RssParts) (number : ℕ) {known : RelationEntry} (at : relatio
   in_segment : {relation : RelationEntry} {state : State} → IsRelationIn parts number relation state → IsListedIn parts.session known.segment number relation
   in_segment in_it = record { at = in_it.at; within = ap (λ (r : RelationEntry). r.segment) (its_entry in_it) }
 
+  -- nothing was found
+  pub none_behind : (after : Option Tid) (body : List ℕ) → (IsTold parts.session.store.pages.disk → FindsNextTuple parts.session known.segment number after None body) → FindsBehind parts number after None
+  none_behind after body finds relation state in_it = (finds in_it.told state relation in_it.is_in.kept in_it.is_in.shows (in_segment in_it)).0
+
   module _ (after found : Option Tid) (body : List ℕ) (finds : IsTold parts.session.store.pages.disk → FindsNextTuple parts.session known.segment number after found body) (tid : Tid) (some : found ≡ Some tid) (read : Option (List Value)) (exact : (values : List Value) → IsBodyOf number (kinds known.fields) values body → read ≡ Some values) where
     its_tuple : {relation : RelationEntry} {state : State} → IsRelationIn parts number relation state → HasTuple state number relation tid body
     its_tuple {relation = relation} {state = state} in_it =

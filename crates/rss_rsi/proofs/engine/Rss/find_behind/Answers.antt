@@ -5,7 +5,7 @@ use Rattle.rss_base.specs.declared.field.FieldDef.{FieldDef}
 use Rattle.rss_model.proofs.Lengths.{row_line}
 use Rattle.rss_rsi.specs.Parts.{parts_of}
 use Rattle.rss_rsi.proofs.Looks.{ready_looked, body_as, costly_damaged, costly_fails, lacks_costly, passed_on}
-use Rattle.rss_rsi.proofs.Scans.{none_unread, row_behind}
+use Rattle.rss_rsi.proofs.Scans.{none_unread, none_behind, row_behind}
 use Rattle.rss_rsi.proofs.engine.Rss.find_behind.Goals as goal
 
 pub returns-in_err-found-clause-fails : goal.returns-in_err-found-clause-fails
@@ -26,6 +26,9 @@ returns-in_err-tuple-clause-fails g c =
     none_unread (parts_of c.args.self.now) c.args.number c.relation.ensures.is c.args.after c.in_ok-found.found _ look.finds c.in-Some.tid c.in-Some.is c.in-Ok.read
     (λ values body. c.in-Ok.ensures.exact values (body_as look.looks.catalog c.relation.ensures.is c.relation-entry.ensures.is c.as_slice.ensures c.as_slice-2.ensures.bytes values body))
     told state is_in damaged.1))
+
+pub returns-in_default-clause-finds : goal.returns-in_default-clause-finds
+returns-in_default-clause-finds g c = none_behind (parts_of c.args.self.now) c.args.number c.relation.ensures.is c.args.after c.next_tuple.new.into (rw c.in_default.is at c.in_ok-found.ensures.finds)
 
 pub returns-clause-finds : goal.returns-clause-finds
 returns-clause-finds g c =
