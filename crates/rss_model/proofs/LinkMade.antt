@@ -133,9 +133,8 @@ module _ {held : Held} {listing : Listing} {tables : Tables} (spells : SpellsTab
 
 -- ---- a link is made
 
--- As yet it is asked that no links are listed (`none`), as of all pages that spell tables.
 module _ {held : Held} {listing : Listing} {tables : Tables} (spells : SpellsTables held listing tables) (number : ℕ) (low : 1 ≤ number) (high : number ≤ links_most) (free : link_at listing number ≡ None) (link : LinkEntry) (child : RelationEntry) (at : relation_at listing link.child ≡ Some child)
-    (no_first : link.first ≡ None) (no_last : link.last ≡ None) (empty : HasNoTuples listing tables.contents link) (fits : ListingFits (with_link listing number (Some link))) (none : HasNoLinks (with_link listing number (Some link))) where
+    (no_first : link.first ≡ None) (no_last : link.last ≡ None) (empty : HasNoTuples listing tables.contents link) (fits : ListingFits (with_link listing number (Some link))) where
   abbrev listed_more : Listing
   listed_more = with_link listing number (Some link)
 
@@ -214,14 +213,14 @@ module _ {held : Held} {listing : Listing} {tables : Tables} (spells : SpellsTab
   pub link_made_contents : SpellsContents listed_more (bodies_of held) tables.contents
   link_made_contents = contents_renumbered listing listed_more (bodies_of held) tables.contents (λ k relation tid is there. is) (λ k relation tid is there. is) prefixes_kept chains_kept ends_made spells.contents
 
-  -- The pages spell the tables with the link.
-  pub link_made_spells : SpellsTables held listed_more (with_definitions (record tables.definitions { links = map.insert tables.definitions.links link.name (link_definition listing link child) }) tables)
-  link_made_spells = spelled_beside spells number (Some link) fits none links_more paths_made link_made_contents
+  -- The pages spell the tables with the link. As yet pages that spell tables list none, so this says nothing until they may: the contents are spelled without that.
+  pub link_made_spells : HasNoLinks listed_more → SpellsTables held listed_more (with_definitions (record tables.definitions { links = map.insert tables.definitions.links link.name (link_definition listing link child) }) tables)
+  link_made_spells none = spelled_beside spells number (Some link) fits none links_more paths_made link_made_contents
 
 -- ---- a link is dropped
 
 module _ {held : Held} {listing : Listing} {tables : Tables} (spells : SpellsTables held listing tables) (number : ℕ) (link : LinkEntry) (at : link_at listing number ≡ Some link) (chains : LinksFit tables) (empty : HasNoTuples listing tables.contents link)
-    (fits : ListingFits (with_link listing number None)) (none : HasNoLinks (with_link listing number None)) where
+    (fits : ListingFits (with_link listing number None)) where
   abbrev listed_less : Listing
   listed_less = with_link listing number None
 
@@ -292,5 +291,5 @@ module _ {held : Held} {listing : Listing} {tables : Tables} (spells : SpellsTab
       (λ k other is. spells.contents.ends k other (had_it k other is).1) spells.contents
 
   -- The pages spell the tables without the link.
-  pub link_gone_spells : SpellsTables held listed_less (with_definitions (record tables.definitions { links = map.remove tables.definitions.links link.name }) tables)
-  link_gone_spells = spelled_beside spells number None fits none links_less paths_gone link_gone_contents
+  pub link_gone_spells : HasNoLinks listed_less → SpellsTables held listed_less (with_definitions (record tables.definitions { links = map.remove tables.definitions.links link.name }) tables)
+  link_gone_spells none = spelled_beside spells number None fits none links_less paths_gone link_gone_contents
